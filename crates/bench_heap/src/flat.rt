@@ -1,7 +1,7 @@
 // Flat strings made and read, and plain lists beside them.
 ghost use Rattle.std.specs.Prelude.{◌≡◌, ◌<◌, ◌≤◌, ℕ, List, length};
 ghost use Rattle.heap_rule.specs.Maps.{Has};
-ghost use Rattle.heap_rule.specs.Views.{IsSettled};
+ghost use Rattle.heap_rule.specs.Views.{IsSeenSettled};
 ghost use Rattle.heap_table.specs.Agents.{Belongs, view_of};
 
 use crate::measures::NoRoom;
@@ -141,7 +141,7 @@ fn read_string(text: &mut Text, count: u32) -> Result<u64, NoRoom>
 // The sum of so many of the string's units, in turn.
 fn read_units(text: &mut Text, s: JsStr, count: u32) -> u64
     requires text { Belongs text.old.reader.agent text.old.reader.heap.now }
-    requires settled { IsSettled (view_of text.old.reader.agent) s.id }
+    requires settled { IsSeenSettled (view_of text.old.reader.agent) s.id }
     requires known { (us : List ℕ) × Has (view_of text.old.reader.agent).units s.id us × (length us ≡ 64) }
 {
     let mut sum = 0u64;

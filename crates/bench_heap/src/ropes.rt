@@ -1,7 +1,7 @@
 // Ropes joined and settled, and slices cut.
 ghost use Rattle.std.specs.Prelude.{◌≡◌, ℕ, List, IfOk, length};
 ghost use Rattle.heap_rule.specs.Maps.{Has, HasKey};
-ghost use Rattle.heap_rule.specs.Views.{IsSettled};
+ghost use Rattle.heap_rule.specs.Views.{IsSeenSettled};
 ghost use Rattle.heap_table.specs.Agents.{Belongs, view_of};
 
 use crate::flat::UNITS;
@@ -159,7 +159,7 @@ pub(crate) fn cut_parts(alloc: Global, count: u32) -> Result<u64, NoRoom> {
 
 fn cut_often(text: &mut Text, s: JsStr, count: u32) -> Result<u64, NoRoom>
     requires text { Belongs text.old.reader.agent text.old.reader.heap.now }
-    requires settled { IsSettled (view_of text.old.reader.agent) s.id }
+    requires settled { IsSeenSettled (view_of text.old.reader.agent) s.id }
     requires known { (us : List ℕ) × Has (view_of text.old.reader.agent).units s.id us
         × (length us ≡ 1000001) }
 {

@@ -6,34 +6,34 @@ use Rattle.std.proofs.lemmas.List.{append-nil}
 use Rattle.js_number.specs.declared.Num.{Num}
 use Rattle.js_number.specs.declared.Num.TheVariants.{Int, NaN, PosInf, NegInf}
 use Rattle.js_number.specs.Places.{IsLawful}
-use Rattle.js_store.specs.State.{State, Has, text as text_of}
-use Rattle.js_store.specs.Faults.{Step}
+use Rattle.js_store.specs.State.{State, NamesUnits, text as text_of}
+use Rattle.js_store.specs.Faults.{StoreStep}
 use Rattle.js_store.specs.declared.faults.StoreFault.{StoreFault}
 use Rattle.js_store.specs.declared.faults.StoreFault.TheVariants.{Memory}
 use Rattle.js_texts.specs.Use.{made_words}
 use Rattle.js_store.proofs.Laws.{settle_words_most, known_has}
-use Rattle.js_texts.specs.Texts.{AllKnown, texts}
+use Rattle.js_texts.specs.Texts.{AllKnown, known_texts}
 use Rattle.js_texts.specs.Delimited.{rest_of, delimited}
 use Rattle.js_texts.proofs.Lists.{all_known_still, texts_still}
 use Rattle.js_json.specs.Quoting.{quoted}
 use Rattle.js_item.specs.Contents.{Content, undefined, null, bool, number, text, symbol, list, object, Fields, no_fields, field}
-use Rattle.js_item.specs.Fine.{Strings, strings_of, FineOf, FineFields}
-use Rattle.js_item.specs.Seen.{says, mapped, fields_mapped}
+use Rattle.js_item.specs.Fine.{KnownStrings, strings_of, FineOf, FineFields}
+use Rattle.js_item.specs.Seen.{says, content_mapped, fields_mapped}
 use Rattle.js_item.specs.declared.item.Item.TheVariants as item
 use Rattle.js_item.proofs.Still.{fine_keys}
 use Rattle.js_object.specs.Use.{settle_in, settle_fields}
 use Rattle.js_object.specs.Keys.{ordered, own_keys, unit_keys}
-use Rattle.js_object.specs.Json.{number_json, bool_json, is_shown, Part, part_index, more_shown, shown, text_json, parts as parts_of, json_of}
+use Rattle.js_object.specs.Json.{number_json, bool_json, is_shown, JsonMember, part_index, more_shown, shown, text_json, json_members as parts_of, json_of}
 use Rattle.js_object.proofs.Lengths.{total, ordered_most}
 use Rattle.js_object.proofs.Seen.{own_keys_known}
 use Rattle.eval_values.specs.Need.{reads, row_ids, row_words, parts_words}
 use Rattle.eval_values.specs.Conversions.{list_units}
 use Rattle.eval_values.specs.Outcome.{needing, ledger_of}
-use Rattle.eval_values.specs.Ran.{Ran, Cut}
-use Rattle.eval_values.specs.Does.{Does}
+use Rattle.eval_values.specs.Ran.{MeetsLedger, Cut}
+use Rattle.eval_values.specs.Does.{GivesValue}
 use Rattle.eval_values.proofs.Compose.{cut_of_memory}
 use Rattle.eval_values.proofs.Needs.{made_most, some_most, settle_few}
-use Rattle.eval_builtins.specs.Quoting.{units_in, field_units, parts_in, field_parts}
+use Rattle.eval_builtins.specs.Quoting.{quoted_units, field_units, parts_in, field_parts}
 use Rattle.eval_builtins.specs.Keys.{keys_out}
 use Rattle.eval_builtins.proofs.Quoted.{quoted_most, list_most}
 
@@ -49,14 +49,14 @@ bool_most true = omega arith
 bool_most false = omega arith
 
 -- what a member gives, with the mark behind it
-abbrev part_len : Part → ℕ
+abbrev part_len : JsonMember → ℕ
 part_len p = total (λ u. length u + 1) (more_shown p.0 p.1 [])
 
 more_len : (k : List ℕ) (o : Option (List ℕ)) (us : List (List ℕ)) → total (λ u. length u + 1) (more_shown k o us) ≡ total (λ u. length u + 1) (more_shown k o []) + total (λ u. length u + 1) us
 more_len k None us = omega arith
 more_len k (Some u) us = omega arith
 
-shown_len : (ps : List Part) → total (λ u. length u + 1) (shown ps) ≡ total part_len ps
+shown_len : (ps : List JsonMember) → total (λ u. length u + 1) (shown ps) ≡ total part_len ps
 shown_len [] = refl
 shown_len (p ∷ ps) = omega (arith, more_len p.0 p.1 (shown ps), shown_len ps)
 
@@ -76,9 +76,9 @@ part_most : (k u : List ℕ) (b : Bool) (n : ℕ) → length u ≤ n → part_le
 part_most k u true n h = omega (arith, length-append (quoted k) (0x3A ∷ u))
 part_most k u false n h = omega arith
 
-module _ {R : Type 0} (say : R → List ℕ) (s : Strings) (name : R → ℕ) where
+module _ {R : Type 0} (say : R → List ℕ) (s : KnownStrings) (name : R → ℕ) where
   mutual
-    text_most : (c : Content R) → FineOf s name c → length (text_json say c) ≤ 17 + 21 * parts_in (mapped say c) + 6 * units_in (mapped say c)
+    text_most : (c : Content R) → FineOf s name c → length (text_json say c) ≤ 17 + 21 * parts_in (content_mapped say c) + 6 * quoted_units (content_mapped say c)
     text_most undefined h = omega arith
     text_most null h = omega arith
     text_most (bool b) h = omega (arith, bool_most b)
@@ -91,7 +91,7 @@ module _ {R : Type 0} (say : R → List ℕ) (s : Strings) (name : R → ℕ) wh
     fields_most : (fs : Fields R) → FineFields s name fs → total part_len (parts_of say fs) ≤ 21 * field_parts (fields_mapped say fs) + 6 * field_units (fields_mapped say fs)
     fields_most no_fields h = omega arith
     fields_most (field key value rest) h =
-        omega (arith, part_most (say key) (text_json say value) (is_shown value) (17 + 21 * parts_in (mapped say value) + 6 * units_in (mapped say value)) (text_most value h.1), quoted_most (say key), fields_most rest h.2)
+        omega (arith, part_most (say key) (text_json say value) (is_shown value) (17 + 21 * parts_in (content_mapped say value) + 6 * quoted_units (content_mapped say value)) (text_most value h.1), quoted_most (say key), fields_most rest h.2)
 
   pub json_most : (fs : Fields R) → FineFields s name fs → length (json_of say fs) ≤ 2 + 21 * field_parts (fields_mapped say fs) + 6 * field_units (fields_mapped say fs)
   json_most fs h = omega (arith, json_len say fs, fields_most fs h)
@@ -99,7 +99,7 @@ module _ {R : Type 0} (say : R → List ℕ) (s : Strings) (name : R → ℕ) wh
 module _ {F R : Type 0} (s : State F) (name : R → ℕ) where
   -- settling strings takes a word for four units, and one more for each
   mutual
-    settle_value : (c : Content R) → 4 * settle_in s name c ≤ units_in (mapped (says s name) c) + 3 * parts_in (mapped (says s name) c) + 3
+    settle_value : (c : Content R) → 4 * settle_in s name c ≤ quoted_units (content_mapped (says s name) c) + 3 * parts_in (content_mapped (says s name) c) + 3
     settle_value undefined = omega arith
     settle_value null = omega arith
     settle_value (bool b) = omega arith
@@ -124,13 +124,13 @@ module _ {F R : Type 0} (s : State F) (name : R → ℕ) where
 -- the keys of an object as an array
 module _ {F R : Type 0} (name : R → ℕ) where
   -- each of known strings has a number
-  texts_have : (s : State F) (rs : List R) → AllKnown s name rs → (u : List ℕ) (k : ℕ) → k < length (texts s name rs) → slice_index_or (texts s name rs) k u ≡ u → (n : ℕ) × Has s n u
+  texts_have : (s : State F) (rs : List R) → AllKnown s name rs → (u : List ℕ) (k : ℕ) → k < length (known_texts s name rs) → slice_index_or (known_texts s name rs) k u ≡ u → (n : ℕ) × NamesUnits s n u
   texts_have s [] h u k l e = absurd (omega (arith, l))
   texts_have s (r ∷ rs) h u zero l e = (name r, known_has s (name r) h.0 ∙ ap Some e)
   texts_have s (r ∷ rs) h u (suc k) l e = texts_have s rs h.1 u k (omega (arith, l)) e
 
-  module _ (a b : State F) (s : Step a b None 0 0) (h : b.history ≡ a.history) (fs : Fields R) where
-    ran_keys : (rs : List R) → AllKnown b name rs → Ran a b (record { interned = []; texts = texts b name rs; ids = row_ids; words = row_words (list_units (texts b name rs)) })
+  module _ (a b : State F) (s : StoreStep a b None 0 0) (h : b.history ≡ a.history) (fs : Fields R) where
+    ran_keys : (rs : List R) → AllKnown b name rs → MeetsLedger a b (record { interned = []; texts = known_texts b name rs; ids = row_ids; words = row_words (list_units (known_texts b name rs)) })
     ran_keys rs k = record {
       grows = s.grows;
       history = record { pairs = []; grown = h ∙ sym (append-nil a.history); same = refl };
@@ -142,12 +142,12 @@ module _ {F R : Type 0} (name : R → ℕ) where
     pub keys_known : (rs : List R) → FineFields (strings_of a) name fs → rs ≡ own_keys a name fs → AllKnown b name rs
     keys_known rs fine e = all_known_still name a b rs s.grows (subst (λ (q : List R). AllKnown a name q) (sym e) (own_keys_known a name fs (fine_keys (strings_of a) name fs fine)))
 
-    pub keys_given : (v : Vec R Global) → FineFields (strings_of a) name fs → v.items ≡ own_keys a name fs → map (says a name) v.items ≡ unit_keys (fields_mapped (says a name) fs) → Does name a b (Ok (item.List v)) (keys_out (fields_mapped (says a name) fs))
+    pub keys_given : (v : Vec R Global) → FineFields (strings_of a) name fs → v.items ≡ own_keys a name fs → map (says a name) v.items ≡ unit_keys (fields_mapped (says a name) fs) → GivesValue name a b (Ok (item.List v)) (keys_out (fields_mapped (says a name) fs))
     keys_given v fine e u =
         let known : AllKnown a name v.items = subst (λ (q : List R). AllKnown a name q) (sym e) (own_keys_known a name fs (fine_keys (strings_of a) name fs fine)) in
         let k : AllKnown b name v.items = keys_known v.items fine e in
-        let same : texts b name v.items ≡ unit_keys (fields_mapped (says a name) fs) = texts_still name a b v.items s.grows known ∙ u in
-        subst (λ (q : List (List ℕ)). Does name a b (Ok (item.List v)) (needing (reads (list_units q)) (list q))) same (record { is = refl; good = k; ran = ran_keys v.items k })
+        let same : known_texts b name v.items ≡ unit_keys (fields_mapped (says a name) fs) = texts_still name a b v.items s.grows known ∙ u in
+        subst (λ (q : List (List ℕ)). GivesValue name a b (Ok (item.List v)) (needing (reads (list_units q)) (list q))) same (record { is = refl; good = k; ran = ran_keys v.items k })
 
     pub no_keys : (f : StoreFault) → f ≡ Memory → Cut a b f (ledger_of (keys_out (fields_mapped (says a name) fs)))
     no_keys f e = subst (λ (g : StoreFault). Cut a b g (ledger_of (keys_out (fields_mapped (says a name) fs)))) (sym e) (cut_of_memory (ledger_of (keys_out (fields_mapped (says a name) fs))) s h (omega arith) (omega arith))

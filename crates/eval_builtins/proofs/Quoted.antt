@@ -14,7 +14,7 @@ use Rattle.js_item.specs.Contents.{text as text_value}
 use Rattle.eval_values.specs.Conversions.{to_string, list_units}
 use Rattle.eval_builtins.specs.Quoting.{as_text}
 use Rattle.js_item.specs.Seen.{seen}
-use Rattle.eval_values.specs.Does.{Does, GivesText}
+use Rattle.eval_values.specs.Does.{GivesValue, GivesText}
 use Rattle.eval_values.proofs.Compose.{ran_of_text}
 use Rattle.eval_values.proofs.TextArguments.{text_then, text_stops}
 
@@ -52,10 +52,10 @@ list_most [] = omega arith
 list_most (u ∷ us) = omega (arith, length-append (quoted u) (list_rest us), quoted_most u, rest_most us)
 
 module _ {F R : Type 0} (name : R → ℕ) (a b : State F) (v : Item R) where
-  pub own_text : (r : R) → IsKnown b (name r) → GivesText name a b (Ok r) (to_string a.limit (seen a name v)) → Does name a b (Ok (Text r)) (as_text a.limit (seen a name v))
+  pub own_text : (r : R) → IsKnown b (name r) → GivesText name a b (Ok r) (to_string a.limit (seen a name v)) → GivesValue name a b (Ok (Text r)) (as_text a.limit (seen a name v))
   own_text r k d =
       text_then name a b b r (Ok (Text r)) (to_string a.limit (seen a name v)) (λ u. gives (text_value u) 0 0) d
       (record { is = refl; good = k; ran = ran_of_text 0 0 (text b (name r)) (name r) (known_has b (name r) k) (step_refl b) refl (omega arith) (omega arith) })
 
-  pub no_text : (n : Stop) → GivesText name a b (Err n) (to_string a.limit (seen a name v)) → Does name a b (Err n) (as_text a.limit (seen a name v))
+  pub no_text : (n : Stop) → GivesText name a b (Err n) (to_string a.limit (seen a name v)) → GivesValue name a b (Err n) (as_text a.limit (seen a name v))
   no_text n d = text_stops name a b n (to_string a.limit (seen a name v)) (λ u. gives (text_value u) 0 0) d

@@ -11,13 +11,13 @@ use Rattle.eval_values.specs.Outcome.{Out}
 use Rattle.eval_values.specs.Arguments.{first_of}
 use Rattle.eval_builtins.specs.Codes.{char_codes_call, code_points_call}
 use Rattle.eval_builtins.specs.Quoting.{stringify_call}
-use Rattle.eval_builtins.specs.Symbols.{string_call, symbol_for, key_for}
+use Rattle.eval_builtins.specs.Symbols.{string_conversion, symbol_for, key_for}
 use Rattle.eval_builtins.specs.Uris.{uri_call}
 use Rattle.eval_builtins.specs.Keys.{keys_call}
 
 -- a call of a built-in function, with all its arguments
 abbrev pub built : Builtin → ℕ → ℕ → List Val → Out Val
-built String at limit vs = string_call limit vs
+built String at limit vs = string_conversion limit vs
 built FromCharCode at limit vs = char_codes_call at vs
 built FromCodePoint at limit vs = code_points_call at vs
 built SymbolFor at limit vs = symbol_for limit (first_of vs)

@@ -14,7 +14,7 @@ use Rattle.eval_values.specs.declared.value.Stop.{Stop}
 use Rattle.js_item.specs.Seen.{Val}
 use Rattle.eval_values.specs.Outcome.{Out, gave, free}
 use Rattle.eval_builtins.specs.Codes.{point_out, from_numbers}
-use Rattle.eval_values.specs.Ran.{Did}
+use Rattle.eval_values.specs.Ran.{ComesTo}
 
 -- a number that a function of the String constructor uses
 abbrev pub IsFor : Codes → Num → Type 0
@@ -35,7 +35,7 @@ codes_call which at vs = from_numbers (taken_of which vs) (units_of which) at vs
 
 -- numbers that a function of the String constructor uses
 abbrev pub GivesNumber : {F : Type 0} → State F → State F → Codes → Result Num Stop → Out Num → Type 0
-GivesNumber a b which r o = Did a b (λ s n. n) (λ s n. IsFor which n) r o
+GivesNumber a b which r o = ComesTo a b (λ s n. n) (λ s n. IsFor which n) r o
 
 abbrev pub GivesNumbers : {F : Type 0} → State F → State F → Codes → Result (Vec Num Global) Stop → Out (List Num) → Type 0
-GivesNumbers a b which r o = Did a b (λ s v. v.items) (λ s v. Every (IsFor which) v.items) r o
+GivesNumbers a b which r o = ComesTo a b (λ s v. v.items) (λ s v. Every (IsFor which) v.items) r o

@@ -26,19 +26,19 @@ list_json limit us = bounded limit (λ n. parts (length us) (list_units us + n))
 
 -- the units of the keys and of all strings of an object, at every level, and how many members it has and elements its arrays
 abbrev mutual
-  pub units_in : Val → ℕ
-  units_in undefined = 0
-  units_in null = 0
-  units_in (bool b) = 0
-  units_in (number n) = 0
-  units_in (text u) = length u
-  units_in (symbol k) = 0
-  units_in (list us) = list_units us
-  units_in (object fs) = field_units fs
+  pub quoted_units : Val → ℕ
+  quoted_units undefined = 0
+  quoted_units null = 0
+  quoted_units (bool b) = 0
+  quoted_units (number n) = 0
+  quoted_units (text u) = length u
+  quoted_units (symbol k) = 0
+  quoted_units (list us) = list_units us
+  quoted_units (object fs) = field_units fs
 
   pub field_units : Fields (List ℕ) → ℕ
   field_units no_fields = 0
-  field_units (field key value rest) = length key + units_in value + field_units rest
+  field_units (field key value rest) = length key + quoted_units value + field_units rest
 
 abbrev mutual
   pub parts_in : Val → ℕ
@@ -56,8 +56,9 @@ abbrev mutual
   field_parts (field key value rest) = suc (parts_in value + field_parts rest)
 
 -- an object ("SerializeJSONObject")
-abbrev pub object_json : ℕ → Fields (List ℕ) → Out Val
-object_json limit fs = bounded limit (λ n. parts (field_parts fs) (field_units fs + n)) (json_of (λ u. u) fs)
+abbrev pub stringified_object : ℕ → Fields (List ℕ) → Out Val
+stringified_object limit fs = bounded limit (λ n. parts (field_parts fs) (field_units fs + n))
+    (json_of (λ u. u) fs)
 
 -- "JSON.stringify" of one value, without more arguments ("SerializeJSONProperty")
 abbrev pub stringify_call : ℕ → Val → Out Val
@@ -68,4 +69,4 @@ stringify_call limit (number n) = as_text limit (whole_or_null n)
 stringify_call limit (text u) = limited limit (length u) (quoted u)
 stringify_call limit (symbol k) = needing (reads 0) undefined
 stringify_call limit (list us) = list_json limit us
-stringify_call limit (object fs) = object_json limit fs
+stringify_call limit (object fs) = stringified_object limit fs

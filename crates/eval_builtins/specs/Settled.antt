@@ -3,7 +3,7 @@ use Rattle.std.specs.Prelude.{ℕ, List, [], ◌∷◌}
 use Rattle.js_store.specs.State.{State, IsSettled}
 use Rattle.js_item.specs.declared.item.Item.{Item}
 use Rattle.js_item.specs.declared.item.Item.TheVariants as item
-use Rattle.js_item.specs.Views.{content}
+use Rattle.js_item.specs.Views.{content_of}
 use Rattle.js_object.specs.Settled.{SettledIn}
 use Rattle.eval_tree.specs.declared.tree.Builtin.{Builtin}
 use Rattle.eval_tree.specs.declared.tree.Builtin.TheVariants.{String, Stringify}
@@ -11,7 +11,7 @@ use Rattle.eval_tree.specs.declared.tree.Builtin.TheVariants.{String, Stringify}
 -- the strings of the first argument, at every level
 abbrev pub FirstSettled : {F R : Type 0} → State F → (R → ℕ) → List (Item R) → Type 0
 FirstSettled s name [] = Unit {0}
-FirstSettled s name (v ∷ vs) = SettledIn s name (content v)
+FirstSettled s name (v ∷ vs) = SettledIn s name (content_of v)
 
 -- the key of a symbol that was made a string
 abbrev pub ShownSettled : {F R : Type 0} → State F → (R → ℕ) → Item R → Type 0

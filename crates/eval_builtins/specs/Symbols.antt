@@ -21,9 +21,9 @@ string_of limit (symbol k) = shown_out limit k
 string_of limit v = as_text limit v
 
 -- `String()` is the empty string
-abbrev pub string_call : ℕ → List Val → Out Val
-string_call limit [] = needing (reads 0) (text [])
-string_call limit (v ∷ vs) = string_of limit v
+abbrev pub string_conversion : ℕ → List Val → Out Val
+string_conversion limit [] = needing (reads 0) (text [])
+string_conversion limit (v ∷ vs) = string_of limit v
 
 -- the one symbol of a key, which is interned
 abbrev pub registered : ℕ → List ℕ → Out Val

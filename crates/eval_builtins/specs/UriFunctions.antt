@@ -1,6 +1,6 @@
 -- The URI handling functions by the code's names of them.
 use Rattle.std.specs.Prelude.{List, ℕ}
-use Rattle.js_uri.specs.Outcome.{Outcome}
+use Rattle.js_uri.specs.Outcome.{UriOutcome}
 use Rattle.js_uri.specs.Encoding.{encoded}
 use Rattle.js_uri.specs.Decoding.{decoded}
 use Rattle.js_uri.specs.Sets.{component_keep, uri_keep, no_hold, uri_hold}
@@ -13,7 +13,7 @@ use Rattle.eval_builtins.specs.declared.uris.UriFunction.{UriFunction}
 use Rattle.eval_builtins.specs.declared.uris.UriFunction.TheVariants.{Encode, EncodeComponent, Decode, DecodeComponent}
 
 -- what a function makes of units
-abbrev pub outcome_of : UriFunction → List ℕ → Outcome
+abbrev pub outcome_of : UriFunction → List ℕ → UriOutcome
 outcome_of Encode us = encoded us uri_keep
 outcome_of EncodeComponent us = encoded us component_keep
 outcome_of Decode us = decoded us uri_hold

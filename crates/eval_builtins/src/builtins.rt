@@ -4,7 +4,7 @@ ghost use Rattle.js_store.specs.State.{Grows};
 ghost use Rattle.js_item.specs.Seen.{seen};
 ghost use Rattle.js_item.specs.Fine.{IsFine};
 ghost use Rattle.eval_values.specs.Seen.{all_seen, AllFine};
-ghost use Rattle.eval_values.specs.Does.{Does};
+ghost use Rattle.eval_values.specs.Does.{GivesValue};
 ghost use Rattle.eval_builtins.specs.Builtins.{built};
 ghost use Rattle.eval_builtins.specs.Settled.{ArgumentsSettled};
 
@@ -31,7 +31,7 @@ pub fn call_builtin<S: Strings>(
     ensures grows { Grows (S.state store.old) (S.state store.new) }
     ensures fine { IfOk result (λ v. IsFine (S.state store.new) S.number v) }
     ensures settled { OnOk result (ArgumentsSettled which (S.state store.new) S.number args.now) }
-    ensures did { Does S.number (S.state store.old) (S.state store.new) result
+    ensures did { GivesValue S.number (S.state store.old) (S.state store.new) result
         (built which at (S.state store.old).limit (all_seen (S.state store.old) S.number args.now)) }
 {
     match which {

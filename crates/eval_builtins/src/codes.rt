@@ -12,7 +12,7 @@ ghost use Rattle.js_texts.specs.Texts.{Every};
 ghost use Rattle.js_item.specs.Fine.{IsFine};
 ghost use Rattle.eval_values.specs.Seen.{all_seen, AllFine};
 ghost use Rattle.eval_builtins.specs.Numbers.{IsFor};
-ghost use Rattle.eval_values.specs.Does.{Does};
+ghost use Rattle.eval_values.specs.Does.{GivesValue};
 ghost use Rattle.eval_builtins.specs.Numbers.{taken_of, units_of, codes_call, GivesNumber, GivesNumbers};
 
 use eval_values::{Kind, Stop, Value, number_of, push};
@@ -38,7 +38,7 @@ pub(crate) fn from_codes<S: Strings>(
     requires { AllFine (S.state store.old) S.number args.now }
     ensures grows { Grows (S.state store.old) (S.state store.new) }
     ensures fine { IfOk result (λ v. IsFine (S.state store.new) S.number v) }
-    ensures did { Does S.number (S.state store.old) (S.state store.new) result
+    ensures did { GivesValue S.number (S.state store.old) (S.state store.new) result
         (codes_call which at (all_seen (S.state store.old) S.number args.now)) }
 {
     if args.len() > 1048576 {
@@ -116,7 +116,7 @@ fn make<S: Strings>(
     requires count { length numbers.now ≤ 1048576 }
     ensures grows { Grows (S.state store.old) (S.state store.new) }
     ensures fine { IfOk result (λ v. IsFine (S.state store.new) S.number v) }
-    ensures did { (vs : List Val) → Does S.number (S.state store.old) (S.state store.new) result
+    ensures did { (vs : List Val) → GivesValue S.number (S.state store.old) (S.state store.new) result
         (made_out vs (units_of which numbers.now)) }
 {
     match which {
@@ -134,7 +134,7 @@ fn from_char_codes<S: Strings>(
     requires count { length codes.now ≤ 1048576 }
     ensures grows { Grows (S.state store.old) (S.state store.new) }
     ensures fine { IfOk result (λ v. IsFine (S.state store.new) S.number v) }
-    ensures did { (vs : List Val) → Does S.number (S.state store.old) (S.state store.new) result
+    ensures did { (vs : List Val) → GivesValue S.number (S.state store.old) (S.state store.new) result
         (made_out vs (map (modulo 65536) codes.now)) }
 {
     let r = js_methods::from_char_code(alloc, store, codes)?;
@@ -150,7 +150,7 @@ fn from_code_points<S: Strings>(
     requires count { length points.now ≤ 1048576 }
     ensures grows { Grows (S.state store.old) (S.state store.new) }
     ensures fine { IfOk result (λ v. IsFine (S.state store.new) S.number v) }
-    ensures did { (vs : List Val) → Does S.number (S.state store.old) (S.state store.new) result
+    ensures did { (vs : List Val) → GivesValue S.number (S.state store.old) (S.state store.new) result
         (made_out vs (code_units_of points.now)) }
 {
     let r = js_methods::from_code_point(alloc, store, points)?;

@@ -5,7 +5,7 @@ ghost use Rattle.js_item.specs.Seen.{seen, says, fields_mapped};
 ghost use Rattle.js_item.specs.Fine.{IsFine, FineFields, strings_of};
 ghost use Rattle.eval_values.specs.Arguments.{first_of};
 ghost use Rattle.eval_values.specs.Seen.{all_seen, AllFine};
-ghost use Rattle.eval_values.specs.Does.{Does};
+ghost use Rattle.eval_values.specs.Does.{GivesValue};
 ghost use Rattle.eval_builtins.specs.Keys.{keys_out, keys_call};
 
 use eval_values::{Kind, Stop, Value};
@@ -23,7 +23,7 @@ pub(crate) fn call_keys<S: Strings>(
     requires { AllFine (S.state store.old) S.number args.now }
     ensures grows { Grows (S.state store.old) (S.state store.new) }
     ensures fine { IfOk result (λ v. IsFine (S.state store.new) S.number v) }
-    ensures did { Does S.number (S.state store.old) (S.state store.new) result
+    ensures did { GivesValue S.number (S.state store.old) (S.state store.new) result
         (keys_call at (first_of (all_seen (S.state store.old) S.number args.now))) }
 {
     match args {
@@ -41,7 +41,7 @@ fn keys_of<S: Strings>(
     requires { IsFine (S.state store.old) S.number value.now }
     ensures grows { Grows (S.state store.old) (S.state store.new) }
     ensures fine { IfOk result (λ v. IsFine (S.state store.new) S.number v) }
-    ensures did { Does S.number (S.state store.old) (S.state store.new) result
+    ensures did { GivesValue S.number (S.state store.old) (S.state store.new) result
         (keys_call at (seen (S.state store.old) S.number value.now)) }
 {
     match value {
@@ -61,7 +61,7 @@ fn give_keys<S: Strings>(
     requires { FineFields (strings_of (S.state store.old)) S.number object.now }
     ensures grows { Grows (S.state store.old) (S.state store.new) }
     ensures fine { IfOk result (λ v. IsFine (S.state store.new) S.number v) }
-    ensures did { Does S.number (S.state store.old) (S.state store.new) result
+    ensures did { GivesValue S.number (S.state store.old) (S.state store.new) result
         (keys_out (fields_mapped (says (S.state store.old) S.number) object.now)) }
 {
     let keys = js_object::own_keys(alloc, store, object)?;

@@ -3,15 +3,15 @@ ghost use Rattle.std.specs.Prelude.{length, IfOk, OnOk};
 ghost use Rattle.js_number.specs.Places.{IsLawful};
 ghost use Rattle.js_store.specs.State.{Grows, IsKnown, IsSettled, text};
 ghost use Rattle.js_json.specs.Quoting.{quoted};
-ghost use Rattle.js_texts.specs.Texts.{texts, AllKnown, AllSettled};
+ghost use Rattle.js_texts.specs.Texts.{known_texts, AllKnown, AllSettled};
 ghost use Rattle.eval_values.specs.Arguments.{first_of};
 ghost use Rattle.eval_values.specs.Limited.{limited};
-ghost use Rattle.eval_builtins.specs.Quoting.{whole_or_null, as_text, list_json, object_json, stringify_call};
+ghost use Rattle.eval_builtins.specs.Quoting.{whole_or_null, as_text, list_json, stringified_object, stringify_call};
 ghost use Rattle.js_item.specs.Seen.{seen, says, fields_mapped};
 ghost use Rattle.js_item.specs.Fine.{IsFine, FineFields, Bounded, strings_of};
 ghost use Rattle.eval_values.specs.Seen.{all_seen, AllFine};
-ghost use Rattle.eval_values.specs.Does.{Does};
-ghost use Rattle.js_item.specs.Views.{content};
+ghost use Rattle.eval_values.specs.Does.{GivesValue};
+ghost use Rattle.js_item.specs.Views.{content_of};
 ghost use Rattle.js_object.specs.Settled.{SettledIn, SettledFields};
 ghost use Rattle.eval_builtins.specs.Settled.{FirstSettled};
 
@@ -31,7 +31,7 @@ pub fn call_stringify<S: Strings>(
     ensures grows { Grows (S.state store.old) (S.state store.new) }
     ensures fine { IfOk result (λ v. IsFine (S.state store.new) S.number v) }
     ensures settled { OnOk result (FirstSettled (S.state store.new) S.number args.now) }
-    ensures did { Does S.number (S.state store.old) (S.state store.new) result
+    ensures did { GivesValue S.number (S.state store.old) (S.state store.new) result
         (stringify_call (S.state store.old).limit
         (first_of (all_seen (S.state store.old) S.number args.now))) }
 {
@@ -49,8 +49,8 @@ fn stringify<S: Strings>(
     requires { IsFine (S.state store.old) S.number value.now }
     ensures grows { Grows (S.state store.old) (S.state store.new) }
     ensures fine { IfOk result (λ v. IsFine (S.state store.new) S.number v) }
-    ensures settled { OnOk result (SettledIn (S.state store.new) S.number (content value.now)) }
-    ensures did { Does S.number (S.state store.old) (S.state store.new) result
+    ensures settled { OnOk result (SettledIn (S.state store.new) S.number (content_of value.now)) }
+    ensures did { GivesValue S.number (S.state store.old) (S.state store.new) result
         (stringify_call (S.state store.old).limit (seen (S.state store.old) S.number value.now)) }
 {
     match value {
@@ -72,7 +72,7 @@ pub fn give_text<S: Strings>(
     requires { IsFine (S.state store.old) S.number value.now }
     ensures grows { Grows (S.state store.old) (S.state store.new) }
     ensures fine { IfOk result (λ v. IsFine (S.state store.new) S.number v) }
-    ensures did { Does S.number (S.state store.old) (S.state store.new) result
+    ensures did { GivesValue S.number (S.state store.old) (S.state store.new) result
         (as_text (S.state store.old).limit (seen (S.state store.old) S.number value.now)) }
 {
     let text = to_text(alloc, store, value)?;
@@ -84,7 +84,7 @@ fn give_number<S: Strings>(alloc: Global, store: &mut S, n: Num) -> Result<Value
     requires { IsLawful n }
     ensures grows { Grows (S.state store.old) (S.state store.new) }
     ensures fine { IfOk result (λ v. IsFine (S.state store.new) S.number v) }
-    ensures did { Does S.number (S.state store.old) (S.state store.new) result
+    ensures did { GivesValue S.number (S.state store.old) (S.state store.new) result
         (as_text (S.state store.old).limit (whole_or_null n)) }
 {
     match n {
@@ -98,7 +98,7 @@ fn give_quoted<S: Strings>(alloc: Global, store: &mut S, s: S::Ref) -> Result<Va
     ensures grows { Grows (S.state store.old) (S.state store.new) }
     ensures fine { IfOk result (λ v. IsFine (S.state store.new) S.number v) }
     ensures settled { OnOk result (IsSettled (S.state store.new) (S.number s)) }
-    ensures did { Does S.number (S.state store.old) (S.state store.new) result
+    ensures did { GivesValue S.number (S.state store.old) (S.state store.new) result
         (limited (S.state store.old).limit (length (text (S.state store.old) (S.number s)))
         (quoted (text (S.state store.old) (S.number s)))) }
 {
@@ -116,8 +116,8 @@ fn give_list<S: Strings>(
     ensures grows { Grows (S.state store.old) (S.state store.new) }
     ensures fine { IfOk result (λ v. IsFine (S.state store.new) S.number v) }
     ensures settled { OnOk result (AllSettled (S.state store.new) S.number list.now) }
-    ensures did { Does S.number (S.state store.old) (S.state store.new) result
-        (list_json (S.state store.old).limit (texts (S.state store.old) S.number list.now)) }
+    ensures did { GivesValue S.number (S.state store.old) (S.state store.new) result
+        (list_json (S.state store.old).limit (known_texts (S.state store.old) S.number list.now)) }
 {
     let r = js_json::stringify_list(alloc, store, list)?;
     Ok(Value::Text(r))
@@ -134,8 +134,8 @@ fn give_object<S: Strings>(
     ensures grows { Grows (S.state store.old) (S.state store.new) }
     ensures fine { IfOk result (λ v. IsFine (S.state store.new) S.number v) }
     ensures settled { OnOk result (SettledFields (S.state store.new) S.number object.now) }
-    ensures did { Does S.number (S.state store.old) (S.state store.new) result
-        (object_json (S.state store.old).limit
+    ensures did { GivesValue S.number (S.state store.old) (S.state store.new) result
+        (stringified_object (S.state store.old).limit
         (fields_mapped (says (S.state store.old) S.number) object.now)) }
 {
     let r = js_object::stringify(alloc, store, object)?;

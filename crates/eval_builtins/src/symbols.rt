@@ -1,6 +1,6 @@
 // Symbols and `String` (ECMA-262, "String ( value )", "Symbol.for", "Symbol.keyFor").
 ghost use Rattle.std.specs.Prelude.{◌≡◌, ◌+◌, ◌++◌, ◌≤◌, ℕ, [], length, IfOk, OnOk};
-ghost use Rattle.js_store.specs.State.{Has, Grows, IsKnown, IsSettled, text};
+ghost use Rattle.js_store.specs.State.{NamesUnits, Grows, IsKnown, IsSettled, text};
 ghost use Rattle.js_store.specs.Rows.{wide_words, flat_words};
 ghost use Rattle.js_store.specs.Faults.{Uses};
 ghost use Rattle.js_texts.specs.Answers.{NeverThrows, full_of};
@@ -11,9 +11,9 @@ ghost use Rattle.eval_values.specs.Need.{reads};
 ghost use Rattle.js_item.specs.Seen.{seen};
 ghost use Rattle.js_item.specs.Fine.{IsFine};
 ghost use Rattle.eval_values.specs.Seen.{all_seen, AllFine};
-ghost use Rattle.eval_values.specs.Does.{Does};
+ghost use Rattle.eval_values.specs.Does.{GivesValue};
 ghost use Rattle.eval_builtins.specs.Settled.{ShownSettled, FirstShownSettled};
-ghost use Rattle.eval_builtins.specs.Symbols.{shown_symbol, shown_out, string_call, registered, string_of as string_out, symbol_for as symbol_out, key_for as key_out};
+ghost use Rattle.eval_builtins.specs.Symbols.{shown_symbol, shown_out, string_conversion, registered, string_of as string_out, symbol_for as symbol_out, key_for as key_out};
 
 use crate::quoting::give_text;
 use eval_values::{Kind, Stop, Value, to_text};
@@ -33,8 +33,8 @@ pub(crate) fn call_string_function<S: Strings>(
     ensures grows { Grows (S.state store.old) (S.state store.new) }
     ensures fine { IfOk result (λ v. IsFine (S.state store.new) S.number v) }
     ensures settled { OnOk result (FirstShownSettled (S.state store.new) S.number args.now) }
-    ensures did { Does S.number (S.state store.old) (S.state store.new) result
-        (string_call (S.state store.old).limit (all_seen (S.state store.old) S.number args.now)) }
+    ensures did { GivesValue S.number (S.state store.old) (S.state store.new) result
+        (string_conversion (S.state store.old).limit (all_seen (S.state store.old) S.number args.now)) }
 {
     match args {
         [first, ..] => string_of(alloc, store, first),
@@ -45,7 +45,7 @@ pub(crate) fn call_string_function<S: Strings>(
 fn give_empty<S: Strings>(store: &mut S) -> Result<Value<S::Ref>, Stop>
     ensures grows { Grows (S.state store.old) (S.state store.new) }
     ensures fine { IfOk result (λ v. IsFine (S.state store.new) S.number v) }
-    ensures did { Does S.number (S.state store.old) (S.state store.new) result
+    ensures did { GivesValue S.number (S.state store.old) (S.state store.new) result
         (needing (reads 0) (Contents.text [])) }
 {
     let r = store.from_units(&[])?;
@@ -61,7 +61,7 @@ fn string_of<S: Strings>(
     ensures grows { Grows (S.state store.old) (S.state store.new) }
     ensures fine { IfOk result (λ v. IsFine (S.state store.new) S.number v) }
     ensures settled { OnOk result (ShownSettled (S.state store.new) S.number value.now) }
-    ensures did { Does S.number (S.state store.old) (S.state store.new) result
+    ensures did { GivesValue S.number (S.state store.old) (S.state store.new) result
         (string_out (S.state store.old).limit (seen (S.state store.old) S.number value.now)) }
 {
     match value {
@@ -82,7 +82,7 @@ fn show_symbol<S: Strings>(alloc: Global, store: &mut S, key: S::Ref) -> Result<
     ensures grows { Grows (S.state store.old) (S.state store.new) }
     ensures fine { IfOk result (λ v. IsFine (S.state store.new) S.number v) }
     ensures settled { OnOk result (IsSettled (S.state store.new) (S.number key)) }
-    ensures did { Does S.number (S.state store.old) (S.state store.new) result
+    ensures did { GivesValue S.number (S.state store.old) (S.state store.new) result
         (shown_out (S.state store.old).limit (text (S.state store.old) (S.number key))) }
 {
     let length = u64::from(store.len(key)) + 8;
@@ -99,7 +99,7 @@ fn give_shown<S: Strings>(alloc: Global, store: &mut S, key: S::Ref) -> Result<V
     ensures grows { Grows (S.state store.old) (S.state store.new) }
     ensures fine { IfOk result (λ v. IsFine (S.state store.new) S.number v) }
     ensures settled { OnOk result (IsSettled (S.state store.new) (S.number key)) }
-    ensures did { Does S.number (S.state store.old) (S.state store.new) result
+    ensures did { GivesValue S.number (S.state store.old) (S.state store.new) result
         (shown_out (S.state store.old).limit (text (S.state store.old) (S.number key))) }
 {
     let r = shown(alloc, store, key)?;
@@ -112,7 +112,8 @@ fn shown<S: Strings>(alloc: Global, store: &mut S, key: S::Ref) -> Result<S::Ref
     requires short { length (shown_symbol (text (S.state store.old) (S.number key))) ≤
         (S.state store.old).limit }
     ensures value { IfOk result
-        (λ r. Has (S.state store.new) (S.number r) (shown_symbol (text (S.state store.old) (S.number key)))) }
+        (λ r. NamesUnits (S.state store.new) (S.number r)
+        (shown_symbol (text (S.state store.old) (S.number key)))) }
     ensures throws { NeverThrows result }
     ensures settled { OnOk result (IsSettled (S.state store.new) (S.number key)) }
     ensures uses { Uses (S.state store.old) (S.state store.new) (full_of result)
@@ -142,7 +143,7 @@ pub(crate) fn call_symbol_for<S: Strings>(
     requires { AllFine (S.state store.old) S.number args.now }
     ensures grows { Grows (S.state store.old) (S.state store.new) }
     ensures fine { IfOk result (λ v. IsFine (S.state store.new) S.number v) }
-    ensures did { Does S.number (S.state store.old) (S.state store.new) result
+    ensures did { GivesValue S.number (S.state store.old) (S.state store.new) result
         (symbol_out (S.state store.old).limit (first_of (all_seen (S.state store.old) S.number args.now))) }
 {
     match args {
@@ -159,7 +160,7 @@ fn symbol_for<S: Strings>(
     requires { IsFine (S.state store.old) S.number value.now }
     ensures grows { Grows (S.state store.old) (S.state store.new) }
     ensures fine { IfOk result (λ v. IsFine (S.state store.new) S.number v) }
-    ensures did { Does S.number (S.state store.old) (S.state store.new) result
+    ensures did { GivesValue S.number (S.state store.old) (S.state store.new) result
         (symbol_out (S.state store.old).limit (seen (S.state store.old) S.number value.now)) }
 {
     let key = to_text(alloc, store, value)?;
@@ -171,7 +172,7 @@ fn register<S: Strings>(store: &mut S, key: S::Ref) -> Result<Value<S::Ref>, Sto
     requires { IsKnown (S.state store.old) (S.number key) }
     ensures grows { Grows (S.state store.old) (S.state store.new) }
     ensures fine { IfOk result (λ v. IsFine (S.state store.new) S.number v) }
-    ensures did { (t : ℕ) → length (text (S.state store.old) (S.number key)) ≤ t + 40 → Does S.number
+    ensures did { (t : ℕ) → length (text (S.state store.old) (S.number key)) ≤ t + 40 → GivesValue S.number
         (S.state store.old) (S.state store.new) result
         (registered t (text (S.state store.old) (S.number key))) }
 {
@@ -186,7 +187,7 @@ pub(crate) fn call_key_for<S: Strings>(
 ) -> Result<Value<S::Ref>, Stop>
     requires { AllFine (S.state store.now) S.number args.now }
     ensures fine { IfOk result (λ v. IsFine (S.state store.now) S.number v) }
-    ensures did { Does S.number (S.state store.now) (S.state store.now) result
+    ensures did { GivesValue S.number (S.state store.now) (S.state store.now) result
         (key_out (first_of (all_seen (S.state store.now) S.number args.now))) }
 {
     match args {
@@ -198,7 +199,7 @@ pub(crate) fn call_key_for<S: Strings>(
 fn key_for<S: Strings>(store: &S, value: &Value<S::Ref>) -> Result<Value<S::Ref>, Stop>
     requires { IsFine (S.state store.now) S.number value.now }
     ensures fine { IfOk result (λ v. IsFine (S.state store.now) S.number v) }
-    ensures did { Does S.number (S.state store.now) (S.state store.now) result
+    ensures did { GivesValue S.number (S.state store.now) (S.state store.now) result
         (key_out (seen (S.state store.now) S.number value.now)) }
 {
     match value {

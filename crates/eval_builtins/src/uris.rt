@@ -4,12 +4,12 @@ ghost use Rattle.js_store.specs.State.{Grows, IsKnown, IsSettled, text};
 ghost use Rattle.js_store.specs.Rows.{wide_words};
 ghost use Rattle.js_store.specs.Faults.{Uses};
 ghost use Rattle.js_texts.specs.Use.{settling};
-ghost use Rattle.js_uri.specs.Answers.{HasOutcome, Throws, full_of, outcome_words};
+ghost use Rattle.js_uri.specs.Answers.{HasUriOutcome, Throws, uri_full_of, outcome_words};
 ghost use Rattle.eval_values.specs.Arguments.{first_of};
 ghost use Rattle.js_item.specs.Seen.{seen};
 ghost use Rattle.js_item.specs.Fine.{IsFine};
 ghost use Rattle.eval_values.specs.Seen.{all_seen, AllFine};
-ghost use Rattle.eval_values.specs.Does.{Does};
+ghost use Rattle.eval_values.specs.Does.{GivesValue};
 ghost use Rattle.eval_builtins.specs.Uris.{uri_call, uri_value};
 ghost use Rattle.eval_builtins.specs.UriFunctions.{outcome_of, uri_stop};
 
@@ -37,7 +37,7 @@ pub(crate) fn call_uri<S: Strings>(
     requires { AllFine (S.state store.old) S.number args.now }
     ensures grows { Grows (S.state store.old) (S.state store.new) }
     ensures fine { IfOk result (λ v. IsFine (S.state store.new) S.number v) }
-    ensures did { Does S.number (S.state store.old) (S.state store.new) result
+    ensures did { GivesValue S.number (S.state store.old) (S.state store.new) result
         (uri_call (outcome_of which) (S.state store.old).limit
         (first_of (all_seen (S.state store.old) S.number args.now))) }
 {
@@ -56,7 +56,7 @@ fn uri_of<S: Strings>(
     requires { IsFine (S.state store.old) S.number value.now }
     ensures grows { Grows (S.state store.old) (S.state store.new) }
     ensures fine { IfOk result (λ v. IsFine (S.state store.new) S.number v) }
-    ensures did { Does S.number (S.state store.old) (S.state store.new) result
+    ensures did { GivesValue S.number (S.state store.old) (S.state store.new) result
         (uri_call (outcome_of which) (S.state store.old).limit
         (seen (S.state store.old) S.number value.now)) }
 {
@@ -75,7 +75,7 @@ fn give_uri<S: Strings>(
     ensures grows { Grows (S.state store.old) (S.state store.new) }
     ensures fine { IfOk result (λ v. IsFine (S.state store.new) S.number v) }
     ensures did { (t : ℕ) → settling (S.state store.old) (S.number s) ≤ wide_words t
-        → Does S.number (S.state store.old) (S.state store.new) result
+        → GivesValue S.number (S.state store.old) (S.state store.new) result
         (uri_value (S.state store.old).limit t (outcome_of which (text (S.state store.old) (S.number s)))) }
 {
     match answer(alloc, store, which, s) {
@@ -103,11 +103,11 @@ fn answer<S: Strings>(
 ) -> Result<S::Ref, UriFault>
     requires { IsKnown (S.state store.old) (S.number s) }
     ensures value { IfOk result
-        (λ r. HasOutcome (S.state store.new) (S.number r)
+        (λ r. HasUriOutcome (S.state store.new) (S.number r)
         (outcome_of which (text (S.state store.old) (S.number s)))) }
     ensures throws { Throws result (S.state store.old).limit
         (outcome_of which (text (S.state store.old) (S.number s))) }
-    ensures uses { Uses (S.state store.old) (S.state store.new) (full_of result) 1
+    ensures uses { Uses (S.state store.old) (S.state store.new) (uri_full_of result) 1
         (settling (S.state store.old) (S.number s) + outcome_words (S.state store.old).limit
         (outcome_of which (text (S.state store.old) (S.number s)))) }
 {

@@ -2,7 +2,7 @@
 use Rattle.std.proofs.Common.{arith, ◌≡◌, ℕ, ◌+◌, ◌≤◌, List, length, subst, false, Result, Ok}
 use Rattle.js_store.specs.State.{State, Grows, text}
 use Rattle.js_store.proofs.Laws.{settle_words_most}
-use Rattle.js_texts.specs.Texts.{texts, AllKnown, settle_most}
+use Rattle.js_texts.specs.Texts.{known_texts, AllKnown, settle_most}
 use Rattle.js_texts.proofs.Lists.{texts_still}
 use Rattle.js_texts.specs.Use.{settling}
 use Rattle.js_item.specs.declared.item.Item.{Item}
@@ -12,25 +12,25 @@ use Rattle.eval_values.specs.Need.{parts, parts_words}
 use Rattle.eval_values.specs.Conversions.{to_string, list_units, all_units, first_text_units}
 use Rattle.eval_values.specs.Arguments.{first_of, is_undefined}
 use Rattle.eval_members.specs.Arrays.{joined_with, join_call}
-use Rattle.eval_values.specs.Does.{Does, GivesText}
+use Rattle.eval_values.specs.Does.{GivesValue, GivesText}
 use Rattle.eval_values.proofs.TextArguments.{text_converts}
 use Rattle.eval_values.proofs.Needs.{some_most, settle_few}
 
 module _ {F R : Type 0} (name : R → ℕ) where
   -- what settling the elements takes, and then the separator, of operands with t units
-  pub join_fits : (a : State F) (rs : List R) (s t : ℕ) → list_units (texts a name rs) + length (text a s) ≤ t + 40 → settle_most a name rs + settling a s ≤ parts_words (length (texts a name rs)) t
-  join_fits a rs s t k = omega (arith, k, some_most (length (texts a name rs)), settle_few a name rs, settle_words_most (a.settled s) (length (text a s)))
+  pub join_fits : (a : State F) (rs : List R) (s t : ℕ) → list_units (known_texts a name rs) + length (text a s) ≤ t + 40 → settle_most a name rs + settling a s ≤ parts_words (length (known_texts a name rs)) t
+  join_fits a rs s t k = omega (arith, k, some_most (length (known_texts a name rs)), settle_few a name rs, settle_words_most (a.settled s) (length (text a s)))
 
-  pub commas_fit : (a : State F) (rs : List R) (t : ℕ) → list_units (texts a name rs) ≤ t → settle_most a name rs + 1 ≤ parts_words (length (texts a name rs)) t
-  commas_fit a rs t k = omega (arith, k, some_most (length (texts a name rs)), settle_few a name rs)
+  pub commas_fit : (a : State F) (rs : List R) (t : ℕ) → list_units (known_texts a name rs) ≤ t → settle_most a name rs + 1 ≤ parts_words (length (known_texts a name rs)) t
+  commas_fit a rs t k = omega (arith, k, some_most (length (known_texts a name rs)), settle_few a name rs)
 
   -- a separator that is given, as a string, and then the elements with it between two
-  pub join_does : (a b c : State F) (rs : List R) (vs : List Val) (w : R) (r : Result (Item R) Stop) → Grows a b → AllKnown a name rs → is_undefined (first_of vs) ≡ false → length (text b (name w)) ≤ first_text_units vs + 40 → GivesText name a b (Ok w) (to_string a.limit (first_of vs)) → ((t : ℕ) → list_units (texts b name rs) + length (text b (name w)) ≤ t + 40 → Does name b c r (joined_with b.limit t (texts b name rs) (text b (name w)))) → Does name a c r (join_call a.limit (texts a name rs) vs)
+  pub join_does : (a b c : State F) (rs : List R) (vs : List Val) (w : R) (r : Result (Item R) Stop) → Grows a b → AllKnown a name rs → is_undefined (first_of vs) ≡ false → length (text b (name w)) ≤ first_text_units vs + 40 → GivesText name a b (Ok w) (to_string a.limit (first_of vs)) → ((t : ℕ) → list_units (known_texts b name rs) + length (text b (name w)) ≤ t + 40 → GivesValue name b c r (joined_with b.limit t (known_texts b name rs) (text b (name w)))) → GivesValue name a c r (join_call a.limit (known_texts a name rs) vs)
   join_does a b c rs vs w r g k e l d f =
-      let same : texts b name rs ≡ texts a name rs = texts_still name a b rs g k in
-      let t : ℕ = list_units (texts a name rs) + first_text_units vs in
-      let fits : list_units (texts b name rs) + length (text b (name w)) ≤ t + 40 = rw same (omega (arith, l)) in
-      let first : Does name b c r (joined_with b.limit t (texts b name rs) (text b (name w))) = f t fits in
-      let second : Does name b c r (joined_with a.limit t (texts b name rs) (text b (name w))) = subst (λ (q : ℕ). Does name b c r (joined_with q t (texts b name rs) (text b (name w)))) g.limit first in
-      let third : Does name b c r (joined_with a.limit t (texts a name rs) (text b (name w))) = subst (λ (q : List (List ℕ)). Does name b c r (joined_with a.limit t q (text b (name w)))) same second in
-      rw e (text_converts name (parts (length (texts a name rs)) (list_units (texts a name rs) + all_units vs)) a b c w r (to_string a.limit (first_of vs)) (λ u. joined_with a.limit t (texts a name rs) u) d third)
+      let same : known_texts b name rs ≡ known_texts a name rs = texts_still name a b rs g k in
+      let t : ℕ = list_units (known_texts a name rs) + first_text_units vs in
+      let fits : list_units (known_texts b name rs) + length (text b (name w)) ≤ t + 40 = rw same (omega (arith, l)) in
+      let first : GivesValue name b c r (joined_with b.limit t (known_texts b name rs) (text b (name w))) = f t fits in
+      let second : GivesValue name b c r (joined_with a.limit t (known_texts b name rs) (text b (name w))) = subst (λ (q : ℕ). GivesValue name b c r (joined_with q t (known_texts b name rs) (text b (name w)))) g.limit first in
+      let third : GivesValue name b c r (joined_with a.limit t (known_texts a name rs) (text b (name w))) = subst (λ (q : List (List ℕ)). GivesValue name b c r (joined_with a.limit t q (text b (name w)))) same second in
+      rw e (text_converts name (parts (length (known_texts a name rs)) (list_units (known_texts a name rs) + all_units vs)) a b c w r (to_string a.limit (first_of vs)) (λ u. joined_with a.limit t (known_texts a name rs) u) d third)

@@ -40,15 +40,15 @@ use Rattle.eval_members.specs.Replacing.{two_text_units, replace_call}
 use Rattle.eval_members.specs.Properties.{plain_property}
 use Rattle.eval_members.specs.Arrays.{list_call, split_call}
 
-abbrev pub length_of : Val → Out Val
-length_of undefined = throwing nothing TypeError
-length_of null = throwing nothing TypeError
-length_of (bool b) = needing nothing undefined
-length_of (number n) = needing nothing undefined
-length_of (text u) = needing nothing (number (Int (pos (length u))))
-length_of (symbol k) = needing nothing undefined
-length_of (list us) = needing nothing (number_of (length us))
-length_of (object fs) = plain_property (codes "length") fs
+abbrev pub length_property : Val → Out Val
+length_property undefined = throwing nothing TypeError
+length_property null = throwing nothing TypeError
+length_property (bool b) = needing nothing undefined
+length_property (number n) = needing nothing undefined
+length_property (text u) = needing nothing (number (Int (pos (length u))))
+length_property (symbol k) = needing nothing undefined
+length_property (list us) = needing nothing (number_of (length us))
+length_property (object fs) = plain_property (codes "length") fs
 
 -- the key of a symbol ("Symbol.prototype.description")
 abbrev pub description_of : Val → Out Val

@@ -12,9 +12,9 @@ abbrev pub maybe_text : Option (List ℕ) → Val
 maybe_text None = undefined
 maybe_text (Some u) = text u
 
-abbrev pub units_in : Option (List ℕ) → ℕ
-units_in None = 0
-units_in (Some u) = length u
+abbrev pub units_of_read : Option (List ℕ) → ℕ
+units_of_read None = 0
+units_of_read (Some u) = length u
 
 abbrev pub maybe_count : Option ℕ → Val
 maybe_count None = undefined
@@ -22,7 +22,8 @@ maybe_count (Some n) = number (Int (pos n))
 
 -- "String.prototype.at": the one unit, or undefined
 abbrev pub at_call : ℕ → List ℕ → Converted Num → Out Val
-at_call t u n = converts (reads t) n (λ k. needing (reads (t + units_in (at_of u k))) (maybe_text (at_of u k)))
+at_call t u n = converts (reads t) n
+    (λ k. needing (reads (t + units_of_read (at_of u k))) (maybe_text (at_of u k)))
 
 -- "String.prototype.charAt": the one unit, or the empty string
 abbrev pub char_at_call : ℕ → List ℕ → Converted Num → Out Val

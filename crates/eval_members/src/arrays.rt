@@ -3,7 +3,7 @@
 ghost use Rattle.std.specs.Prelude.{◌≡◌, ℕ, ◌+◌, ◌≤◌, ◌∷◌, [], length, slice_get, IfOk, OnOk, IfSome};
 ghost use Rattle.js_number.specs.Places.{IsLawful};
 ghost use Rattle.js_store.specs.State.{Grows, IsKnown, IsSettled, text};
-ghost use Rattle.js_texts.specs.Texts.{texts as texts_seen, AllKnown, AllSettled};
+ghost use Rattle.js_texts.specs.Texts.{known_texts as texts_seen, AllKnown, AllSettled};
 ghost use Rattle.eval_values.specs.Conversions.{list_units};
 ghost use Rattle.eval_members.specs.Arrays.{as_number, indexed_text, indexed_list, indexed_other, indexed, joined_with, join_call, list_call};
 ghost use Rattle.eval_members.specs.Reading.{maybe_text};
@@ -11,7 +11,7 @@ ghost use Rattle.eval_members.specs.Settled.{IndexSettles, ListSettled, UnitSett
 ghost use Rattle.js_item.specs.Seen.{seen};
 ghost use Rattle.js_item.specs.Fine.{IsFine};
 ghost use Rattle.eval_values.specs.Seen.{all_seen, AllFine};
-ghost use Rattle.eval_values.specs.Does.{Does};
+ghost use Rattle.eval_values.specs.Does.{GivesValue};
 
 use crate::properties::read_indexed;
 use eval_tree::Method;
@@ -34,7 +34,7 @@ pub fn read_index<S: Strings>(
     ensures fine { IfOk result (λ v. IsFine (S.state store.new) S.number v) }
     ensures settled { OnOk result (IndexSettles (S.state store.old) (S.state store.new) S.number value.now
         (as_number (seen (S.state store.old) S.number index.now))) }
-    ensures did { Does S.number (S.state store.old) (S.state store.new) result
+    ensures did { GivesValue S.number (S.state store.old) (S.state store.new) result
         (indexed at (S.state store.old).limit (seen (S.state store.old) S.number value.now)
         (seen (S.state store.old) S.number index.now)) }
 {
@@ -69,7 +69,8 @@ fn index_number<S: Strings>(_store: &S, index: &Value<S::Ref>) -> Option<Num>
 // A value without elements.
 fn no_element<S: Strings>(_store: &S, at: u32, index: Option<Num>) -> Result<Value<S::Ref>, Stop>
     ensures fine { IfOk result (λ v. IsFine (S.state _store.now) S.number v) }
-    ensures did { Does S.number (S.state _store.now) (S.state _store.now) result (indexed_other at index) }
+    ensures did { GivesValue S.number (S.state _store.now) (S.state _store.now) result
+        (indexed_other at index) }
 {
     match index {
         None => Err(Stop::Unsupported { at }),
@@ -90,7 +91,7 @@ fn unit<S: Strings>(
     ensures fine { IfOk result (λ v. IsFine (S.state store.new) S.number v) }
     ensures settled { OnOk result (UnitSettled (S.state store.new) (S.number s)
         (text (S.state store.old) (S.number s)) index) }
-    ensures did { Does S.number (S.state store.old) (S.state store.new) result
+    ensures did { GivesValue S.number (S.state store.old) (S.state store.new) result
         (indexed_text at (text (S.state store.old) (S.number s)) index) }
 {
     match index {
@@ -114,7 +115,7 @@ fn element<S: Strings>(
 ) -> Result<Value<S::Ref>, Stop>
     requires known { AllKnown (S.state store.now) S.number list.now }
     ensures fine { IfOk result (λ v. IsFine (S.state store.now) S.number v) }
-    ensures did { Does S.number (S.state store.now) (S.state store.now) result
+    ensures did { GivesValue S.number (S.state store.now) (S.state store.now) result
         (indexed_list at (texts_seen (S.state store.now) S.number list.now) index) }
 {
     match index {
@@ -154,7 +155,7 @@ pub fn call_list<S: Strings>(
     ensures grows { Grows (S.state store.old) (S.state store.new) }
     ensures fine { IfOk result (λ v. IsFine (S.state store.new) S.number v) }
     ensures settled { OnOk result (ListSettled method (S.state store.new) S.number list.now) }
-    ensures did { (t : ℕ) → Does S.number (S.state store.old) (S.state store.new) result
+    ensures did { (t : ℕ) → GivesValue S.number (S.state store.old) (S.state store.new) result
         (list_call method at (S.state store.old).limit t (texts_seen (S.state store.old) S.number list.now)
         (all_seen (S.state store.old) S.number args.now)) }
 {
@@ -182,7 +183,7 @@ fn call_join<S: Strings>(
     ensures grows { Grows (S.state store.old) (S.state store.new) }
     ensures fine { IfOk result (λ v. IsFine (S.state store.new) S.number v) }
     ensures settled { OnOk result (AllSettled (S.state store.new) S.number list.now) }
-    ensures did { Does S.number (S.state store.old) (S.state store.new) result
+    ensures did { GivesValue S.number (S.state store.old) (S.state store.new) result
         (join_call (S.state store.old).limit (texts_seen (S.state store.old) S.number list.now)
         (all_seen (S.state store.old) S.number args.now)) }
 {
@@ -202,7 +203,8 @@ fn join_with_commas<S: Strings>(
     ensures grows { Grows (S.state store.old) (S.state store.new) }
     ensures fine { IfOk result (λ v. IsFine (S.state store.new) S.number v) }
     ensures settled { OnOk result (AllSettled (S.state store.new) S.number list.now) }
-    ensures did { (t : ℕ) → list_units (texts_seen (S.state store.old) S.number list.now) ≤ t → Does S.number
+    ensures did { (t : ℕ) → list_units (texts_seen (S.state store.old) S.number list.now) ≤ t
+        → GivesValue S.number
         (S.state store.old) (S.state store.new) result
         (joined_with (S.state store.old).limit t (texts_seen (S.state store.old) S.number list.now)
         (44 ∷ [])) }
@@ -225,7 +227,7 @@ fn join_with<S: Strings>(
     ensures fine { IfOk result (λ v. IsFine (S.state store.new) S.number v) }
     ensures settled { OnOk result (AllSettled (S.state store.new) S.number list.now) }
     ensures did { (t : ℕ) → list_units (texts_seen (S.state store.old) S.number list.now)
-        + length (text (S.state store.old) (S.number sep)) ≤ t + 40 → Does S.number (S.state store.old)
+        + length (text (S.state store.old) (S.number sep)) ≤ t + 40 → GivesValue S.number (S.state store.old)
         (S.state store.new) result
         (joined_with (S.state store.old).limit t (texts_seen (S.state store.old) S.number list.now)
         (text (S.state store.old) (S.number sep))) }

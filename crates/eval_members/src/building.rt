@@ -6,7 +6,7 @@ ghost use Rattle.eval_members.specs.Building.{joined_text, one_joined, concat_ca
 ghost use Rattle.js_item.specs.Seen.{seen};
 ghost use Rattle.js_item.specs.Fine.{IsFine};
 ghost use Rattle.eval_values.specs.Seen.{all_seen, AllFine};
-ghost use Rattle.eval_values.specs.Does.{Does, GivesText};
+ghost use Rattle.eval_values.specs.Does.{GivesValue, GivesText};
 
 use eval_values::{Kind, Stop, Value, to_text};
 use js_store::Strings;
@@ -23,7 +23,7 @@ pub fn call_concat<S: Strings>(
     requires args { AllFine (S.state store.old) S.number args.now }
     ensures grows { Grows (S.state store.old) (S.state store.new) }
     ensures fine { IfOk result (λ v. IsFine (S.state store.new) S.number v) }
-    ensures did { Does S.number (S.state store.old) (S.state store.new) result
+    ensures did { GivesValue S.number (S.state store.old) (S.state store.new) result
         (concat_call (S.state store.old).limit (text (S.state store.old) (S.number s))
         (all_seen (S.state store.old) S.number args.now)) }
 {
@@ -71,7 +71,8 @@ pub fn itself<S: Strings>(store: &mut S, s: S::Ref) -> Result<Value<S::Ref>, Sto
     requires { IsKnown (S.state store.old) (S.number s) }
     ensures grows { Grows (S.state store.old) (S.state store.new) }
     ensures fine { IfOk result (λ v. IsFine (S.state store.new) S.number v) }
-    ensures did { (ids : ℕ) (words : ℕ → ℕ) → Does S.number (S.state store.old) (S.state store.new) result
+    ensures did { (ids : ℕ) (words : ℕ → ℕ)
+        → GivesValue S.number (S.state store.old) (S.state store.new) result
         (within (S.state store.old).limit ids words (text (S.state store.old) (S.number s))) }
 {
     if store.len(s) > store.limit() {

@@ -2,7 +2,7 @@
 ghost use Rattle.std.specs.Prelude.{◌≡◌, ℕ, ◌+◌, ◌*◌, ◌≤◌, length, IfOk, OnOk, IfSome};
 ghost use Rattle.js_number.specs.Places.{IsLawful};
 ghost use Rattle.js_units.specs.Text.{well};
-ghost use Rattle.js_store.specs.State.{Has, Grows, IsKnown, IsSettled, text};
+ghost use Rattle.js_store.specs.State.{NamesUnits, Grows, IsKnown, IsSettled, text};
 ghost use Rattle.js_store.specs.Rows.{wide_words};
 ghost use Rattle.js_store.specs.Faults.{Uses};
 ghost use Rattle.js_texts.specs.Answers.{method_fault_of, ThrowsLong};
@@ -13,7 +13,7 @@ ghost use Rattle.eval_members.specs.Cutting.{cut_call};
 ghost use Rattle.eval_members.specs.Members.{part_of, trimmed_of};
 ghost use Rattle.js_item.specs.Fine.{IsFine};
 ghost use Rattle.eval_values.specs.Seen.{all_seen, AllFine};
-ghost use Rattle.eval_values.specs.Does.{Does};
+ghost use Rattle.eval_values.specs.Does.{GivesValue};
 
 use eval_values::{Stop, Value, first_number, second_or_none};
 use js_number::Num;
@@ -50,7 +50,7 @@ pub fn call_cut<S: Strings>(
     ensures grows { Grows (S.state store.old) (S.state store.new) }
     ensures fine { IfOk result (λ v. IsFine (S.state store.new) S.number v) }
     ensures settled { OnOk result (IsSettled (S.state store.new) (S.number s)) }
-    ensures did { Does S.number (S.state store.old) (S.state store.new) result
+    ensures did { GivesValue S.number (S.state store.old) (S.state store.new) result
         (cut_call (S.state store.old).limit
         (length (text (S.state store.old) (S.number s))
         + all_units (all_seen (S.state store.old) S.number args.now))
@@ -77,7 +77,7 @@ fn give_part<S: Strings>(
     ensures grows { Grows (S.state store.old) (S.state store.new) }
     ensures fine { IfOk result (λ v. IsFine (S.state store.new) S.number v) }
     ensures settled { OnOk result (IsSettled (S.state store.new) (S.number s)) }
-    ensures did { (t : ℕ) → length (text (S.state store.old) (S.number s)) ≤ t → Does S.number
+    ensures did { (t : ℕ) → length (text (S.state store.old) (S.number s)) ≤ t → GivesValue S.number
         (S.state store.old) (S.state store.new) result
         (limited (S.state store.old).limit t
         (part_of cut (text (S.state store.old) (S.number s)) start end)) }
@@ -97,7 +97,7 @@ fn part<S: Strings>(
     requires start { IsLawful start }
     requires end { IfSome end IsLawful }
     ensures value { IfOk result
-        (λ r. Has (S.state store.new) (S.number r)
+        (λ r. NamesUnits (S.state store.new) (S.number r)
         (part_of cut (text (S.state store.old) (S.number s)) start end)) }
     ensures settled { OnOk result (IsSettled (S.state store.new) (S.number s)) }
     ensures throws { ThrowsLong result (S.state store.old).limit
@@ -118,7 +118,7 @@ pub fn call_trim<S: Strings>(store: &mut S, trim: Trim, s: S::Ref) -> Result<Val
     ensures grows { Grows (S.state store.old) (S.state store.new) }
     ensures fine { IfOk result (λ v. IsFine (S.state store.new) S.number v) }
     ensures settled { OnOk result (IsSettled (S.state store.new) (S.number s)) }
-    ensures did { (t : ℕ) → length (text (S.state store.old) (S.number s)) ≤ t → Does S.number
+    ensures did { (t : ℕ) → length (text (S.state store.old) (S.number s)) ≤ t → GivesValue S.number
         (S.state store.old) (S.state store.new) result
         (limited (S.state store.old).limit t (trimmed_of trim (text (S.state store.old) (S.number s)))) }
 {
@@ -129,7 +129,7 @@ pub fn call_trim<S: Strings>(store: &mut S, trim: Trim, s: S::Ref) -> Result<Val
 fn trimmed<S: Strings>(store: &mut S, trim: Trim, s: S::Ref) -> Result<S::Ref, MethodFault>
     requires known { IsKnown (S.state store.old) (S.number s) }
     ensures value { IfOk result
-        (λ r. Has (S.state store.new) (S.number r)
+        (λ r. NamesUnits (S.state store.new) (S.number r)
         (trimmed_of trim (text (S.state store.old) (S.number s)))) }
     ensures settled { OnOk result (IsSettled (S.state store.new) (S.number s)) }
     ensures throws { ThrowsLong result (S.state store.old).limit
@@ -154,7 +154,7 @@ pub fn call_to_well_formed<S: Strings>(
     ensures grows { Grows (S.state store.old) (S.state store.new) }
     ensures fine { IfOk result (λ v. IsFine (S.state store.new) S.number v) }
     ensures settled { OnOk result (IsSettled (S.state store.new) (S.number s)) }
-    ensures did { (t : ℕ) → length (text (S.state store.old) (S.number s)) ≤ t → Does S.number
+    ensures did { (t : ℕ) → length (text (S.state store.old) (S.number s)) ≤ t → GivesValue S.number
         (S.state store.old) (S.state store.new) result
         (limited (S.state store.old).limit t (well (text (S.state store.old) (S.number s)))) }
 {

@@ -6,13 +6,13 @@ ghost use Rattle.eval_values.specs.Need.{reads};
 ghost use Rattle.js_item.specs.Contents;
 ghost use Rattle.js_methods.specs.WellFormed.{all_paired};
 ghost use Rattle.eval_values.specs.Conversions.{all_units};
-ghost use Rattle.eval_members.specs.Members.{length_of, description_of, present as present_out, string_call, called};
+ghost use Rattle.eval_members.specs.Members.{length_property, description_of, present as present_out, string_call, called};
 ghost use Rattle.eval_members.specs.Settled.{StringSettled, CallSettles};
 ghost use Rattle.js_item.specs.Seen.{seen};
 ghost use Rattle.js_item.specs.Fine.{IsFine};
 ghost use Rattle.eval_values.specs.Seen.{all_seen, AllFine};
-ghost use Rattle.eval_values.specs.Ran.{Did};
-ghost use Rattle.eval_values.specs.Does.{Does};
+ghost use Rattle.eval_values.specs.Ran.{ComesTo};
+ghost use Rattle.eval_values.specs.Does.{GivesValue};
 
 use crate::arrays::call_list;
 use crate::building::call_concat;
@@ -42,8 +42,8 @@ pub fn read_length<S: Strings>(store: &mut S, value: &Value<S::Ref>) -> Result<V
     requires { IsFine (S.state store.old) S.number value.now }
     ensures grows { Grows (S.state store.old) (S.state store.new) }
     ensures fine { IfOk result (λ v. IsFine (S.state store.new) S.number v) }
-    ensures did { Does S.number (S.state store.old) (S.state store.new) result
-        (length_of (seen (S.state store.old) S.number value.now)) }
+    ensures did { GivesValue S.number (S.state store.old) (S.state store.new) result
+        (length_property (seen (S.state store.old) S.number value.now)) }
 {
     match value {
         Value::Undefined | Value::Null => Err(Stop::Threw(Kind::TypeError)),
@@ -65,7 +65,7 @@ pub fn read_description<S: Strings>(
     requires { IsFine (S.state store.old) S.number value.now }
     ensures grows { Grows (S.state store.old) (S.state store.new) }
     ensures fine { IfOk result (λ v. IsFine (S.state store.new) S.number v) }
-    ensures did { Does S.number (S.state store.old) (S.state store.new) result
+    ensures did { GivesValue S.number (S.state store.old) (S.state store.new) result
         (description_of (seen (S.state store.old) S.number value.now)) }
 {
     match value {
@@ -78,7 +78,7 @@ pub fn read_description<S: Strings>(
 
 /// TypeError where a value has no members at all.
 pub fn present<S: Strings>(_store: &S, value: &Value<S::Ref>) -> Result<(), Stop>
-    ensures { Did (S.state _store.now) (S.state _store.now) (λ _ u. u) (λ _ _. Unit {0}) result
+    ensures { ComesTo (S.state _store.now) (S.state _store.now) (λ _ u. u) (λ _ _. Unit {0}) result
         (present_out (seen (S.state _store.now) S.number value.now)) }
 {
     match value {
@@ -107,7 +107,7 @@ pub fn call<S: Strings>(
     ensures fine { IfOk result (λ v. IsFine (S.state store.new) S.number v) }
     ensures settled { OnOk result (CallSettles method at (S.state store.old) (S.state store.new) S.number
         value.now (all_seen (S.state store.old) S.number args.now)) }
-    ensures did { Does S.number (S.state store.old) (S.state store.new) result
+    ensures did { GivesValue S.number (S.state store.old) (S.state store.new) result
         (called method at (S.state store.old).limit (seen (S.state store.old) S.number value.now)
         (all_seen (S.state store.old) S.number args.now)) }
 {
@@ -138,7 +138,7 @@ fn call_string<S: Strings>(
     ensures fine { IfOk result (λ v. IsFine (S.state store.new) S.number v) }
     ensures settled { OnOk result (StringSettled method at (S.state store.new) (S.number s)
         (text (S.state store.old) (S.number s)) (all_seen (S.state store.old) S.number args.now)) }
-    ensures did { Does S.number (S.state store.old) (S.state store.new) result
+    ensures did { GivesValue S.number (S.state store.old) (S.state store.new) result
         (string_call method at (S.state store.old).limit
         (length (text (S.state store.old) (S.number s))
         + all_units (all_seen (S.state store.old) S.number args.now))
@@ -179,7 +179,7 @@ fn call_is_well_formed<S: Strings>(store: &mut S, s: S::Ref) -> Result<Value<S::
     ensures grows { Grows (S.state store.old) (S.state store.new) }
     ensures fine { IfOk result (λ v. IsFine (S.state store.new) S.number v) }
     ensures settled { OnOk result (IsSettled (S.state store.new) (S.number s)) }
-    ensures did { (t : ℕ) → length (text (S.state store.old) (S.number s)) ≤ t → Does S.number
+    ensures did { (t : ℕ) → length (text (S.state store.old) (S.number s)) ≤ t → GivesValue S.number
         (S.state store.old) (S.state store.new) result
         (needing (reads t) (Contents.bool (all_paired (text (S.state store.old) (S.number s))))) }
 {

@@ -1,6 +1,6 @@
 // Methods that repeat a string or a filler.
 ghost use Rattle.std.specs.Prelude.{◌≡◌, ◌+◌, ◌∷◌, [], length, IfOk};
-ghost use Rattle.js_store.specs.State.{Has, Grows, IsKnown, text};
+ghost use Rattle.js_store.specs.State.{NamesUnits, Grows, IsKnown, text};
 ghost use Rattle.js_store.specs.Faults.{Uses};
 ghost use Rattle.js_texts.specs.Answers.{method_fault_of, ThrowsLong};
 ghost use Rattle.js_methods.specs.Padding as methods;
@@ -12,7 +12,7 @@ ghost use Rattle.eval_members.specs.Padding.{filled, padded, pad_call, repeat_ca
 ghost use Rattle.eval_members.specs.Members.{padded_of};
 ghost use Rattle.js_item.specs.Fine.{IsFine};
 ghost use Rattle.eval_values.specs.Seen.{all_seen, AllFine};
-ghost use Rattle.eval_values.specs.Does.{Does};
+ghost use Rattle.eval_values.specs.Does.{GivesValue};
 
 use crate::building::itself;
 use eval_values::{Stop, Value, first_number, second_is_missing, second_text};
@@ -38,7 +38,7 @@ pub fn call_repeat<S: Strings>(
     requires args { AllFine (S.state store.old) S.number args.now }
     ensures grows { Grows (S.state store.old) (S.state store.new) }
     ensures fine { IfOk result (λ v. IsFine (S.state store.new) S.number v) }
-    ensures did { Does S.number (S.state store.old) (S.state store.new) result
+    ensures did { GivesValue S.number (S.state store.old) (S.state store.new) result
         (repeat_call (S.state store.old).limit (text (S.state store.old) (S.number s))
         (to_number at (first_of (all_seen (S.state store.old) S.number args.now)))) }
 {
@@ -60,7 +60,7 @@ pub fn call_pad<S: Strings>(
     requires args { AllFine (S.state store.old) S.number args.now }
     ensures grows { Grows (S.state store.old) (S.state store.new) }
     ensures fine { IfOk result (λ v. IsFine (S.state store.new) S.number v) }
-    ensures did { Does S.number (S.state store.old) (S.state store.new) result
+    ensures did { GivesValue S.number (S.state store.old) (S.state store.new) result
         (pad_call (S.state store.old).limit (padded_of pad (text (S.state store.old) (S.number s)))
         (text (S.state store.old) (S.number s))
         (to_number at (first_of (all_seen (S.state store.old) S.number args.now)))
@@ -83,7 +83,7 @@ fn pad_to<S: Strings>(
     requires args { AllFine (S.state store.old) S.number args.now }
     ensures grows { Grows (S.state store.old) (S.state store.new) }
     ensures fine { IfOk result (λ v. IsFine (S.state store.new) S.number v) }
-    ensures did { Does S.number (S.state store.old) (S.state store.new) result
+    ensures did { GivesValue S.number (S.state store.old) (S.state store.new) result
         (padded (S.state store.old).limit (padded_of pad (text (S.state store.old) (S.number s)))
         (text (S.state store.old) (S.number s)) max
         (second_of (all_seen (S.state store.old) S.number args.now))) }
@@ -108,7 +108,7 @@ fn fill<S: Strings>(
     requires args { AllFine (S.state store.old) S.number args.now }
     ensures grows { Grows (S.state store.old) (S.state store.new) }
     ensures fine { IfOk result (λ v. IsFine (S.state store.new) S.number v) }
-    ensures did { Does S.number (S.state store.old) (S.state store.new) result
+    ensures did { GivesValue S.number (S.state store.old) (S.state store.new) result
         (filled (S.state store.old).limit (padded_of pad (text (S.state store.old) (S.number s)))
         (text (S.state store.old) (S.number s)) max
         (second_of (all_seen (S.state store.old) S.number args.now))) }
@@ -129,7 +129,7 @@ fn pad_with_space<S: Strings>(
     requires { IsKnown (S.state store.old) (S.number s) }
     ensures grows { Grows (S.state store.old) (S.state store.new) }
     ensures fine { IfOk result (λ v. IsFine (S.state store.new) S.number v) }
-    ensures did { Does S.number (S.state store.old) (S.state store.new) result
+    ensures did { GivesValue S.number (S.state store.old) (S.state store.new) result
         (within (S.state store.old).limit pad_ids
         (λ _. pad_words (length (text (S.state store.old) (S.number s)) + 1))
         (padded_of pad (text (S.state store.old) (S.number s)) max (32 ∷ []))) }
@@ -146,7 +146,7 @@ fn padded_with_space<S: Strings>(
 ) -> Result<S::Ref, MethodFault>
     requires { IsKnown (S.state store.old) (S.number s) }
     ensures value { IfOk result
-        (λ r. Has (S.state store.new) (S.number r)
+        (λ r. NamesUnits (S.state store.new) (S.number r)
         (padded_of pad (text (S.state store.old) (S.number s)) max (32 ∷ []))) }
     ensures throws { ThrowsLong result (S.state store.old).limit
         (length (padded_of pad (text (S.state store.old) (S.number s)) max (32 ∷ []))) }
@@ -168,7 +168,7 @@ fn pad_with<S: Strings>(
     requires filler_known { IsKnown (S.state store.old) (S.number w) }
     ensures grows { Grows (S.state store.old) (S.state store.new) }
     ensures fine { IfOk result (λ v. IsFine (S.state store.new) S.number v) }
-    ensures did { Does S.number (S.state store.old) (S.state store.new) result
+    ensures did { GivesValue S.number (S.state store.old) (S.state store.new) result
         (within (S.state store.old).limit pad_ids
         (λ _. pad_words
         (length (text (S.state store.old) (S.number s))
@@ -190,14 +190,14 @@ fn padded_with<S: Strings>(
     requires known { IsKnown (S.state store.old) (S.number s) }
     requires filler_known { IsKnown (S.state store.old) (S.number w) }
     ensures value { IfOk result
-        (λ r. Has (S.state store.new) (S.number r)
+        (λ r. NamesUnits (S.state store.new) (S.number r)
         (padded_of pad (text (S.state store.old) (S.number s)) max
         (text (S.state store.old) (S.number w)))) }
     ensures throws { ThrowsLong result (S.state store.old).limit
         (length (padded_of pad (text (S.state store.old) (S.number s)) max
         (text (S.state store.old) (S.number w)))) }
-    ensures uses { Uses (S.state store.old) (S.state store.new) (method_fault_of result) methods.pad_ids
-        (methods.pad_words (length (text (S.state store.old) (S.number w)))) }
+    ensures uses { Uses (S.state store.old) (S.state store.new) (method_fault_of result) methods.pad_used_ids
+        (methods.pad_used_words (length (text (S.state store.old) (S.number w)))) }
 {
     match pad {
         Pad::Start => js_methods::pad_start(store, s, max, w),

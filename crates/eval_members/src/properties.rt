@@ -7,7 +7,7 @@ ghost use Rattle.std.specs.Prelude.{unwrap_or, length};
 ghost use Rattle.js_item.specs.Contents.{undefined};
 ghost use Rattle.eval_values.specs.Outcome.{needing};
 ghost use Rattle.eval_values.specs.Need.{nothing};
-ghost use Rattle.eval_values.specs.Does.{Does, GivesText};
+ghost use Rattle.eval_values.specs.Does.{GivesValue, GivesText};
 ghost use Rattle.eval_members.specs.Properties.{is_inherited, key_out, own, lacking, got, property, plain_property, spelled_property, property_of, keyed, indexed_object};
 
 use eval_values::{Kind, Stop, Value, to_text};
@@ -28,7 +28,7 @@ pub fn read_property<S: Strings>(
     requires { IsFine (S.state store.old) S.number value.now }
     ensures grows { Grows (S.state store.old) (S.state store.new) }
     ensures fine { IfOk result (λ v. IsFine (S.state store.new) S.number v) }
-    ensures did { Does S.number (S.state store.old) (S.state store.new) result
+    ensures did { GivesValue S.number (S.state store.old) (S.state store.new) result
         (property_of at (S.state store.old).limit key.now
         (seen (S.state store.old) S.number value.now)) }
 {
@@ -51,7 +51,7 @@ fn read_spelled<S: Strings>(
     requires bounded { Bounded object.now }
     ensures grows { Grows (S.state store.old) (S.state store.new) }
     ensures fine { IfOk result (λ v. IsFine (S.state store.new) S.number v) }
-    ensures did { Does S.number (S.state store.old) (S.state store.new) result
+    ensures did { GivesValue S.number (S.state store.old) (S.state store.new) result
         (spelled_property at (S.state store.old).limit key.now
         (fields_mapped (says (S.state store.old) S.number) object.now)) }
 {
@@ -75,7 +75,7 @@ pub fn read_indexed<S: Strings>(
     requires index { IsFine (S.state store.old) S.number index.now }
     ensures grows { Grows (S.state store.old) (S.state store.new) }
     ensures fine { IfOk result (λ v. IsFine (S.state store.new) S.number v) }
-    ensures did { Does S.number (S.state store.old) (S.state store.new) result
+    ensures did { GivesValue S.number (S.state store.old) (S.state store.new) result
         (indexed_object at (S.state store.old).limit
         (fields_mapped (says (S.state store.old) S.number) object.now)
         (seen (S.state store.old) S.number index.now)) }
@@ -104,7 +104,7 @@ fn read_keyed<S: Strings>(
     requires index { IsFine (S.state store.old) S.number index.now }
     ensures grows { Grows (S.state store.old) (S.state store.new) }
     ensures fine { IfOk result (λ v. IsFine (S.state store.new) S.number v) }
-    ensures did { Does S.number (S.state store.old) (S.state store.new) result
+    ensures did { GivesValue S.number (S.state store.old) (S.state store.new) result
         (keyed at (S.state store.old).limit
         (fields_mapped (says (S.state store.old) S.number) object.now)
         (seen (S.state store.old) S.number index.now)) }
@@ -125,7 +125,7 @@ fn read_by_text<S: Strings>(
     requires known { IsKnown (S.state store.old) (S.number s) }
     ensures grows { Grows (S.state store.old) (S.state store.new) }
     ensures fine { IfOk result (λ v. IsFine (S.state store.new) S.number v) }
-    ensures did { Does S.number (S.state store.old) (S.state store.new) result
+    ensures did { GivesValue S.number (S.state store.old) (S.state store.new) result
         (property at (text (S.state store.old) (S.number s))
         (fields_mapped (says (S.state store.old) S.number) object.now)) }
 {
@@ -144,7 +144,7 @@ pub fn read_plain<S: Strings>(
     requires short { length key.now ≤ 40 }
     ensures grows { Grows (S.state store.old) (S.state store.new) }
     ensures fine { IfOk result (λ v. IsFine (S.state store.new) S.number v) }
-    ensures did { Does S.number (S.state store.old) (S.state store.new) result
+    ensures did { GivesValue S.number (S.state store.old) (S.state store.new) result
         (plain_property key.now (fields_mapped (says (S.state store.old) S.number) object.now)) }
 {
     let key = intern_units(store, key)?;
@@ -185,7 +185,7 @@ fn read_own<S: Strings>(
     requires key { KeyFine (strings_of (S.state store.old)) (S.number key) }
     ensures grows { Grows (S.state store.old) (S.state store.new) }
     ensures fine { IfOk result (λ v. IsFine (S.state store.new) S.number v) }
-    ensures did { Does S.number (S.state store.old) (S.state store.new) result
+    ensures did { GivesValue S.number (S.state store.old) (S.state store.new) result
         (got at (text (S.state store.old) (S.number key))
         (own (text (S.state store.old) (S.number key))
         (fields_mapped (says (S.state store.old) S.number) object.now))) }
@@ -206,7 +206,7 @@ fn own_or_undefined<S: Strings>(
     requires key { KeyFine (strings_of (S.state store.old)) (S.number key) }
     ensures grows { Grows (S.state store.old) (S.state store.new) }
     ensures fine { IfOk result (λ v. IsFine (S.state store.new) S.number v) }
-    ensures did { Does S.number (S.state store.old) (S.state store.new) result
+    ensures did { GivesValue S.number (S.state store.old) (S.state store.new) result
         (needing nothing (unwrap_or
         (own (text (S.state store.old) (S.number key))
         (fields_mapped (says (S.state store.old) S.number) object.now)) undefined)) }
@@ -227,7 +227,7 @@ fn lack<S: Strings>(
     requires { KeyFine (strings_of (S.state store.old)) (S.number key) }
     ensures grows { Grows (S.state store.old) (S.state store.new) }
     ensures fine { IfOk result (λ v. IsFine (S.state store.new) S.number v) }
-    ensures did { Does S.number (S.state store.old) (S.state store.new) result
+    ensures did { GivesValue S.number (S.state store.old) (S.state store.new) result
         (lacking at (text (S.state store.old) (S.number key))) }
 {
     if store.len(key) > 20 {

@@ -8,7 +8,7 @@ ghost use Rattle.eval_members.specs.Reading.{at_call, char_at_call, char_code_ca
 ghost use Rattle.eval_members.specs.Settled.{NamesPlace};
 ghost use Rattle.js_item.specs.Fine.{IsFine};
 ghost use Rattle.eval_values.specs.Seen.{all_seen, AllFine};
-ghost use Rattle.eval_values.specs.Does.{Does};
+ghost use Rattle.eval_values.specs.Does.{GivesValue};
 
 use eval_values::{Stop, Value, first_number};
 use js_number::Num;
@@ -28,7 +28,7 @@ pub fn call_at<S: Strings>(
     ensures settled { OnOk result (NamesPlace relative_place (text (S.state store.old) (S.number s))
         (to_number at (first_of (all_seen (S.state store.old) S.number args.now)))
         → IsSettled (S.state store.new) (S.number s)) }
-    ensures did { Does S.number (S.state store.old) (S.state store.new) result
+    ensures did { GivesValue S.number (S.state store.old) (S.state store.new) result
         (at_call (length (text (S.state store.old) (S.number s))
         + all_units (all_seen (S.state store.old) S.number args.now))
         (text (S.state store.old) (S.number s))
@@ -55,7 +55,7 @@ pub fn call_char_at<S: Strings>(
     ensures settled { OnOk result (NamesPlace exact_place (text (S.state store.old) (S.number s))
         (to_number at (first_of (all_seen (S.state store.old) S.number args.now)))
         → IsSettled (S.state store.new) (S.number s)) }
-    ensures did { Does S.number (S.state store.old) (S.state store.new) result
+    ensures did { GivesValue S.number (S.state store.old) (S.state store.new) result
         (char_at_call
         (length (text (S.state store.old) (S.number s))
         + all_units (all_seen (S.state store.old) S.number args.now))
@@ -81,7 +81,7 @@ pub fn call_char_code_at<S: Strings>(
     ensures settled { OnOk result (NamesPlace exact_place (text (S.state store.old) (S.number s))
         (to_number at (first_of (all_seen (S.state store.old) S.number args.now)))
         → IsSettled (S.state store.new) (S.number s)) }
-    ensures did { Does S.number (S.state store.old) (S.state store.new) result
+    ensures did { GivesValue S.number (S.state store.old) (S.state store.new) result
         (char_code_call
         (length (text (S.state store.old) (S.number s))
         + all_units (all_seen (S.state store.old) S.number args.now))
@@ -107,7 +107,7 @@ pub fn call_code_point_at<S: Strings>(
     ensures settled { OnOk result (NamesPlace exact_place (text (S.state store.old) (S.number s))
         (to_number at (first_of (all_seen (S.state store.old) S.number args.now)))
         → IsSettled (S.state store.new) (S.number s)) }
-    ensures did { Does S.number (S.state store.old) (S.state store.new) result
+    ensures did { GivesValue S.number (S.state store.old) (S.state store.new) result
         (code_point_call
         (length (text (S.state store.old) (S.number s))
         + all_units (all_seen (S.state store.old) S.number args.now))

@@ -1,6 +1,6 @@
 // Methods that put a template in the place of matches.
 ghost use Rattle.std.specs.Prelude.{◌≡◌, ℕ, ◌+◌, ◌≤◌, length, IfOk, OnOk};
-ghost use Rattle.js_store.specs.State.{Has, Grows, IsKnown, IsSettled, text};
+ghost use Rattle.js_store.specs.State.{NamesUnits, Grows, IsKnown, IsSettled, text};
 ghost use Rattle.js_store.specs.Faults.{Uses};
 ghost use Rattle.js_texts.specs.Answers.{ThrowsLong, full_of};
 ghost use Rattle.js_texts.specs.Use.{settling, made_words};
@@ -11,7 +11,7 @@ ghost use Rattle.eval_members.specs.Members.{replaced_of, match_count};
 ghost use Rattle.js_item.specs.Seen.{seen};
 ghost use Rattle.js_item.specs.Fine.{IsFine};
 ghost use Rattle.eval_values.specs.Seen.{all_seen, AllFine};
-ghost use Rattle.eval_values.specs.Does.{Does};
+ghost use Rattle.eval_values.specs.Does.{GivesValue};
 
 use eval_values::{Stop, Value, to_text};
 use js_store::Strings;
@@ -38,7 +38,7 @@ pub fn call_replace<S: Strings>(
     ensures grows { Grows (S.state store.old) (S.state store.new) }
     ensures fine { IfOk result (λ v. IsFine (S.state store.new) S.number v) }
     ensures settled { OnOk result (IsSettled (S.state store.new) (S.number s)) }
-    ensures did { Does S.number (S.state store.old) (S.state store.new) result
+    ensures did { GivesValue S.number (S.state store.old) (S.state store.new) result
         (replace_call (S.state store.old).limit
         (length (text (S.state store.old) (S.number s))
         + all_units (all_seen (S.state store.old) S.number args.now))
@@ -83,7 +83,7 @@ fn replace_values<S: Strings>(
     ensures settled { OnOk result (IsSettled (S.state store.new) (S.number s)) }
     ensures did { (o m t : ℕ) → length (text (S.state store.old) (S.number s))
         + (text_units (seen (S.state store.old) S.number searched.now)
-        + text_units (seen (S.state store.old) S.number template.now)) ≤ t → Does S.number
+        + text_units (seen (S.state store.old) S.number template.now)) ≤ t → GivesValue S.number
         (S.state store.old) (S.state store.new) result
         (replace_call (S.state store.old).limit o m t
         (match_count replace (text (S.state store.old) (S.number s)))
@@ -114,7 +114,7 @@ fn give_replaced<S: Strings>(
     ensures settled { OnOk result (IsSettled (S.state store.new) (S.number s)) }
     ensures did { (t : ℕ) → length (text (S.state store.old) (S.number s))
         + (length (text (S.state store.old) (S.number w))
-        + length (text (S.state store.old) (S.number template))) ≤ t + 80 → Does S.number
+        + length (text (S.state store.old) (S.number template))) ≤ t + 80 → GivesValue S.number
         (S.state store.old) (S.state store.new) result
         (replacement (S.state store.old).limit t
         (match_count replace (text (S.state store.old) (S.number s))
@@ -138,7 +138,7 @@ fn replaced<S: Strings>(
     requires needle_known { IsKnown (S.state store.old) (S.number w) }
     requires template_known { IsKnown (S.state store.old) (S.number template) }
     ensures value { IfOk result
-        (λ r. Has (S.state store.new) (S.number r)
+        (λ r. NamesUnits (S.state store.new) (S.number r)
         (replaced_of replace (text (S.state store.old) (S.number s))
         (text (S.state store.old) (S.number w)) (text (S.state store.old) (S.number template)))) }
     ensures settled { OnOk result (IsSettled (S.state store.new) (S.number s)) }

@@ -7,16 +7,16 @@ ghost use Rattle.js_store.specs.Faults.{Uses};
 ghost use Rattle.js_texts.specs.Answers.{method_fault_of, NeverThrows};
 ghost use Rattle.js_methods.specs.Searching.{ends_at};
 ghost use Rattle.js_item.specs.Contents;
-ghost use Rattle.js_item.specs.Views.{content};
+ghost use Rattle.js_item.specs.Views.{content_of};
 ghost use Rattle.eval_values.specs.Conversions.{to_number, all_units, first_text_units};
 ghost use Rattle.eval_values.specs.Arguments.{first_of, second_of, end_in};
-ghost use Rattle.eval_members.specs.Searching.{place_number, found, search_call};
+ghost use Rattle.eval_members.specs.Searching.{place_number, search_answer, search_call};
 ghost use Rattle.eval_members.specs.Members.{search_of};
 ghost use Rattle.eval_values.specs.Stops.{converted_of};
 ghost use Rattle.js_item.specs.Seen.{seen};
 ghost use Rattle.js_item.specs.Fine.{IsFine};
 ghost use Rattle.eval_values.specs.Seen.{all_seen, AllFine, LawfulEnd};
-ghost use Rattle.eval_values.specs.Does.{Does};
+ghost use Rattle.eval_values.specs.Does.{GivesValue};
 
 use eval_values::{Abrupt, Stop, Value, first_text, second_number, second_or_none};
 use js_number::Num;
@@ -47,7 +47,7 @@ pub fn call_search<S: Strings>(
     ensures grows { Grows (S.state store.old) (S.state store.new) }
     ensures fine { IfOk result (λ v. IsFine (S.state store.new) S.number v) }
     ensures settled { OnOk result (IsSettled (S.state store.new) (S.number s)) }
-    ensures did { Does S.number (S.state store.old) (S.state store.new) result
+    ensures did { GivesValue S.number (S.state store.old) (S.state store.new) result
         (search_call (S.state store.old).limit
         (length (text (S.state store.old) (S.number s))
         + all_units (all_seen (S.state store.old) S.number args.now))
@@ -77,9 +77,9 @@ fn find<S: Strings>(
     ensures fine { IfOk result (λ v. IsFine (S.state store.new) S.number v) }
     ensures settled { OnOk result (IsSettled (S.state store.new) (S.number s)) }
     ensures did { (t : ℕ) → length (text (S.state store.old) (S.number s))
-        + length (text (S.state store.old) (S.number w)) ≤ t + 40 → Does S.number (S.state store.old)
+        + length (text (S.state store.old) (S.number w)) ≤ t + 40 → GivesValue S.number (S.state store.old)
         (S.state store.new) result
-        (found t (search_of search (text (S.state store.old) (S.number s))
+        (search_answer t (search_of search (text (S.state store.old) (S.number s))
         (text (S.state store.old) (S.number w))) (converted_of place)) }
 {
     let n = place?;
@@ -116,7 +116,7 @@ fn searched<S: Strings>(
 
 // A place as a number, -1 where there is none.
 fn place_value<R>(place: Option<u32>) -> Value<R>
-    ensures value { content result ≡ Contents.number (place_number place) }
+    ensures value { content_of result ≡ Contents.number (place_number place) }
     ensures lawful { IsLawful (place_number place) }
 {
     match place {
@@ -138,7 +138,7 @@ pub fn call_ends_with<S: Strings>(
     ensures grows { Grows (S.state store.old) (S.state store.new) }
     ensures fine { IfOk result (λ v. IsFine (S.state store.new) S.number v) }
     ensures settled { OnOk result (IsSettled (S.state store.new) (S.number s)) }
-    ensures did { Does S.number (S.state store.old) (S.state store.new) result
+    ensures did { GivesValue S.number (S.state store.old) (S.state store.new) result
         (search_call (S.state store.old).limit
         (length (text (S.state store.old) (S.number s))
         + all_units (all_seen (S.state store.old) S.number args.now))
@@ -166,9 +166,9 @@ fn find_end<S: Strings>(
     ensures fine { IfOk result (λ v. IsFine (S.state store.new) S.number v) }
     ensures settled { OnOk result (IsSettled (S.state store.new) (S.number s)) }
     ensures did { (t : ℕ) → length (text (S.state store.old) (S.number s))
-        + length (text (S.state store.old) (S.number w)) ≤ t + 40 → Does S.number (S.state store.old)
+        + length (text (S.state store.old) (S.number w)) ≤ t + 40 → GivesValue S.number (S.state store.old)
         (S.state store.new) result
-        (found t (λ e. Contents.bool
+        (search_answer t (λ e. Contents.bool
         (ends_at (text (S.state store.old) (S.number s)) (text (S.state store.old) (S.number w)) e))
         (converted_of end)) }
 {

@@ -6,7 +6,7 @@ ghost use Rattle.eval_values.specs.Arguments.{first_of, second_of, end_in, is_un
 ghost use Rattle.eval_members.specs.Arrays.{most_parts as most_of, split_into, split_most as split_out, split_call};
 ghost use Rattle.js_item.specs.Fine.{IsFine};
 ghost use Rattle.eval_values.specs.Seen.{all_seen, AllFine};
-ghost use Rattle.eval_values.specs.Does.{Does};
+ghost use Rattle.eval_values.specs.Does.{GivesValue};
 
 use eval_values::{Stop, Value, first_is_missing, first_text, second_or_none};
 use js_number::Num;
@@ -27,7 +27,7 @@ pub fn call_split<S: Strings>(
     ensures fine { IfOk result (λ v. IsFine (S.state store.new) S.number v) }
     ensures settled { OnOk result (is_undefined (first_of (all_seen (S.state store.old) S.number args.now)) ≡ false
         → IsSettled (S.state store.new) (S.number s)) }
-    ensures did { Does S.number (S.state store.old) (S.state store.new) result
+    ensures did { GivesValue S.number (S.state store.old) (S.state store.new) result
         (split_call (S.state store.old).limit (text (S.state store.old) (S.number s))
         (all_seen (S.state store.old) S.number args.now)
         (end_in at (second_of (all_seen (S.state store.old) S.number args.now)))) }
@@ -60,7 +60,7 @@ fn split_most<S: Strings>(
     ensures fine { IfOk result (λ v. IsFine (S.state store.new) S.number v) }
     ensures settled { OnOk result (is_undefined (first_of (all_seen (S.state store.old) S.number args.now)) ≡ false
         → IsSettled (S.state store.new) (S.number s)) }
-    ensures did { Does S.number (S.state store.old) (S.state store.new) result
+    ensures did { GivesValue S.number (S.state store.old) (S.state store.new) result
         (split_out (S.state store.old).limit (text (S.state store.old) (S.number s))
         (all_seen (S.state store.old) S.number args.now) most) }
 {
@@ -81,7 +81,7 @@ fn keep_whole<S: Strings>(
     requires known { IsKnown (S.state store.old) (S.number s) }
     ensures grows { Grows (S.state store.old) (S.state store.new) }
     ensures fine { IfOk result (λ v. IsFine (S.state store.new) S.number v) }
-    ensures did { (t : ℕ) → Does S.number (S.state store.old) (S.state store.new) result
+    ensures did { (t : ℕ) → GivesValue S.number (S.state store.old) (S.state store.new) result
         (split_into t (text (S.state store.old) (S.number s)) most None) }
 {
     let parts = js_replace::split(alloc, store, s, None, most)?;
@@ -103,7 +103,7 @@ fn split_by<S: Strings>(
     ensures fine { IfOk result (λ v. IsFine (S.state store.new) S.number v) }
     ensures settled { OnOk result (IsSettled (S.state store.new) (S.number s)) }
     ensures did { (t : ℕ) → length (text (S.state store.old) (S.number s))
-        + length (text (S.state store.old) (S.number sep)) ≤ t + 40 → Does S.number (S.state store.old)
+        + length (text (S.state store.old) (S.number sep)) ≤ t + 40 → GivesValue S.number (S.state store.old)
         (S.state store.new) result
         (split_into t (text (S.state store.old) (S.number s)) most
         (Some (text (S.state store.old) (S.number sep)))) }

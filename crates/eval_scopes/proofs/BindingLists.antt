@@ -13,7 +13,7 @@ use Rattle.eval_tree.specs.Keys.{key_of}
 use Rattle.eval_scopes.specs.declared.binding_list.Binding.{Binding}
 use Rattle.eval_scopes.specs.Bindings.{Bound, bound_in, is_among}
 use Rattle.eval_scopes.specs.BindingList.{IsBindingList}
-use Rattle.eval_scopes.specs.Index.{few, names_in, IsIndexTo, IsIndex}
+use Rattle.eval_scopes.specs.Index.{few, binding_names, IsIndexTo, IsIndex}
 use Rattle.eval_scopes.specs.Mask.{Marks, MarksTo}
 use Rattle.eval_scopes.specs.Seen.{bound_of, bounds_of, put, IsLeft}
 use Rattle.eval_scopes.proofs.Indexes.{front_get, last_get, index_push, false_unless, names_get, bounds_names, names_put, names_push, none_among}
@@ -78,7 +78,7 @@ module _ {T : Type 0} where
 
   pub set_list : (n : ℕ) (bs cs : List (Binding T)) (i : ℕ) (v : T) (first : List (ℕ × ℕ)) (mask : ℕ) → bounds_of cs ≡ put (bounds_of bs) i v → IsBindingList bs n first mask → IsBindingList cs n first mask
   set_list n bs cs i v first mask e h =
-      let names : names_in (take n cs) ≡ names_in (take n bs) = names_put (take n bs) (take n cs) i v (set_used n bs cs i v e) in
+      let names : binding_names (take n cs) ≡ binding_names (take n bs) = names_put (take n bs) (take n cs) i v (set_used n bs cs i v e) in
       record {
         within = omega (arith, h.within, set_length bs cs i v e);
         index = subst (λ (q : List (List ℕ)). IsIndex first q) (sym names) h.index;
@@ -89,9 +89,9 @@ module _ {T : Type 0} where
   used_within n i all bs v w l = omega (arith, l, ap length v, w, length_taken n all w)
 
   -- one more binding in use
-  pub grown_list : (n : ℕ) (bs cs : List (Binding T)) (x : List ℕ) (first next : List (ℕ × ℕ)) (mask more key : ℕ) → key ≡ key_of x → names_in (take (n + 1) cs) ≡ names_in (take n bs) ++ x ∷ [] → n + 1 ≤ length cs → IsBindingList bs n first mask → ((ns : List (List ℕ)) → n ≤ length ns → IsIndexTo first ns n → IsIndexTo next ns n) → IsSome (lookup (is_at (nat_cmp key)) next) ⊎ (n < few) → Marks more key → ((k : ℕ) → Marks mask k → Marks more k) → IsBindingList cs (n + 1) next more
+  pub grown_list : (n : ℕ) (bs cs : List (Binding T)) (x : List ℕ) (first next : List (ℕ × ℕ)) (mask more key : ℕ) → key ≡ key_of x → binding_names (take (n + 1) cs) ≡ binding_names (take n bs) ++ x ∷ [] → n + 1 ≤ length cs → IsBindingList bs n first mask → ((ns : List (List ℕ)) → n ≤ length ns → IsIndexTo first ns n → IsIndexTo next ns n) → IsSome (lookup (is_at (nat_cmp key)) next) ⊎ (n < few) → Marks more key → ((k : ℕ) → Marks mask k → Marks more k) → IsBindingList cs (n + 1) next more
   grown_list n bs cs x first next mask more key e names w h indexed found here kept =
-      let ns : List (List ℕ) = names_in (take n bs) in
+      let ns : List (List ℕ) = binding_names (take n bs) in
       let many : n ≡ length ns = sym (length-map (take n bs) (λ b. b.name) ∙ length_taken n bs h.within) in
       let old : IsIndexTo first ns n = subst (λ (q : ℕ). IsIndexTo first ns q) (sym many) h.index in
       let new : IsIndex next ns = subst (λ (q : ℕ). IsIndexTo next ns q) many (indexed ns (omega (arith, many)) old) in
@@ -102,10 +102,10 @@ module _ {T : Type 0} where
         marks = subst (λ (q : List (List ℕ)). MarksTo more q (n + 1)) (sym names) (marks_push mask more ns x n many (subst (λ (q : ℕ). Marks more q) e here) kept h.marks);
       }
 
-  pub names_pushed : (n : ℕ) (bs cs : List (Binding T)) (b : Binding T) → take (n + 1) cs ≡ take n bs ++ b ∷ [] → names_in (take (n + 1) cs) ≡ names_in (take n bs) ++ b.name ∷ []
-  names_pushed n bs cs b e = ap names_in e ∙ names_push (take n bs) b
+  pub names_pushed : (n : ℕ) (bs cs : List (Binding T)) (b : Binding T) → take (n + 1) cs ≡ take n bs ++ b ∷ [] → binding_names (take (n + 1) cs) ≡ binding_names (take n bs) ++ b.name ∷ []
+  names_pushed n bs cs b e = ap binding_names e ∙ names_push (take n bs) b
 
-  pub names_bound : (n : ℕ) (bs cs : List (Binding T)) (b : Bound T) → bounds_of (take (n + 1) cs) ≡ bounds_of (take n bs) ++ b ∷ [] → names_in (take (n + 1) cs) ≡ names_in (take n bs) ++ b.name ∷ []
+  pub names_bound : (n : ℕ) (bs cs : List (Binding T)) (b : Bound T) → bounds_of (take (n + 1) cs) ≡ bounds_of (take n bs) ++ b ∷ [] → binding_names (take (n + 1) cs) ≡ binding_names (take n bs) ++ b.name ∷ []
   names_bound n bs cs b e =
       bounds_names (take (n + 1) cs)
       ∙ (ap (λ (q : List (Bound T)). map (λ c. c.name) q) e

@@ -4,7 +4,7 @@ use Rattle.std.specs.Prelude.{OnOk, OnErr, Result, Ok, Err, is_some}
 use Rattle.std.proofs.lemmas.List.{map-append, reverse-append}
 use Rattle.eval_scopes.specs.declared.blocks.Blocks.{Blocks}
 use Rattle.eval_scopes.specs.declared.frames.Frame.{Frame as CodeFrame}
-use Rattle.eval_scopes.specs.Bindings.{Bound, Frame, Bindings, bound_in, changed, is_among, inner_first, look, write, with_bound, inside, declare, all_but_first}
+use Rattle.eval_scopes.specs.Bindings.{Bound, BlockFrame, Bindings, bound_in, changed, is_among, inner_first, look, write, with_bound, inside, declare, all_but_first}
 use Rattle.eval_scopes.specs.Seen.{frame_of, frames_of, outsides_of, hollows, with_hollows, stacked, blocks_of}
 
 abbrev pub hollowed : {T : Type 0} → ℕ → Bindings T → Bindings T
@@ -13,31 +13,31 @@ hollowed n bs = record { blocks = hollows n bs.blocks; top = bs.top }
 abbrev pub spread : {T : Type 0} → List ℕ → Bindings T → Bindings T
 spread ns bs = record { blocks = with_hollows ns bs.blocks; top = bs.top }
 
-look_hollows : {T : Type 0} (n : ℕ) (fs : List (Frame T)) (top : List (Bound T)) (x : List ℕ) → look (hollows n fs) top x ≡ look fs top x
+look_hollows : {T : Type 0} (n : ℕ) (fs : List (BlockFrame T)) (top : List (Bound T)) (x : List ℕ) → look (hollows n fs) top x ≡ look fs top x
 look_hollows zero fs top x = refl
 look_hollows (suc n) fs top x = look_hollows n fs top x
 
-look_with : {T : Type 0} (ns : List ℕ) (fs : List (Frame T)) (top : List (Bound T)) (x : List ℕ) → look (with_hollows ns fs) top x ≡ look fs top x
+look_with : {T : Type 0} (ns : List ℕ) (fs : List (BlockFrame T)) (top : List (Bound T)) (x : List ℕ) → look (with_hollows ns fs) top x ≡ look fs top x
 look_with [] fs top x = refl
 look_with (n ∷ ns) [] top x = refl
 look_with (n ∷ ns) (f ∷ fs) top x = ap (λ q. inner_first (bound_in f.bound x) (is_among f.names x) q) (look_hollows n (with_hollows ns fs) top x ∙ look_with ns fs top x)
 
-write_hollows : {T : Type 0} (n : ℕ) (fs : List (Frame T)) (top : List (Bound T)) (x : List ℕ) (v : T) → write (hollows n fs) top x v ≡ hollowed n (write fs top x v)
+write_hollows : {T : Type 0} (n : ℕ) (fs : List (BlockFrame T)) (top : List (Bound T)) (x : List ℕ) (v : T) → write (hollows n fs) top x v ≡ hollowed n (write fs top x v)
 write_hollows zero fs top x v = refl
 write_hollows (suc n) fs top x v = ap (λ q. inside (record { names = []; bound = [] }) q) (write_hollows n fs top x v)
 
-write_first : {T : Type 0} (t : Bool) (n : ℕ) (ns : List ℕ) (f g : Frame T) (fs : List (Frame T)) (top : List (Bound T)) (w u : Bindings T) → w ≡ hollowed n (spread ns u) → (if t then record { blocks = g ∷ hollows n (with_hollows ns fs); top = top } else inside f w) ≡ spread (n ∷ ns) (if t then record { blocks = g ∷ fs; top = top } else inside f u)
+write_first : {T : Type 0} (t : Bool) (n : ℕ) (ns : List ℕ) (f g : BlockFrame T) (fs : List (BlockFrame T)) (top : List (Bound T)) (w u : Bindings T) → w ≡ hollowed n (spread ns u) → (if t then record { blocks = g ∷ hollows n (with_hollows ns fs); top = top } else inside f w) ≡ spread (n ∷ ns) (if t then record { blocks = g ∷ fs; top = top } else inside f u)
 write_first true n ns f g fs top w u e = refl
 write_first false n ns f g fs top w u e = ap (λ q. inside f q) e
 
-write_with : {T : Type 0} (ns : List ℕ) (fs : List (Frame T)) (top : List (Bound T)) (x : List ℕ) (v : T) → write (with_hollows ns fs) top x v ≡ spread ns (write fs top x v)
+write_with : {T : Type 0} (ns : List ℕ) (fs : List (BlockFrame T)) (top : List (Bound T)) (x : List ℕ) (v : T) → write (with_hollows ns fs) top x v ≡ spread ns (write fs top x v)
 write_with [] fs top x v = refl
 write_with (n ∷ ns) [] top x v = refl
 write_with (n ∷ ns) (f ∷ fs) top x v =
     write_first (is_some (bound_in f.bound x)) n ns f (with_bound f (changed f.bound x v)) fs top (write (hollows n (with_hollows ns fs)) top x v) (write fs top x v)
     (write_hollows n (with_hollows ns fs) top x v ∙ ap (λ q. hollowed n q) (write_with ns fs top x v))
 
-declare_with : {T : Type 0} (ns : List ℕ) (fs : List (Frame T)) (top : List (Bound T)) (b : Bound T) → declare (with_hollows ns fs) top b ≡ spread ns (declare fs top b)
+declare_with : {T : Type 0} (ns : List ℕ) (fs : List (BlockFrame T)) (top : List (Bound T)) (b : Bound T) → declare (with_hollows ns fs) top b ≡ spread ns (declare fs top b)
 declare_with [] fs top b = refl
 declare_with (n ∷ ns) [] top b = refl
 declare_with (n ∷ ns) (f ∷ fs) top b = refl
@@ -71,10 +71,10 @@ stacked_same (Ok v) fs gs e h = tt
 stacked_same (Err s) fs gs e h = ap (λ q. with_hollows q (frames_of gs)) e ∙ ap (λ q. with_hollows (outsides_of fs) q) h
 
 -- the innermost block, which has a frame or none
-pub hollow_more : {T : Type 0} (n m : ℕ) (fs : List (Frame T)) → m ≡ n + 1 → hollows m fs ≡ record { names = []; bound = [] } ∷ hollows n fs
+pub hollow_more : {T : Type 0} (n m : ℕ) (fs : List (BlockFrame T)) → m ≡ n + 1 → hollows m fs ≡ record { names = []; bound = [] } ∷ hollows n fs
 hollow_more n m fs e =
     let s : m ≡ suc n = omega (arith, e) in
     ap (λ q. hollows q fs) s
 
-pub hollow_less : {T : Type 0} (n m : ℕ) (fs : List (Frame T)) → m ≡ n + 1 → hollows n fs ≡ all_but_first (hollows m fs)
+pub hollow_less : {T : Type 0} (n m : ℕ) (fs : List (BlockFrame T)) → m ≡ n + 1 → hollows n fs ≡ all_but_first (hollows m fs)
 hollow_less n m fs e = sym (ap all_but_first (hollow_more n m fs e))

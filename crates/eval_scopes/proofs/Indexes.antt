@@ -11,7 +11,7 @@ use Rattle.eval_tree.specs.Keys.{key_of}
 use Rattle.eval_scopes.specs.declared.binding_list.Binding.{Binding}
 use Rattle.eval_scopes.specs.Bindings.{Bound, bound_in, is_among}
 use Rattle.eval_scopes.specs.Seen.{bounds_of, put, IsAt}
-use Rattle.eval_scopes.specs.Index.{few, names_in, NoneBefore, StandFrom, IsIndexTo, IsIndex, NoneAmong, NoneNamed}
+use Rattle.eval_scopes.specs.Index.{few, binding_names, NoneBefore, StandFrom, IsIndexTo, IsIndex, NoneAmong, NoneNamed}
 use Rattle.eval_scopes.proofs.Places.{none_at, get_at}
 
 -- a place that has a name
@@ -100,39 +100,39 @@ pub name_found : (ns : List (List ℕ)) (x n : List ℕ) (i : ℕ) → i < lengt
 name_found ns x n i l p e = among_at ns x n i (get_at ns i n l p) e
 
 -- the names of bindings
-pub names_get : {T : Type 0} (bs : List (Binding T)) (j : ℕ) (c : Binding T) → slice_get bs j ≡ Some c → slice_get (names_in bs) j ≡ Some c.name
+pub names_get : {T : Type 0} (bs : List (Binding T)) (j : ℕ) (c : Binding T) → slice_get bs j ≡ Some c → slice_get (binding_names bs) j ≡ Some c.name
 names_get [] j c e = cc
 names_get {T} (b ∷ bs) zero c e = ap (λ (o : Option (Binding T)). option_map (λ d. d.name) o) e
 names_get (b ∷ bs) (suc j) c e = names_get bs j c e
 
-named_get : {T : Type 0} (bs : List (Binding T)) (j : ℕ) (n : List ℕ) → slice_get (names_in bs) j ≡ Some n → (c : Binding T) × (slice_get bs j ≡ Some c) × (c.name ≡ n)
+named_get : {T : Type 0} (bs : List (Binding T)) (j : ℕ) (n : List ℕ) → slice_get (binding_names bs) j ≡ Some n → (c : Binding T) × (slice_get bs j ≡ Some c) × (c.name ≡ n)
 named_get [] j n e = cc
 named_get (b ∷ bs) zero n e = (b, refl, cc e)
 named_get (b ∷ bs) (suc j) n e = named_get bs j n e
 
-pub among_names : {T : Type 0} (bs : List (Binding T)) (x : List ℕ) (i : ℕ) → NoneNamed bs x i → NoneAmong (names_in bs) x i
+pub among_names : {T : Type 0} (bs : List (Binding T)) (x : List ℕ) (i : ℕ) → NoneNamed bs x i → NoneAmong (binding_names bs) x i
 among_names bs x i h = λ j n l e. let t = named_get bs j n e in subst (λ (q : List ℕ). bytes_eq q x ≡ false) t.2 (h j t.0 l t.1)
 
-pub named_among : {T : Type 0} (bs : List (Binding T)) (x : List ℕ) (i : ℕ) → NoneAmong (names_in bs) x i → NoneNamed bs x i
+pub named_among : {T : Type 0} (bs : List (Binding T)) (x : List ℕ) (i : ℕ) → NoneAmong (binding_names bs) x i → NoneNamed bs x i
 named_among bs x i h = λ j c l e. h j c.name l (names_get bs j c e)
 
-pub few_names : {T : Type 0} (bs : List (Binding T)) (f : ℕ) → f ≡ min few (length bs) → f ≡ min few (length (names_in bs))
+pub few_names : {T : Type 0} (bs : List (Binding T)) (f : ℕ) → f ≡ min few (length bs) → f ≡ min few (length (binding_names bs))
 few_names bs f e = e ∙ ap (λ q. min few q) (sym (length-map bs (λ b. b.name)))
 
-pub binding_start : {T : Type 0} (first : List (ℕ × ℕ)) (bs : List (Binding T)) (x : List ℕ) (k f i : ℕ) → k ≡ key_of x → f ≡ min few (length bs) → NoneNamed bs x f → IsIndex first (names_in bs) → Some i ≡ lookup (is_at (nat_cmp k)) first → NoneNamed bs x i
-binding_start first bs x k f i e m h b s = named_among bs x i (start_at first (names_in bs) x k f i e (few_names bs f m) (among_names bs x f h) b s)
+pub binding_start : {T : Type 0} (first : List (ℕ × ℕ)) (bs : List (Binding T)) (x : List ℕ) (k f i : ℕ) → k ≡ key_of x → f ≡ min few (length bs) → NoneNamed bs x f → IsIndex first (binding_names bs) → Some i ≡ lookup (is_at (nat_cmp k)) first → NoneNamed bs x i
+binding_start first bs x k f i e m h b s = named_among bs x i (start_at first (binding_names bs) x k f i e (few_names bs f m) (among_names bs x f h) b s)
 
 pub found_or_none : {T : Type 0} (r : Option ℕ) (bs : List (Binding T)) (x : List ℕ) (n : ℕ) → n ≡ length bs → MatchOption r (NoneNamed bs x n) (λ i. IsAt (bounds_of bs) x i) → MatchOption r (bound_in (bounds_of bs) x ≡ None) (λ i. IsAt (bounds_of bs) x i)
 found_or_none None bs x n e h = none_at bs x (subst (λ (q : ℕ). NoneNamed bs x q) e h)
 found_or_none (Some i) bs x n e h = h
 
-pub no_binding_start : {T : Type 0} (first : List (ℕ × ℕ)) (bs : List (Binding T)) (x : List ℕ) (k f : ℕ) → k ≡ key_of x → f ≡ min few (length bs) → NoneNamed bs x f → IsIndex first (names_in bs) → None ≡ lookup (is_at (nat_cmp k)) first → bound_in (bounds_of bs) x ≡ None
+pub no_binding_start : {T : Type 0} (first : List (ℕ × ℕ)) (bs : List (Binding T)) (x : List ℕ) (k f : ℕ) → k ≡ key_of x → f ≡ min few (length bs) → NoneNamed bs x f → IsIndex first (binding_names bs) → None ≡ lookup (is_at (nat_cmp k)) first → bound_in (bounds_of bs) x ≡ None
 no_binding_start first bs x k f e m h b s =
-    let none : NoneAmong (names_in bs) x (length (names_in bs)) = no_start_at first (names_in bs) x k f e (few_names bs f m) (among_names bs x f h) b s in
-    none_at bs x (named_among bs x (length bs) (subst (λ (q : ℕ). NoneAmong (names_in bs) x q) (length-map bs (λ b. b.name)) none))
+    let none : NoneAmong (binding_names bs) x (length (binding_names bs)) = no_start_at first (binding_names bs) x k f e (few_names bs f m) (among_names bs x f h) b s in
+    none_at bs x (named_among bs x (length bs) (subst (λ (q : ℕ). NoneAmong (binding_names bs) x q) (length-map bs (λ b. b.name)) none))
 
 -- another value for a binding changes no name
-pub bounds_names : {T : Type 0} (bs : List (Binding T)) → names_in bs ≡ map (λ b. b.name) (bounds_of bs)
+pub bounds_names : {T : Type 0} (bs : List (Binding T)) → binding_names bs ≡ map (λ b. b.name) (bounds_of bs)
 bounds_names [] = refl
 bounds_names (b ∷ bs) = ap (λ q. b.name ∷ q) (bounds_names bs)
 
@@ -141,8 +141,8 @@ put_names [] i v = refl
 put_names (b ∷ bs) zero v = refl
 put_names (b ∷ bs) (suc i) v = ap (λ q. b.name ∷ q) (put_names bs i v)
 
-pub names_put : {T : Type 0} (bs cs : List (Binding T)) (i : ℕ) (v : T) → bounds_of cs ≡ put (bounds_of bs) i v → names_in cs ≡ names_in bs
+pub names_put : {T : Type 0} (bs cs : List (Binding T)) (i : ℕ) (v : T) → bounds_of cs ≡ put (bounds_of bs) i v → binding_names cs ≡ binding_names bs
 names_put {T} bs cs i v e = bounds_names cs ∙ (ap (λ (q : List (Bound T)). map (λ b. b.name) q) e ∙ (put_names (bounds_of bs) i v ∙ sym (bounds_names bs)))
 
-pub names_push : {T : Type 0} (bs : List (Binding T)) (b : Binding T) → names_in (bs ++ b ∷ []) ≡ names_in bs ++ b.name ∷ []
+pub names_push : {T : Type 0} (bs : List (Binding T)) (b : Binding T) → binding_names (bs ++ b ∷ []) ≡ binding_names bs ++ b.name ∷ []
 names_push bs b = map-append (λ c. c.name) bs (b ∷ [])

@@ -9,8 +9,8 @@ use Rattle.std.specs.Prelude.{OnOk, OnErr, Result, Ok, Err}
 use Rattle.eval_scopes.specs.declared.frames.Frame.{Frame as CodeFrame}
 use Rattle.eval_scopes.specs.declared.scope.Scope.{Scope}
 use Rattle.eval_scopes.specs.declared.scope.Place.TheVariants.{Top, Block}
-use Rattle.eval_scopes.specs.Bindings.{Bound, Frame, Bindings, bound_in, changed, is_among, look, write, with_bound, inside, declare}
-use Rattle.eval_scopes.specs.Seen.{bound_of, bounds_of, names_of, frame_of, frames_of, outsides_of, blocks_of, IsPlace, IsAt, put, put_in, got, InBlock}
+use Rattle.eval_scopes.specs.Bindings.{Bound, BlockFrame, Bindings, bound_in, changed, is_among, look, write, with_bound, inside, declare}
+use Rattle.eval_scopes.specs.Seen.{bound_of, bounds_of, frame_names, frame_of, frames_of, outsides_of, blocks_of, IsPlace, IsAt, put, put_in, frame_bound, InBlock}
 use Rattle.eval_scopes.proofs.Hollows.{hollowed, spread, look_blocks, write_blocks}
 
 front : {T : Type 0} (b : Bound T) (bs : List (Bound T)) (x : List ℕ) → bytes_eq b.name x ≡ true → IsAt (b ∷ bs) x 0
@@ -61,8 +61,8 @@ frame_get [] k f l p = absurd (omega (arith, l))
 frame_get (g ∷ fs) zero f l p = cc p
 frame_get (g ∷ fs) (suc k) f l p = frame_get fs k f (omega (arith, l)) p
 
-pub got_block : {T : Type 0} (fs : List (CodeFrame T)) (k i : ℕ) (f : CodeFrame T) (b : Binding T) → InBlock fs k i → f ≡ get_or fs k f → b ≡ get_or f.bound i b → Some (bound_of b) ≡ got (slice_get (map frame_of fs) k) i
-got_block fs k i f b h p q = sym (ap (λ o. got o i) (frame_get fs k f (in_block fs k i h) p) ∙ bound_get f.bound i b (at_block fs k i f h p) q)
+pub got_block : {T : Type 0} (fs : List (CodeFrame T)) (k i : ℕ) (f : CodeFrame T) (b : Binding T) → InBlock fs k i → f ≡ get_or fs k f → b ≡ get_or f.bound i b → Some (bound_of b) ≡ frame_bound (slice_get (map frame_of fs) k) i
+got_block fs k i f b h p q = sym (ap (λ o. frame_bound o i) (frame_get fs k f (in_block fs k i h) p) ∙ bound_get f.bound i b (at_block fs k i f h p) q)
 
 -- a list around one of its elements
 pub put_in_set : {T : Type 0} (fs : List (CodeFrame T)) (k i : ℕ) (v : T) (f g : CodeFrame T) → k < length fs → f ≡ get_or fs k f → g.names ≡ f.names → bounds_of g.bound ≡ put (bounds_of f.bound) i v → map frame_of (set fs k g) ≡ put_in (map frame_of fs) k i v
@@ -117,7 +117,7 @@ declare_last fs k f g top b l p m e =
     ap (λ q. record { blocks = q; top = top }) (new ∙ ap (λ q. q ∷ frames_of (take k fs)) one) ∙ ap (λ q. declare q top b) (sym old)
 
 -- blocks in front of a scope
-abbrev pub with_front : {T : Type 0} → List (Frame T) → Bindings T → Bindings T
+abbrev pub with_front : {T : Type 0} → List (BlockFrame T) → Bindings T → Bindings T
 with_front fs bs = record { blocks = fs ++ bs.blocks; top = bs.top }
 
 -- the name is sought in the first n blocks and the top
@@ -147,7 +147,7 @@ module _ {T : Type 0} (fs : List (CodeFrame T)) (top : List (Bound T)) (x : List
   dropped = ap frames_of (drop_split fs k f l p) ∙ frames_split [] (drop (suc k) fs) f
 
   -- the block says nothing of the name
-  pub sought_on : Sought fs top x (suc k) → bound_in (bounds_of f.bound) x ≡ None → is_among (names_of f) x ≡ false → Sought fs top x k
+  pub sought_on : Sought fs top x (suc k) → bound_in (bounds_of f.bound) x ≡ None → is_among (frame_names f) x ≡ false → Sought fs top x k
   sought_on h e d =
       let one : look (frame_of f ∷ frames_of (take k fs)) top x ≡ look (frames_of (take k fs)) top x = rw (e, d) refl in
       record {
@@ -161,18 +161,18 @@ module _ {T : Type 0} (fs : List (CodeFrame T)) (top : List (Bound T)) (x : List
       }
 
   -- the block declares the name, which was not evaluated
-  pub sought_unset : Sought fs top x (suc k) → bound_in (bounds_of f.bound) x ≡ None → is_among (names_of f) x ≡ true → look (frames_of fs) top x ≡ None
+  pub sought_unset : Sought fs top x (suc k) → bound_in (bounds_of f.bound) x ≡ None → is_among (frame_names f) x ≡ true → look (frames_of fs) top x ≡ None
   sought_unset h e d =
       let one : look (frame_of f ∷ frames_of (take k fs)) top x ≡ None = rw (e, d) refl in
       sym h.looks ∙ (ap (λ q. look q top x) taken ∙ one)
 
   -- the block has it
-  sought_block : (i : ℕ) → Sought fs top x (suc k) → IsAt (bounds_of f.bound) x i → (look (frames_of fs) top x ≡ got (slice_get (map frame_of fs) k) i) × ((v : T) → write (frames_of fs) top x v ≡ record { blocks = reverse (put_in (map frame_of fs) k i v); top = top })
+  sought_block : (i : ℕ) → Sought fs top x (suc k) → IsAt (bounds_of f.bound) x i → (look (frames_of fs) top x ≡ frame_bound (slice_get (map frame_of fs) k) i) × ((v : T) → write (frames_of fs) top x v ≡ record { blocks = reverse (put_in (map frame_of fs) k i v); top = top })
   sought_block i h a =
       let t = some_at (bounds_of f.bound) i a.within in
       let e : bound_in (bounds_of f.bound) x ≡ Some t.0 = a.reads ∙ t.1 in
       let one : look (frame_of f ∷ frames_of (take k fs)) top x ≡ Some t.0 = rw e refl in
-      let there : got (slice_get (map frame_of fs) k) i ≡ Some t.0 = ap (λ o. got o i) (frame_get fs k f l p) ∙ t.1 in (
+      let there : frame_bound (slice_get (map frame_of fs) k) i ≡ Some t.0 = ap (λ o. frame_bound o i) (frame_get fs k f l p) ∙ t.1 in (
         sym h.looks ∙ (ap (λ q. look q top x) taken ∙ (one ∙ sym there)),
         λ v.
             let two : write (frame_of f ∷ frames_of (take k fs)) top x v ≡ record { blocks = with_bound (frame_of f) (changed (bounds_of f.bound) x v) ∷ frames_of (take k fs); top = top } = rw e refl in

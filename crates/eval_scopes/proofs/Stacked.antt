@@ -4,7 +4,7 @@ use Rattle.std.specs.Prelude.{OnOk, OnErr, Result}
 use Rattle.std.proofs.lemmas.Slice.Eq.{bytes_eq-Decides}
 use Rattle.eval_scopes.specs.declared.binding_list.Binding.{Binding}
 use Rattle.eval_scopes.specs.declared.frames.Frame.{Frame as CodeFrame}
-use Rattle.eval_scopes.specs.Bindings.{Bound, Frame, declare, all_but_first}
+use Rattle.eval_scopes.specs.Bindings.{Bound, BlockFrame, declare, all_but_first}
 use Rattle.eval_scopes.specs.Seen.{bounds_of, frame_of, frames_of, outsides_of, hollows, with_hollows, stacked, put_in, InBlock, IsOnly}
 use Rattle.eval_scopes.proofs.Hollows.{stacked_behind, stacked_declared, stacked_same}
 use Rattle.eval_scopes.proofs.Places.{take_split, declare_on, declare_kept}
@@ -44,7 +44,7 @@ in_taken (suc n) [] k i h = absurd h
 in_taken (suc n) (f ∷ fs) zero i h = h
 in_taken (suc n) (f ∷ fs) (suc k) i h = in_taken n fs k i h
 
-put_taken : {T : Type 0} (n : ℕ) (fs : List (Frame T)) (k i : ℕ) (v : T) → take n (put_in fs k i v) ≡ put_in (take n fs) k i v
+put_taken : {T : Type 0} (n : ℕ) (fs : List (BlockFrame T)) (k i : ℕ) (v : T) → take n (put_in fs k i v) ≡ put_in (take n fs) k i v
 put_taken zero fs k i v = refl
 put_taken (suc n) [] k i v = refl
 put_taken (suc n) (f ∷ fs) zero i v = refl
@@ -88,13 +88,13 @@ set_next [] k y l = absurd (omega (arith, l))
 set_next (x ∷ xs) zero y l = refl
 set_next (x ∷ xs) (suc k) y l = ap (λ q. x ∷ q) (set_next xs k y (omega (arith, l)))
 
-pub entered_on : {T : Type 0} (fs : List (CodeFrame T)) (k : ℕ) (g : CodeFrame T) (f : Frame T) (n : ℕ) → k < length fs → frame_of g ≡ f → g.outside ≡ n → stacked (take (k + 1) (set fs k g)) ≡ f ∷ hollows n (stacked (take k fs))
+pub entered_on : {T : Type 0} (fs : List (CodeFrame T)) (k : ℕ) (g : CodeFrame T) (f : BlockFrame T) (n : ℕ) → k < length fs → frame_of g ≡ f → g.outside ≡ n → stacked (take (k + 1) (set fs k g)) ≡ f ∷ hollows n (stacked (take k fs))
 entered_on {T} fs k g f n l e o =
     let m : k + 1 ≡ suc k = omega arith in
     ap (λ (q : ℕ). stacked (take q (set fs k g))) m
     ∙ (ap stacked (set_next fs k g l)
     ∙ (stacked_behind (take k fs) g
-    ∙ (ap (λ (q : Frame T). q ∷ hollows g.outside (stacked (take k fs))) e ∙ ap (λ q. f ∷ hollows q (stacked (take k fs))) o)))
+    ∙ (ap (λ (q : BlockFrame T). q ∷ hollows g.outside (stacked (take k fs))) e ∙ ap (λ q. f ∷ hollows q (stacked (take k fs))) o)))
 
 -- the innermost block that has a frame is left
 pub left_one : {T : Type 0} (fs : List (CodeFrame T)) (n : ℕ) (f : CodeFrame T) → 0 < n → n ≤ length fs → f ≡ get_or fs (n - 1) f → hollows f.outside (stacked (take (n - 1) fs)) ≡ all_but_first (stacked (take n fs))

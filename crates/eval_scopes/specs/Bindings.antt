@@ -10,13 +10,13 @@ pub record Bound (V : Type 0) : Type 0 where
 
 -- a block that was entered: the names that it declares, and those that were evaluated. A name that was not
 -- evaluated yet hides one further out.
-pub record Frame (V : Type 0) : Type 0 where
+pub record BlockFrame (V : Type 0) : Type 0 where
   pub names : List (List ℕ)
   pub bound : List (Bound V)
 
 -- at the top a name that was not evaluated is as one that nothing declares, so its names aren't kept
 pub record Bindings (V : Type 0) : Type 0 where
-  pub blocks : List (Frame V)
+  pub blocks : List (BlockFrame V)
   pub top : List (Bound V)
 
 -- the first binding with this name, if there is one
@@ -35,7 +35,7 @@ inner_first (Some b) declared outer = Some b
 inner_first None declared outer = if declared then None else outer
 
 -- the innermost block that declares a name has its value, if it was evaluated
-abbrev pub look : {V : Type 0} → List (Frame V) → List (Bound V) → List ℕ → Option (Bound V)
+abbrev pub look : {V : Type 0} → List (BlockFrame V) → List (Bound V) → List ℕ → Option (Bound V)
 look [] top x = bound_in top x
 look (f ∷ fs) top x = inner_first (bound_in f.bound x) (is_among f.names x) (look fs top x)
 
@@ -53,16 +53,16 @@ changed [] x v = []
 changed (b ∷ bs) x v = if bytes_eq b.name x then with_value b v ∷ bs else b ∷ changed bs x v
 
 -- the block with other bindings in the place of its own
-abbrev pub with_bound : {V : Type 0} → Frame V → List (Bound V) → Frame V
+abbrev pub with_bound : {V : Type 0} → BlockFrame V → List (Bound V) → BlockFrame V
 with_bound f bs = record { names = f.names; bound = bs }
 
 -- a block before the others, as the innermost
-abbrev pub inside : {V : Type 0} → Frame V → Bindings V → Bindings V
+abbrev pub inside : {V : Type 0} → BlockFrame V → Bindings V → Bindings V
 inside f bs = record { blocks = f ∷ bs.blocks; top = bs.top }
 
 -- another value where the name is first bound, from the innermost block to the top; no change where it isn't
 -- bound
-abbrev pub write : {V : Type 0} → List (Frame V) → List (Bound V) → List ℕ → V → Bindings V
+abbrev pub write : {V : Type 0} → List (BlockFrame V) → List (Bound V) → List ℕ → V → Bindings V
 write [] top x v = record { blocks = []; top = changed top x v }
 write (f ∷ fs) top x v =
     if is_some (bound_in f.bound x)
@@ -74,7 +74,7 @@ abbrev pub written : {V : Type 0} → Bindings V → List ℕ → V → Bindings
 written bs x v = write bs.blocks bs.top x v
 
 -- one more binding, behind the others of the innermost block, or of the top where no block is entered
-abbrev pub declare : {V : Type 0} → List (Frame V) → List (Bound V) → Bound V → Bindings V
+abbrev pub declare : {V : Type 0} → List (BlockFrame V) → List (Bound V) → Bound V → Bindings V
 declare [] top b = record { blocks = []; top = top ++ b ∷ [] }
 declare (f ∷ fs) top b = record { blocks = with_bound f (f.bound ++ b ∷ []) ∷ fs; top = top }
 
@@ -92,7 +92,7 @@ turned x v bs =
     inside (record { names = []; bound = record { name = x; constant = false; value = v } ∷ [] }) bs
 
 -- the blocks but for the innermost
-abbrev pub all_but_first : {V : Type 0} → List (Frame V) → List (Frame V)
+abbrev pub all_but_first : {V : Type 0} → List (BlockFrame V) → List (BlockFrame V)
 all_but_first [] = []
 all_but_first (f ∷ fs) = fs
 

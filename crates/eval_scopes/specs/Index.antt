@@ -6,8 +6,8 @@ use Rattle.std.specs.BTreeMap.{is_at}
 use Rattle.eval_tree.specs.Keys.{key_of}
 use Rattle.eval_scopes.specs.declared.binding_list.Binding.{Binding}
 
-abbrev pub names_in : {T : Type 0} → List (Binding T) → List (List ℕ)
-names_in bs = map (λ b. b.name) bs
+abbrev pub binding_names : {T : Type 0} → List (Binding T) → List (List ℕ)
+binding_names bs = map (λ b. b.name) bs
 
 -- as many names are looked at one after another
 abbrev pub few : ℕ

@@ -2,7 +2,7 @@
 // one that is entered there later reuses their memory.
 ghost use Rattle.std.specs.Prelude.{◌≡◌, ◌<◌, ◌≤◌, ◌+◌, ◌∷◌, [], true, false, length, map, reverse, take, unwrap_or, List, OnOk, OnErr};
 ghost use Rattle.eval_scopes.specs.Bindings.{Bound, declare, all_but_first};
-ghost use Rattle.eval_scopes.specs.Seen.{bounds_of, names_of, frame_of, outsides_of, hollows, with_hollows, stacked, put_in, InBlock, IsOnly};
+ghost use Rattle.eval_scopes.specs.Seen.{bounds_of, frame_names, frame_of, outsides_of, hollows, with_hollows, stacked, put_in, InBlock, IsOnly};
 
 use crate::binding_list::BindingList;
 use crate::index::Declared;
@@ -51,7 +51,7 @@ impl<'a, T: Drop> Frame<'a, T> {
 
     // Whether it is a turn of a `for` over this name.
     fn is_turn_of(&self, name: &Name) -> bool
-        ensures names { result ≡ true → names_of self.now ≡ [] }
+        ensures names { result ≡ true → frame_names self.now ≡ [] }
         ensures bound { result ≡ true → IsOnly (bounds_of self.now.bound) name.now }
     {
         match &self.names {

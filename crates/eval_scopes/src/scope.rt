@@ -1,7 +1,7 @@
 // The blocks that were entered, over the top.
 ghost use Rattle.std.specs.Prelude.{◌≡◌, Some, None, MatchOption, OnOk, OnErr};
 ghost use Rattle.eval_scopes.specs.Bindings.{is_among, meant, declared, entered, turned, outer};
-ghost use Rattle.eval_scopes.specs.Seen.{bound_of, names_of, bindings_of, bound_at, put_at, Within, IsPlace};
+ghost use Rattle.eval_scopes.specs.Seen.{bound_of, frame_names, bindings_of, bound_at, put_at, Within, IsPlace};
 
 use crate::binding_list::{Binding, BindingList};
 use crate::blocks::Blocks;
@@ -110,7 +110,7 @@ impl<'a, T: Drop> Scope<'a, T> {
 
 // Whether a block declares a name.
 fn declares<T>(frame: &Frame<T>, name: &Name) -> bool
-    ensures { result ≡ is_among (names_of frame.now) name.now }
+    ensures { result ≡ is_among (frame_names frame.now) name.now }
 {
     match &frame.names {
         Some(names) => names.has(name),

@@ -29,7 +29,7 @@ mutual
     unary : (at : ℕ) (minus : Bool) (of : ExprTree) → ExprTree
     chain : (first : ExprTree) (rest : Links) → ExprTree
     conditional : (test yes no : ExprTree) → ExprTree
-    post : (of : ExprTree) (steps : Steps) → ExprTree
+    post : (of : ExprTree) (steps : StepList) → ExprTree
     builtin : (at : ℕ) (which : Builtin) (args : Exprs) → ExprTree
     object : (at : ℕ) (members : Entries) → ExprTree
 
@@ -39,13 +39,13 @@ mutual
     link : (at : ℕ) (op : Op) (right : ExprTree) (rest : Links) → Links
 
   -- what follows an operand, from left to right: reads of properties, calls of methods, and indexes
-  pub data Steps : Type 0 where
-    no_steps : Steps
-    length_step : (rest : Steps) → Steps
-    description_step : (rest : Steps) → Steps
-    call_step : (at : ℕ) (method : Method) (args : Exprs) (rest : Steps) → Steps
-    index_step : (at : ℕ) (index : ExprTree) (rest : Steps) → Steps
-    property_step : (at : ℕ) (key : List ℕ) (rest : Steps) → Steps
+  pub data StepList : Type 0 where
+    no_steps : StepList
+    length_step : (rest : StepList) → StepList
+    description_step : (rest : StepList) → StepList
+    call_step : (at : ℕ) (method : Method) (args : Exprs) (rest : StepList) → StepList
+    index_step : (at : ℕ) (index : ExprTree) (rest : StepList) → StepList
+    property_step : (at : ℕ) (key : List ℕ) (rest : StepList) → StepList
 
   -- a list of expressions, as the arguments of a call
   pub data Exprs : Type 0 where
@@ -78,7 +78,7 @@ links [] = no_links
 links (l ∷ ls) = link l.at l.op l.right (links ls)
 
 -- one step before others
-abbrev pub with_step : StepTree → Steps → Steps
+abbrev pub with_step : StepTree → StepList → StepList
 with_step of_length rest = length_step rest
 with_step of_description rest = description_step rest
 with_step (of_call at method args) rest = call_step at method args rest
@@ -86,7 +86,7 @@ with_step (of_index at index) rest = index_step at index rest
 with_step (of_property at key) rest = property_step at key rest
 
 -- the steps in the order of the list
-abbrev pub steps : List StepTree → Steps
+abbrev pub steps : List StepTree → StepList
 steps [] = no_steps
 steps (s ∷ ss) = with_step s (steps ss)
 
@@ -139,7 +139,7 @@ link_tree l = record { at = l.at; op = l.op; right = expr_tree l.right }
 abbrev pub links_tree : List Link → Links
 links_tree ls = links (map link_tree ls)
 
-abbrev pub steps_tree : List PostStep → Steps
+abbrev pub steps_tree : List PostStep → StepList
 steps_tree ss = steps (map step_tree ss)
 
 abbrev pub exprs_tree : List Expr → Exprs

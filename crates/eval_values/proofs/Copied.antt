@@ -5,12 +5,12 @@ use Rattle.js_item.specs.Contents.{Content}
 use Rattle.js_item.specs.declared.item.Item.{Item}
 use Rattle.js_item.specs.Fine.{strings_of, FineOf, IsFine}
 use Rattle.js_item.specs.Seen.{seen}
-use Rattle.js_item.specs.Views.{content}
+use Rattle.js_item.specs.Views.{content_of}
 use Rattle.js_item.proofs.Values as values
 
 module _ {F R : Type 0} (s : State F) (name : R → ℕ) where
-  pub seen_copy : (v w : Item R) → content v ≡ content w → seen s name v ≡ seen s name w
+  pub seen_copy : (v w : Item R) → content_of v ≡ content_of w → seen s name v ≡ seen s name w
   seen_copy v w e = values.seen_copy s name v w e
 
-  pub fine_copy : (v w : Item R) → content v ≡ content w → IsFine s name w → IsFine s name v
+  pub fine_copy : (v w : Item R) → content_of v ≡ content_of w → IsFine s name w → IsFine s name v
   fine_copy v w e h = subst (λ (c : Content R). FineOf (strings_of s) name c) (sym e) h

@@ -6,9 +6,9 @@ use Rattle.js_store.specs.declared.faults.StoreFault.TheVariants.{Memory}
 use Rattle.js_store.proofs.Laws.{step_refl}
 use Rattle.eval_values.specs.declared.value.Stop.{Stop}
 use Rattle.eval_values.specs.declared.value.Stop.TheVariants.{Store}
-use Rattle.eval_values.specs.Outcome.{Ledger, Out, gave, ended, free, after, bind, mapped, each, ledger_of}
+use Rattle.eval_values.specs.Outcome.{Ledger, Out, gave, ended, free, after_ledger, bind, mapped, each, ledger_of}
 use Rattle.js_texts.specs.Texts.{Every}
-use Rattle.eval_values.specs.Ran.{Did}
+use Rattle.eval_values.specs.Ran.{ComesTo}
 use Rattle.js_texts.proofs.Lists.{drop_at, every_map}
 use Rattle.eval_values.proofs.Compose.{did_bind, did_stop, cut_of_memory}
 use Rattle.js_texts.proofs.Lists.{map_same}
@@ -28,22 +28,22 @@ each_behind f (x ∷ xs) found = bind (f x) (λ a. each_behind f xs (found ++ a 
 
 module _ {F V A X : Type 0} (see : State F → V → A) (fine : State F → V → Type 0) (a b : State F) (f : X → Out A) (vs : List V) (xs : List X) (i : ℕ) (x : X) (l : i < length xs) (p : x ≡ get_or xs i x) where
   -- one element, and then those after it
-  pub each_turn : (c : State F) (v : V) (r : Result (Vec V Global) Stop) → ((w : V) → fine a w → see b w ≡ see a w) → Every (λ w. fine a w) vs → Did a b see fine (Ok v) (f x) → Did b c (λ s (w : Vec V Global). map (λ y. see s y) w.items) (λ s (w : Vec V Global). Every (λ y. fine s y) w.items) r (each_behind f (drop (i + 1) xs) (map (λ y. see b y) (vs ++ v ∷ []))) → Did a c (λ s (w : Vec V Global). map (λ y. see s y) w.items) (λ s (w : Vec V Global). Every (λ y. fine s y) w.items) r (each_behind f (drop i xs) (map (λ y. see a y) vs))
+  pub each_turn : (c : State F) (v : V) (r : Result (Vec V Global) Stop) → ((w : V) → fine a w → see b w ≡ see a w) → Every (λ w. fine a w) vs → ComesTo a b see fine (Ok v) (f x) → ComesTo b c (λ s (w : Vec V Global). map (λ y. see s y) w.items) (λ s (w : Vec V Global). Every (λ y. fine s y) w.items) r (each_behind f (drop (i + 1) xs) (map (λ y. see b y) (vs ++ v ∷ []))) → ComesTo a c (λ s (w : Vec V Global). map (λ y. see s y) w.items) (λ s (w : Vec V Global). Every (λ y. fine s y) w.items) r (each_behind f (drop i xs) (map (λ y. see a y) vs))
   each_turn c v r g h d k =
       let same : map (λ y. see b y) (vs ++ v ∷ []) ≡ map (λ y. see a y) vs ++ see b v ∷ [] = map_push (λ y. see b y) vs v ∙ ap (λ q. q ++ see b v ∷ []) (map_same g vs h) in
-      subst (λ (q : List X). Did a c (λ s (w : Vec V Global). map (λ y. see s y) w.items) (λ s (w : Vec V Global). Every (λ y. fine s y) w.items) r (each_behind f q (map (λ y. see a y) vs))) (sym (drop_at xs i x l p))
+      subst (λ (q : List X). ComesTo a c (λ s (w : Vec V Global). map (λ y. see s y) w.items) (λ s (w : Vec V Global). Every (λ y. fine s y) w.items) r (each_behind f q (map (λ y. see a y) vs))) (sym (drop_at xs i x l p))
       (did_bind a b c see fine (λ s (w : Vec V Global). map (λ y. see s y) w.items) (λ s (w : Vec V Global). Every (λ y. fine s y) w.items) v r (f x) (λ w. each_behind f (drop (i + 1) xs) (map (λ y. see a y) vs ++ w ∷ [])) d
-      (subst (λ (q : List A). Did b c (λ s (w : Vec V Global). map (λ y. see s y) w.items) (λ s (w : Vec V Global). Every (λ y. fine s y) w.items) r (each_behind f (drop (i + 1) xs) q)) same k))
+      (subst (λ (q : List A). ComesTo b c (λ s (w : Vec V Global). map (λ y. see s y) w.items) (λ s (w : Vec V Global). Every (λ y. fine s y) w.items) r (each_behind f (drop (i + 1) xs) q)) same k))
 
-  pub each_halt : (n : Stop) → Did a b see fine (Err n) (f x) → Did a b (λ s (w : Vec V Global). map (λ y. see s y) w.items) (λ s (w : Vec V Global). Every (λ y. fine s y) w.items) (Err n) (each_behind f (drop i xs) (map (λ y. see a y) vs))
+  pub each_halt : (n : Stop) → ComesTo a b see fine (Err n) (f x) → ComesTo a b (λ s (w : Vec V Global). map (λ y. see s y) w.items) (λ s (w : Vec V Global). Every (λ y. fine s y) w.items) (Err n) (each_behind f (drop i xs) (map (λ y. see a y) vs))
   each_halt n d =
-      subst (λ (q : List X). Did a b (λ s (w : Vec V Global). map (λ y. see s y) w.items) (λ s (w : Vec V Global). Every (λ y. fine s y) w.items) (Err n) (each_behind f q (map (λ y. see a y) vs))) (sym (drop_at xs i x l p))
+      subst (λ (q : List X). ComesTo a b (λ s (w : Vec V Global). map (λ y. see s y) w.items) (λ s (w : Vec V Global). Every (λ y. fine s y) w.items) (Err n) (each_behind f q (map (λ y. see a y) vs))) (sym (drop_at xs i x l p))
       (did_stop {W = Vec V Global} a b see fine (λ s (w : Vec V Global). map (λ y. see s y) w.items) (λ s (w : Vec V Global). Every (λ y. fine s y) w.items) n (f x) (λ w. each_behind f (drop (i + 1) xs) (map (λ y. see a y) vs ++ w ∷ [])) d)
 
   -- an element, and no room to note its value
-  pub each_full : (v : V) → Did a b see fine (Ok v) (f x) → Did a b (λ s (w : Vec V Global). map (λ y. see s y) w.items) (λ s (w : Vec V Global). Every (λ y. fine s y) w.items) (Err (Store Memory)) (each_behind f (drop i xs) (map (λ y. see a y) vs))
+  pub each_full : (v : V) → ComesTo a b see fine (Ok v) (f x) → ComesTo a b (λ s (w : Vec V Global). map (λ y. see s y) w.items) (λ s (w : Vec V Global). Every (λ y. fine s y) w.items) (Err (Store Memory)) (each_behind f (drop i xs) (map (λ y. see a y) vs))
   each_full v d =
-      subst (λ (q : List X). Did a b (λ s (w : Vec V Global). map (λ y. see s y) w.items) (λ s (w : Vec V Global). Every (λ y. fine s y) w.items) (Err (Store Memory)) (each_behind f q (map (λ y. see a y) vs))) (sym (drop_at xs i x l p))
+      subst (λ (q : List X). ComesTo a b (λ s (w : Vec V Global). map (λ y. see s y) w.items) (λ s (w : Vec V Global). Every (λ y. fine s y) w.items) (Err (Store Memory)) (each_behind f q (map (λ y. see a y) vs))) (sym (drop_at xs i x l p))
       (did_bind {W = Vec V Global} a b b see fine (λ s (w : Vec V Global). map (λ y. see s y) w.items) (λ s (w : Vec V Global). Every (λ y. fine s y) w.items) v (Err (Store Memory)) (f x) (λ w. each_behind f (drop (i + 1) xs) (map (λ y. see a y) vs ++ w ∷ [])) d
       (cut_of_memory (ledger_of (each_behind f (drop (i + 1) xs) (map (λ y. see a y) vs ++ see b v ∷ []))) (step_refl b) refl (omega arith) (omega arith)))
 
@@ -51,11 +51,11 @@ module _ {F V A X : Type 0} (see : State F → V → A) (fine : State F → V �
   fine_turn v g h k = every_push (λ w. fine b w) vs v (every_map g vs h) k
 
 pub bind_same : {A B : Type 0} (o : Out A) (f g : A → Out B) → ((a : A) → f a ≡ g a) → bind o f ≡ bind o g
-bind_same (gave x l) f g h = ap (λ o. after l o) (h x)
+bind_same (gave x l) f g h = ap (λ o. after_ledger l o) (h x)
 bind_same (ended e l) f g h = refl
 
 -- what is made of a value is made of it behind other evaluations too
-mapped_after : {A B : Type 0} (h : A → B) (l : Ledger) (o : Out A) → mapped h (after l o) ≡ after l (mapped h o)
+mapped_after : {A B : Type 0} (h : A → B) (l : Ledger) (o : Out A) → mapped h (after_ledger l o) ≡ after_ledger l (mapped h o)
 mapped_after h l (gave x m) = refl
 mapped_after h l (ended e m) = refl
 

@@ -2,7 +2,7 @@
 use Rattle.std.proofs.Common.{arith, ◌≡◌, ℕ, zero, suc, ◌+◌, ◌<◌, ◌≤◌, List, length, refl, true, false, nat_lt, if◌then◌else◌}
 use Rattle.js_store.specs.State.{State}
 use Rattle.js_store.specs.Rows.{flat_words, wide_words}
-use Rattle.js_store.specs.Faults.{Step, NeverSlots}
+use Rattle.js_store.specs.Faults.{StoreStep, NeverSlots}
 use Rattle.js_texts.specs.Answers.{full_part}
 use Rattle.js_store.specs.declared.faults.StoreFault.{StoreFault}
 use Rattle.js_store.specs.declared.faults.StoreFault.TheVariants.{Full, Memory}
@@ -16,7 +16,7 @@ use Rattle.eval_values.proofs.Compose.{cut_of_step, cut_of_memory}
 use Rattle.std.proofs.Common.{◌*◌, [], ◌∷◌}
 use Rattle.js_store.specs.State.{text}
 use Rattle.js_store.proofs.Laws.{settle_words_most}
-use Rattle.js_texts.specs.Texts.{texts, settle_most}
+use Rattle.js_texts.specs.Texts.{known_texts, settle_most}
 use Rattle.eval_values.specs.Conversions.{list_units}
 
 pub some_part : (p : ℕ) → 1 ≤ some_parts p
@@ -35,7 +35,7 @@ made_none limit r l =
     rw past refl
 
 -- a method that was refused, or found no memory itself
-pub cut_of_part : {F : Type 0} {a b : State F} {i w : ℕ} (f : StoreFault) (l : Ledger) → Step a b (full_part (MethodStore f)) i w → b.history ≡ a.history → NeverSlots (full_part (MethodStore f)) → i ≤ l.ids → w ≤ l.words → Cut a b f l
+pub cut_of_part : {F : Type 0} {a b : State F} {i w : ℕ} (f : StoreFault) (l : Ledger) → StoreStep a b (full_part (MethodStore f)) i w → b.history ≡ a.history → NeverSlots (full_part (MethodStore f)) → i ≤ l.ids → w ≤ l.words → Cut a b f l
 cut_of_part (Full r) l s h n p q = cut_of_step l s h n p q
 cut_of_part Memory l s h n p q = cut_of_memory l s h p q
 
@@ -44,6 +44,6 @@ some_most zero = omega arith
 some_most (suc p) = omega arith
 
 -- settling strings takes a word for four units, and one more for each
-pub settle_few : {F R : Type 0} (s : State F) (name : R → ℕ) (rs : List R) → 4 * settle_most s name rs ≤ list_units (texts s name rs) + 3 * length (texts s name rs)
+pub settle_few : {F R : Type 0} (s : State F) (name : R → ℕ) (rs : List R) → 4 * settle_most s name rs ≤ list_units (known_texts s name rs) + 3 * length (known_texts s name rs)
 settle_few s name [] = omega arith
 settle_few s name (r ∷ rs) = omega (arith, settle_words_most (s.settled (name r)) (length (text s (name r))), settle_few s name rs)

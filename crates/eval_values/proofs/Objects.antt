@@ -2,7 +2,7 @@
 use Rattle.std.proofs.Common.{arith, ◌≡◌, ℕ, true, false, None, Result, Err, refl, ap}
 use Rattle.std.specs.Prelude.{is_some, bytes_eq, codes, List}
 use Rattle.js_store.specs.State.{State}
-use Rattle.js_store.specs.Faults.{Step}
+use Rattle.js_store.specs.Faults.{StoreStep}
 use Rattle.js_item.specs.Contents.{Fields}
 use Rattle.js_item.specs.Puts.{place_by, has_units}
 use Rattle.js_item.specs.Seen.{says, fields_mapped}
@@ -20,7 +20,7 @@ pub own_by_keys : {F R : Type 0} (s : State F) (name : R → ℕ) (fs : Fields R
 own_by_keys s name fs = ap is_some (mapped_place (says s name) (λ k. bytes_eq k (codes "toString")) fs)
 
 -- the keys were read, and then there is an error or a new string
-module _ {F R : Type 0} (name : R → ℕ) (a b : State F) (fs : Fields (List ℕ)) (s : Step a b None 0 0) (h : b.history ≡ a.history) where
+module _ {F R : Type 0} (name : R → ℕ) (a b : State F) (fs : Fields (List ℕ)) (s : StoreStep a b None 0 0) (h : b.history ≡ a.history) where
   pub string_throws : own_to_string fs ≡ true → GivesText name a b (Err (Threw TypeError)) (object_string fs)
   string_throws e = rw e (refl, ran_of_step 0 0 s h (omega arith) (omega arith))
 

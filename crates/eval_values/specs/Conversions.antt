@@ -15,9 +15,9 @@ use Rattle.eval_values.specs.Need.{reads, parts}
 abbrev pub spelled : List ℕ → Out (List ℕ)
 spelled u = gave u (cost (reads (length u)))
 
-abbrev pub word_of : Bool → List ℕ
-word_of true = codes "true"
-word_of false = codes "false"
+abbrev pub boolean_text : Bool → List ℕ
+boolean_text true = codes "true"
+boolean_text false = codes "false"
 
 -- the units of several strings together
 abbrev pub list_units : List (List ℕ) → ℕ
@@ -48,7 +48,7 @@ object_string fs = if own_to_string fs then ended (threw TypeError) free else sp
 abbrev pub to_string : ℕ → Val → Out (List ℕ)
 to_string limit undefined = spelled (codes "undefined")
 to_string limit null = spelled (codes "null")
-to_string limit (bool b) = spelled (word_of b)
+to_string limit (bool b) = spelled (boolean_text b)
 to_string limit (number n) = spelled (text_of n)
 to_string limit (text u) = gave u free
 to_string limit (symbol k) = ended (threw TypeError) free

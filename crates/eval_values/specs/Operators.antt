@@ -10,13 +10,14 @@ use Rattle.eval_values.specs.Need.{nothing, joins}
 use Rattle.eval_values.specs.Conversions.{to_string, to_number, to_boolean, is_text}
 
 -- a number of the profile, or none, which ends the script at the operator
-abbrev pub counted : ℕ → Option Num → Out Val
-counted at None = refuses at
-counted at (Some n) = needing nothing (number n)
+abbrev pub in_profile : ℕ → Option Num → Out Val
+in_profile at None = refuses at
+in_profile at (Some n) = needing nothing (number n)
 
 -- the sum of two values that are no strings, of which the left one is converted first
 abbrev pub sum_in : ℕ → Val → Val → Out Val
-sum_in at v w = converts nothing (to_number at v) (λ m. converts nothing (to_number at w) (λ n. counted at (sum m n)))
+sum_in at v w = converts nothing (to_number at v)
+    (λ m. converts nothing (to_number at w) (λ n. in_profile at (sum m n)))
 
 -- two conversions of which one that throws goes before one that ends the script otherwise, whatever its side
 abbrev pub paired : {A B : Type 0} → Converted A → Converted B → Converted (A × B)
@@ -27,21 +28,23 @@ paired (fails (unsupported at)) (into n) = fails (unsupported at)
 paired (fails (unsupported at)) (fails e) = fails e
 
 abbrev pub difference_in : ℕ → Val → Val → Out Val
-difference_in at v w = converts nothing (paired (to_number at v) (to_number at w)) (λ p. counted at (difference p.0 p.1))
+difference_in at v w = converts nothing (paired (to_number at v) (to_number at w))
+    (λ p. in_profile at (difference p.0 p.1))
 
 abbrev pub negative_in : ℕ → Val → Out Val
 negative_in at v = converts nothing (to_number at v) (λ n. needing nothing (number (negative n)))
 
 -- two strings joined, unless they are longer together than a string may be; where nothing is joined, it needs nothing
-abbrev pub joined : ℕ → List ℕ → List ℕ → Out Val
-joined limit u w =
+abbrev pub concatenated : ℕ → List ℕ → List ℕ → Out Val
+concatenated limit u w =
     if nat_le (length u + length w) limit
     then needing joins (text (u ++ w))
     else throwing nothing RangeError
 
 -- two primitive values as strings, joined
 abbrev pub joined_strings : ℕ → Val → Val → Out Val
-joined_strings limit v w = bind (to_string limit v) (λ u. bind (to_string limit w) (λ x. joined limit u x))
+joined_strings limit v w = bind (to_string limit v)
+    (λ u. bind (to_string limit w) (λ x. concatenated limit u x))
 
 -- the primitive value of a value: an array or an object becomes its string (ECMA-262, "ToPrimitive")
 abbrev pub primitive : ℕ → Val → Out Val

@@ -37,13 +37,13 @@ pub data Out (A : Type 0) : Type 0 where
   gave : A → Ledger → Out A
   ended : Ending → Ledger → Out A
 
-abbrev pub after : {A : Type 0} → Ledger → Out A → Out A
-after l (gave x m) = gave x (both l m)
-after l (ended e m) = ended e (both l m)
+abbrev pub after_ledger : {A : Type 0} → Ledger → Out A → Out A
+after_ledger l (gave x m) = gave x (both l m)
+after_ledger l (ended e m) = ended e (both l m)
 
 -- one evaluation, and then another one that has its value; an end is handed on (ECMA-262, "ReturnIfAbrupt")
 abbrev pub bind : {A B : Type 0} → Out A → (A → Out B) → Out B
-bind (gave x l) go = after l (go x)
+bind (gave x l) go = after_ledger l (go x)
 bind (ended e l) go = ended e l
 
 abbrev pub ledger_of : {A : Type 0} → Out A → Ledger
@@ -108,6 +108,6 @@ converts row (fails e) go = ends row e
 
 -- the same where the conversion makes a string
 abbrev pub converting : {A B : Type 0} → Row → Out A → (A → Out B) → Out B
-converting row (gave x l) go = after l (go x)
+converting row (gave x l) go = after_ledger l (go x)
 converting row (ended (threw k) l) go = ended (threw k) (both l (cost row))
 converting row (ended (unsupported at) l) go = ended (unsupported at) l

@@ -1,6 +1,6 @@
 -- What an evaluation leaves in a store, and when a result of the code is the outcome that is meant.
 use Rattle.std.specs.Prelude.{◌≡◌, ℕ, ◌+◌, ◌≤◌, List, [], ◌∷◌, ◌++◌, map, Some, Result, Ok, Err, IsTrue, Contains}
-use Rattle.js_store.specs.State.{State, Has, Grows}
+use Rattle.js_store.specs.State.{State, NamesUnits, Grows}
 use Rattle.js_store.specs.Faults.{Honest, ids_wanted, words_wanted}
 use Rattle.js_store.specs.declared.faults.FullReport.TheVariants.{Slots}
 use Rattle.js_store.specs.declared.faults.StoreFault.{StoreFault}
@@ -17,10 +17,10 @@ pub record Interns (old new : List (List ℕ × ℕ)) (lists : List (List ℕ)) 
   pub same : map (λ p. p.0) pairs ≡ lists
 
 -- all was done that the ledger says, within its need
-pub record Ran {F : Type 0} (a b : State F) (l : Ledger) : Type 0 where
+pub record MeetsLedger {F : Type 0} (a b : State F) (l : Ledger) : Type 0 where
   pub grows : Grows a b
   pub history : Interns a.history b.history l.interned
-  pub texts : (u : List ℕ) → Contains l.texts u → (n : ℕ) × Has b n u
+  pub texts : (u : List ℕ) → Contains l.texts u → (n : ℕ) × NamesUnits b n u
   pub within_ids : b.used_ids ≤ a.used_ids + l.ids
   pub within_words : b.used_words ≤ a.used_words + l.words
 
@@ -49,19 +49,20 @@ pub record Cut {F : Type 0} (a b : State F) (f : StoreFault) (l : Ledger) : Type
 pub record Given {F A : Type 0} (a b : State F) (value meant : A) (fine : Type 0) (l : Ledger) : Type 0 where
   pub is : value ≡ meant
   pub good : fine
-  pub ran : Ran a b l
+  pub ran : MeetsLedger a b l
 
 abbrev pub Stopped : {F A : Type 0} → State F → State F → Stop → Out A → Type 0
 Stopped a b (Threw k) (gave x l) = ⊥
-Stopped a b (Threw k) (ended (threw m) l) = (m ≡ k) × Ran a b l
+Stopped a b (Threw k) (ended (threw m) l) = (m ≡ k) × MeetsLedger a b l
 Stopped a b (Threw k) (ended (unsupported at) l) = ⊥
 Stopped a b (Unsupported at) (gave x l) = ⊥
 Stopped a b (Unsupported at) (ended (threw m) l) = ⊥
-Stopped a b (Unsupported at) (ended (unsupported m) l) = (m ≡ at) × Ran a b l
+Stopped a b (Unsupported at) (ended (unsupported m) l) = (m ≡ at) × MeetsLedger a b l
 Stopped a b (Store f) o = Cut a b f (ledger_of o)
 
 -- the result is what is meant, where a value v of the code is seen in a store s as see s v
-abbrev pub Did : {F V A : Type 0} → State F → State F → (State F → V → A) → (State F → V → Type 0) → Result V Stop → Out A → Type 0
-Did a b see fine (Ok v) (gave x l) = Given a b (see b v) x (fine b v) l
-Did a b see fine (Ok v) (ended e l) = ⊥
-Did a b see fine (Err s) o = Stopped a b s o
+abbrev pub ComesTo : {F V A : Type 0} → State F → State F → (State F → V → A) → (State F → V → Type 0)
+    → Result V Stop → Out A → Type 0
+ComesTo a b see fine (Ok v) (gave x l) = Given a b (see b v) x (fine b v) l
+ComesTo a b see fine (Ok v) (ended e l) = ⊥
+ComesTo a b see fine (Err s) o = Stopped a b s o

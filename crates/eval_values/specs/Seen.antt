@@ -22,15 +22,15 @@ abbrev pub AllFine : {F R : Type 0} → State F → (R → ℕ) → List (Item R
 AllFine s name vs = Every (λ v. IsFine s name v) vs
 
 -- a value that is the number as it is written, in any store
-abbrev pub IsWritten : {R : Type 0} → Item R → ℕ → Type 0
-IsWritten item.Undefined n = number_of n ≡ undefined
-IsWritten (item.Number m) n = (number_of n ≡ number m) × IsLawful m
-IsWritten item.Null n = ⊥
-IsWritten (item.Bool b) n = ⊥
-IsWritten (item.Text r) n = ⊥
-IsWritten (item.Symbol r) n = ⊥
-IsWritten (item.List v) n = ⊥
-IsWritten (item.Object fs) n = ⊥
+abbrev pub IsNumberWritten : {R : Type 0} → Item R → ℕ → Type 0
+IsNumberWritten item.Undefined n = number_of n ≡ undefined
+IsNumberWritten (item.Number m) n = (number_of n ≡ number m) × IsLawful m
+IsNumberWritten item.Null n = ⊥
+IsNumberWritten (item.Bool b) n = ⊥
+IsNumberWritten (item.Text r) n = ⊥
+IsNumberWritten (item.Symbol r) n = ⊥
+IsNumberWritten (item.List v) n = ⊥
+IsNumberWritten (item.Object fs) n = ⊥
 
 -- an end that is given is a valid number
 abbrev pub LawfulEnd : Option Num → Type 0

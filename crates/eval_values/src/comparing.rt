@@ -11,7 +11,7 @@ ghost use Rattle.eval_values.specs.Comparing.{compared, same_out, same_as_text, 
 ghost use Rattle.js_item.specs.Seen.{seen};
 ghost use Rattle.js_item.specs.Fine.{IsFine};
 ghost use Rattle.eval_values.specs.Seen.{IsKey, TextSettled, OneOrSettled, TextRead, TextsRead};
-ghost use Rattle.eval_values.specs.Does.{Tells};
+ghost use Rattle.eval_values.specs.Does.{GivesPlain};
 
 use crate::operators::{to_primitive, two_numbers};
 use crate::value::{Stop, Value};
@@ -32,7 +32,7 @@ pub fn is_same<S: Strings>(
     requires right { IsFine (S.state store.old) S.number right.now }
     ensures grows { Grows (S.state store.old) (S.state store.new) }
     ensures read { OnOk result (TextsRead (S.state store.new) S.number left.now right.now) }
-    ensures did { Tells (S.state store.old) (S.state store.new) result (same_out at
+    ensures did { GivesPlain (S.state store.old) (S.state store.new) result (same_out at
         (seen (S.state store.old) S.number left.now) (seen (S.state store.old) S.number right.now)) }
 {
     match left {
@@ -129,7 +129,7 @@ fn is_text_too<S: Strings>(store: &mut S, s: S::Ref, value: &Value<S::Ref>) -> R
     requires value { IsFine (S.state store.old) S.number value.now }
     ensures grows { Grows (S.state store.old) (S.state store.new) }
     ensures read { OnOk result (TextRead (S.state store.new) S.number (S.number s) value.now) }
-    ensures did { Tells (S.state store.old) (S.state store.new) result
+    ensures did { GivesPlain (S.state store.old) (S.state store.new) result
         (same_as_text (text (S.state store.old) (S.number s)) (seen (S.state store.old) S.number value.now)) }
 {
     match value {
@@ -153,7 +153,7 @@ fn is_symbol_too<S: Strings>(
     requires key { IsKey (S.state store.old) (S.number key) }
     requires value { IsFine (S.state store.old) S.number value.now }
     ensures grows { Grows (S.state store.old) (S.state store.new) }
-    ensures did { Tells (S.state store.old) (S.state store.new) result
+    ensures did { GivesPlain (S.state store.old) (S.state store.new) result
         (gave (Comparing.is_symbol_too (text (S.state store.old) (S.number key))
         (seen (S.state store.old) S.number value.now)) free) }
 {
@@ -170,7 +170,7 @@ fn is_symbol_too<S: Strings>(
 }
 
 fn is_list_too<S: Strings>(_store: &S, at: u32, value: &Value<S::Ref>) -> Result<bool, Stop>
-    ensures { Tells (S.state _store.now) (S.state _store.now) result
+    ensures { GivesPlain (S.state _store.now) (S.state _store.now) result
         (same_as_list at (seen (S.state _store.now) S.number value.now)) }
 {
     match value {
@@ -186,7 +186,7 @@ fn is_list_too<S: Strings>(_store: &S, at: u32, value: &Value<S::Ref>) -> Result
 }
 
 fn is_object_too<S: Strings>(_store: &S, at: u32, value: &Value<S::Ref>) -> Result<bool, Stop>
-    ensures { Tells (S.state _store.now) (S.state _store.now) result
+    ensures { GivesPlain (S.state _store.now) (S.state _store.now) result
         (same_as_object at (seen (S.state _store.now) S.number value.now)) }
 {
     match value {
@@ -206,7 +206,7 @@ fn same_texts<S: Strings>(store: &mut S, a: S::Ref, b: S::Ref) -> Result<bool, S
     requires right { IsKnown (S.state store.old) (S.number b) }
     ensures grows { Grows (S.state store.old) (S.state store.new) }
     ensures read { OnOk result (OneOrSettled (S.state store.new) (S.number a) (S.number b)) }
-    ensures did { Tells (S.state store.old) (S.state store.new) result
+    ensures did { GivesPlain (S.state store.old) (S.state store.new) result
         (compared (bytes_eq (text (S.state store.old) (S.number a)) (text (S.state store.old) (S.number b)))
         (text (S.state store.old) (S.number a)) (text (S.state store.old) (S.number b))) }
 {
@@ -272,7 +272,8 @@ pub fn compare<S: Strings>(
     ensures grows { Grows (S.state store.old) (S.state store.new) }
     ensures left_settled { OnOk result (TextSettled (S.state store.new) S.number left.now) }
     ensures right_settled { OnOk result (TextSettled (S.state store.new) S.number right.now) }
-    ensures did { Tells (S.state store.old) (S.state store.new) result (order_out at (S.state store.old).limit
+    ensures did { GivesPlain (S.state store.old) (S.state store.new) result
+        (order_out at (S.state store.old).limit
         (seen (S.state store.old) S.number left.now) (seen (S.state store.old) S.number right.now)) }
 {
     let first = to_primitive(alloc, store, left)?;
@@ -291,7 +292,7 @@ fn compare_primitives<S: Strings>(
     ensures grows { Grows (S.state store.old) (S.state store.new) }
     ensures left_settled { OnOk result (TextSettled (S.state store.new) S.number left.now) }
     ensures right_settled { OnOk result (TextSettled (S.state store.new) S.number right.now) }
-    ensures did { Tells (S.state store.old) (S.state store.new) result
+    ensures did { GivesPlain (S.state store.old) (S.state store.new) result
         (order_primitives at (seen (S.state store.old) S.number left.now)
         (seen (S.state store.old) S.number right.now)) }
 {
@@ -319,7 +320,7 @@ fn compare_text<S: Strings>(
     ensures grows { Grows (S.state store.old) (S.state store.new) }
     ensures left_settled { OnOk result (IsSettled (S.state store.new) (S.number s)) }
     ensures right_settled { OnOk result (TextSettled (S.state store.new) S.number right.now) }
-    ensures did { Tells (S.state store.old) (S.state store.new) result
+    ensures did { GivesPlain (S.state store.old) (S.state store.new) result
         (order_text at (text (S.state store.old) (S.number s))
         (seen (S.state store.old) S.number right.now)) }
 {
@@ -341,7 +342,7 @@ fn compare_texts<S: Strings>(store: &mut S, a: S::Ref, b: S::Ref) -> Result<Opti
     ensures grows { Grows (S.state store.old) (S.state store.new) }
     ensures left_settled { OnOk result (IsSettled (S.state store.new) (S.number a)) }
     ensures right_settled { OnOk result (IsSettled (S.state store.new) (S.number b)) }
-    ensures did { Tells (S.state store.old) (S.state store.new) result
+    ensures did { GivesPlain (S.state store.old) (S.state store.new) result
         (compared (Some
         (units_cmp (text (S.state store.old) (S.number a)) (text (S.state store.old) (S.number b))))
         (text (S.state store.old) (S.number a)) (text (S.state store.old) (S.number b))) }
@@ -362,7 +363,7 @@ fn compare_numbers<S: Strings>(
     ensures grows { Grows (S.state store.old) (S.state store.new) }
     ensures left_settled { OnOk result (TextSettled (S.state store.new) S.number left.now) }
     ensures right_settled { OnOk result (TextSettled (S.state store.new) S.number right.now) }
-    ensures did { Tells (S.state store.old) (S.state store.new) result
+    ensures did { GivesPlain (S.state store.old) (S.state store.new) result
         (order_numbers at (seen (S.state store.old) S.number left.now)
         (seen (S.state store.old) S.number right.now)) }
 {

@@ -2,7 +2,7 @@
 ghost use Rattle.std.specs.Prelude.{◌≡◌, ◌+◌, ◌≤◌, [], length, IfOk, OnOk, None};
 ghost use Rattle.js_number.specs.Places.{IsLawful};
 ghost use Rattle.js_number.specs.Arith.{text_of};
-ghost use Rattle.js_store.specs.State.{Has, Grows, IsKnown, IsSettled, text};
+ghost use Rattle.js_store.specs.State.{NamesUnits, Grows, IsKnown, IsSettled, text};
 ghost use Rattle.js_store.specs.Faults.{Uses};
 ghost use Rattle.js_texts.specs.Answers.{ThrowsLong, full_of};
 ghost use Rattle.js_texts.specs.Use.{made_words};
@@ -10,7 +10,7 @@ ghost use Rattle.js_store.specs.Rows.{wide_words, settle_words};
 ghost use Rattle.js_item.specs.Contents;
 ghost use Rattle.eval_values.specs.Outcome.{each, fails};
 ghost use Rattle.eval_values.specs.Conversions.{spelled, to_string, is_text, to_number, to_boolean, number_truth, list_string, object_string, own_to_string, comma_joined, text_units};
-ghost use Rattle.js_texts.specs.Texts.{texts as texts_seen, AllKnown, AllSettled, settle_most};
+ghost use Rattle.js_texts.specs.Texts.{known_texts as texts_seen, AllKnown, AllSettled, settle_most};
 ghost use Rattle.eval_values.specs.Stops.{converted_of, ending_of};
 ghost use Rattle.js_item.specs.Seen.{seen, says, fields_mapped};
 ghost use Rattle.js_item.specs.Fine.{IsFine, FineFields, strings_of};
@@ -113,7 +113,7 @@ pub fn joined_by_commas<S: Strings>(
 ) -> Result<S::Ref, MethodFault>
     requires { AllKnown (S.state store.old) S.number list.now }
     ensures value { IfOk result
-        (λ r. Has (S.state store.new) (S.number r)
+        (λ r. NamesUnits (S.state store.new) (S.number r)
         (comma_joined (texts_seen (S.state store.old) S.number list.now))) }
     ensures settled { IfOk result (λ r. IsSettled (S.state store.new) (S.number r)) }
     ensures read { OnOk result (AllSettled (S.state store.new) S.number list.now) }

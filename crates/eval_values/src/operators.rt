@@ -6,12 +6,12 @@ ghost use Rattle.js_store.specs.Faults.{Uses};
 ghost use Rattle.js_item.specs.Contents;
 ghost use Rattle.eval_values.specs.Outcome.{gave, bind, free};
 ghost use Rattle.eval_values.specs.Conversions.{is_text, to_number, to_string};
-ghost use Rattle.eval_values.specs.Operators.{counted, sum_in, paired, difference_in, negative_in, joined, joined_strings, primitive, plus as sum_out, plus_primitives as primitive_sum, unary_out};
+ghost use Rattle.eval_values.specs.Operators.{in_profile, sum_in, paired, difference_in, negative_in, concatenated, joined_strings, primitive, plus as sum_out, plus_primitives as primitive_sum, unary_out};
 ghost use Rattle.eval_values.specs.Stops.{converted_of};
 ghost use Rattle.js_item.specs.Seen.{seen};
 ghost use Rattle.js_item.specs.Fine.{IsFine};
 ghost use Rattle.eval_values.specs.Seen.{OwnText};
-ghost use Rattle.eval_values.specs.Does.{Does};
+ghost use Rattle.eval_values.specs.Does.{GivesValue};
 
 use crate::conversions::{is_string, number_of, to_text, truth};
 use crate::value::{Abrupt, Kind, Stop, Value};
@@ -31,7 +31,7 @@ pub fn plus<S: Strings>(
     requires right { IsFine (S.state store.old) S.number right.now }
     ensures grows { Grows (S.state store.old) (S.state store.new) }
     ensures fine { IfOk result (λ v. IsFine (S.state store.new) S.number v) }
-    ensures did { Does S.number (S.state store.old) (S.state store.new) result
+    ensures did { GivesValue S.number (S.state store.old) (S.state store.new) result
         (sum_out at (S.state store.old).limit (seen (S.state store.old) S.number left.now)
         (seen (S.state store.old) S.number right.now)) }
 {
@@ -50,7 +50,7 @@ pub fn to_primitive<S: Strings>(
     ensures grows { Grows (S.state store.old) (S.state store.new) }
     ensures fine { IfOk result (λ v. IsFine (S.state store.new) S.number v) }
     ensures own { IfOk result (λ v. OwnText value.now v) }
-    ensures did { Does S.number (S.state store.old) (S.state store.new) result
+    ensures did { GivesValue S.number (S.state store.old) (S.state store.new) result
         (primitive (S.state store.old).limit (seen (S.state store.old) S.number value.now)) }
 {
     match value {
@@ -73,7 +73,7 @@ fn text_value<S: Strings>(
     requires { IsFine (S.state store.old) S.number value.now }
     ensures grows { Grows (S.state store.old) (S.state store.new) }
     ensures fine { IfOk result (λ v. IsFine (S.state store.new) S.number v) }
-    ensures did { Does S.number (S.state store.old) (S.state store.new) result
+    ensures did { GivesValue S.number (S.state store.old) (S.state store.new) result
         (bind (to_string (S.state store.old).limit (seen (S.state store.old) S.number value.now))
         (λ u. gave (Contents.text u) free)) }
 {
@@ -92,7 +92,7 @@ fn plus_primitives<S: Strings>(
     requires right { IsFine (S.state store.old) S.number right.now }
     ensures grows { Grows (S.state store.old) (S.state store.new) }
     ensures fine { IfOk result (λ v. IsFine (S.state store.new) S.number v) }
-    ensures did { Does S.number (S.state store.old) (S.state store.new) result
+    ensures did { GivesValue S.number (S.state store.old) (S.state store.new) result
         (primitive_sum at (S.state store.old).limit (seen (S.state store.old) S.number left.now)
         (seen (S.state store.old) S.number right.now)) }
 {
@@ -113,7 +113,7 @@ pub fn apply_unary<S: Strings>(
     requires { IsFine (S.state store.old) S.number value.now }
     ensures grows { Grows (S.state store.old) (S.state store.new) }
     ensures fine { IfOk result (λ v. IsFine (S.state store.new) S.number v) }
-    ensures did { Does S.number (S.state store.old) (S.state store.new) result
+    ensures did { GivesValue S.number (S.state store.old) (S.state store.new) result
         (unary_out minus at (seen (S.state store.old) S.number value.now)) }
 {
     if minus {
@@ -128,7 +128,7 @@ fn negate<S: Strings>(store: &mut S, at: u32, value: &Value<S::Ref>) -> Result<V
     requires { IsFine (S.state store.old) S.number value.now }
     ensures grows { Grows (S.state store.old) (S.state store.new) }
     ensures fine { IfOk result (λ v. IsFine (S.state store.new) S.number v) }
-    ensures did { Does S.number (S.state store.old) (S.state store.new) result
+    ensures did { GivesValue S.number (S.state store.old) (S.state store.new) result
         (negative_in at (seen (S.state store.old) S.number value.now)) }
 {
     let n = number_of(store, at, value)?;
@@ -145,7 +145,7 @@ fn one_is_string<S: Strings>(store: &S, left: &Value<S::Ref>, right: &Value<S::R
 // A number that was found, where it is in the range of the profile.
 fn count<S: Strings>(_store: &S, at: u32, n: Option<Num>) -> Result<Value<S::Ref>, Stop>
     requires { IfSome n IsLawful }
-    ensures { Does S.number (S.state _store.now) (S.state _store.now) result (counted at n) }
+    ensures { GivesValue S.number (S.state _store.now) (S.state _store.now) result (in_profile at n) }
 {
     match n {
         Some(n) => Ok(Value::Number(n)),
@@ -163,7 +163,7 @@ fn add<S: Strings>(
     requires right { IsFine (S.state store.old) S.number right.now }
     ensures grows { Grows (S.state store.old) (S.state store.new) }
     ensures fine { IfOk result (λ v. IsFine (S.state store.new) S.number v) }
-    ensures did { Does S.number (S.state store.old) (S.state store.new) result
+    ensures did { GivesValue S.number (S.state store.old) (S.state store.new) result
         (sum_in at (seen (S.state store.old) S.number left.now)
         (seen (S.state store.old) S.number right.now)) }
 {
@@ -183,7 +183,7 @@ pub fn subtract<S: Strings>(
     requires right { IsFine (S.state store.old) S.number right.now }
     ensures grows { Grows (S.state store.old) (S.state store.new) }
     ensures fine { IfOk result (λ v. IsFine (S.state store.new) S.number v) }
-    ensures did { Does S.number (S.state store.old) (S.state store.new) result
+    ensures did { GivesValue S.number (S.state store.old) (S.state store.new) result
         (difference_in at (seen (S.state store.old) S.number left.now)
         (seen (S.state store.old) S.number right.now)) }
 {
@@ -230,7 +230,7 @@ fn join_strings<S: Strings>(
     requires right { IsFine (S.state store.old) S.number right.now }
     ensures grows { Grows (S.state store.old) (S.state store.new) }
     ensures fine { IfOk result (λ v. IsFine (S.state store.new) S.number v) }
-    ensures did { Does S.number (S.state store.old) (S.state store.new) result
+    ensures did { GivesValue S.number (S.state store.old) (S.state store.new) result
         (joined_strings (S.state store.old).limit (seen (S.state store.old) S.number left.now)
         (seen (S.state store.old) S.number right.now)) }
 {
@@ -246,8 +246,8 @@ fn join<S: Strings>(store: &mut S, a: S::Ref, b: S::Ref) -> Result<Value<S::Ref>
     requires right { IsKnown (S.state store.old) (S.number b) }
     ensures grows { Grows (S.state store.old) (S.state store.new) }
     ensures fine { IfOk result (λ v. IsFine (S.state store.new) S.number v) }
-    ensures did { Does S.number (S.state store.old) (S.state store.new) result
-        (joined (S.state store.old).limit (text (S.state store.old) (S.number a))
+    ensures did { GivesValue S.number (S.state store.old) (S.state store.new) result
+        (concatenated (S.state store.old).limit (text (S.state store.old) (S.number a))
         (text (S.state store.old) (S.number b))) }
 {
     let left = u64::from(store.len(a));
@@ -266,8 +266,8 @@ fn concat<S: Strings>(store: &mut S, a: S::Ref, b: S::Ref) -> Result<Value<S::Re
         (text (S.state store.old) (S.number b)) ≤ (S.state store.old).limit }
     ensures grows { Grows (S.state store.old) (S.state store.new) }
     ensures fine { IfOk result (λ v. IsFine (S.state store.new) S.number v) }
-    ensures did { Does S.number (S.state store.old) (S.state store.new) result
-        (joined (S.state store.old).limit (text (S.state store.old) (S.number a))
+    ensures did { GivesValue S.number (S.state store.old) (S.state store.new) result
+        (concatenated (S.state store.old).limit (text (S.state store.old) (S.number a))
         (text (S.state store.old) (S.number b))) }
 {
     match store.concat(a, b) {

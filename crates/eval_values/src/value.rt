@@ -1,5 +1,5 @@
 // Values, and what ends an evaluation.
-ghost use Rattle.eval_values.specs.Seen.{IsWritten};
+ghost use Rattle.eval_values.specs.Seen.{IsNumberWritten};
 
 use js_item::Item;
 use js_number::Num;
@@ -23,7 +23,7 @@ pub type Value<R> = Item<R>;
 
 /// The value of a number as a script writes it, or of a count of elements.
 pub fn number_value<R>(value: u64) -> Value<R>
-    ensures { IsWritten result value }
+    ensures { IsNumberWritten result value }
 {
     if value <= 9007199254740991 {
         Value::Number(Num::Int(value as i64))

@@ -4,7 +4,7 @@ use Rattle.heap_rule.specs.Maps.{Has}
 use Rattle.heap_rule.specs.declared.view.View.{View}
 use Rattle.heap_table.specs.Known.{KeepsKnown}
 use Rattle.heap_intern.specs.declared.table.faults.TableFull.{TableFull}
-use Rattle.heap_intern.specs.Answers.{Finds, Interns, IsFoundAgain, StandsAt, copy_plan}
+use Rattle.heap_intern.specs.Answers.{Finds, IsInternAnswer, IsFoundAgain, StandsInSlot, copy_plan}
 use Rattle.heap_agents.specs.declared.held.Held.{Held}
 use Rattle.heap_agents.specs.declared.member.HeapAgent.{HeapAgent}
 use Rattle.heap_agents.specs.Held.{IsHeld, KeepsMarks, MarksOnlyKey, view_by}
@@ -27,7 +27,7 @@ module _ (x y : Held) (m : HeapAgent) (is : y.member ≡ m) (us : List ℕ) (i :
   both : MarksOnlyKey x y i
   both = record { known = marked.known; interned = marked.interned; only = marked.only; only_interned = marked.only_interned }
 
-  pub interned_marked : Interns (view_by x) (view_if m.agent) us (copy_plan us) (Ok i) → IsFoundAgain (view_by x) (view_if m.agent) us answer → InternedUnits x y us (Ok i)
+  pub interned_marked : IsInternAnswer (view_by x) (view_if m.agent) us (copy_plan us) (Ok i) → IsFoundAgain (view_by x) (view_if m.agent) us answer → InternedUnits x y us (Ok i)
   interned_marked interns again = record {
     held = held;
     same = there (λ (n : HeapAgent). IsSame x.member n) same;
@@ -36,11 +36,11 @@ module _ (x y : Held) (m : HeapAgent) (is : y.member ≡ m) (us : List ℕ) (i :
     known = there (λ (n : HeapAgent). KeepsKnown (view_by x) (view_if n.agent)) known;
     calls = there (λ (n : HeapAgent). KeepsCalls (view_by x) (view_if n.agent)) calls;
     entered = there (λ (n : HeapAgent). HasEntered (view_if n.agent) us i) entered;
-    interns = there (λ (n : HeapAgent). Interns (view_by x) (view_if n.agent) us (copy_plan us) (Ok i)) interns;
+    interns = there (λ (n : HeapAgent). IsInternAnswer (view_by x) (view_if n.agent) us (copy_plan us) (Ok i)) interns;
     again = there (λ (n : HeapAgent). IsFoundAgain (view_by x) (view_if n.agent) us answer) again;
   }
 
-  pub found_marked : Finds (view_by x) (view_if m.agent) us (Some i) → ((j : ℕ) → Has (view_by x).units j us → StandsAt (view_by x) us j → Some i ≡ Some j) → FoundUnits x y us (Some i)
+  pub found_marked : Finds (view_by x) (view_if m.agent) us (Some i) → ((j : ℕ) → Has (view_by x).units j us → StandsInSlot (view_by x) us j → Some i ≡ Some j) → FoundUnits x y us (Some i)
   found_marked finds again = record {
     held = held;
     same = there (λ (n : HeapAgent). IsSame x.member n) same;

@@ -18,9 +18,9 @@ use Rattle.heap_agents.specs.declared.ids.IdSet.{IdSet}
 use Rattle.heap_agents.specs.Sets.{Covers, IsIn}
 use Rattle.heap_agents.specs.declared.held.Held.{Held}
 use Rattle.heap_agents.specs.declared.member.HeapAgent.{HeapAgent}
-use Rattle.heap_agents.specs.Held.{IsHeld, IsMarked, KeepsMarks, Leaves, share_by, size_by, view_by}
+use Rattle.heap_agents.specs.Held.{IsHeld, IsMarked, KeepsMarks, Leaves, share_by, held_size, view_by}
 use Rattle.heap_agents.specs.Interned.{KeepsCalls}
-use Rattle.heap_agents.specs.Members.{IsAgentOf, IsSame, IsWhole, HeapAgentLeaves, heap_of, share_if, view_if}
+use Rattle.heap_agents.specs.Members.{IsAgentOf, IsSame, IsSoundMember, HeapAgentLeaves, heap_of, share_if, view_if}
 use Rattle.heap_agents.proofs.Interned.{continued}
 
 -- what is known and which calls are known stay, so what was marked still may be
@@ -40,14 +40,14 @@ same_ids x y s = λ i. (size_of (sym s.0 i)).ids
 kept_marks : (x : Held) (y : HeapAgent) → KeepsMarks x (record x { member = y })
 kept_marks x y = record { known = λ i h. h; interned = λ i h. h; number = λ i. x.number; giver = λ i. x.giver }
 
-module _ (x : Held) (y : HeapAgent) (held : IsHeld x) (whole : IsWhole y) (same : IsSame x.member y)
+module _ (x : Held) (y : HeapAgent) (held : IsHeld x) (whole : IsSoundMember y) (same : IsSame x.member y)
     (units : (i : ℕ) (us : List ℕ) → Has (view_by x).units i us → Has (view_if y.agent).units i us) (calls : KeepsCalls (view_by x) (view_if y.agent)) (agents : (view_if y.agent).agents ≡ (view_by x).agents) where
   pub still : IsHeld (record x { member = y })
   still = record {
     whole = whole;
     agents = held.agents ∙ sym agents;
     marked = subst (λ (n : ℕ). IsMarked (view_if y.agent) x.known x.interned n) (same_ids x.member y same)
-        (marked_still (view_by x) (view_if y.agent) x.known x.interned (size_by x).ids held.marked units calls);
+        (marked_still (view_by x) (view_if y.agent) x.known x.interned (held_size x).ids held.marked units calls);
   }
 
 -- a call on strings with the marks left alone
@@ -64,7 +64,7 @@ below_in : (h : Heap) (a : Option Agent) → IsAgentOf h a → (i : ℕ) → Has
 below_in h None of i k = absurd of
 below_in h (Some a) of i k = subst (λ (z : HeapSize). i < z.ids) of.1 ((possible_within (view_of a) of.5).known i (inl k))
 
-pub below : (x : Held) → IsHeld x → (i : ℕ) → HasKey (view_by x).units i → i < (size_by x).ids
+pub below : (x : Held) → IsHeld x → (i : ℕ) → HasKey (view_by x).units i → i < (held_size x).ids
 below x held i k = below_in (heap_of x.member) x.member.agent held.whole.0 i k
 
 -- a string that is made of known ones is known
@@ -82,7 +82,7 @@ taken_over v b w may h u i c = subst (λ (m : Calls). Contains m (u, i)) (sym h)
 stays : (v b w : View) → history w ≡ history v ++ b.mine → (u : List ℕ) (i : ℕ) → Contains (history v) (u, i) → Contains (history w) (u, i)
 stays v b w h u i c = subst (λ (m : Calls). Contains m (u, i)) (sym h) (Contains-append_left (history v) b.mine (u, i) c)
 
-module _ (x o : Held) (y : HeapAgent) (held : IsHeld x) (theirs : IsHeld o) (whole : IsWhole y) (same : IsSame x.member y) (beside : IsSame x.member o.member) (may : MayJoin (view_by x) (view_by o))
+module _ (x o : Held) (y : HeapAgent) (held : IsHeld x) (theirs : IsHeld o) (whole : IsSoundMember y) (same : IsSame x.member y) (beside : IsSame x.member o.member) (may : MayJoin (view_by x) (view_by o))
     (ours : KeepsKnown (view_by x) (view_if y.agent)) (others : KeepsKnown (view_by o) (view_if y.agent)) (calls : history (view_if y.agent) ≡ history (view_by x) ++ (view_by o).mine)
     (known interned : IdSet) (room : (n : ℕ) → Covers x.known n → Covers known n) (only : (i : ℕ) → IsIn known i → IsIn x.known i ⊎ IsIn o.known i)
     (calls_room : (n : ℕ) → Covers x.interned n → Covers interned n) (only_calls : (i : ℕ) → IsIn interned i → IsIn x.interned i ⊎ IsIn o.interned i) where
@@ -99,13 +99,13 @@ module _ (x o : Held) (y : HeapAgent) (held : IsHeld x) (theirs : IsHeld o) (who
           (λ (a : IsIn o.interned i). let u = theirs.marked.calls i a in (u.0, taken_over (view_by x) (view_by o) (view_if y.agent) may calls u.0 i u.1)) (only_calls i h);
       calls_below = λ i h. ⊎_elim (λ (a : IsIn x.interned i). held.marked.calls_below i a)
           (λ (a : IsIn o.interned i). subst (λ (n : ℕ). i < n) (sym (same_ids x.member o.member beside)) (theirs.marked.calls_below i a)) (only_calls i h);
-      room = room (size_by x).ids held.marked.room;
-      calls_room = calls_room (size_by x).ids held.marked.calls_room;
+      room = room (held_size x).ids held.marked.room;
+      calls_room = calls_room (held_size x).ids held.marked.calls_room;
     });
   }
 
 -- what a split leaves to both
-module _ (x : Held) (y : HeapAgent) (give : ℕ) (held : IsHeld x) (whole : IsWhole y) (same : IsSame x.member y) where
+module _ (x : Held) (y : HeapAgent) (give : ℕ) (held : IsHeld x) (whole : IsSoundMember y) (same : IsSame x.member y) where
   pub left_held : view_if y.agent ≡ left_after_split (view_by x) give → IsHeld (record x { member = y })
   left_held e = still x y held whole same (λ i us h. subst (λ (v : View). Has v.units i us) (sym e) h)
       (record { calls = λ u i h. subst (λ (v : View). Contains (history v) (u, i)) (sym e) h }) (ap (λ (v : View). v.agents) e)
@@ -115,7 +115,7 @@ module _ (x : Held) (y : HeapAgent) (give : ℕ) (held : IsHeld x) (whole : IsWh
       → IsHeld z × IsSame x.member z.member
   right_held e o z known interned room calls_room member agents marks calls = (
     record {
-      whole = subst (λ (m : HeapAgent). IsWhole m) (sym member) whole;
+      whole = subst (λ (m : HeapAgent). IsSoundMember m) (sym member) whole;
       agents = agents ∙ (held.agents ∙ sym (ap (λ (m : HeapAgent). (view_if m.agent).agents) member ∙ ap (λ (v : View). v.agents) e));
       marked = subst (λ (m : HeapAgent). IsMarked (view_if m.agent) z.known z.interned (size_of (heap_of m)).ids) (sym member)
           (subst (λ (s : IdSet). IsMarked (view_if y.agent) s z.interned (size_of (heap_of y)).ids) (sym marks) (subst (λ (s : IdSet). IsMarked (view_if y.agent) o.known s (size_of (heap_of y)).ids) (sym calls)
@@ -123,8 +123,8 @@ module _ (x : Held) (y : HeapAgent) (give : ℕ) (held : IsHeld x) (whole : IsWh
             known = λ i h. subst (λ (v : View). HasKey v.units i) (sym e) (held.marked.known i ((known i).0 h));
             calls = λ i h. let u = held.marked.calls i ((interned i).0 h) in (u.0, subst (λ (v : View). Contains (history v) (u.0, i)) (sym e) (Contains-append_left (history (view_by x)) [] (u.0, i) u.1));
             calls_below = λ i h. held.marked.calls_below i ((interned i).0 h);
-            room = room (size_by x).ids held.marked.room;
-            calls_room = calls_room (size_by x).ids held.marked.calls_room;
+            room = room (held_size x).ids held.marked.room;
+            calls_room = calls_room (held_size x).ids held.marked.calls_room;
           }))));
     },
     subst (λ (m : HeapAgent). IsSame x.member m) (sym member) same,
@@ -140,9 +140,9 @@ interned_held x i known interned held key call room only calls_room only_calls =
   marked = record {
     known = λ j h. ⊎_elim (λ (e : j ≡ i). subst (λ (k : ℕ). HasKey (view_by x).units k) (sym e) key) (λ (a : IsIn x.known j). held.marked.known j a) (only j h);
     calls = λ j h. ⊎_elim (λ (e : j ≡ i). subst (λ (k : ℕ). (u : List ℕ) × Contains (history (view_by x)) (u, k)) (sym e) call) (λ (a : IsIn x.interned j). held.marked.calls j a) (only_calls j h);
-    calls_below = λ j h. ⊎_elim (λ (e : j ≡ i). subst (λ (k : ℕ). k < (size_by x).ids) (sym e) (below x held i key)) (λ (a : IsIn x.interned j). held.marked.calls_below j a) (only_calls j h);
-    room = room (size_by x).ids held.marked.room;
-    calls_room = calls_room (size_by x).ids held.marked.calls_room;
+    calls_below = λ j h. ⊎_elim (λ (e : j ≡ i). subst (λ (k : ℕ). k < (held_size x).ids) (sym e) (below x held i key)) (λ (a : IsIn x.interned j). held.marked.calls_below j a) (only_calls j h);
+    room = room (held_size x).ids held.marked.room;
+    calls_room = calls_room (held_size x).ids held.marked.calls_room;
   };
 }
 

@@ -15,20 +15,20 @@ use Rattle.heap_table.specs.declared.agent.Agent.{Agent}
 use Rattle.heap_table.specs.declared.heap.Heap.{Heap}
 use Rattle.heap_table.specs.Agents.{Belongs, view_of}
 use Rattle.heap_intern.specs.declared.session.Session.{Session}
-use Rattle.heap_intern.specs.Sessions.{state_by, state_in, table_of, view_in}
+use Rattle.heap_intern.specs.Sessions.{state_by, state_in, table_of, session_view}
 use Rattle.heap_intern.specs.Shares.{BelongsAs}
 use Rattle.heap_intern.proofs.States.{settled_test, test_settled, text_is}
 use Rattle.js_search.specs.Order.{Precedes}
 use Rattle.heap_agents.specs.declared.member.HeapAgent.{HeapAgent}
-use Rattle.heap_agents.specs.Members.{IsWhole, heap_of, view_if}
+use Rattle.heap_agents.specs.Members.{IsSoundMember, heap_of, view_if}
 use Rattle.heap_agents.specs.Searched.{IsOrder, KeepsStrings, HeapAgentSearched}
 
 is_some : (o : Option (List ℕ)) (us : List ℕ) → o ≡ Some us → IsSome o
 is_some o us e = subst (λ (p : Option (List ℕ)). IsSome p) (sym e) refl
 
 -- by what a store's callers see
-strings : (s t : Session) → Uses (state_in s) (state_in t) None 0 0 → KeepsStrings (view_in s) (view_in t)
-strings s t u = let p = u.step in let g = p.grows in let v : View = view_in s in let w : View = view_in t in let a = g.used_ids in let b = g.used_words in let c = p.within_ids in let d = p.within_words in record {
+strings : (s t : Session) → Uses (state_in s) (state_in t) None 0 0 → KeepsStrings (session_view s) (session_view t)
+strings s t u = let p = u.step in let g = p.grows in let v : View = session_view s in let w : View = session_view t in let a = g.used_ids in let b = g.used_words in let c = p.within_ids in let d = p.within_words in record {
   units = λ i us k. g.known i (is_some (get v.units i) us k) ∙ k;
   settled = λ i k. test_settled w i (g.settled i (settled_test v i k));
   sizes = λ i. record { ids = (g.sizes i).ids; words = (g.sizes i).words; slots = (g.sizes i).slots };
@@ -54,12 +54,12 @@ order_of us vs Equal a b d = b.0 refl
 order_of us vs Greater a b d = d.0 refl
 
 -- the agent a of x looks through the session s
-module _ (x : HeapAgent) (a : Agent) (s : Session) (own : x.agent ≡ Some a) (same : view_in s ≡ view_of a) where
-  units_in : (n : ℕ) (us : List ℕ) → Has (view_if x.agent).units n us → Has (view_in s).units n us
+module _ (x : HeapAgent) (a : Agent) (s : Session) (own : x.agent ≡ Some a) (same : session_view s ≡ view_of a) where
+  units_in : (n : ℕ) (us : List ℕ) → Has (view_if x.agent).units n us → Has (session_view s).units n us
   units_in n us h = subst (λ (v : View). Has v.units n us) (sym same) (subst (λ (o : Option Agent). Has (view_if o).units n us) own h)
 
   text_in : (n : ℕ) (us : List ℕ) → Has (view_if x.agent).units n us → store.text (state_in s) n ≡ us
-  text_in n us h = text_is (view_in s).units n us (units_in n us h)
+  text_in n us h = text_is (session_view s).units n us (units_in n us h)
 
   -- what is said of the texts of two strings holds of their units
   pub said : (P : List ℕ → List ℕ → Type 0) (m n : ℕ) → P (store.text (state_in s) m) (store.text (state_in s) n)
@@ -67,13 +67,13 @@ module _ (x : HeapAgent) (a : Agent) (s : Session) (own : x.agent ≡ Some a) (s
   said P m n p us vs h k = subst (λ (l : List ℕ). P l vs) (text_in m us h) (subst (λ (l : List ℕ). P (store.text (state_in s) m) l) (text_in n vs k) p)
 
   -- and the agent b is what the session is afterwards
-  pub searched : (z : HeapAgent) (h : Heap) (b : Agent) (t : Session) → IsWhole x → z.heap ≡ x.heap → z.limit ≡ x.limit → Belongs a (heap_of z) → h ≡ heap_of z
+  pub searched : (z : HeapAgent) (h : Heap) (b : Agent) (t : Session) → IsSoundMember x → z.heap ≡ x.heap → z.limit ≡ x.limit → Belongs a (heap_of z) → h ≡ heap_of z
       → state_in s ≡ state_by (view_of a) (limit_units Bits64) (table_of h) → Uses (state_in s) (state_in t) None 0 0
-      → view_of b ≡ view_in t → BelongsAs (state_in t) b → HeapAgentSearched x (record z { agent = Some b })
+      → view_of b ≡ session_view t → BelongsAs (state_in t) b → HeapAgentSearched x (record z { agent = Some b })
   searched z h b t whole heap limit is there e u view of = record {
     whole = (belongs (heap_of z) a b s t is (e ∙ (λ i. state_by (view_of a) (limit_units Bits64) (table_of (there i)))) u of, subst (λ (n : ℕ). n ≤ MAX) (sym limit) whole.1);
     same = (λ i. heap_of (record z { heap = heap i }), limit);
     strings = subst (λ (o : Option Agent). KeepsStrings (view_if o) (view_of b)) (sym own)
-        (subst (λ (v : View). KeepsStrings v (view_of b)) same (subst (λ (w : View). KeepsStrings (view_in s) w) (sym view)
+        (subst (λ (v : View). KeepsStrings v (view_of b)) same (subst (λ (w : View). KeepsStrings (session_view s) w) (sym view)
         (strings s t u)));
   }

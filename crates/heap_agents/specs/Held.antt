@@ -11,7 +11,7 @@ use Rattle.heap_read.specs.declared.string.JsStr.{JsStr}
 use Rattle.heap_agents.specs.declared.ids.IdSet.{IdSet}
 use Rattle.heap_agents.specs.Sets.{Covers, IsIn}
 use Rattle.heap_agents.specs.declared.held.Held.{Held}
-use Rattle.heap_agents.specs.Members.{IsSame, IsWhole, heap_of, share_if, view_if}
+use Rattle.heap_agents.specs.Members.{IsSame, IsSoundMember, heap_of, share_if, view_if}
 use Rattle.heap_agents.specs.Searched.{KeepsStrings}
 
 -- what its agent knows, its share, and the sizes of its heap
@@ -21,8 +21,8 @@ view_by x = view_if x.member.agent
 abbrev pub share_by : Held → ℕ
 share_by x = share_if x.member.agent
 
-abbrev pub size_by : Held → HeapSize
-size_by x = size_of (heap_of x.member)
+abbrev pub held_size : Held → HeapSize
+held_size x = size_of (heap_of x.member)
 
 -- each marked id is known to the agent, and each that is marked as interned is in a known call of the string table
 pub record IsMarked (v : View) (usable answered : IdSet) (ids : ℕ) : Type 0 where
@@ -33,9 +33,9 @@ pub record IsMarked (v : View) (usable answered : IdSet) (ids : ℕ) : Type 0 wh
   pub calls_room : Covers answered ids
 
 pub record IsHeld (x : Held) : Type 0 where
-  pub whole : IsWhole x.member
+  pub whole : IsSoundMember x.member
   pub agents : x.agents ≡ (view_by x).agents
-  pub marked : IsMarked (view_by x) x.known x.interned (size_by x).ids
+  pub marked : IsMarked (view_by x) x.known x.interned (held_size x).ids
 
 -- what was marked stays marked, and an agent keeps its numbers
 pub record KeepsMarks (x y : Held) : Type 0 where

@@ -17,8 +17,8 @@ abbrev pub IsAgentOf : Heap → Option Agent → Type 0
 IsAgentOf h None = ⊥
 IsAgentOf h (Some a) = Belongs a h
 
-abbrev pub IsWhole : HeapAgent → Type 0
-IsWhole x = IsAgentOf (heap_of x) x.agent × (x.limit ≤ MAX)
+abbrev pub IsSoundMember : HeapAgent → Type 0
+IsSoundMember x = IsAgentOf (heap_of x) x.agent × (x.limit ≤ MAX)
 
 abbrev pub view_if : Option Agent → View
 view_if None = spent
@@ -34,6 +34,6 @@ IsSame x y = (heap_of y ≡ heap_of x) × (y.limit ≡ x.limit)
 
 -- what a call on strings leaves: heap and limit, and an agent that knows what it knew
 pub record HeapAgentLeaves (x y : HeapAgent) : Type 0 where
-  pub whole : IsWhole y
+  pub whole : IsSoundMember y
   pub same : IsSame x y
   pub continues : Continues (view_if x.agent) (view_if y.agent)

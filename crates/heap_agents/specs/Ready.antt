@@ -5,7 +5,7 @@ use Rattle.heap_rule.specs.declared.size.HeapSize.{HeapSize}
 use Rattle.heap_rule.specs.declared.view.View.{View}
 use Rattle.heap_agents.specs.Sets.{IsIn}
 use Rattle.heap_agents.specs.declared.held.Held.{Held}
-use Rattle.heap_agents.specs.Held.{IsHeld, KeepsMarks, Leaves, Searched, share_by, size_by, view_by}
+use Rattle.heap_agents.specs.Held.{IsHeld, KeepsMarks, Leaves, Searched, share_by, held_size, view_by}
 use Rattle.heap_agents.specs.Members.{IsSame}
 
 -- a handle that a call may be made with
@@ -14,9 +14,9 @@ IsReady None = ⊥
 IsReady (Some x) = IsHeld x
 
 -- what its agent knows, and its share
-abbrev pub view_in : Option Held → View
-view_in None = spent
-view_in (Some x) = view_by x
+abbrev pub handle_view : Option Held → View
+handle_view None = spent
+handle_view (Some x) = view_by x
 
 abbrev pub share_in : Option Held → ℕ
 share_in None = 0
@@ -25,11 +25,11 @@ share_in (Some x) = share_by x
 -- the sizes of its heap, and the limit of the strings that it joins
 abbrev pub size_in : Option Held → HeapSize
 size_in None = record { ids = 0; words = 0; slots = 0 }
-size_in (Some x) = size_by x
+size_in (Some x) = held_size x
 
-abbrev pub limit_in : Option Held → ℕ
-limit_in None = 0
-limit_in (Some x) = x.member.limit
+abbrev pub handle_limit : Option Held → ℕ
+handle_limit None = 0
+handle_limit (Some x) = x.member.limit
 
 -- it has the whole share
 abbrev pub HasWhole : Option Held → Type 0
@@ -48,10 +48,10 @@ MarksStay None _ = ⊥
 MarksStay (Some x) None = ⊥
 MarksStay (Some x) (Some y) = KeepsMarks x y
 
-abbrev pub Goes : Option Held → Option Held → Type 0
-Goes None _ = ⊥
-Goes (Some x) None = ⊥
-Goes (Some x) (Some y) = Leaves x y
+abbrev pub HandleLeaves : Option Held → Option Held → Type 0
+HandleLeaves None _ = ⊥
+HandleLeaves (Some x) None = ⊥
+HandleLeaves (Some x) (Some y) = Leaves x y
 
 abbrev pub Searches : Option Held → Option Held → Type 0
 Searches None _ = ⊥
@@ -59,9 +59,9 @@ Searches (Some x) None = ⊥
 Searches (Some x) (Some y) = Searched x y
 
 -- the agent may use this id: no other is answered by a call, nor comes from a join
-abbrev pub Knows : Option Held → ℕ → Type 0
-Knows None i = ⊥
-Knows (Some x) i = IsIn x.known i
+abbrev pub HandleKnows : Option Held → ℕ → Type 0
+HandleKnows None i = ⊥
+HandleKnows (Some x) i = IsIn x.known i
 
 -- an answer of the string table that the agent knows
 abbrev pub HasInterned : Option Held → ℕ → Type 0
@@ -69,9 +69,9 @@ HasInterned None i = ⊥
 HasInterned (Some x) i = IsIn x.interned i
 
 -- the number of an agent, which no other agent of its heap has, and that of the agent that it was split off from
-abbrev pub number_in : Option Held → ℕ
-number_in None = 0
-number_in (Some x) = x.number
+abbrev pub handle_number : Option Held → ℕ
+handle_number None = 0
+handle_number (Some x) = x.number
 
 abbrev pub giver_in : Option Held → ℕ
 giver_in None = 0

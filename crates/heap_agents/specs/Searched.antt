@@ -4,19 +4,19 @@ use Rattle.std.specs.declared.cmp.Ordering.{Ordering}
 use Rattle.std.specs.declared.cmp.Ordering.TheVariants.{Less, Equal, Greater}
 use Rattle.heap_rule.specs.declared.view.View.{View}
 use Rattle.heap_rule.specs.Maps.{Has, HasKey}
-use Rattle.heap_rule.specs.Views.{IsSettled, history}
+use Rattle.heap_rule.specs.Views.{IsSeenSettled, history}
 use Rattle.js_search.specs.Order.{Precedes}
 use Rattle.heap_agents.specs.declared.member.HeapAgent.{HeapAgent}
-use Rattle.heap_agents.specs.Members.{IsSame, IsWhole, view_if}
+use Rattle.heap_agents.specs.Members.{IsSame, IsSoundMember, view_if}
 
 -- a string that may be searched, and searched for
 abbrev pub IsReadable : View → ℕ → Type 0
-IsReadable v s = HasKey v.units s × IsSettled v s
+IsReadable v s = HasKey v.units s × IsSeenSettled v s
 
 -- Strings keep their units, and stay settled. The calls of the string table stay, and so do sizes, shares, and what was used.
 pub record KeepsStrings (v w : View) : Type 0 where
   pub units : (i : ℕ) (us : List ℕ) → Has v.units i us → Has w.units i us
-  pub settled : (i : ℕ) → IsSettled v i → IsSettled w i
+  pub settled : (i : ℕ) → IsSeenSettled v i → IsSeenSettled w i
   pub sizes : w.sizes ≡ v.sizes
   pub agents : w.agents ≡ v.agents
   pub share : w.share ≡ v.share
@@ -28,7 +28,7 @@ pub record KeepsStrings (v w : View) : Type 0 where
   pub calls : history w ≡ history v
 
 pub record HeapAgentSearched (x y : HeapAgent) : Type 0 where
-  pub whole : IsWhole y
+  pub whole : IsSoundMember y
   pub same : IsSame x y
   pub strings : KeepsStrings (view_if x.agent) (view_if y.agent)
 

@@ -6,7 +6,7 @@ ghost use Rattle.heap_rule.specs.Views.{history};
 ghost use Rattle.heap_intern.specs.Counting.{different};
 ghost use Rattle.heap_intern.specs.Goes.{Looks};
 ghost use Rattle.heap_agents.specs.Held.{IsHeld, KeepsMarks, share_by, view_by};
-ghost use Rattle.heap_agents.specs.Members.{IsSame, IsWhole, share_if, view_if};
+ghost use Rattle.heap_agents.specs.Members.{IsSame, IsSoundMember, share_if, view_if};
 
 use crate::held::Held;
 use crate::member::HeapAgent;
@@ -14,7 +14,7 @@ use heap_intern::count_interned;
 use heap_read::Reader;
 
 pub(crate) fn share(member: &mut HeapAgent) -> u32
-    requires whole { IsWhole member.old }
+    requires whole { IsSoundMember member.old }
     ensures member { member.new ≡ member.old }
     ensures share { result ≡ share_if member.old.agent }
 {
@@ -25,9 +25,9 @@ pub(crate) fn share(member: &mut HeapAgent) -> u32
 }
 
 pub(crate) fn totals(member: &mut HeapAgent) -> (u32, u32)
-    requires member { IsWhole member.old }
+    requires member { IsSoundMember member.old }
     requires whole { (view_if member.old.agent).share ≡ (view_if member.old.agent).agents }
-    ensures member { IsWhole member.new }
+    ensures member { IsSoundMember member.new }
     ensures same { IsSame member.old member.new }
     ensures view { view_if member.new.agent
         ≡ loaded_counter (loaded_counter (view_if member.old.agent) counter.Ids result.0) counter.Words
@@ -42,9 +42,9 @@ pub(crate) fn totals(member: &mut HeapAgent) -> (u32, u32)
 }
 
 pub(crate) fn count(member: &mut HeapAgent) -> u32
-    requires member { IsWhole member.old }
+    requires member { IsSoundMember member.old }
     requires whole { (view_if member.old.agent).share ≡ (view_if member.old.agent).agents }
-    ensures member { IsWhole member.new }
+    ensures member { IsSoundMember member.new }
     ensures same { IsSame member.old member.new }
     ensures looks { Looks (view_if member.old.agent) (view_if member.new.agent) }
     ensures count { result ≡ different (history (view_if member.old.agent)) }

@@ -2,13 +2,13 @@
 ghost use Rattle.std.specs.Prelude.{◌≡◌, ◌≤◌, ℕ, Some, IfOk, IfSome, length};
 ghost use Rattle.heap_rule.specs.Layout.{MAX};
 ghost use Rattle.heap_rule.specs.Maps.{Has};
-ghost use Rattle.heap_intern.specs.Answers.{Finds, Interns, IsFoundAgain, StandsAt, copy_plan};
+ghost use Rattle.heap_intern.specs.Answers.{Finds, IsInternAnswer, IsFoundAgain, StandsInSlot, copy_plan};
 ghost use Rattle.heap_table.specs.Agents.{view_of};
 ghost use Rattle.heap_table.specs.Known.{KeepsKnown};
 ghost use Rattle.heap_agents.specs.Interned.{HasEntered, KeepsCalls};
 ghost use Rattle.heap_agents.specs.Held.{IsHeld};
 ghost use Rattle.heap_agents.specs.Keys.{FoundUnits, InternedUnits};
-ghost use Rattle.heap_agents.specs.Members.{IsSame, IsWhole, view_if};
+ghost use Rattle.heap_agents.specs.Members.{IsSame, IsSoundMember, view_if};
 
 use crate::held::Held;
 use crate::member::HeapAgent;
@@ -16,15 +16,15 @@ use heap_intern::TableFull;
 use heap_read::Reader;
 
 pub(crate) fn intern_units(member: &mut HeapAgent, units: &[u16]) -> Result<u32, TableFull>
-    requires whole { IsWhole member.old }
+    requires whole { IsSoundMember member.old }
     requires short { length units.now ≤ MAX }
-    ensures whole { IsWhole member.new }
+    ensures whole { IsSoundMember member.new }
     ensures same { IsSame member.old member.new }
     ensures known { KeepsKnown (view_if member.old.agent) (view_if member.new.agent) }
     ensures agents { (view_if member.new.agent).agents ≡ (view_if member.old.agent).agents }
     ensures calls { KeepsCalls (view_if member.old.agent) (view_if member.new.agent) }
     ensures entered { IfOk result (λ i. HasEntered (view_if member.new.agent) units.now i) }
-    ensures interns { Interns (view_if member.old.agent) (view_if member.new.agent) units.now
+    ensures interns { IsInternAnswer (view_if member.old.agent) (view_if member.new.agent) units.now
         (copy_plan units.now) result }
     ensures again { IsFoundAgain (view_if member.old.agent) (view_if member.new.agent) units.now result }
 {
@@ -43,7 +43,7 @@ fn intern_units_by(reader: &mut Reader, units: &[u16]) -> Result<u32, TableFull>
     ensures agents { (view_of reader.new.agent).agents ≡ (view_of reader.old.agent).agents }
     ensures calls { KeepsCalls (view_of reader.old.agent) (view_of reader.new.agent) }
     ensures entered { IfOk result (λ i. HasEntered (view_of reader.new.agent) units.now i) }
-    ensures interns { Interns (view_of reader.old.agent) (view_of reader.new.agent) units.now
+    ensures interns { IsInternAnswer (view_of reader.old.agent) (view_of reader.new.agent) units.now
         (copy_plan units.now) result }
     ensures again { IsFoundAgain (view_of reader.old.agent) (view_of reader.new.agent) units.now result }
 {
@@ -51,9 +51,9 @@ fn intern_units_by(reader: &mut Reader, units: &[u16]) -> Result<u32, TableFull>
 }
 
 pub(crate) fn find_units(member: &mut HeapAgent, units: &[u16]) -> Option<u32>
-    requires whole { IsWhole member.old }
+    requires whole { IsSoundMember member.old }
     requires short { length units.now ≤ MAX }
-    ensures whole { IsWhole member.new }
+    ensures whole { IsSoundMember member.new }
     ensures same { IsSame member.old member.new }
     ensures known { KeepsKnown (view_if member.old.agent) (view_if member.new.agent) }
     ensures agents { (view_if member.new.agent).agents ≡ (view_if member.old.agent).agents }
@@ -61,7 +61,7 @@ pub(crate) fn find_units(member: &mut HeapAgent, units: &[u16]) -> Option<u32>
     ensures entered { IfSome result (λ i. HasEntered (view_if member.new.agent) units.now i) }
     ensures finds { Finds (view_if member.old.agent) (view_if member.new.agent) units.now result }
     ensures again { (i : ℕ) → Has (view_if member.old.agent).units i units.now
-        → StandsAt (view_if member.old.agent) units.now i → result ≡ Some i }
+        → StandsInSlot (view_if member.old.agent) units.now i → result ≡ Some i }
 {
     let agent = member.take_agent();
     let mut reader = Reader::new(&member.heap, agent);
@@ -80,7 +80,7 @@ fn find_units_by(reader: &mut Reader, units: &[u16]) -> Option<u32>
     ensures entered { IfSome result (λ i. HasEntered (view_of reader.new.agent) units.now i) }
     ensures finds { Finds (view_of reader.old.agent) (view_of reader.new.agent) units.now result }
     ensures again { (i : ℕ) → Has (view_of reader.old.agent).units i units.now
-        → StandsAt (view_of reader.old.agent) units.now i → result ≡ Some i }
+        → StandsInSlot (view_of reader.old.agent) units.now i → result ≡ Some i }
 {
     heap_intern::find_units(reader, units)
 }

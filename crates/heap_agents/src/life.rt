@@ -1,13 +1,13 @@
 // How heaps and agents are made and given back.
 ghost use Rattle.std.specs.Prelude.{◌≡◌, ◌↔◌, ◌++◌, ◌+◌, ◌≤◌, ◌<◌, ℕ, IfOk, IfErr, OnOk, Err};
-ghost use Rattle.heap_rule.specs.Agents.{MayJoin, first_view, joined, left_after_split, right_after_split};
+ghost use Rattle.heap_rule.specs.Agents.{MayJoin, first_view, joined_view, left_after_split, right_after_split};
 ghost use Rattle.heap_rule.specs.Layout.{MAX};
 ghost use Rattle.heap_rule.specs.Views.{history};
 ghost use Rattle.heap_table.specs.Agents.{size_of};
 ghost use Rattle.heap_table.specs.Known.{KeepsKnown};
 ghost use Rattle.heap_table.specs.MayMake.{MayMake};
 ghost use Rattle.heap_agents.specs.Held.{IsHeld, KeepsMarks, share_by, view_by};
-ghost use Rattle.heap_agents.specs.Members.{IsSame, IsWhole, heap_of, share_if, view_if};
+ghost use Rattle.heap_agents.specs.Members.{IsSame, IsSoundMember, heap_of, share_if, view_if};
 ghost use Rattle.heap_agents.specs.Sets.{Covers, IsIn};
 
 use crate::held::Held;
@@ -25,7 +25,7 @@ fn make_member(
     agents: u32,
     limit: u32,
 ) -> Result<HeapAgent, MakeFault>
-    ensures whole { IfOk result (λ m. IsWhole m) }
+    ensures whole { IfOk result (λ m. IsSoundMember m) }
     ensures size { IfOk result (λ m. size_of (heap_of m) ≡ size) }
     ensures view { IfOk result (λ m. view_if m.agent ≡ first_view size agents) }
     ensures limit { IfOk result (λ m. m.limit ≡ limit) }
@@ -47,11 +47,11 @@ fn make_member(
 }
 
 fn split_member(member: &mut HeapAgent, other: &mut HeapAgent, give: u32)
-    requires whole { IsWhole member.old }
+    requires whole { IsSoundMember member.old }
     requires same { IsSame member.old other.old }
     requires some { 1 ≤ give }
     requires less { give < share_if member.old.agent }
-    ensures whole { IsWhole member.new × IsWhole other.new }
+    ensures whole { IsSoundMember member.new × IsSoundMember other.new }
     ensures same { IsSame member.old member.new × IsSame member.old other.new }
     ensures left { view_if member.new.agent ≡ left_after_split (view_if member.old.agent) give }
     ensures right { view_if other.new.agent ≡ right_after_split (view_if member.old.agent) give }
@@ -64,13 +64,13 @@ fn split_member(member: &mut HeapAgent, other: &mut HeapAgent, give: u32)
 }
 
 fn join_member(member: &mut HeapAgent, mut other: HeapAgent)
-    requires whole { IsWhole member.old }
-    requires other { IsWhole other }
+    requires whole { IsSoundMember member.old }
+    requires other { IsSoundMember other }
     requires beside { IsSame member.old other }
     requires may { MayJoin (view_if member.old.agent) (view_if other.agent) }
-    ensures whole { IsWhole member.new }
+    ensures whole { IsSoundMember member.new }
     ensures same { IsSame member.old member.new }
-    ensures view { view_if member.new.agent ≡ joined (view_if member.old.agent) (view_if other.agent) }
+    ensures view { view_if member.new.agent ≡ joined_view (view_if member.old.agent) (view_if other.agent) }
     ensures known { KeepsKnown (view_if member.old.agent) (view_if member.new.agent) }
     ensures known_of_other { KeepsKnown (view_if other.agent) (view_if member.new.agent) }
     ensures history { history (view_if member.new.agent)
@@ -112,7 +112,7 @@ impl Held {
         ids: u32,
         agents: u32,
     ) -> Result<Box<Held>, AllocError>
-        requires whole { IsWhole member }
+        requires whole { IsSoundMember member }
         requires ids { ids ≡ (size_of (heap_of member)).ids }
         requires agents { agents ≡ (view_if member.agent).agents }
         ensures held { IfOk result (λ b. IsHeld b.value) }
@@ -204,7 +204,7 @@ impl Held {
         ensures held { IsHeld self.new }
         ensures same { IsSame self.old.member self.new.member }
         ensures view { view_by self.new
-            ≡ joined (view_by self.old) (view_by other) }
+            ≡ joined_view (view_by self.old) (view_by other) }
         ensures share { share_by self.new
             ≡ share_by self.old + share_by other }
         ensures marks { KeepsMarks self.old self.new }

@@ -4,26 +4,26 @@ ghost use Rattle.js_units.specs.Lanes.{is_wide, words_over};
 ghost use Rattle.heap_rule.specs.Births.{part};
 ghost use Rattle.heap_rule.specs.Layout.{MAX};
 ghost use Rattle.heap_rule.specs.Maps.{Has, HasKey};
-ghost use Rattle.heap_rule.specs.Views.{IsSettled};
+ghost use Rattle.heap_rule.specs.Views.{IsSeenSettled};
 ghost use Rattle.heap_table.specs.Agents.{size_of};
 ghost use Rattle.heap_text.specs.Joins.{IsCut, IsJoined};
-ghost use Rattle.heap_text.specs.Texts.{IsSpared, KeepsOwn, Told, Uses};
-ghost use Rattle.heap_agents.specs.Held.{IsHeld, Leaves, MarksMade, size_by, view_by};
-ghost use Rattle.heap_agents.specs.Members.{IsWhole, HeapAgentLeaves, heap_of, view_if};
+ghost use Rattle.heap_text.specs.Texts.{IsSpared, KeepsOwn, Told, UsesExactly};
+ghost use Rattle.heap_agents.specs.Held.{IsHeld, Leaves, MarksMade, held_size, view_by};
+ghost use Rattle.heap_agents.specs.Members.{IsSoundMember, HeapAgentLeaves, heap_of, view_if};
 
 use crate::held::Held;
 use crate::member::HeapAgent;
 use heap_text::{JoinFault, JsStr, Text, TextFull};
 
 pub(crate) fn from_units(member: &mut HeapAgent, units: &[u16]) -> Result<JsStr, TextFull>
-    requires whole { IsWhole member.old }
+    requires whole { IsSoundMember member.old }
     requires short { length units.now ≤ MAX }
     ensures leaves { HeapAgentLeaves member.old member.new }
     ensures own { KeepsOwn (view_if member.old.agent) (view_if member.new.agent) }
     ensures units { IfOk result (λ s. Has (view_if member.new.agent).units s.id units.now) }
-    ensures settled { IfOk result (λ s. IsSettled (view_if member.new.agent) s.id) }
+    ensures settled { IfOk result (λ s. IsSeenSettled (view_if member.new.agent) s.id) }
     ensures used { IfOk result
-        (λ s. Uses (view_if member.old.agent) (view_if member.new.agent) 1
+        (λ s. UsesExactly (view_if member.old.agent) (view_if member.new.agent) 1
         (words_over (is_wide units.now) (length units.now))) }
     ensures refused { IfErr result
         (λ f. Told (view_if member.new.agent) (size_of (heap_of member.old))
@@ -41,7 +41,7 @@ pub(crate) fn from_units(member: &mut HeapAgent, units: &[u16]) -> Result<JsStr,
 }
 
 pub(crate) fn concat(member: &mut HeapAgent, a: JsStr, b: JsStr) -> Result<JsStr, JoinFault>
-    requires whole { IsWhole member.old }
+    requires whole { IsSoundMember member.old }
     requires known { HasKey (view_if member.old.agent).units a.id
         × HasKey (view_if member.old.agent).units b.id }
     ensures leaves { HeapAgentLeaves member.old member.new }
@@ -64,8 +64,8 @@ pub(crate) fn concat(member: &mut HeapAgent, a: JsStr, b: JsStr) -> Result<JsStr
 }
 
 pub(crate) fn slice(member: &mut HeapAgent, s: JsStr, from: u32, to: u32) -> Result<JsStr, TextFull>
-    requires whole { IsWhole member.old }
-    requires settled { IsSettled (view_if member.old.agent) s.id }
+    requires whole { IsSoundMember member.old }
+    requires settled { IsSeenSettled (view_if member.old.agent) s.id }
     requires within { (us : List ℕ) × Has (view_if member.old.agent).units s.id us × (from ≤ to)
         × (to ≤ length us) }
     ensures leaves { HeapAgentLeaves member.old member.new }
@@ -73,7 +73,7 @@ pub(crate) fn slice(member: &mut HeapAgent, s: JsStr, from: u32, to: u32) -> Res
     ensures units { IfOk result
         (λ t. (us : List ℕ) → Has (view_if member.old.agent).units s.id us
         → Has (view_if member.new.agent).units t.id (part from (to - from) us)) }
-    ensures settled { IfOk result (λ t. IsSettled (view_if member.new.agent) t.id) }
+    ensures settled { IfOk result (λ t. IsSeenSettled (view_if member.new.agent) t.id) }
     ensures cut { (us : List ℕ) → Has (view_if member.old.agent).units s.id us
         → IsCut (view_if member.old.agent) (view_if member.new.agent) (size_of (heap_of member.old)) s from to
         us result }
@@ -95,12 +95,12 @@ impl Held {
         ensures own { KeepsOwn (view_by self.old) (view_by self.new) }
         ensures marked { MarksMade self.old self.new result }
         ensures units { IfOk result (λ s. Has (view_by self.new).units s.id units.now) }
-        ensures settled { IfOk result (λ s. IsSettled (view_by self.new) s.id) }
+        ensures settled { IfOk result (λ s. IsSeenSettled (view_by self.new) s.id) }
         ensures used { IfOk result
-            (λ s. Uses (view_by self.old) (view_by self.new) 1
+            (λ s. UsesExactly (view_by self.old) (view_by self.new) 1
             (words_over (is_wide units.now) (length units.now))) }
         ensures refused { IfErr result
-            (λ f. Told (view_by self.new) (size_by self.old)
+            (λ f. Told (view_by self.new) (held_size self.old)
             (words_over (is_wide units.now) (length units.now)) f) }
         ensures spared { IfErr result
             (λ f. IsSpared (view_by self.old) (view_by self.new)
@@ -125,7 +125,7 @@ impl Held {
             → Has (view_by self.new).units s.id (us ++ vs)) }
         ensures joined { (us vs : List ℕ) → Has (view_by self.old).units a.id us
             → Has (view_by self.old).units b.id vs
-            → IsJoined (view_by self.old) (view_by self.new) (size_by self.old)
+            → IsJoined (view_by self.old) (view_by self.new) (held_size self.old)
             self.old.member.limit a b us vs result }
     {
         let s = concat(&mut self.member, a, b)?;
@@ -136,7 +136,7 @@ impl Held {
     /// The part of a settled string from unit `from` up to unit `to`, settled.
     pub fn slice(&mut self, s: JsStr, from: u32, to: u32) -> Result<JsStr, TextFull>
         requires held { IsHeld self.old }
-        requires settled { IsSettled (view_by self.old) s.id }
+        requires settled { IsSeenSettled (view_by self.old) s.id }
         requires within { (us : List ℕ) × Has (view_by self.old).units s.id us × (from ≤ to)
             × (to ≤ length us) }
         ensures leaves { Leaves self.old self.new }
@@ -145,9 +145,9 @@ impl Held {
         ensures units { IfOk result
             (λ t. (us : List ℕ) → Has (view_by self.old).units s.id us
             → Has (view_by self.new).units t.id (part from (to - from) us)) }
-        ensures settled { IfOk result (λ t. IsSettled (view_by self.new) t.id) }
+        ensures settled { IfOk result (λ t. IsSeenSettled (view_by self.new) t.id) }
         ensures cut { (us : List ℕ) → Has (view_by self.old).units s.id us
-            → IsCut (view_by self.old) (view_by self.new) (size_by self.old) s from to
+            → IsCut (view_by self.old) (view_by self.new) (held_size self.old) s from to
             us result }
     {
         let t = slice(&mut self.member, s, from, to)?;

@@ -2,7 +2,7 @@
 ghost use Rattle.std.specs.Prelude.{◌≡◌, ◌≤◌, Some};
 ghost use Rattle.heap_rule.specs.Layout.{MAX};
 ghost use Rattle.heap_table.specs.Agents.{Belongs};
-ghost use Rattle.heap_agents.specs.Members.{IsWhole, heap_of};
+ghost use Rattle.heap_agents.specs.Members.{IsSoundMember, heap_of};
 
 use heap_table::{Agent, Heap};
 use std::alloc::Global;
@@ -20,7 +20,7 @@ pub struct HeapAgent {
 impl HeapAgent {
     /// Its agent, which is to be put back.
     pub(crate) fn take_agent(&mut self) -> Agent
-        requires { IsWhole self.old }
+        requires { IsSoundMember self.old }
         ensures agent { self.old.agent ≡ Some result }
         ensures belongs { Belongs result (heap_of self.new) }
         ensures short { self.new.limit ≤ MAX }

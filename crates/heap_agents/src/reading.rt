@@ -1,23 +1,23 @@
 // Reading strings: their lengths and units.
 ghost use Rattle.std.specs.Prelude.{◌≡◌, ℕ, ◌+◌, ◌≤◌, ◌<◌, List, length, slice_range, IfOk, IfErr, IsOk, Bool};
-ghost use Rattle.heap_read.specs.Reads.{Reads};
+ghost use Rattle.heap_read.specs.Reads.{OnlyLoads};
 ghost use Rattle.heap_rule.specs.Maps.{Has, HasKey};
-ghost use Rattle.heap_rule.specs.Views.{IsSettled};
+ghost use Rattle.heap_rule.specs.Views.{IsSeenSettled};
 ghost use Rattle.heap_table.specs.Agents.{Belongs, size_of, view_of};
 ghost use Rattle.heap_text.specs.Settling.{IsBitOf, IsNoRoom, IsSettling};
 ghost use Rattle.heap_text.specs.Texts.{KeepsOwn};
-ghost use Rattle.heap_agents.specs.Held.{IsHeld, Leaves, MarksNothing, MarksSettled, size_by, view_by};
-ghost use Rattle.heap_agents.specs.Members.{IsWhole, HeapAgentLeaves, heap_of, view_if};
+ghost use Rattle.heap_agents.specs.Held.{IsHeld, Leaves, MarksNothing, MarksSettled, held_size, view_by};
+ghost use Rattle.heap_agents.specs.Members.{IsSoundMember, HeapAgentLeaves, heap_of, view_if};
 
 use crate::held::Held;
 use crate::member::HeapAgent;
 use heap_text::{JsStr, Text, TextFull};
 
 pub(crate) fn length(member: &mut HeapAgent, s: JsStr) -> u32
-    requires whole { IsWhole member.old }
+    requires whole { IsSoundMember member.old }
     requires known { HasKey (view_if member.old.agent).units s.id }
     ensures leaves { HeapAgentLeaves member.old member.new }
-    ensures reads { Reads (view_if member.old.agent) (view_if member.new.agent) }
+    ensures reads { OnlyLoads (view_if member.old.agent) (view_if member.new.agent) }
     ensures length { (us : List ℕ) → Has (view_if member.old.agent).units s.id us → result ≡ length us }
 {
     let agent = member.take_agent();
@@ -29,16 +29,16 @@ pub(crate) fn length(member: &mut HeapAgent, s: JsStr) -> u32
 }
 
 pub(crate) fn settle(member: &mut HeapAgent, s: JsStr) -> Result<(), TextFull>
-    requires whole { IsWhole member.old }
+    requires whole { IsSoundMember member.old }
     requires known { HasKey (view_if member.old.agent).units s.id }
     ensures leaves { HeapAgentLeaves member.old member.new }
     ensures own { KeepsOwn (view_if member.old.agent) (view_if member.new.agent) }
-    ensures settled { IfOk result (λ u. IsSettled (view_if member.new.agent) s.id) }
+    ensures settled { IfOk result (λ u. IsSeenSettled (view_if member.new.agent) s.id) }
     ensures used { IfOk result
         (λ u. (us : List ℕ) → Has (view_if member.old.agent).units s.id us
         → IsSettling (view_if member.old.agent) (view_if member.new.agent) s.id us) }
-    ensures again { IsSettled (view_if member.old.agent) s.id
-        → IsOk result × Reads (view_if member.old.agent) (view_if member.new.agent) }
+    ensures again { IsSeenSettled (view_if member.old.agent) s.id
+        → IsOk result × OnlyLoads (view_if member.old.agent) (view_if member.new.agent) }
     ensures refused { IfErr result
         (λ f. (us : List ℕ) → Has (view_if member.old.agent).units s.id us
         → (wide : Bool) × IsBitOf (view_if member.old.agent) s.id wide
@@ -54,12 +54,12 @@ pub(crate) fn settle(member: &mut HeapAgent, s: JsStr) -> Result<(), TextFull>
 }
 
 pub(crate) fn read(member: &mut HeapAgent, s: JsStr, from: u32, out: &mut [u16])
-    requires whole { IsWhole member.old }
-    requires settled { IsSettled (view_if member.old.agent) s.id }
+    requires whole { IsSoundMember member.old }
+    requires settled { IsSeenSettled (view_if member.old.agent) s.id }
     requires within { (us : List ℕ) × Has (view_if member.old.agent).units s.id us
         × (from + length out.old ≤ length us) }
     ensures leaves { HeapAgentLeaves member.old member.new }
-    ensures reads { Reads (view_if member.old.agent) (view_if member.new.agent) }
+    ensures reads { OnlyLoads (view_if member.old.agent) (view_if member.new.agent) }
     ensures units { (us : List ℕ) → Has (view_if member.old.agent).units s.id us
         → out.new ≡ slice_range us from (from + length out.old) }
 {
@@ -71,13 +71,13 @@ pub(crate) fn read(member: &mut HeapAgent, s: JsStr, from: u32, out: &mut [u16])
 }
 
 fn read_units(text: &mut Text, s: JsStr, from: u32, out: &mut [u16])
-    requires settled { IsSettled (view_of text.old.reader.agent) s.id }
+    requires settled { IsSeenSettled (view_of text.old.reader.agent) s.id }
     requires within { (us : List ℕ) × Has (view_of text.old.reader.agent).units s.id us
         × (from + length out.old ≤ length us) }
     ensures text { Belongs text.new.reader.agent text.new.reader.heap.now }
     ensures heap { text.new.reader.heap ≡ text.old.reader.heap }
     ensures limit { text.new.limit ≡ text.old.limit }
-    ensures reads { Reads (view_of text.old.reader.agent) (view_of text.new.reader.agent) }
+    ensures reads { OnlyLoads (view_of text.old.reader.agent) (view_of text.new.reader.agent) }
     ensures units { (us : List ℕ) → Has (view_of text.old.reader.agent).units s.id us
         → out.new ≡ slice_range us from (from + length out.old) }
 {
@@ -91,7 +91,7 @@ impl Held {
         requires held { IsHeld self.old }
         requires known { HasKey (view_by self.old).units s.id }
         ensures leaves { Leaves self.old self.new }
-        ensures reads { Reads (view_by self.old) (view_by self.new) }
+        ensures reads { OnlyLoads (view_by self.old) (view_by self.new) }
         ensures marked { MarksNothing self.old self.new }
         ensures length { (us : List ℕ) → Has (view_by self.old).units s.id us → result ≡ length us }
     {
@@ -106,16 +106,16 @@ impl Held {
         ensures leaves { Leaves self.old self.new }
         ensures own { KeepsOwn (view_by self.old) (view_by self.new) }
         ensures marked { MarksSettled self.old self.new s.id result }
-        ensures settled { IfOk result (λ u. IsSettled (view_by self.new) s.id) }
+        ensures settled { IfOk result (λ u. IsSeenSettled (view_by self.new) s.id) }
         ensures used { IfOk result
             (λ u. (us : List ℕ) → Has (view_by self.old).units s.id us
             → IsSettling (view_by self.old) (view_by self.new) s.id us) }
-        ensures again { IsSettled (view_by self.old) s.id
-            → IsOk result × Reads (view_by self.old) (view_by self.new) }
+        ensures again { IsSeenSettled (view_by self.old) s.id
+            → IsOk result × OnlyLoads (view_by self.old) (view_by self.new) }
         ensures refused { IfErr result
             (λ f. (us : List ℕ) → Has (view_by self.old).units s.id us
             → (wide : Bool) × IsBitOf (view_by self.old) s.id wide
-            × IsNoRoom (view_by self.old) (view_by self.new) (size_by self.old) us f wide) }
+            × IsNoRoom (view_by self.old) (view_by self.new) (held_size self.old) us f wide) }
     {
         settle(&mut self.member, s)?;
         self.mark(s.id);
@@ -125,11 +125,11 @@ impl Held {
     /// The units of a settled string from unit `from` on, as many as there is room for, by loads alone.
     pub fn read(&mut self, s: JsStr, from: u32, out: &mut [u16])
         requires held { IsHeld self.old }
-        requires settled { IsSettled (view_by self.old) s.id }
+        requires settled { IsSeenSettled (view_by self.old) s.id }
         requires within { (us : List ℕ) × Has (view_by self.old).units s.id us
             × (from + length out.old ≤ length us) }
         ensures leaves { Leaves self.old self.new }
-        ensures reads { Reads (view_by self.old) (view_by self.new) }
+        ensures reads { OnlyLoads (view_by self.old) (view_by self.new) }
         ensures marked { MarksNothing self.old self.new }
         ensures units { (us : List ℕ) → Has (view_by self.old).units s.id us
             → out.new ≡ slice_range us from (from + length out.old) }

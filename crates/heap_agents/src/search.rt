@@ -4,7 +4,7 @@ ghost use Rattle.heap_rule.specs.Maps.{Has};
 ghost use Rattle.js_search.specs.Order.{units_cmp};
 ghost use Rattle.js_search.specs.Places.{IsFirst, IsLast, Stands, first, last, stands};
 ghost use Rattle.heap_agents.specs.Held.{IsHeld, Searched, view_by};
-ghost use Rattle.heap_agents.specs.Members.{IsWhole, view_if};
+ghost use Rattle.heap_agents.specs.Members.{IsSoundMember, view_if};
 ghost use Rattle.heap_agents.specs.Searched.{IsOrder, IsReadable, HeapAgentSearched};
 
 use crate::held::Held;
@@ -15,7 +15,7 @@ use js_store::Limit;
 use std::cmp::Ordering;
 
 pub(crate) fn compare(member: &mut HeapAgent, a: JsStr, b: JsStr) -> Ordering
-    requires whole { IsWhole member.old }
+    requires whole { IsSoundMember member.old }
     requires left { IsReadable (view_if member.old.agent) a.id }
     requires right { IsReadable (view_if member.old.agent) b.id }
     ensures searched { HeapAgentSearched member.old member.new }
@@ -34,7 +34,7 @@ pub(crate) fn compare(member: &mut HeapAgent, a: JsStr, b: JsStr) -> Ordering
 }
 
 pub(crate) fn equal(member: &mut HeapAgent, a: JsStr, b: JsStr) -> bool
-    requires whole { IsWhole member.old }
+    requires whole { IsSoundMember member.old }
     requires left { IsReadable (view_if member.old.agent) a.id }
     requires right { IsReadable (view_if member.old.agent) b.id }
     ensures searched { HeapAgentSearched member.old member.new }
@@ -50,7 +50,7 @@ pub(crate) fn equal(member: &mut HeapAgent, a: JsStr, b: JsStr) -> bool
 }
 
 pub(crate) fn starts_with(member: &mut HeapAgent, hay: JsStr, needle: JsStr, at: u32) -> bool
-    requires whole { IsWhole member.old }
+    requires whole { IsSoundMember member.old }
     requires left { IsReadable (view_if member.old.agent) hay.id }
     requires right { IsReadable (view_if member.old.agent) needle.id }
     ensures searched { HeapAgentSearched member.old member.new }
@@ -69,7 +69,7 @@ pub(crate) fn starts_with(member: &mut HeapAgent, hay: JsStr, needle: JsStr, at:
 }
 
 pub(crate) fn index_of(member: &mut HeapAgent, hay: JsStr, needle: JsStr, from: u32) -> Option<u32>
-    requires whole { IsWhole member.old }
+    requires whole { IsSoundMember member.old }
     requires left { IsReadable (view_if member.old.agent) hay.id }
     requires right { IsReadable (view_if member.old.agent) needle.id }
     requires within { (us : List ℕ) × Has (view_if member.old.agent).units hay.id us × (from ≤ length us) }
@@ -94,7 +94,7 @@ pub(crate) fn last_index_of(
     needle: JsStr,
     limit: u32,
 ) -> Option<u32>
-    requires whole { IsWhole member.old }
+    requires whole { IsSoundMember member.old }
     requires left { IsReadable (view_if member.old.agent) hay.id }
     requires right { IsReadable (view_if member.old.agent) needle.id }
     ensures searched { HeapAgentSearched member.old member.new }

@@ -1,13 +1,13 @@
 // The content words of a settled string.
 ghost use Rattle.std.specs.Prelude.{◌≡◌, ℕ, ◌+◌, ◌-◌, ◌%◌, ◌≤◌, ◌<◌, List, false, min};
 ghost use Rattle.js_units.specs.Lanes.{lane_count, words_over};
-ghost use Rattle.heap_read.specs.Reads.{Reads};
+ghost use Rattle.heap_read.specs.Reads.{OnlyLoads};
 ghost use Rattle.heap_rule.specs.Layout.{MAX};
 ghost use Rattle.heap_rule.specs.Maps.{Has, HasKey};
-ghost use Rattle.heap_rule.specs.Views.{IsSettled};
+ghost use Rattle.heap_rule.specs.Views.{IsSeenSettled};
 ghost use Rattle.heap_table.specs.Agents.{Belongs, view_of};
 ghost use Rattle.heap_agents.specs.Held.{IsHeld, Leaves, MarksNothing, view_by};
-ghost use Rattle.heap_agents.specs.Members.{IsWhole, HeapAgentLeaves, view_if};
+ghost use Rattle.heap_agents.specs.Members.{IsSoundMember, HeapAgentLeaves, view_if};
 ghost use Rattle.heap_agents.specs.Words.{AreShown, AreThere};
 
 use crate::held::Held;
@@ -56,11 +56,11 @@ fn shown_in(w: Window, at: u32, room: usize) -> Shown
 
 fn show_words(text: &mut Text, s: JsStr, at: u32, into: &mut [u64]) -> Shown
     requires known { HasKey (view_of text.old.reader.agent).units s.id }
-    requires settled { IsSettled (view_of text.old.reader.agent) s.id }
+    requires settled { IsSeenSettled (view_of text.old.reader.agent) s.id }
     ensures text { Belongs text.new.reader.agent text.new.reader.heap.now }
     ensures heap { text.new.reader.heap ≡ text.old.reader.heap }
     ensures limit { text.new.limit ≡ text.old.limit }
-    ensures reads { Reads (view_of text.old.reader.agent) (view_of text.new.reader.agent) }
+    ensures reads { OnlyLoads (view_of text.old.reader.agent) (view_of text.new.reader.agent) }
     ensures shown { (us : List ℕ) → Has (view_of text.old.reader.agent).units s.id us
         → AreShown us at into.old into.new result }
     ensures there { (us : List ℕ) → Has (view_of text.old.reader.agent).units s.id us
@@ -73,11 +73,11 @@ fn show_words(text: &mut Text, s: JsStr, at: u32, into: &mut [u64]) -> Shown
 }
 
 pub(crate) fn show(member: &mut HeapAgent, s: JsStr, at: u32, into: &mut [u64]) -> Shown
-    requires whole { IsWhole member.old }
+    requires whole { IsSoundMember member.old }
     requires known { HasKey (view_if member.old.agent).units s.id }
-    requires settled { IsSettled (view_if member.old.agent) s.id }
+    requires settled { IsSeenSettled (view_if member.old.agent) s.id }
     ensures leaves { HeapAgentLeaves member.old member.new }
-    ensures reads { Reads (view_if member.old.agent) (view_if member.new.agent) }
+    ensures reads { OnlyLoads (view_if member.old.agent) (view_if member.new.agent) }
     ensures shown { (us : List ℕ) → Has (view_if member.old.agent).units s.id us
         → AreShown us at into.old into.new result }
     ensures there { (us : List ℕ) → Has (view_if member.old.agent).units s.id us
@@ -97,9 +97,9 @@ impl Held {
     pub fn window(&mut self, s: JsStr, at: u32, into: &mut [u64]) -> Shown
         requires held { IsHeld self.old }
         requires known { HasKey (view_by self.old).units s.id }
-        requires settled { IsSettled (view_by self.old) s.id }
+        requires settled { IsSeenSettled (view_by self.old) s.id }
         ensures leaves { Leaves self.old self.new }
-        ensures reads { Reads (view_by self.old) (view_by self.new) }
+        ensures reads { OnlyLoads (view_by self.old) (view_by self.new) }
         ensures marked { MarksNothing self.old self.new }
         ensures shown { (us : List ℕ) → Has (view_by self.old).units s.id us
             → AreShown us at into.old into.new result }

@@ -8,17 +8,17 @@ use Rattle.js_header.proofs.RoundTrip.{word_of-form_of}
 use Rattle.js_header.specs.declared.form.Form.{Form}
 use Rattle.js_header.specs.declared.form.Form.TheVariants.{Unborn, Flat, Cons, Sliced, Thin}
 use Rattle.heap_rule.specs.declared.view.View.{View}
-use Rattle.heap_rule.specs.Layout.{IsLawful, IsBorn, form, form_at}
+use Rattle.heap_rule.specs.Layout.{IsLawfulSize, IsBorn, form, form_at}
 use Rattle.heap_rule.specs.Maps.{Has}
 use Rattle.heap_rule.specs.Births.{freeze_form}
 use Rattle.heap_rule.specs.Learning.{learned, MayLearn}
 use Rattle.heap_rule.specs.HeaderMoves.{seen_form, MayFlatten, flattened, MayThin, thinned}
-use Rattle.heap_rule.specs.Kinds.{Keeps, flatten, thin, left_by, access_of}
+use Rattle.heap_rule.specs.Kinds.{KeepsRule, flatten, thin, word_left, access_of}
 use Rattle.heap_rule.specs.Sound.{At, AreStanding, IsSound, KnowsForm}
 use Rattle.heap_rule.specs.Agents.{spent}
 use Rattle.heap_core_views.specs.declared.load.Load.{Load}
 use Rattle.heap_core_views.specs.Loading.{loaded_by, HasRoom}
-use Rattle.heap_core_births.specs.Moving.{Stays}
+use Rattle.heap_core_births.specs.Moving.{IsSameOrLater}
 use Rattle.heap_core.specs.Core.{Core, core}
 use Rattle.heap_core.specs.Events.{IsCore, IsSoundCore, LiveIn, view_at, stored, looked, exchanged, CanMove, after_move}
 use Rattle.heap_rule.proofs.ListLemmas.{at_index, set_there}
@@ -53,10 +53,10 @@ module _ (s : Core) (h : IsCore s) (j i : ℕ) where
   pub move_stands : (old : Form) → LiveIn s.views j (λ v. Has v.forms i old) → AreStanding s.size s.words × IsBorn s.size s.words i
   move_stands old t = let g : IsSoundCore s = sound_of s j (λ v. Has v.forms i old) h t in ((s.views, g.standing), (known old t).born)
 
-  pub move_stays : (old stands : Form) → LiveIn s.views j (λ v. Has v.forms i old) → form_of found ≡ Some stands → Stays old stands
-  move_stays old stands t e = let k = known old t in let same : k.now ≡ stands = (let d : Some k.now ≡ Some stands = sym k.decodes ∙ e in cc) in subst (Stays old) same k.later
+  pub move_stays : (old stands : Form) → LiveIn s.views j (λ v. Has v.forms i old) → form_of found ≡ Some stands → IsSameOrLater old stands
+  move_stays old stands t e = let k = known old t in let same : k.now ≡ stands = (let d : Some k.now ≡ Some stands = sym k.decodes ∙ e in cc) in subst (IsSameOrLater old) same k.later
 
-  pub move_inside : (old : Form) → LiveIn s.views j (λ v. Has v.forms i old) → IsLawful s.size × (i < s.size.ids) × (form_at s.size i < length s.words)
+  pub move_inside : (old : Form) → LiveIn s.views j (λ v. Has v.forms i old) → IsLawfulSize s.size × (i < s.size.ids) × (form_at s.size i < length s.words)
   move_inside old t = let g : IsSoundCore s = sound_of s j (λ v. Has v.forms i old) h t in let b = (known old t).born.0 in let n = g.counted.long in (g.lawful, b, omega arith)
 
   module _ (P : View → Type 0) (F : View → ℕ → View) where
@@ -95,13 +95,13 @@ module _ (s : Core) (h : IsCore s) (j i : ℕ) where
   -- the two
   pub flatten_turns : (old new : Form) → Turns (λ v. MayFlatten v i old new) (λ v x. flattened v i old new x)
   flatten_turns old new v at live may = let g : IsSoundCore s = sound_of s j (λ v. MayFlatten v i old new) h (v, at, live, may) in
-      let k : Keeps s.size s.agents s.words (set s.words (form_at s.size i) (left_by (access_of (flatten i old new)) found)) (set s.views j (learned (flattened v i old new found) [])) = kinds_keep s.size s.agents s.words s.views j v (flatten i old new) [] g at live may in
-      (either_live v i (length (unwrap_or (get v.units i) [])) new (form_of found) (eqb found (word_of old)) ∙ live, (set s.words (form_at s.size i) (left_by (access_of (flatten i old new)) found), k.0))
+      let k : KeepsRule s.size s.agents s.words (set s.words (form_at s.size i) (word_left (access_of (flatten i old new)) found)) (set s.views j (learned (flattened v i old new found) [])) = kinds_keep s.size s.agents s.words s.views j v (flatten i old new) [] g at live may in
+      (either_live v i (length (unwrap_or (get v.units i) [])) new (form_of found) (eqb found (word_of old)) ∙ live, (set s.words (form_at s.size i) (word_left (access_of (flatten i old new)) found), k.0))
 
   pub thin_turns : (old : Form) (t : ℕ) → Turns (λ v. MayThin v i old t) (λ v x. thinned v i old t x)
   thin_turns old t v at live may = let g : IsSoundCore s = sound_of s j (λ v. MayThin v i old t) h (v, at, live, may) in
-      let k : Keeps s.size s.agents s.words (set s.words (form_at s.size i) (left_by (access_of (thin i old t)) found)) (set s.views j (learned (thinned v i old t found) [])) = kinds_keep s.size s.agents s.words s.views j v (thin i old t) [] g at live may in
-      (seen_live v i (cond (eqb found (word_of old)) (Some (Thin t)) (form_of found)) ∙ live, (set s.words (form_at s.size i) (left_by (access_of (thin i old t)) found), k.0))
+      let k : KeepsRule s.size s.agents s.words (set s.words (form_at s.size i) (word_left (access_of (thin i old t)) found)) (set s.views j (learned (thinned v i old t found) [])) = kinds_keep s.size s.agents s.words s.views j v (thin i old t) [] g at live may in
+      (seen_live v i (cond (eqb found (word_of old)) (Some (Thin t)) (form_of found)) ∙ live, (set s.words (form_at s.size i) (word_left (access_of (thin i old t)) found), k.0))
 
   -- the new forms are spelt by words
   pub thin_range : (old : Form) (t : ℕ) → LiveIn s.views j (λ v. MayThin v i old t) → IsInRange (Thin t)

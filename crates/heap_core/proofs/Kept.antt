@@ -17,9 +17,9 @@ use Rattle.heap_rule.specs.Sound.{total}
 use Rattle.heap_core.specs.Core.{Core, core}
 use Rattle.heap_core.specs.Events.{IsCore, IsSoundCore, LiveAt, Enabled, after, found, Applied, KeepsUnits, Kept, BornBy}
 use Rattle.heap_rule.specs.Claims.{loaded_counter, MayClaim, won_claim}
-use Rattle.heap_rule.specs.Births.{stored_word, MayStoreLength, stored_length, Fits, MayBear}
+use Rattle.heap_rule.specs.Births.{stored_word, MayStoreLength, stored_length, FormFits, MayBear}
 use Rattle.heap_rule.specs.HeaderMoves.{MayFlatten, flattened, MayThin, thinned}
-use Rattle.heap_rule.specs.Views.{IsKnown}
+use Rattle.heap_rule.specs.Views.{MayUse}
 use Rattle.heap_rule.specs.Learning.{MayLearn}
 use Rattle.heap_rule.specs.Loads.{MayLoadWord, loaded_word}
 use Rattle.heap_rule.specs.Slots.{MayEnter, loaded_slot, MayTakeSlot, took_slot}
@@ -56,7 +56,7 @@ enabled_keeps s (StoreLength j i n) h en = let g : IsSoundCore s = sound_of s j 
     subst (λ (v : View). Kept s (core s.size s.agents (set s.words (length_at s.size i) n) (set s.views j (stored_length v i n)))) (sym (at_index s.views j en.0 spent en.1))
     (length_stored s.size s.agents s.words s.views g j en.0 en.1 en.2 i n en.3)
 enabled_keeps s (Birth j i f) h en = birth_kept s j i f (sound_of s j (λ v. MayBear v i f) h en) en
-enabled_keeps s (LoadHeader j i len names) h en = load_header_kept s j i len names.items (sound_of s j (λ v. IsKnown v i) h en.0) en
+enabled_keeps s (LoadHeader j i len names) h en = load_header_kept s j i len names.items (sound_of s j (λ v. MayUse v i) h en.0) en
 enabled_keeps s (LoadWord j c names) h en = load_word_kept s j c names.items (sound_of s j (λ v. MayLoadWord v c × MayLearn (loaded_word v c (get_or s.words (content_at s.size c) 0)) names.items) h en) en
 enabled_keeps s (Flatten j i old new names) h en = flatten_kept s j i old new names.items (sound_of s j (λ v. MayFlatten v i old new × MayLearn (flattened v i old new (get_or s.words (form_at s.size i) 0)) names.items) h en) en
 enabled_keeps s (Thin j i old t names) h en = thin_kept s j i old t names.items (sound_of s j (λ v. MayThin v i old t × MayLearn (thinned v i old t (get_or s.words (form_at s.size i) 0)) names.items) h en) en
@@ -81,7 +81,7 @@ pub applied_units : (s : Core) (e : Event) (t : Core) (r : Result ℕ Refusal) �
 applied_units s e t r h a = (applied_keeps s e t r h a).1
 
 -- who is born
-fits_word : (v : View) (i n : ℕ) (f : Form) → Fits v i n f → word_of f ≢ 0
+fits_word : (v : View) (i n : ℕ) (f : Form) → FormFits v i n f → word_of f ≢ 0
 fits_word v i n (Flat a b c) h e = omega arith
 fits_word v i n (Cons a b c) h e = omega arith
 fits_word v i n (Sliced a b c) h e = omega arith

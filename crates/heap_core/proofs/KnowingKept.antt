@@ -14,7 +14,7 @@ use Rattle.heap_rule.specs.Slots.{loaded_slot, took_slot}
 use Rattle.heap_rule.specs.Births.{MayBear, born_with, born}
 use Rattle.heap_rule.specs.HeaderMoves.{flattened, thinned}
 use Rattle.heap_rule.specs.Kinds.{take_slot, flatten, thin}
-use Rattle.heap_rule.specs.Agents.{spent, left_after_split, right_after_split, joined}
+use Rattle.heap_rule.specs.Agents.{spent, left_after_split, right_after_split, joined_view}
 use Rattle.heap_rule.specs.Sound.{IsSound}
 use Rattle.heap_core.specs.Core.{Core, core}
 use Rattle.heap_core.specs.Events.{IsSoundCore, CanSplit, after_split, CanJoin, after_join, CanLoadHeader, after_load_header, CanLoadWord, after_load_word, LiveAt, view_at, CanFlatten, after_flatten, CanThinTo, after_thin, CanLoadSlot, after_load_slot, CanTakeSlot, after_take_slot, Kept}
@@ -35,7 +35,7 @@ split_kept s j give h can = let v : View = can.0 in
 
 pub join_kept : (s : Core) (j other : ℕ) → IsSoundCore s → CanJoin s j other → Kept s (after_join s j other)
 join_kept s j other h can = let l = can.1 in let v : View = l.0 in let t = l.3 in let b : View = t.0 in
-    subst (λ (u : View × View). Kept s (core s.size s.agents s.words (set (set s.views j (joined u.0 u.1)) other spent))) (λ i. (sym (at_index s.views j v spent l.1) i, sym (at_index s.views other b spent t.1) i))
+    subst (λ (u : View × View). Kept s (core s.size s.agents s.words (set (set s.views j (joined_view u.0 u.1)) other spent))) (λ i. (sym (at_index s.views j v spent l.1) i, sym (at_index s.views other b spent t.1) i))
     (still s _ (keeps_joined s.size s.agents s.words s.views h j other v b can.0 l.1 l.2 t.1 t.2))
 
 pub load_header_kept : (s : Core) (j i : ℕ) (len : Bool) (names : List ℕ) → IsSoundCore s → CanLoadHeader s j i len names → Kept s (after_load_header s j i len names)

@@ -7,7 +7,7 @@ use Rattle.js_header.specs.declared.form.Form.TheVariants.{Flat, Cons, Sliced}
 use Rattle.heap_rule.specs.declared.size.HeapSize.{HeapSize}
 use Rattle.heap_rule.specs.Layout.{form, length_word, content, IsBorn}
 use Rattle.heap_rule.specs.Contents.{units_of, span}
-use Rattle.heap_rule.specs.Sound.{AreStanding, Stands, Shows}
+use Rattle.heap_rule.specs.Sound.{AreStanding, StandsAs, Shows}
 use Rattle.heap_rule.proofs.Birth.{length_span}
 use Rattle.heap_rule.proofs.Loading.{stands_shows}
 
@@ -23,8 +23,8 @@ span_part f wide start k zero (suc o) n l = absurd (omega arith)
 span_part f wide start k (suc m) (suc o) n l = let e : suc k + o ≡ k + suc o = omega arith in span_part f wide start (suc k) m o n (omega arith) ∙ ap (λ (x : ℕ). span f wide start x n) e
 
 module _ (z : HeapSize) (W : List ℕ) (stand : AreStanding z W) (i : ℕ) (b : IsBorn z W i) where
-  pub standing : (f : Form) → form_of (form z W i) ≡ Some f → Stands z W stand.0 i f
-  standing f e = let s = stand.1 i b in let same : s.now ≡ f = (let d : Some s.now ≡ Some f = sym s.decodes ∙ e in cc) in subst (Stands z W stand.0 i) same s.stands
+  pub standing : (f : Form) → form_of (form z W i) ≡ Some f → StandsAs z W stand.0 i f
+  standing f e = let s = stand.1 i b in let same : s.now ≡ f = (let d : Some s.now ≡ Some f = sym s.decodes ∙ e in cc) in subst (StandsAs z W stand.0 i) same s.stands
 
   pub shows : (f : Form) → form_of (form z W i) ≡ Some f → Shows z W stand.0 i f
   shows f e = stands_shows z W stand.0 stand.1 i f e (standing f e)

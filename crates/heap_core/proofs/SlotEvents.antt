@@ -1,13 +1,13 @@
 -- What the executable steps on slots do to the machine, as plain data.
 use Rattle.std.proofs.Common.{◌≡◌, ℕ, zero, suc, ◌+◌, ◌/◌, ◌%◌, ◌^◌, cond, eqb, refl, ◌<◌, ⊎_elim, Bool, true, false, List, length, get_or, set, sym, ap, ◌∙◌, subst, arith, Some, Option, Result, Ok, Err}
-use Rattle.js_header.specs.Form.{IsInRange, form_of, word_of, fields_of, first_field, second_field, is_wide, is_fixed}
+use Rattle.js_header.specs.Form.{IsInRange, form_of, word_of, form_by_tag, first_field, second_field, is_wide_word, is_fixed}
 use Rattle.heap_rule.proofs.Learning.{if_some}
 use Rattle.std.proofs.Math.Nat.{mod-lt}
 use Rattle.js_header.specs.declared.form.Form.{Form}
 use Rattle.js_header.specs.declared.form.Form.TheVariants.{Unborn, Flat, Cons, Sliced, Thin}
 use Rattle.heap_rule.specs.declared.view.View.{View}
 use Rattle.heap_rule.specs.declared.size.HeapSize.{HeapSize}
-use Rattle.heap_rule.specs.Layout.{IsLawful, slot_at, slot, form}
+use Rattle.heap_rule.specs.Layout.{IsLawfulSize, slot_at, slot, form}
 use Rattle.heap_rule.specs.Forms.{IsLater}
 use Rattle.heap_rule.specs.Learning.{learned}
 use Rattle.heap_rule.specs.Slots.{loaded_slot, took_slot}
@@ -25,7 +25,7 @@ use Rattle.heap_core.proofs.StateLemmas.{sound_of}
 
 -- the start of a Flat that a word spells
 flat_field : (w : ℕ) (a b c d : Bool) (wide : Bool) (start : ℕ) (fixed : Bool)
-    → cond a (Flat (is_wide w) (first_field w) (is_fixed w)) (cond b (Cons (is_wide w) (first_field w) (second_field w)) (cond c (Sliced (is_wide w) (first_field w) (second_field w)) (cond d (Thin (first_field w)) Unborn))) ≡ Flat wide start fixed
+    → cond a (Flat (is_wide_word w) (first_field w) (is_fixed w)) (cond b (Cons (is_wide_word w) (first_field w) (second_field w)) (cond c (Sliced (is_wide_word w) (first_field w) (second_field w)) (cond d (Thin (first_field w)) Unborn))) ≡ Flat wide start fixed
     → first_field w ≡ start
 flat_field w true b c d wide start fixed e = cc
 flat_field w false true c d wide start fixed e = absurd (cc)
@@ -34,7 +34,7 @@ flat_field w false false false true wide start fixed e = absurd (cc)
 flat_field w false false false false wide start fixed e = absurd (cc)
 
 flat_range : (w : ℕ) (wide : Bool) (start : ℕ) (fixed : Bool) → form_of w ≡ Some (Flat wide start fixed) → start < 2 ^ 29
-flat_range w wide start fixed e = let t = if_some (eqb (word_of (fields_of w)) w) (Some (fields_of w)) (Flat wide start fixed) e in let is : fields_of w ≡ Flat wide start fixed = (let u : Some (fields_of w) ≡ Some (Flat wide start fixed) = t.1 in cc) in
+flat_range w wide start fixed e = let t = if_some (eqb (word_of (form_by_tag w)) w) (Some (form_by_tag w)) (Flat wide start fixed) e in let is : form_by_tag w ≡ Flat wide start fixed = (let u : Some (form_by_tag w) ≡ Some (Flat wide start fixed) = t.1 in cc) in
     subst (λ (x : ℕ). x < 2 ^ 29) (flat_field w (eqb (w % 8) 1) (eqb (w % 8) 2) (eqb (w % 8) 3) (eqb (w % 8) 4) wide start fixed is) (mod-lt (w / 32) (omega arith))
 
 -- nothing comes after a fixed Flat
@@ -70,7 +70,7 @@ module _ (s : Core) (h : IsCore s) (j : ℕ) where
     sound : IsSoundCore s
     sound = sound_of s j (λ v. (k < v.sizes.slots) × P v) h t
 
-    pub slot_inside : IsLawful s.size × (k < s.size.slots) × (slot_at s.size k < length s.words)
+    pub slot_inside : IsLawfulSize s.size × (k < s.size.slots) × (slot_at s.size k < length s.words)
     slot_inside = let inside : k < s.size.slots = subst (λ (z : HeapSize). k < z.slots) (sizes_are s.size s.agents s.words s.views sound j t.0 t.1 t.2) t.3.0 in let n = sound.counted.long in (sound.lawful, inside, omega arith)
 
     pub slot_small : (p : ℕ) → p ≡ slot_at s.size k → get_or s.words p 0 < 2 ^ 32

@@ -14,7 +14,7 @@ use Rattle.heap_rule.specs.declared.size.Counter.{Counter}
 use Rattle.heap_rule.specs.declared.size.Counter.TheVariants.{Ids, Words}
 use Rattle.heap_core.specs.declared.event.Event.{Event}
 use Rattle.heap_core.specs.declared.event.Event.TheVariants.{Split, Join, LoadCounter, Claim, StoreWord, StoreLength, Birth}
-use Rattle.heap_rule.specs.Layout.{counter_at, content_at, length_at, form_at, form, end_of, MAX, count_in, IsLawful, IsBorn}
+use Rattle.heap_rule.specs.Layout.{counter_at, content_at, length_at, form_at, form, end_of, MAX, counter_value, IsLawfulSize, IsBorn}
 use Rattle.heap_rule.specs.Maps.{Has, HasKey}
 use Rattle.heap_rule.specs.Forms.{IsCons, IsSliced}
 use Rattle.heap_rule.specs.Sound.{At, EachLive, total}
@@ -22,7 +22,7 @@ use Rattle.heap_core.specs.Core.{Core, core}
 use Rattle.heap_core.specs.Events.{IsCore, IsSoundCore, LiveIn, view_at, Made}
 use Rattle.heap_rule.specs.Claims.{loaded_counter, MayClaim, won_claim}
 use Rattle.heap_rule.specs.Births.{stored_word, MayStoreLength, stored_length, MayBear, born_with, born}
-use Rattle.heap_rule.specs.Agents.{nothing_used, spent, left_after_split, right_after_split, MayJoin, joined}
+use Rattle.heap_rule.specs.Agents.{nothing_used, spent, left_after_split, right_after_split, MayJoin, joined_view}
 use Rattle.heap_rule.proofs.MapLemmas.{has_key}
 use Rattle.heap_rule.proofs.ListLemmas.{any_default, at_within, at_index, set_else, total_set}
 use Rattle.heap_rule.proofs.Joining.{total_gone}
@@ -123,7 +123,7 @@ module _ (s : Core) (j : ℕ) (d : View) where
 part_of : (f : View → ℕ) (vs : List View) (j : ℕ) (v w : View) → At vs j v → v.live ≡ true → w.live ≡ true → f w ≡ 0 → f v ≤ total f vs
 part_of f vs j v w at live l e = let h = total_set f vs j v w at live l in omega arith
 
-pub used_within : (s : Core) (j : ℕ) (v : View) (k : Counter) → IsSoundCore s → At s.views j v → v.live ≡ true → count_in v.used k ≤ get_or s.words (counter_at k) 0
+pub used_within : (s : Core) (j : ℕ) (v : View) (k : Counter) → IsSoundCore s → At s.views j v → v.live ≡ true → counter_value v.used k ≤ get_or s.words (counter_at k) 0
 used_within s j v Ids h at live = let w : View = record v { used = nothing_used } in let e = h.added in let f = e.ids in let p = part_of (λ u. u.used.ids) s.views j v w at live live refl in omega arith
 used_within s j v Words h at live = let w : View = record v { used = nothing_used } in let e = h.added in let f = e.words in let p = part_of (λ u. u.used.words) s.views j v w at live live refl in omega arith
 
@@ -133,12 +133,12 @@ end_small s j v Ids h at live = let l = h.lawful in let i = l.1 in let e = (h.me
 end_small s j v Words h at live = let l = h.lawful in let i = l.3 in let e = (h.members j v at live).1 in subst (λ (z : HeapSize). z.words < 536870912) (sym e) i
 
 -- where an own word lies
-pub own_word : (s : Core) (j c : ℕ) → IsCore s → LiveIn s.views j (λ v. HasKey v.own_words c) → IsLawful s.size × (c < s.size.words) × (content_at s.size c < length s.words)
+pub own_word : (s : Core) (j c : ℕ) → IsCore s → LiveIn s.views j (λ v. HasKey v.own_words c) → IsLawfulSize s.size × (c < s.size.words) × (content_at s.size c < length s.words)
 own_word s j c h live = let g : IsSoundCore s = sound_of s j (λ v. HasKey v.own_words c) h live in let p = has_key live.0.own_words c live.3 in let o = ((g.own_words j live.0 live.1 live.2).each c p.0 p.1).0 in
     let n = g.counted in let e = n.words_end in let l = n.long in (g.lawful, omega arith, omega arith)
 
 -- where the words of an own id lie
-pub own_id : (s : Core) (j i : ℕ) → IsCore s → LiveIn s.views j (λ v. HasKey v.own_ids i) → IsLawful s.size × (i < s.size.ids) × (form_at s.size i < length s.words) × (length_at s.size i < length s.words)
+pub own_id : (s : Core) (j i : ℕ) → IsCore s → LiveIn s.views j (λ v. HasKey v.own_ids i) → IsLawfulSize s.size × (i < s.size.ids) × (form_at s.size i < length s.words) × (length_at s.size i < length s.words)
 own_id s j i h live = let g : IsSoundCore s = sound_of s j (λ v. HasKey v.own_ids i) h live in let p = has_key live.0.own_ids i live.3 in let o = ((g.own_ids j live.0 live.1 live.2).each i p.0 p.1).0 in
     let n = g.counted in let e = n.ids_end in let l = n.long in (g.lawful, omega arith, omega arith, omega arith)
 
@@ -205,10 +205,10 @@ pub split_room : (vs us : List View) (j give : ℕ) (v right : View) → LiveIn 
 split_room vs us j give v right live grown here = let is : v ≡ live.0 = here ∙ (ap (λ (ws : List View). get_or ws j v) grown ∙ (get_or-append vs (right ∷ []) v j (at_within vs j live.0 live.1) ∙ at_index vs j live.0 v live.1)) in
     let less = live.3.1 in subst (λ (u : View). give ≤ u.share) (sym is) (omega arith)
 
-pub join_done : (s : Core) (j o x : ℕ) (d e w b : View) → (j ≢ o) × LiveIn s.views j (λ v. LiveIn s.views o (λ b. MayJoin v b)) → x ≡ get_or s.words 0 0 → w ≡ joined (get_or s.views j d) (get_or s.views o e) → b ≡ spent
+pub join_done : (s : Core) (j o x : ℕ) (d e w b : View) → (j ≢ o) × LiveIn s.views j (λ v. LiveIn s.views o (λ b. MayJoin v b)) → x ≡ get_or s.words 0 0 → w ≡ joined_view (get_or s.views j d) (get_or s.views o e) → b ≡ spent
     → Made s (Join j o) (core s.size s.agents s.words (set (set s.views j w) o b)) (Ok x)
 join_done s j o x d e w b can found is dead = let l = view_inside s.views j (λ v. LiveIn s.views o (λ b. MayJoin v b)) can.1 in let m = view_inside s.views o (λ b. MayJoin can.1.0 b) can.1.3 in (
-  (λ i. core s.size s.agents s.words (set (set s.views j ((is ∙ (λ k. joined (any_default s.views j d spent l k) (any_default s.views o e spent m k))) i)) o (dead i))),
+  (λ i. core s.size s.agents s.words (set (set s.views j ((is ∙ (λ k. joined_view (any_default s.views j d spent l k) (any_default s.views o e spent m k))) i)) o (dead i))),
   found,
 )
 

@@ -11,7 +11,7 @@ use Rattle.heap_core.specs.declared.event.Refusal.{Refusal}
 use Rattle.heap_core.specs.declared.event.Refusal.TheVariants.{NotEnabled, Memory}
 use Rattle.heap_core.specs.declared.event.Event.{Event}
 use Rattle.heap_core.specs.declared.event.Event.TheVariants.{Make, Split, Join, LoadCounter, Claim, StoreWord, StoreLength, Birth, LoadHeader, LoadWord, Flatten, Thin, LoadSlot, TakeSlot}
-use Rattle.heap_rule.specs.Layout.{IsLawful, counter_at, slot_at, form_at, length_at, content_at, word_count, IsBorn}
+use Rattle.heap_rule.specs.Layout.{IsLawfulSize, counter_at, slot_at, form_at, length_at, content_at, word_count, IsBorn}
 use Rattle.heap_rule.specs.Contents.{units_of}
 use Rattle.heap_rule.specs.Maps.{Has, HasKey}
 use Rattle.heap_rule.specs.HeaderMoves.{MayFlatten, flattened, MayThin, thinned}
@@ -19,11 +19,11 @@ use Rattle.heap_rule.specs.Sound.{At, IsSound, AreLegal}
 use Rattle.heap_core.specs.Core.{Core}
 use Rattle.heap_rule.specs.Claims.{loaded_counter, MayClaim, claimed}
 use Rattle.heap_rule.specs.Births.{stored_word, MayStoreLength, stored_length, MayBear, born}
-use Rattle.heap_rule.specs.Views.{IsKnown}
+use Rattle.heap_rule.specs.Views.{MayUse}
 use Rattle.heap_rule.specs.Learning.{learned, MayLearn}
 use Rattle.heap_rule.specs.Loads.{loaded_form, loaded_length, MayLoadWord, loaded_word}
 use Rattle.heap_rule.specs.Slots.{MayEnter, loaded_slot, MayTakeSlot, took_slot}
-use Rattle.heap_rule.specs.Agents.{first_view, spent, left_after_split, right_after_split, MayJoin, joined}
+use Rattle.heap_rule.specs.Agents.{first_view, spent, left_after_split, right_after_split, MayJoin, joined_view}
 
 -- the rule holds of the machine
 abbrev pub IsSoundCore : Core → Type 0
@@ -89,7 +89,7 @@ module _ (s : Core) where
   -- the machine after the join
   abbrev pub after_join : ℕ → ℕ → Core
   after_join j other = record s
-      { views = slice_set (slice_set s.views j (joined (view_at s j) (view_at s other))) other spent }
+      { views = slice_set (slice_set s.views j (joined_view (view_at s j) (view_at s other))) other spent }
 
   -- the view after a load of a header word
   abbrev pub header_seen : ℕ → ℕ → Bool → View
@@ -99,7 +99,7 @@ module _ (s : Core) where
   -- loading a header word of a known string; each pair that the event names is justified by the view
   -- afterwards
   abbrev pub CanLoadHeader : ℕ → ℕ → Bool → List ℕ → Type 0
-  CanLoadHeader j i len names = LiveAt s j (λ v. IsKnown v i) × MayLearn (header_seen j i len) names
+  CanLoadHeader j i len names = LiveAt s j (λ v. MayUse v i) × MayLearn (header_seen j i len) names
 
   -- the machine after the load of a header word
   abbrev pub after_load_header : ℕ → ℕ → Bool → List ℕ → Core
@@ -168,7 +168,7 @@ module _ (s : Core) where
 -- where an event may come: a making where there is no view yet, every other where its view is live and its
 -- kind's condition holds
 abbrev pub Enabled : Core → Event → Type 0
-Enabled s (Make z agents) = (s.views ≡ []) × IsLawful z × (1 ≤ agents) × (agents ≤ 64)
+Enabled s (Make z agents) = (s.views ≡ []) × IsLawfulSize z × (1 ≤ agents) × (agents ≤ 64)
 Enabled s (Split j give) = CanSplit s j give
 Enabled s (Join j other) = CanJoin s j other
 Enabled s (LoadCounter j k) = LiveAt s j (λ v. Unit {0})
@@ -204,24 +204,24 @@ after s (TakeSlot j k i names) = after_take_slot s j k i names.items
 
 -- the word that an event finds, which is the one that was there before it: for splitting and joining the
 -- number in word 0; a making finds none, and its answer is 0
-abbrev pub place_of : HeapSize → Event → ℕ
-place_of z (LoadCounter j k) = counter_at k
-place_of z (Claim j k at want) = counter_at k
-place_of z (StoreWord j c n) = content_at z c
-place_of z (StoreLength j i n) = length_at z i
-place_of z (Birth j i f) = form_at z i
-place_of z (LoadHeader j i len names) = header_at z i len
-place_of z (LoadWord j c names) = content_at z c
-place_of z (Flatten j i old new names) = form_at z i
-place_of z (Thin j i old t names) = form_at z i
-place_of z (LoadSlot j k entry names) = slot_at z k
-place_of z (TakeSlot j k i names) = slot_at z k
-place_of z _ = 0
+abbrev pub event_place : HeapSize → Event → ℕ
+event_place z (LoadCounter j k) = counter_at k
+event_place z (Claim j k at want) = counter_at k
+event_place z (StoreWord j c n) = content_at z c
+event_place z (StoreLength j i n) = length_at z i
+event_place z (Birth j i f) = form_at z i
+event_place z (LoadHeader j i len names) = header_at z i len
+event_place z (LoadWord j c names) = content_at z c
+event_place z (Flatten j i old new names) = form_at z i
+event_place z (Thin j i old t names) = form_at z i
+event_place z (LoadSlot j k entry names) = slot_at z k
+event_place z (TakeSlot j k i names) = slot_at z k
+event_place z _ = 0
 
 -- the word that was there before the event, and 0 for a making
 abbrev pub found : Core → Event → ℕ
 found s (Make z agents) = 0
-found s e = slice_index s.words (place_of s.size e)
+found s e = slice_index s.words (event_place s.size e)
 
 -- an event was applied: on success it was enabled, the machine is the one after it, and the answer is the
 -- word found; on a refusal nothing changed

@@ -3,14 +3,14 @@
 use Rattle.std.specs.Prelude.{◌≡◌, ℕ, true, false, if◌then◌else◌, List, [], slice_index, slice_set, Option, Some, None, IfSome}
 use Rattle.heap_rule.specs.declared.view.View.{View}
 use Rattle.heap_rule.specs.Learning.{learned}
-use Rattle.heap_rule.specs.Kinds.{Kind, load_counter, claim, store_word, store_length, birth, load_form, load_length, load_word, flatten, thin, load_slot, take_slot, MayCome, place_of, access_of, left_by, view_after, learns}
+use Rattle.heap_rule.specs.Kinds.{StepKind, load_counter, claim, store_word, store_length, birth, load_form, load_length, load_word, flatten, thin, load_slot, take_slot, MayCome, place_of, access_of, word_left, view_after, learns}
 use Rattle.heap_core.specs.declared.event.Event.{Event}
 use Rattle.heap_core.specs.declared.event.Event.TheVariants.{Make, Split, Join, LoadCounter, Claim, StoreWord, StoreLength, Birth, LoadHeader, LoadWord, Flatten, Thin, LoadSlot, TakeSlot}
 use Rattle.heap_core.specs.Core.{Core, core}
 use Rattle.heap_core.specs.Events.{LiveAt, Enabled, after}
 
 -- making, splitting and joining are no steps on a word
-abbrev pub kind_of : Event → Option Kind
+abbrev pub kind_of : Event → Option StepKind
 kind_of (LoadCounter j k) = Some (load_counter k)
 kind_of (Claim j k at want) = Some (claim k at want)
 kind_of (StoreWord j c n) = Some (store_word c n)
@@ -43,19 +43,20 @@ agent_of (TakeSlot j k i names) = j
 agent_of (Make z agents) = 0
 
 -- the ids of which an event learns the units
-abbrev pub names_of : Event → List ℕ
-names_of (LoadHeader j i len names) = names.items
-names_of (LoadWord j c names) = names.items
-names_of (Flatten j i old new names) = names.items
-names_of (Thin j i old t names) = names.items
-names_of (LoadSlot j k entry names) = names.items
-names_of (TakeSlot j k i names) = names.items
-names_of _ = []
+abbrev pub learned_ids : Event → List ℕ
+learned_ids (LoadHeader j i len names) = names.items
+learned_ids (LoadWord j c names) = names.items
+learned_ids (Flatten j i old new names) = names.items
+learned_ids (Thin j i old t names) = names.items
+learned_ids (LoadSlot j k entry names) = names.items
+learned_ids (TakeSlot j k i names) = names.items
+learned_ids _ = []
 
 -- a step of this kind by the view j, which learns the units of the named ids where its kind learns
-abbrev pub stepped : Core → ℕ → View → Kind → List ℕ → Core
+abbrev pub stepped : Core → ℕ → View → StepKind → List ℕ → Core
 stepped s j v k names = core s.size s.agents
-    (slice_set s.words (place_of s.size k) (left_by (access_of k) (slice_index s.words (place_of s.size k))))
+    (slice_set s.words (place_of s.size k)
+    (word_left (access_of k) (slice_index s.words (place_of s.size k))))
     (slice_set s.views j
     (if learns k then learned (view_after v k (slice_index s.words (place_of s.size k))) names
     else view_after v k (slice_index s.words (place_of s.size k))))
@@ -63,4 +64,4 @@ stepped s j v k names = core s.size s.agents
 -- each enabled event on a word is a step of its kind by a live view, at which the kind may come
 abbrev pub EventsAreSteps : Type 0
 EventsAreSteps = (s : Core) (e : Event) → Enabled s e → IfSome (kind_of e)
-    (λ k. LiveAt s (agent_of e) (λ v. MayCome v k × (after s e ≡ stepped s (agent_of e) v k (names_of e))))
+    (λ k. LiveAt s (agent_of e) (λ v. MayCome v k × (after s e ≡ stepped s (agent_of e) v k (learned_ids e))))

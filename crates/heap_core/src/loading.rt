@@ -1,8 +1,8 @@
 // Loads of headers and of content words, by which a view learns.
 ghost use Rattle.std.specs.Prelude.{◌≡◌, ◌<◌, ◌↔◌, length, slice_index, IsTrue, OnOk, OnErr};
-ghost use Rattle.heap_rule.specs.Layout.{IsLawful, content_at};
+ghost use Rattle.heap_rule.specs.Layout.{IsLawfulSize, content_at};
 ghost use Rattle.heap_rule.specs.Learning.{learned};
-ghost use Rattle.heap_core_views.specs.Loading.{loaded_by, HasRoom, IsRun};
+ghost use Rattle.heap_core_views.specs.Loading.{loaded_by, HasRoom, IsRunCounted};
 ghost use Rattle.heap_core.specs.Core.{core_of};
 ghost use Rattle.heap_core.specs.Events.{IsCore, Became, looked, view_at, header_at, CanLoadHeader, CanLoadWord, after_load_header, after_load_word};
 
@@ -16,7 +16,7 @@ impl Machine {
     pub(crate) fn learn(&mut self, view: u32, load: Load, names: &[u32]) -> Result<(), NoMemory>
         requires inside { view < length self.old.views.items }
         requires room { HasRoom (loaded_by (view_at (core_of self.old) view) load) }
-        requires run { IsRun load }
+        requires run { IsRunCounted load }
         ensures ok { OnOk result (core_of self.new ≡ looked (core_of self.old) view
             (learned (loaded_by (view_at (core_of self.old) view) load) names.now)) }
         ensures err { OnErr result (core_of self.new ≡ core_of self.old) }
@@ -61,7 +61,7 @@ impl Machine {
 
     /// The place of a header word.
     fn header_place(&self, id: u32, length: bool) -> usize
-        requires { IsLawful self.now.size × (id < self.now.size.ids) }
+        requires { IsLawfulSize self.now.size × (id < self.now.size.ids) }
         ensures { result ≡ header_at self.now.size id length }
     {
         if length {

@@ -1,8 +1,8 @@
 // The two kinds of event that move a header.
 ghost use Rattle.std.specs.Prelude.{◌≡◌, ◌<◌, ◌==◌, if◌then◌else◌, ◌↔◌, length, slice_index, IsTrue, Some};
 ghost use Rattle.js_header.specs.Form.{IsInRange, word_of, form_of};
-ghost use Rattle.heap_rule.specs.Layout.{IsLawful, form_at, form};
-ghost use Rattle.heap_core_births.specs.Moving.{Stays};
+ghost use Rattle.heap_rule.specs.Layout.{IsLawfulSize, form_at, form};
+ghost use Rattle.heap_core_births.specs.Moving.{IsSameOrLater};
 ghost use Rattle.heap_core.specs.Core.{core_of};
 ghost use Rattle.heap_core.specs.Events.{IsCore, Became, stored, exchanged, CanFlatten, after_flatten, CanThinTo, after_thin};
 
@@ -92,12 +92,12 @@ impl Machine {
     /// A compare-exchange of a form word, where the word of `stands` is found. The answer is the
     /// word found.
     fn exchange(&mut self, id: u32, old: Form, new: Form, stands: Form) -> u64
-        requires inside { IsLawful self.old.size × (id < self.old.size.ids)
+        requires inside { IsLawfulSize self.old.size × (id < self.old.size.ids)
             × (form_at self.old.size id < length self.old.words.items) }
         requires stands { form_of (form self.old.size self.old.words.items id) ≡ Some stands }
         requires range { IsInRange stands }
         requires new { IsInRange new }
-        requires stays { Stays old stands }
+        requires stays { IsSameOrLater old stands }
         ensures after { core_of self.new ≡ stored (core_of self.old) (form_at self.old.size id)
             (exchanged (core_of self.old) (form_at self.old.size id) (word_of old) (word_of new)) }
         ensures found { result ≡ slice_index self.old.words.items (form_at self.old.size id) }
@@ -113,7 +113,7 @@ impl Machine {
 fn moved_word(old: Form, new: Form, stands: Form) -> u64
     requires range { IsInRange stands }
     requires new { IsInRange new }
-    requires stays { Stays old stands }
+    requires stays { IsSameOrLater old stands }
     ensures { result ≡ (if word_of stands == word_of old then word_of new else word_of stands) }
 {
     if stands == old {

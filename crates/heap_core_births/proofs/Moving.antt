@@ -13,7 +13,7 @@ use Rattle.heap_rule.specs.Births.{freeze, freeze_form}
 use Rattle.heap_rule.specs.HeaderMoves.{seen_form, MayFlatten, flattened, thinned}
 use Rattle.heap_core_views.specs.Loading.{loaded_by}
 use Rattle.heap_core_views.specs.declared.load.Load.TheVariants.{Turned}
-use Rattle.heap_core_births.specs.Moving.{SpellsUnits, Stays}
+use Rattle.heap_core_births.specs.Moving.{SpellsUnits, IsSameOrLater}
 
 -- no later form is spelt by the same word
 later_word : (f g : Form) → IsLater f g → word_of g ≢ word_of f
@@ -38,14 +38,14 @@ later_word Unborn g l e = absurd (cc)
 later_word (Thin t) g l e = absurd (cc)
 
 -- another form that stays is spelt by another word
-other_word : (old stands : Form) → Stays old stands → stands ≢ old → eqb (word_of stands) (word_of old) ≡ false
+other_word : (old stands : Form) → IsSameOrLater old stands → stands ≢ old → eqb (word_of stands) (word_of old) ≡ false
 other_word old stands way ne = ne_eqb (word_of stands) (word_of old) (⊎_elim (λ (e : old ≡ stands). λ _. ne (sym e)) (λ l e. later_word old stands l e) way)
 
 same_word : (old stands : Form) → stands ≡ old → eqb (word_of stands) (word_of old) ≡ true
 same_word old stands e = eq-eqb (word_of stands) (word_of old) (ap word_of e)
 
 module _ (v : View) (i : ℕ) (old stands : Form) where
-  pub flatten_lost : (new : Form) → IsInRange stands → Stays old stands → stands ≢ old → loaded_by v (Turned i stands 0 0) ≡ flattened v i old new (word_of stands)
+  pub flatten_lost : (new : Form) → IsInRange stands → IsSameOrLater old stands → stands ≢ old → loaded_by v (Turned i stands 0 0) ≡ flattened v i old new (word_of stands)
   flatten_lost new range way ne = let w : View = freeze_form v (length (unwrap_or (get v.units i) [])) new in
       ap (seen_form v i) (sym (form_of-word_of stands range)) ∙ ap (λ (b : Bool). cond b (record w { forms = insert v.forms i new }) (seen_form v i (form_of (word_of stands)))) (sym (other_word old stands way ne))
 
@@ -53,7 +53,7 @@ module _ (v : View) (i : ℕ) (old stands : Form) where
   flatten_won new n start count e f is = let w : View = freeze_form v (length (unwrap_or (get v.units i) [])) new in
       ap (λ (u : View). record u { forms = insert v.forms i new }) (f ∙ ap (λ (m : ℕ). freeze_form v m new) e) ∙ ap (λ (b : Bool). cond b (record w { forms = insert v.forms i new }) (seen_form v i (form_of (word_of stands)))) (sym (same_word old stands is))
 
-  pub thin_lost : (t : ℕ) → IsInRange stands → Stays old stands → stands ≢ old → loaded_by v (Turned i stands 0 0) ≡ thinned v i old t (word_of stands)
+  pub thin_lost : (t : ℕ) → IsInRange stands → IsSameOrLater old stands → stands ≢ old → loaded_by v (Turned i stands 0 0) ≡ thinned v i old t (word_of stands)
   thin_lost t range way ne = ap (seen_form v i) (sym (form_of-word_of stands range) ∙ ap (λ (b : Bool). cond b (Some (Thin t)) (form_of (word_of stands))) (sym (other_word old stands way ne)))
 
   pub thin_won : (t : ℕ) → stands ≡ old → loaded_by v (Turned i (Thin t) 0 0) ≡ thinned v i old t (word_of stands)

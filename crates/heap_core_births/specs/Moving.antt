@@ -7,7 +7,7 @@ use Rattle.heap_rule.specs.declared.view.View.{View}
 use Rattle.heap_rule.specs.Contents.{span, lane_in}
 use Rattle.heap_rule.specs.Maps.{Has, HasKey}
 use Rattle.heap_rule.specs.Forms.{IsCons, IsSliced, IsLater, IsNarrow}
-use Rattle.heap_rule.specs.Views.{shown}
+use Rattle.heap_rule.specs.Views.{shown_word}
 use Rattle.heap_rule.specs.Births.{shown_part}
 
 -- the words of a Flat from `start` on are own, show the units, and are 0 past them
@@ -15,8 +15,8 @@ abbrev pub Spells : View → List ℕ → Bool → ℕ → Type 0
 Spells v us wide start =
     (start < 2 ^ 29) × ((c : ℕ) → start ≤ c → c < start + words_over wide (length us) → HasKey v.own_words c)
     × ((o : ℕ) → length us ≤ o → o < words_over wide (length us) * lane_count wide
-    → lane_in (shown v) wide start o ≡ 0)
-    × (span (shown v) wide start 0 (length us) ≡ us)
+    → lane_in (shown_word v) wide start o ≡ 0)
+    × (span (shown_word v) wide start 0 (length us) ≡ us)
 
 abbrev pub SpellsUnits : View → ℕ → Bool → ℕ → Type 0
 SpellsUnits v i wide start = (us : List ℕ) × Has v.units i us × Spells v us wide start
@@ -41,5 +41,5 @@ abbrev pub HasPart : View → ℕ → ℕ → ℕ → Bool → Type 0
 HasPart v p o n wide = (us : List ℕ) × (shown_part v p o n ≡ Some us) × IsNarrow wide us
 
 -- one of two forms that come after one another is there,`old` or a later one
-abbrev pub Stays : Form → Form → Type 0
-Stays old stands = (old ≡ stands) ⊎ IsLater old stands
+abbrev pub IsSameOrLater : Form → Form → Type 0
+IsSameOrLater old stands = (old ≡ stands) ⊎ IsLater old stands

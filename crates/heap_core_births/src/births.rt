@@ -7,8 +7,8 @@ ghost use Rattle.heap_rule.specs.declared.view.View as v;
 ghost use Rattle.heap_rule.specs.Layout.{MAX};
 ghost use Rattle.heap_rule.specs.Contents.{span, lane_in};
 ghost use Rattle.heap_rule.specs.Maps.{Has, HasKey};
-ghost use Rattle.heap_rule.specs.Views.{shown};
-ghost use Rattle.heap_rule.specs.Births.{stored_word, MayStoreLength, stored_length, Fits, MayBear, born_with, freeze, freeze_form, shown_part, units_for};
+ghost use Rattle.heap_rule.specs.Views.{shown_word};
+ghost use Rattle.heap_rule.specs.Births.{stored_word, MayStoreLength, stored_length, FormFits, MayBear, born_with, freeze, freeze_form, shown_part, units_for};
 ghost use Rattle.heap_core_views.specs.Probing.{HasShorts};
 ghost use Rattle.heap_core_births.specs.Moving.{Join, HasJoin};
 
@@ -51,7 +51,7 @@ pub fn store_length(view: &mut View, id: u32, length: u32) -> Result<(), NoMemor
 
 /// The word that the view has for a place, its own or frozen.
 fn shown(view: &View, at: u32) -> u64
-    ensures { result ≡ shown view.now at }
+    ensures { result ≡ shown_word view.now at }
 {
     match view.own_words.get(at) {
         Some(word) => *word,
@@ -111,7 +111,7 @@ pub(crate) fn has_own(view: &View, from: u32, n: u32) -> bool
 #[tactic(auto, unfolding(heap_rule::specs::Contents::lane_in))]
 fn shown_lane(view: &View, wide: bool, start: u32, o: u32) -> u16
     requires { start + o < 2 ^ 32 }
-    ensures { result ≡ lane_in (shown view.now) wide start o }
+    ensures { result ≡ lane_in (shown_word view.now) wide start o }
 {
     let n = lanes(wide);
     lane(shown(view, start + o / n), wide, o % n)
@@ -120,7 +120,8 @@ fn shown_lane(view: &View, wide: bool, start: u32, o: u32) -> u16
 /// Whether the lanes from `from` to `end` are 0.
 pub(crate) fn has_zeros(view: &View, wide: bool, start: u32, from: u32, end: u32) -> bool
     requires { start + end < 2 ^ 32 }
-    ensures { IsTrue result ↔ ((o : ℕ) → from ≤ o → o < end → lane_in (shown view.now) wide start o ≡ 0) }
+    ensures { IsTrue result ↔ ((o : ℕ) → from ≤ o → o < end → lane_in (shown_word view.now) wide start o
+        ≡ 0) }
 {
     let mut o = from;
     'lanes: while o < end {
@@ -135,7 +136,7 @@ pub(crate) fn has_zeros(view: &View, wide: bool, start: u32, from: u32, end: u32
 /// Whether the first lanes of a span are these units.
 pub(crate) fn has_span(view: &View, us: &[u16], wide: bool, start: u32) -> bool
     requires { (start < 2 ^ 29) × (length us.now ≤ MAX) }
-    ensures { IsTrue result ↔ (span (shown view.now) wide start 0 (length us.now) ≡ us.now) }
+    ensures { IsTrue result ↔ (span (shown_word view.now) wide start 0 (length us.now) ≡ us.now) }
 {
     let n = us.len() as u32;
     let mut o = 0;
@@ -151,7 +152,7 @@ pub(crate) fn has_span(view: &View, us: &[u16], wide: bool, start: u32) -> bool
 /// The first n lanes of a span.
 fn span(view: &View, alloc: Global, wide: bool, start: u32, n: u32) -> Result<Units, NoMemory>
     requires { start + n < 2 ^ 32 }
-    ensures { IfOk result (λ us. us ≡ span (shown view.now) wide start 0 n) }
+    ensures { IfOk result (λ us. us ≡ span (shown_word view.now) wide start 0 n) }
 {
     let mut units = Units::new(alloc);
     let mut o = 0;
@@ -165,7 +166,7 @@ fn span(view: &View, alloc: Global, wide: bool, start: u32, n: u32) -> Result<Un
 // Whether a Flat fits an own id of length n.
 fn fits_flat(view: &View, id: u32, n: u32, wide: bool, start: u32, fixed: bool) -> bool
     requires { n ≤ MAX }
-    ensures { IsTrue result ↔ Fits view.now id n (form.Flat wide start fixed) }
+    ensures { IsTrue result ↔ FormFits view.now id n (form.Flat wide start fixed) }
 {
     if 536870912 <= start {
         return false;
@@ -206,7 +207,7 @@ fn has_join(view: &View, left: u32, right: u32, n: u32, wide: bool) -> bool
 // Whether a Cons fits an own id of length n.
 fn fits_cons(view: &View, id: u32, n: u32, wide: bool, left: u32, right: u32) -> bool
     requires { HasShorts view.now }
-    ensures { IsTrue result ↔ Fits view.now id n (form.Cons wide left right) }
+    ensures { IsTrue result ↔ FormFits view.now id n (form.Cons wide left right) }
 {
     if id <= left || id <= right || n < 13 {
         return false;
@@ -216,7 +217,7 @@ fn fits_cons(view: &View, id: u32, n: u32, wide: bool, left: u32, right: u32) ->
 
 // Whether a Sliced fits an own id of length n.
 fn fits_sliced(view: &View, id: u32, n: u32, wide: bool, parent: u32, offset: u32) -> bool
-    ensures { IsTrue result ↔ Fits view.now id n (form.Sliced wide parent offset) }
+    ensures { IsTrue result ↔ FormFits view.now id n (form.Sliced wide parent offset) }
 {
     if id <= parent || n < 13 {
         return false;
@@ -231,7 +232,7 @@ fn fits_sliced(view: &View, id: u32, n: u32, wide: bool, parent: u32, offset: u3
 fn fits(view: &View, id: u32, n: u32, form: Form) -> bool
     requires shorts { HasShorts view.now }
     requires short { n ≤ MAX }
-    ensures { IsTrue result ↔ Fits view.now id n form }
+    ensures { IsTrue result ↔ FormFits view.now id n form }
 {
     match form {
         Form::Flat { wide, start, fixed } => fits_flat(view, id, n, wide, start, fixed),

@@ -7,9 +7,9 @@ ghost use Rattle.heap_rule.specs.Layout.{MAX};
 ghost use Rattle.heap_rule.specs.Maps.{Has};
 ghost use Rattle.heap_rule.specs.Forms.{IsCons};
 ghost use Rattle.heap_rule.specs.HeaderMoves.{MayFlatten, flattened, CanThin, MayThin, thinned};
-ghost use Rattle.heap_core_views.specs.Loading.{loaded_by, IsRun};
+ghost use Rattle.heap_core_views.specs.Loading.{loaded_by, IsRunCounted};
 ghost use Rattle.heap_core_views.specs.Probing.{HasShorts};
-ghost use Rattle.heap_core_births.specs.Moving.{Spells, SpellsUnits, Stays};
+ghost use Rattle.heap_core_births.specs.Moving.{Spells, SpellsUnits, IsSameOrLater};
 
 use crate::births::{has_own, has_span, has_zeros, run_of};
 use heap_core_views::load::Load;
@@ -191,9 +191,9 @@ pub fn flattening(view: &View, id: u32, old: Form, new: Form, stands: Form) -> L
     requires shorts { HasShorts view.now }
     requires new { IsInRange new }
     requires range { IsInRange stands }
-    requires stays { Stays old stands }
+    requires stays { IsSameOrLater old stands }
     ensures view { loaded_by view.now result ≡ flattened view.now id old new (word_of stands) }
-    ensures run { IsRun result }
+    ensures run { IsRunCounted result }
 {
     if stands != old {
         return Load::Turned {
@@ -216,9 +216,9 @@ pub fn flattening(view: &View, id: u32, old: Form, new: Form, stands: Form) -> L
 /// What a thinning adds to the view, where the word of `stands` is found.
 pub fn thinning(view: &View, id: u32, old: Form, target: u32, stands: Form) -> Load
     requires range { IsInRange stands }
-    requires stays { Stays old stands }
+    requires stays { IsSameOrLater old stands }
     ensures view { loaded_by view.now result ≡ thinned view.now id old target (word_of stands) }
-    ensures run { IsRun result }
+    ensures run { IsRunCounted result }
 {
     if stands != old {
         return Load::Turned {

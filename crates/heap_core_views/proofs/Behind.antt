@@ -4,7 +4,7 @@ use mathlib.Core.Logic.{dite}
 use native.Mathlib.Decide.{ℕ_discrete}
 use Rattle.js_units.specs.Lanes.{hash_of}
 use Rattle.heap_rule.specs.declared.view.View.{View}
-use Rattle.heap_rule.specs.Paths.{rank, place}
+use Rattle.heap_rule.specs.Paths.{rank, path_slot}
 use Rattle.heap_rule.specs.Slots.{IsShutAt}
 use Rattle.heap_rule.specs.SlotTests.{any_below, shut_at}
 use Rattle.heap_core_views.specs.Probing.{IsBehind}
@@ -33,7 +33,7 @@ false_true : false ≡ true → ⊥
 false_true e = cc
 
 module _ (v : View) (us : List ℕ) (h : ℕ) (e : h ≡ hash_of us) where
-  to_place : (P : ℕ → Type 0) (n r : ℕ) → P ((h % n + r) % n) → P (place us n r)
+  to_place : (P : ℕ → Type 0) (n r : ℕ) → P ((h % n + r) % n) → P (path_slot us n r)
   to_place P n r x = subst (λ (y : ℕ). P ((y % n + r) % n)) e x
 
   code_rank : (n k : ℕ) → (k + (n - h % n)) % n ≡ rank us n k
@@ -48,5 +48,5 @@ module _ (v : View) (us : List ℕ) (h : ℕ) (e : h ≡ hash_of us) where
   pub behind_not : (k r : ℕ) → k < v.sizes.slots → r < (k + (v.sizes.slots - h % v.sizes.slots)) % v.sizes.slots → shut_at v us ((h % v.sizes.slots + r) % v.sizes.slots) ≡ false → IsTrue false ↔ IsBehind v us k
   behind_not k r inside l s = let n : ℕ = v.sizes.slots in let m : r < rank us n k = subst (λ (x : ℕ). r < x) (code_rank n k) l in let top : rank us n k < n = rank_inside us n k inside in
       let r' : ℕ = rank us n k in let small : r < n = (let m' : r < r' = m in let top' : r' < n = top in omega arith) in
-      let other : shut_at v us (place us n r) ≡ false = to_place (λ x. shut_at v us x ≡ false) n r s in
-      ((λ t. absurd (false_true t)), (λ b. absurd (false_true (sym other ∙ (shut_at_decides v us (place us n r)).1 (b (place us n r) (place_inside us n r small) (subst (λ (x : ℕ). x < r') (sym (rank_place us n r small)) m))))))
+      let other : shut_at v us (path_slot us n r) ≡ false = to_place (λ x. shut_at v us x ≡ false) n r s in
+      ((λ t. absurd (false_true t)), (λ b. absurd (false_true (sym other ∙ (shut_at_decides v us (path_slot us n r)).1 (b (path_slot us n r) (place_inside us n r small) (subst (λ (x : ℕ). x < r') (sym (rank_place us n r small)) m))))))

@@ -3,11 +3,11 @@ use Rattle.std.proofs.Common.{◌≡◌, ℕ, suc, ◌+◌, ◌-◌, ◌<◌, �
 use Rattle.heap_rule.specs.declared.view.View.{View}
 use Rattle.heap_rule.specs.declared.size.Counter.{Counter}
 use Rattle.heap_rule.specs.declared.size.Counter.TheVariants.{Ids}
-use Rattle.heap_rule.specs.Layout.{end_of, count_in}
+use Rattle.heap_rule.specs.Layout.{end_of, counter_value}
 use Rattle.heap_rule.specs.Contents.{span, lane_in}
 use Rattle.heap_rule.specs.Claims.{MayClaim}
 
-pub may_by : (v : View) (k : Counter) (a want low end : ℕ) (b : Bool) → low ≡ count_in v.low k → end ≡ end_of v.sizes k → a ≤ low → a + want ≤ end → 1 ≤ want
+pub may_by : (v : View) (k : Counter) (a want low end : ℕ) (b : Bool) → low ≡ counter_value v.low k → end ≡ end_of v.sizes k → a ≤ low → a + want ≤ end → 1 ≤ want
     → (IsTrue b → k ≡ Ids → want ≡ 1) → ((k ≡ Ids → want ≡ 1) → IsTrue b) → (IsTrue b → MayClaim v k a want) × (MayClaim v k a want → IsTrue b)
 may_by v k a want low end b e f p q r g h = ((λ t. (subst (λ (n : ℕ). a ≤ n) e p, subst (λ (n : ℕ). a + want ≤ n) f q, r, g t)), (λ m. h m.3))
 

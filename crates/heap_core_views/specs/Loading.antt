@@ -22,9 +22,9 @@ loaded_by v (Turned i f start count) = record (freeze v start count) { forms = i
 loaded_by v Own = v
 
 -- the run of words that become frozen is counted by a machine's numbers
-abbrev pub IsRun : Load → Type 0
-IsRun (Turned i f start count) = start + count < 2 ^ 32
-IsRun _ = Unit {0}
+abbrev pub IsRunCounted : Load → Type 0
+IsRunCounted (Turned i f start count) = start + count < 2 ^ 32
+IsRunCounted _ = Unit {0}
 
 -- the ids that a form names are met
 abbrev pub met_by : View → Form → View

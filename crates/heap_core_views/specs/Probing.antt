@@ -10,7 +10,7 @@ use Rattle.heap_rule.specs.Maps.{Has}
 use Rattle.heap_rule.specs.Paths.{rank}
 use Rattle.heap_rule.specs.Loads.{added_loads}
 use Rattle.heap_rule.specs.Learning.{MayLearn}
-use Rattle.heap_rule.specs.Slots.{IsShutAt, MayEnter, MayTakeSlot, entered, loaded_slot, took_slot}
+use Rattle.heap_rule.specs.Slots.{IsShutAt, MayEnter, MayTakeSlot, calls_entered, loaded_slot, took_slot}
 
 -- each form of a string in a slot is spelt by a word, and no string is longer than the greatest length
 abbrev pub HasForms : View → Type 0
@@ -30,7 +30,7 @@ IsBehind v us k = (j : ℕ) → j < v.sizes.slots
 
 -- two parts of a load of slot k: the call enters the history, and the load is counted
 abbrev pub with_entry : View → ℕ → Option (List ℕ) → View
-with_entry v k entry = record v { mine = entered v k entry }
+with_entry v k entry = record v { mine = calls_entered v k entry }
 
 abbrev pub with_load : View → ℕ → View
 with_load v k =

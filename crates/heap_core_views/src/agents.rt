@@ -1,6 +1,6 @@
 // The views of agents that begin, split and join.
 ghost use Rattle.std.specs.Prelude.{◌≡◌, ◌+◌, ◌<◌, ◌≤◌, ◌^◌, ◌↔◌, IsTrue, IfOk};
-ghost use Rattle.heap_rule.specs.Agents.{fresh, first_view, spent, left_after_split, right_after_split, MayJoin, joined};
+ghost use Rattle.heap_rule.specs.Agents.{fresh, first_view, spent, left_after_split, right_after_split, MayJoin, joined_view};
 
 use heap_rule::{Counters, HeapSize, History, IdMap, Twin, View};
 use js_units::NoMemory;
@@ -113,7 +113,7 @@ pub fn joined(view: &View, alloc: Global, other: &View) -> Result<View, NoMemory
     requires shares { view.now.share + other.now.share < 2 ^ 32 }
     requires ids { view.now.used.ids + other.now.used.ids < 2 ^ 32 }
     requires words { view.now.used.words + other.now.used.words < 2 ^ 32 }
-    ensures { IfOk result (λ w. w ≡ joined view.now other.now) }
+    ensures { IfOk result (λ w. w ≡ joined_view view.now other.now) }
 {
     Ok(View {
         sizes: view.sizes,

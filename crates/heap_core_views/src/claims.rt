@@ -1,6 +1,6 @@
 // Loads and claims of counters: when they may be made, and what they make of a view.
 ghost use Rattle.std.specs.Prelude.{◌≡◌, ◌+◌, ◌<◌, ◌^◌, ◌↔◌, IsTrue, OnOk, OnErr};
-ghost use Rattle.heap_rule.specs.Layout.{count_in};
+ghost use Rattle.heap_rule.specs.Layout.{counter_value};
 ghost use Rattle.heap_rule.specs.Claims.{loaded_counter, MayClaim, won_claim};
 
 use heap_rule::{Counter, View};
@@ -35,7 +35,7 @@ pub fn may_claim(view: &View, counter: Counter, at: u32, want: u32) -> bool
 /// A claim that is won: the pieces are own, with the word 0.
 pub fn claim(view: &mut View, counter: Counter, at: u32, want: u32) -> Result<(), NoMemory>
     requires may { MayClaim view.old counter at want }
-    requires used { count_in view.old.used counter + want < 2 ^ 32 }
+    requires used { counter_value view.old.used counter + want < 2 ^ 32 }
     requires end { at + want < 2 ^ 32 }
     ensures ok { OnOk result (view.new ≡ won_claim view.old counter at want) }
     ensures err { OnErr result (view.new ≡ view.old) }

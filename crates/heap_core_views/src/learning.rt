@@ -4,12 +4,12 @@ ghost use Rattle.std.specs.FinMap.{get, keys};
 ghost use Rattle.std.specs.Option.{option_copied};
 ghost use Rattle.heap_rule.specs.Contents.{span, lane_in};
 ghost use Rattle.heap_rule.specs.Maps.{Has, first_in};
-ghost use Rattle.heap_rule.specs.Views.{IsKnown, HasLength};
+ghost use Rattle.heap_rule.specs.Views.{MayUse, HasLength};
 ghost use Rattle.js_header.specs.declared.form.Form.{Form};
 ghost use Rattle.js_header.specs.declared.form.Form.TheVariants as form;
 ghost use Rattle.heap_rule.specs.Loads.{MayLoadWord, loaded_word};
 ghost use Rattle.heap_rule.specs.Learning.{split_by, by_thin, by_cons, by_flat, frozen_word, justified, learned};
-ghost use Rattle.heap_core_views.specs.Loading.{loaded_by, met_by, HasRoom, IsRun, IsSpanned, Spans, EndsPast};
+ghost use Rattle.heap_core_views.specs.Loading.{loaded_by, met_by, HasRoom, IsRunCounted, IsSpanned, Spans, EndsPast};
 
 use crate::load::Load;
 use heap_rule::{Twin, View};
@@ -19,7 +19,7 @@ use std::alloc::Global;
 
 /// Whether the string is known.
 pub fn is_known(view: &View, id: u32) -> bool
-    ensures { IsTrue result ↔ IsKnown view.now id }
+    ensures { IsTrue result ↔ MayUse view.now id }
 {
     if view.units.contains_key(id) {
         return true;
@@ -43,7 +43,7 @@ pub fn may_load_word(view: &View, at: u32) -> bool
 /// What a load of a content word adds.
 pub fn word_load(view: &View, at: u32, word: u64) -> Load
     ensures view { loaded_by view.now result ≡ loaded_word view.now at word }
-    ensures run { IsRun result }
+    ensures run { IsRunCounted result }
 {
     if view.own_words.contains_key(at) {
         return Load::Own;
@@ -175,7 +175,7 @@ pub(crate) fn twin(view: &View, alloc: Global) -> Result<View, NoMemory>
 /// The view after a load that learns the units of the named strings.
 pub fn loaded(view: &View, alloc: Global, load: Load, names: &[u32]) -> Result<View, NoMemory>
     requires room { HasRoom (loaded_by view.now load) }
-    requires run { IsRun load }
+    requires run { IsRunCounted load }
     ensures { IfOk result (λ w. w ≡ learned (loaded_by view.now load) names.now) }
 {
     let mut seen = twin(view, alloc)?;
@@ -186,7 +186,7 @@ pub fn loaded(view: &View, alloc: Global, load: Load, names: &[u32]) -> Result<V
 
 // A load without what is learned.
 fn add_load(view: &mut View, load: Load) -> Result<(), NoMemory>
-    requires { IsRun load }
+    requires { IsRunCounted load }
     ensures { OnOk result (view.new ≡ loaded_by view.old load) }
 {
     match load {

@@ -18,14 +18,14 @@ use Rattle.heap_rule.specs.Contents.{lane_in, span}
 use Rattle.heap_rule.specs.Forms.{IsSliced}
 use Rattle.heap_rule.specs.Maps.{Has, HasKey, without_run}
 use Rattle.heap_rule.specs.Sound.{IsPossible}
-use Rattle.heap_rule.specs.Views.{shown}
+use Rattle.heap_rule.specs.Views.{shown_word}
 use Rattle.heap_rule.proofs.Birth.{length_span}
 use Rattle.heap_rule.proofs.MapLemmas.{insert_other, insert_same, key_of, remove_other}
 use Rattle.heap_rule.proofs.Possible.{possible_frozen, possible_lawful, possible_short, possible_unit, span_lane}
 use Rattle.heap_rule.proofs.UnitLemmas.{lane_word}
 use Rattle.heap_table.specs.Known.{KeepsKnown}
 use Rattle.heap_intern.specs.declared.table.sought.Sought.{Sought}
-use Rattle.heap_intern.specs.Goes.{Goes}
+use Rattle.heap_intern.specs.Goes.{AddsCalls}
 use Rattle.heap_intern.specs.Headers.{IsFlat, MayBeOver}
 use Rattle.heap_read.proofs.Loaded.{known_trans}
 use Rattle.heap_intern.proofs.Possibly.{possible_unborn, possible_zeros}
@@ -48,8 +48,8 @@ known_full : (v : View) (at : ℕ) → KeepsKnown v (loaded_counter v Ids at)
 known_full v at = record { units = λ i us h. h; lengths = λ i n h. h; flats = λ i wide start h. h; thins = λ i t h. h; settled = λ i h. h; frozen = λ c x h. h; known = λ i h. h; slots = λ k i h. h }
 
 -- no id was left
-pub goes_full : (v w : View) (at : ℕ) → w ≡ loaded_counter v Ids at → v.low.ids ≤ w.low.ids → Goes v w []
-goes_full v w at e l = let l' : v.low.ids ≤ at = subst (λ (u : View). v.low.ids ≤ u.low.ids) e l in subst (λ (u : View). Goes v u []) (sym e) record {
+pub goes_full : (v w : View) (at : ℕ) → w ≡ loaded_counter v Ids at → v.low.ids ≤ w.low.ids → AddsCalls v w []
+goes_full v w at e l = let l' : v.low.ids ≤ at = subst (λ (u : View). v.low.ids ≤ u.low.ids) e l in subst (λ (u : View). AddsCalls v u []) (sym e) record {
   known = known_full v at;
   own_ids = λ i n h. h;
   own_words = λ c x h. h;
@@ -78,16 +78,16 @@ module _ (v : View) (wide : Bool) (start n : ℕ) (us : List ℕ) (h : MayBeOver
   header_fits = (n, insert_same (won_claim v Ids id 1).own_ids id n, (h.small, h.words, (λ o lo hi. let long = h.long in h.lanes o hi ∙ get_or_past us o 0 (omega arith)), h.empty))
 
   -- it has the units
-  shown_span : span (shown v) wide start 0 n ≡ us
-  shown_span = let long = h.long in let m = length_span (shown v) wide start 0 n in same_number_lists (span (shown v) wide start 0 n) us (omega arith)
+  shown_span : span (shown_word v) wide start 0 n ≡ us
+  shown_span = let long = h.long in let m = length_span (shown_word v) wide start 0 n in same_number_lists (span (shown_word v) wide start 0 n) us (omega arith)
       (λ k l. let l' : k < n = omega arith in let plain : 0 + k ≡ k = omega arith in
-      span_lane (shown v) wide start 0 n k l' ∙ (ap (λ (o : ℕ). lane_in (shown v) wide start o) plain ∙ h.lanes k (lane_there wide n k l')))
+      span_lane (shown_word v) wide start 0 n k l' ∙ (ap (λ (o : ℕ). lane_in (shown_word v) wide start o) plain ∙ h.lanes k (lane_there wide n k l')))
 
   pub header_fixed : (w : View) → w ≡ born ready id (Flat wide start true) → IsFlat w wide start us id
   header_fixed w e = let f = Flat wide start true in subst (λ (u : View). IsFlat u wide start us id) (sym e) (
     insert_same ready.forms id f,
     insert_same ready.units id (units_for ready (unwrap_or (get ready.own_ids id) 0) f)
-        ∙ (ap (λ (o : Option ℕ). Some (span (shown v) wide start 0 (unwrap_or o 0))) (insert_same (won_claim v Ids id 1).own_ids id n) ∙ ap Some shown_span),
+        ∙ (ap (λ (o : Option ℕ). Some (span (shown_word v) wide start 0 (unwrap_or o 0))) (insert_same (won_claim v Ids id 1).own_ids id n) ∙ ap Some shown_span),
   )
 
   born_by : (a : View) → ((c : ℕ) → start ≤ c → c < start + words_over wide n → HasKey a.own_words c → ⊥) → (m : ℕ) → unwrap_or (get ready.own_ids id) 0 ≡ m → (c x : ℕ) → m ≡ n → Has a.own_words c x → Has v.own_words c x
@@ -96,10 +96,10 @@ module _ (v : View) (wide : Bool) (start n : ℕ) (us : List ℕ) (h : MayBeOver
       (without_keeps v.own_words start (words_over wide n) c x (λ q l e'. let e'' : c ≡ start + q = e' in never c (omega arith) (omega arith) (key_of a.own_words c x own)) h')
 
   -- for an earlier view that has none of the words as its own
-  pub goes_born : (a w : View) → Goes a v [] → ((c : ℕ) → start ≤ c → c < start + words_over wide n → HasKey a.own_words c → ⊥) → w ≡ born ready id (Flat wide start true) → ((i : ℕ) → HasKey v.own_ids i → i < id) → v.low.ids ≤ id + 1
-      → KeepsKnown ready w → Goes a w []
+  pub goes_born : (a w : View) → AddsCalls a v [] → ((c : ℕ) → start ≤ c → c < start + words_over wide n → HasKey a.own_words c → ⊥) → w ≡ born ready id (Flat wide start true) → ((i : ℕ) → HasKey v.own_ids i → i < id) → v.low.ids ≤ id + 1
+      → KeepsKnown ready w → AddsCalls a w []
   goes_born a w g never e above low k = let f = Flat wide start true in let z : View = born ready id f in let k' : KeepsKnown ready z = subst (KeepsKnown ready) e k in
-      let p = g.ids_used in let q = g.words_used in let l = g.ids_low in let m = g.words_low in subst (λ (u : View). Goes a u []) (sym e) record {
+      let p = g.ids_used in let q = g.words_used in let l = g.ids_low in let m = g.words_low in subst (λ (u : View). AddsCalls a u []) (sym e) record {
         known = known_trans a v z g.known (known_trans v (won_claim v Ids id 1) z (known_ids v id) (known_trans (won_claim v Ids id 1) ready z (known_length (won_claim v Ids id 1) id n) k'));
         own_ids = λ i m' h'. let t = g.own_ids i m' h' in let b = above i (key_of v.own_ids i m' t) in let ne : i ≢ id = (λ e'. omega arith) in
             remove_other ready.own_ids id i ne ∙ (insert_other (won_claim v Ids id 1).own_ids id i n ne ∙ (insert_other v.own_ids id i 0 ne ∙ t));
@@ -142,12 +142,12 @@ module _ (v : View) (p : IsPossible v) (s : Sought) (h : IsSought v s) (whole : 
       subst (HasKey v.frozen) e (all (c - first) l)
 
   module _ (us : List ℕ) (u : Has v.units s.id us) where
-    unit_shown : (o : ℕ) → o < length us → o < s.window.len → lane_in (shown v) s.window.wide s.window.start o ≡ get_or us o 0
+    unit_shown : (o : ℕ) → o < length us → o < s.window.len → lane_in (shown_word v) s.window.wide s.window.start o ≡ get_or us o 0
     unit_shown o l l' = let w = (h.whole whole).1 in let plain : s.window.offset + o ≡ o = omega arith in
-        subst (λ (x : ℕ). lane_in (shown v) s.window.wide s.window.start x ≡ get_or us o 0) plain
+        subst (λ (x : ℕ). lane_in (shown_word v) s.window.wide s.window.start x ≡ get_or us o 0) plain
         (possible_unit v p s.id h.flat s.window.offset s.window.wide s.window.start h.fixed us o h.leads h.form u l (inr (subst (λ (x : ℕ). HasKey v.frozen (s.window.start + x / lane_count s.window.wide)) (sym plain) (all (o / lane_count s.window.wide) (lane_word s.window.wide o s.window.len l')))))
 
-    lane_shown : (o : ℕ) → o < words_over s.window.wide s.window.len * lane_count s.window.wide → lane_in (shown v) s.window.wide s.window.start o ≡ get_or us o 0
+    lane_shown : (o : ℕ) → o < words_over s.window.wide s.window.len * lane_count s.window.wide → lane_in (shown_word v) s.window.wide s.window.start o ≡ get_or us o 0
     lane_shown o l = let long = sought_length v p s us h u in dite (dec_le s.window.len o)
         (λ past. possible_zeros v p h.flat s.window.wide s.window.start h.fixed s.window.len h.form (subst (λ (i : ℕ). Has v.lengths i s.window.len) (h.whole whole).0 h.long) all o past l ∙ sym (get_or_past us o 0 (omega arith)))
         (λ inside. unit_shown o (omega arith) (omega arith))
@@ -158,7 +158,7 @@ module _ (v : View) (p : IsPossible v) (s : Sought) (h : IsSought v s) (whole : 
       long = long;
       short = omega arith;
       words = λ c lo hi. inr (frozen_word c lo hi);
-      lanes = λ o l. subst (λ (c : ℕ). lane_in (shown v) s.window.wide c o ≡ get_or us o 0) (sym (some (some_lane s.window.wide s.window.len o l))) (lane_shown o l);
+      lanes = λ o l. subst (λ (c : ℕ). lane_in (shown_word v) s.window.wide c o ≡ get_or us o 0) (sym (some (some_lane s.window.wide s.window.len o l))) (lane_shown o l);
       empty = none;
     }
 

@@ -8,7 +8,7 @@ use Rattle.heap_rule.specs.declared.view.View.{View}
 use Rattle.heap_rule.specs.Contents.{lane_in}
 use Rattle.heap_rule.specs.Layout.{MAX}
 use Rattle.heap_rule.specs.Maps.{Has, HasKey}
-use Rattle.heap_rule.specs.Views.{shown}
+use Rattle.heap_rule.specs.Views.{shown_word}
 use Rattle.heap_rule.proofs.MapLemmas.{has_key, key_of}
 use Rattle.heap_read.specs.Written.{AreWords, IsWritten}
 use Rattle.heap_intern.specs.Answers.{HasSpared}
@@ -45,10 +45,10 @@ module _ (w : View) (wide : Bool) (start n : ℕ) (us : List ℕ) (written : IsW
   words_are : AreWords w wide start us (words_over wide n)
   words_are = subst (λ (m : ℕ). AreWords w wide start us (words_over wide m)) (sym long) written.words
 
-  copied_lane : (o : ℕ) → o < words_over wide n * lane_count wide → lane_in (shown w) wide start o ≡ get_or us o 0
+  copied_lane : (o : ℕ) → o < words_over wide n * lane_count wide → lane_in (shown_word w) wide start o ≡ get_or us o 0
   unfolding lane_in
   copied_lane o l = let q : ℕ = o / lane_count wide in let t = words_are.each q (word_of_lane wide n o l) in let p = lane_of_word wide o in
-      let here : shown w (start + q) ≡ t.0 = ap (λ (x : Option ℕ). unwrap_or x (unwrap_or (get w.frozen (start + q)) 0)) t.1 in
+      let here : shown_word w (start + q) ≡ t.0 = ap (λ (x : Option ℕ). unwrap_or x (unwrap_or (get w.frozen (start + q)) 0)) t.1 in
       ap (λ (x : ℕ). lane_of wide x (o % lane_count wide)) here ∙ (t.2 (o % lane_count wide) p.0 ∙ ap (λ (m : ℕ). get_or us m 0) p.1)
 
   pub copied_over : n ≤ MAX → MayBeOver w wide start n us

@@ -10,17 +10,17 @@ use Rattle.heap_rule.specs.declared.size.Counters.{Counters}
 use Rattle.heap_rule.specs.Forms.{IsLater, IsSliced}
 use Rattle.heap_rule.specs.Maps.{Has}
 use Rattle.heap_rule.specs.Paths.{Calls}
-use Rattle.heap_rule.specs.Views.{IsKnown}
+use Rattle.heap_rule.specs.Views.{MayUse}
 use Rattle.heap_rule.specs.Learning.{learned_all}
-use Rattle.heap_rule.specs.Slots.{entered, loaded_slot, took_slot}
+use Rattle.heap_rule.specs.Slots.{calls_entered, loaded_slot, took_slot}
 use Rattle.heap_rule.specs.HeaderMoves.{seen_form}
 use Rattle.heap_rule.proofs.MapLemmas.{insert_same, key_of}
 use Rattle.heap_table.specs.Known.{KeepsKnown}
 use Rattle.heap_read.proofs.Loaded.{known_refl, known_trans}
-use Rattle.heap_intern.specs.Goes.{Goes, Looks}
-use Rattle.heap_read.specs.Reads.{Continues, HoldsForms, Reads}
+use Rattle.heap_intern.specs.Goes.{AddsCalls, Looks}
+use Rattle.heap_read.specs.Reads.{Continues, HoldsForms, OnlyLoads}
 
-pub goes_self : (v : View) → Goes v v []
+pub goes_self : (v : View) → AddsCalls v v []
 goes_self v = record {
   known = known_refl v;
   own_ids = λ i n h. h;
@@ -37,7 +37,7 @@ goes_self v = record {
   mine = sym (append-nil v.mine);
 }
 
-pub goes_trans : (u v w : View) (a b : Calls) → Goes u v a → Goes v w b → Goes u w (a ++ b)
+pub goes_trans : (u v w : View) (a b : Calls) → AddsCalls u v a → AddsCalls v w b → AddsCalls u w (a ++ b)
 goes_trans u v w a b g h = let p = g.ids_used in let q = h.ids_used in let m = g.ids_low in let n = h.ids_low in let x = g.words_used in let y = h.words_used in let c = g.words_low in let d = h.words_low in record {
   known = known_trans u v w g.known h.known;
   own_ids = λ i n x. h.own_ids i n (g.own_ids i n x);
@@ -81,7 +81,7 @@ forms_trans u v w a b i f h = b i f (a i f h)
 
 -- a step that changes what is known, and the history
 goes_by : (v w : View) (calls : Calls) → KeepsKnown v w → w.own_ids ≡ v.own_ids → w.own_words ≡ v.own_words → w.sizes ≡ v.sizes → w.agents ≡ v.agents → w.live ≡ v.live → w.share ≡ v.share
-    → w.used ≡ v.used → w.low ≡ v.low → w.seen ≡ v.seen → w.mine ≡ v.mine ++ calls → Goes v w calls
+    → w.used ≡ v.used → w.low ≡ v.low → w.seen ≡ v.seen → w.mine ≡ v.mine ++ calls → AddsCalls v w calls
 goes_by v w calls k oi ow z a l s u lo se m = record {
   known = k;
   own_ids = λ i n h. subst (λ (x : FinMap nat_cmp ℕ). Has x i n) (sym oi) h;
@@ -99,14 +99,14 @@ goes_by v w calls k oi ow z a l s u lo se m = record {
 }
 
 -- loads alone, as a reader makes them; and any call of a reader that leaves what is its own
-pub looks_reads : (v w : View) → Reads v w → Looks v w
+pub looks_reads : (v w : View) → OnlyLoads v w → Looks v w
 looks_reads v w r = record {
   goes = goes_by v w [] r.known r.own_ids r.own_words r.sizes r.agents r.live r.share r.used r.low r.seen (r.mine ∙ sym (append-nil v.mine));
   used = ap (λ (n : Counters). n.ids) r.used;
   words = ap (λ (n : Counters). n.words) r.used;
 }
 
-pub goes_continues : (v w : View) → Continues v w → w.own_ids ≡ v.own_ids → ((c x : ℕ) → Has v.own_words c x → Has w.own_words c x) → Goes v w []
+pub goes_continues : (v w : View) → Continues v w → w.own_ids ≡ v.own_ids → ((c x : ℕ) → Has v.own_words c x → Has w.own_words c x) → AddsCalls v w []
 goes_continues v w r ids words = record {
   known = r.known;
   own_ids = λ i n h. subst (λ (x : FinMap nat_cmp ℕ). Has x i n) (sym ids) h;
@@ -136,7 +136,7 @@ module _ (v : View) where
   looks_seen w i o k e = subst (λ (u : View). Looks v u × (u.slot_loads ≡ v.slot_loads)) (sym e) (seen_by i o (subst (KeepsKnown v) e k))
 
   -- a load of a slot, with the call that it enters, if any
-  slot_by : (k x : ℕ) (entry : Option (List ℕ)) (calls : Calls) → entered v k entry ≡ v.mine ++ calls → KeepsKnown v (learned_all (loaded_slot v k entry x)) → Goes v (learned_all (loaded_slot v k entry x)) calls
+  slot_by : (k x : ℕ) (entry : Option (List ℕ)) (calls : Calls) → calls_entered v k entry ≡ v.mine ++ calls → KeepsKnown v (learned_all (loaded_slot v k entry x)) → AddsCalls v (learned_all (loaded_slot v k entry x)) calls
   slot_by k zero entry calls m h = goes_by v (learned_all (loaded_slot v k entry zero)) calls h refl refl refl refl refl refl refl refl refl m
   slot_by k (suc x) entry calls m h = goes_by v (learned_all (loaded_slot v k entry (suc x))) calls h refl refl refl refl refl refl refl refl refl m
 
@@ -147,20 +147,20 @@ module _ (v : View) where
   pub used_slot : (w : View) (k x : ℕ) (entry : Option (List ℕ)) → w ≡ learned_all (loaded_slot v k entry x) → w.used ≡ v.used
   used_slot w k x entry e = ap (λ (u : View). u.used) e ∙ slot_used k x entry
 
-  pub goes_slot : (w : View) (k x : ℕ) (entry : Option (List ℕ)) (calls : Calls) → entered v k entry ≡ v.mine ++ calls → KeepsKnown v w → w ≡ learned_all (loaded_slot v k entry x) → Goes v w calls × (w.used ≡ v.used)
-  goes_slot w k x entry calls m h e = subst (λ (u : View). Goes v u calls × (u.used ≡ v.used)) (sym e) (slot_by k x entry calls m (subst (KeepsKnown v) e h), slot_used k x entry)
+  pub goes_slot : (w : View) (k x : ℕ) (entry : Option (List ℕ)) (calls : Calls) → calls_entered v k entry ≡ v.mine ++ calls → KeepsKnown v w → w ≡ learned_all (loaded_slot v k entry x) → AddsCalls v w calls × (w.used ≡ v.used)
+  goes_slot w k x entry calls m h e = subst (λ (u : View). AddsCalls v u calls × (u.used ≡ v.used)) (sym e) (slot_by k x entry calls m (subst (KeepsKnown v) e h), slot_used k x entry)
 
   pub looks_slot : (w : View) (k x : ℕ) → KeepsKnown v w → w ≡ learned_all (loaded_slot v k None x) → Looks v w
   looks_slot w k x h e = let t = goes_slot w k x None [] nothing h e in record { goes = t.0; used = ap (λ (n : Counters). n.ids) t.1; words = ap (λ (n : Counters). n.words) t.1 }
 
   -- the id that was found in a slot stands there, and is known
-  stands_by : (k i x : ℕ) (entry : Option (List ℕ)) → x ≡ i + 1 → Has (learned_all (loaded_slot v k entry x)).slots k i × IsKnown (learned_all (loaded_slot v k entry x)) i
+  stands_by : (k i x : ℕ) (entry : Option (List ℕ)) → x ≡ i + 1 → Has (learned_all (loaded_slot v k entry x)).slots k i × MayUse (learned_all (loaded_slot v k entry x)) i
   stands_by k i zero entry e = absurd (omega arith)
   stands_by k i (suc x) entry e = let is : x ≡ i = omega arith in
       (insert_same v.slots k x ∙ ap Some is, inr (key_of (insert v.met x tt) i tt (ap (get (insert v.met x tt)) (sym is) ∙ insert_same v.met x tt)))
 
-  pub stands_there : (w : View) (k i x : ℕ) (entry : Option (List ℕ)) → x ≡ i + 1 → w ≡ learned_all (loaded_slot v k entry x) → Has w.slots k i × IsKnown w i
-  stands_there w k i x entry is e = subst (λ (u : View). Has u.slots k i × IsKnown u i) (sym e) (stands_by k i x entry is)
+  pub stands_there : (w : View) (k i x : ℕ) (entry : Option (List ℕ)) → x ≡ i + 1 → w ≡ learned_all (loaded_slot v k entry x) → Has w.slots k i × MayUse w i
+  stands_there w k i x entry is e = subst (λ (u : View). Has u.slots k i × MayUse u i) (sym e) (stands_by k i x entry is)
 
   -- a slot that was found free leaves what the view has of slots
   free_by : (k x : ℕ) (entry : Option (List ℕ)) → x ≡ 0 → (learned_all (loaded_slot v k entry x)).slots ≡ v.slots
@@ -171,15 +171,15 @@ module _ (v : View) where
   free_there w k x entry is e = ap (λ (u : View). u.slots) e ∙ free_by k x entry is
 
   -- a claim of a slot: where it is won the call enters the history
-  pub goes_won : (w : View) (k i : ℕ) (us : List ℕ) → Has v.units i us → KeepsKnown v w → w ≡ learned_all (took_slot v k i 0) → Goes v w ((us, i) ∷ []) × (w.used ≡ v.used) × Has w.slots k i
-  goes_won w k i us has h e = subst (λ (u : View). Goes v u ((us, i) ∷ []) × (u.used ≡ v.used) × Has u.slots k i) (sym e) (
+  pub goes_won : (w : View) (k i : ℕ) (us : List ℕ) → Has v.units i us → KeepsKnown v w → w ≡ learned_all (took_slot v k i 0) → AddsCalls v w ((us, i) ∷ []) × (w.used ≡ v.used) × Has w.slots k i
+  goes_won w k i us has h e = subst (λ (u : View). AddsCalls v u ((us, i) ∷ []) × (u.used ≡ v.used) × Has u.slots k i) (sym e) (
     goes_by v (learned_all (took_slot v k i 0)) ((us, i) ∷ []) (subst (KeepsKnown v) e h) refl refl refl refl refl refl refl refl refl (ap (λ (o : Option (List ℕ)). v.mine ++ (unwrap_or o [], i) ∷ []) has),
     refl,
     insert_same v.slots k i,
   )
 
   -- where it is lost the winner's id stands there
-  lost_by : (k i j x : ℕ) → x ≡ j + 1 → KeepsKnown v (learned_all (took_slot v k i x)) → Looks v (learned_all (took_slot v k i x)) × Has (learned_all (took_slot v k i x)).slots k j × IsKnown (learned_all (took_slot v k i x)) j
+  lost_by : (k i j x : ℕ) → x ≡ j + 1 → KeepsKnown v (learned_all (took_slot v k i x)) → Looks v (learned_all (took_slot v k i x)) × Has (learned_all (took_slot v k i x)).slots k j × MayUse (learned_all (took_slot v k i x)) j
   lost_by k i j zero e h = absurd (omega arith)
   lost_by k i j (suc x) e h = let is : x ≡ j = omega arith in (
     record { goes = goes_by v (learned_all (took_slot v k i (suc x))) [] h refl refl refl refl refl refl refl refl refl nothing; used = refl; words = refl },
@@ -187,5 +187,5 @@ module _ (v : View) where
     inr (key_of (insert v.met x tt) j tt (ap (get (insert v.met x tt)) (sym is) ∙ insert_same v.met x tt)),
   )
 
-  pub looks_lost : (w : View) (k i j x : ℕ) → x ≡ j + 1 → KeepsKnown v w → w ≡ learned_all (took_slot v k i x) → Looks v w × Has w.slots k j × IsKnown w j
-  looks_lost w k i j x is h e = subst (λ (u : View). Looks v u × Has u.slots k j × IsKnown u j) (sym e) (lost_by k i j x is (subst (KeepsKnown v) e h))
+  pub looks_lost : (w : View) (k i j x : ℕ) → x ≡ j + 1 → KeepsKnown v w → w ≡ learned_all (took_slot v k i x) → Looks v w × Has w.slots k j × MayUse w j
+  looks_lost w k i j x is h e = subst (λ (u : View). Looks v u × Has u.slots k j × MayUse u j) (sym e) (lost_by k i j x is (subst (KeepsKnown v) e h))

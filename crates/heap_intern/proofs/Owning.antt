@@ -11,20 +11,20 @@ use Rattle.heap_rule.specs.declared.view.View.{View}
 use Rattle.heap_rule.specs.Births.{part}
 use Rattle.heap_rule.specs.Maps.{HasKey}
 use Rattle.heap_rule.specs.Paths.{Calls}
-use Rattle.heap_read.specs.Reads.{Reads}
+use Rattle.heap_read.specs.Reads.{OnlyLoads}
 use Rattle.heap_read.specs.declared.string.JsStr.{JsStr}
 use Rattle.heap_text.specs.declared.faults.JoinFault.{JoinFault}
 use Rattle.heap_text.specs.declared.faults.TextFull.{TextFull}
 use Rattle.heap_text.specs.Joins.{IsCut, IsJoined}
 use Rattle.heap_text.specs.Texts.{IsSpared, KeepsOwn}
-use Rattle.heap_intern.specs.Goes.{Goes}
+use Rattle.heap_intern.specs.Goes.{AddsCalls}
 use Rattle.heap_intern.specs.Owning.{Spares}
 
 pub own_self : (v : View) → KeepsOwn v v
 own_self v = record { ids = λ i n h. h; words = λ c x h. h }
 
 -- a call on the string table
-pub own_goes : (v w : View) (calls : Calls) → Goes v w calls → KeepsOwn v w
+pub own_goes : (v w : View) (calls : Calls) → AddsCalls v w calls → KeepsOwn v w
 own_goes v w calls g = record { ids = g.own_ids; words = g.own_words }
 
 pub spares_of : (v w : View) (words : ℕ) (f : TextFull) → IsSpared v w words f → Spares v w
@@ -37,7 +37,7 @@ spares_none v w e = let n = ap (λ (c : Counters). c.words) e in record {
   words = (0, 0, omega arith, λ q l. absurd (omega arith), λ q l h. omega arith);
 }
 
-pub spares_after : (v u w : View) → Reads v u → Spares u w → Spares v w
+pub spares_after : (v u w : View) → OnlyLoads v u → Spares u w → Spares v w
 spares_after v u w r s = let h = s.words in record {
   ids = s.ids ∙ ap (λ (c : Counters). c.ids) r.used;
   words = (

@@ -9,7 +9,7 @@ use Rattle.heap_rule.proofs.MapLemmas.{has_key}
 use Rattle.heap_rule.specs.Sound.{IsPossible}
 use Rattle.heap_table.specs.Known.{KeepsKnown}
 use Rattle.heap_intern.specs.declared.table.sought.Sought.{Sought}
-use Rattle.heap_intern.specs.Answers.{BeginsAt, IsFixed, IsFound, IsHeader, IsPlan, IsPlanBy, MakesNone, Plan, UsesNothing, copy_words}
+use Rattle.heap_intern.specs.Answers.{BeginsAt, IsFixed, IsFound, IsHeader, IsPlan, IsPlanBy, MakesNone, HeaderPlan, UsesNothing, words_of_copy}
 use Rattle.heap_intern.specs.Headers.{IsFlat, begins, header_plan, plain_plan, plan_by, target_of}
 use Rattle.heap_intern.specs.Visits.{IsMade}
 use Rattle.heap_intern.proofs.Going.{no_slice}
@@ -19,10 +19,10 @@ use Rattle.heap_intern.proofs.Seeking.{one_form, sought_length}
 use Rattle.heap_intern.specs.Seeking.{IsSought}
 
 -- a header is a fixed Flat
-pub fixed_of : (v : View) (plan : Plan) (us : List ℕ) (i : ℕ) → IsHeader v plan us i → IsFixed v us i
+pub fixed_of : (v : View) (plan : HeaderPlan) (us : List ℕ) (i : ℕ) → IsHeader v plan us i → IsFixed v us i
 fixed_of v plan us i h = ((plan.wide, h.0.0, h.0.2), h.1)
 
-pub header_of : (v : View) (plan : Plan) (wide : Bool) (start : ℕ) (us : List ℕ) (i : ℕ) → IsFlat v wide start us i → wide ≡ plan.wide → BeginsAt plan.start start → IsHeader v plan us i
+pub header_of : (v : View) (plan : HeaderPlan) (wide : Bool) (start : ℕ) (us : List ℕ) (i : ℕ) → IsFlat v wide start us i → wide ≡ plan.wide → BeginsAt plan.start start → IsHeader v plan us i
 header_of v plan wide start us i h e b = ((start, b, subst (λ (x : Bool). Has v.forms i (Flat x start true)) e h.0), h.1)
 
 -- a string that is no part of another
@@ -127,10 +127,10 @@ makes_before u v w (Cons wide left right) a b = tt
 makes_before u v w (Sliced wide parent offset) a b = tt
 
 -- a header takes no words, or those of a copy, where the string was never seen as a Flat
-pub plan_words : (v w : View) (id : ℕ) (us : List ℕ) (plan : Plan) → IsPlan v w id us plan → (plan.words ≡ 0) ⊎ ((plan.words ≡ copy_words us) × ((wide : Bool) (start : ℕ) (fixed : Bool) → Has v.forms id (Flat wide start fixed) → ⊥))
+pub plan_words : (v w : View) (id : ℕ) (us : List ℕ) (plan : HeaderPlan) → IsPlan v w id us plan → (plan.words ≡ 0) ⊎ ((plan.words ≡ words_of_copy us) × ((wide : Bool) (start : ℕ) (fixed : Bool) → Has v.forms id (Flat wide start fixed) → ⊥))
 plan_words v w id us plan h = by_form h.0 h.1 h.2
   where
-    by_form : (f : Form) → IsFound v id f → IsPlanBy w f us plan → (plan.words ≡ 0) ⊎ ((plan.words ≡ copy_words us) × ((wide : Bool) (start : ℕ) (fixed : Bool) → Has v.forms id (Flat wide start fixed) → ⊥))
+    by_form : (f : Form) → IsFound v id f → IsPlanBy w f us plan → (plan.words ≡ 0) ⊎ ((plan.words ≡ words_of_copy us) × ((wide : Bool) (start : ℕ) (fixed : Bool) → Has v.forms id (Flat wide start fixed) → ⊥))
     by_form (Sliced a parent offset) found p = inr (p.0, λ wide start fixed g. no_slice wide start fixed (Sliced a parent offset) (found (Flat wide start fixed) g) tt)
     by_form (Flat a start fixed) found p = inl p.0
     by_form (Thin t) found p = inl p.0

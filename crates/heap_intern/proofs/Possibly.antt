@@ -14,9 +14,9 @@ use Rattle.heap_rule.specs.Forms.{IsLater}
 use Rattle.heap_rule.specs.Layout.{content, slot}
 use Rattle.heap_rule.specs.Contents.{lane_in, units_of}
 use Rattle.heap_rule.specs.Maps.{Has, HasKey}
-use Rattle.heap_rule.specs.Views.{shown}
+use Rattle.heap_rule.specs.Views.{shown_word}
 use Rattle.heap_rule.specs.Slots.{IsShutAt}
-use Rattle.heap_rule.specs.Sound.{IsPossible, Stands, StandsIn}
+use Rattle.heap_rule.specs.Sound.{IsPossible, StandsAs, StandsIn}
 use Rattle.heap_rule.proofs.Birth.{shown_by}
 use Rattle.heap_rule.proofs.MapLemmas.{has_key, key_of}
 use Rattle.heap_rule.proofs.Slots.{differs_right}
@@ -28,7 +28,7 @@ not_own None f x e never = ap (λ (g : Option ℕ). unwrap_or g 0) e
 not_own (Some y) f x e never = absurd (never y refl)
 
 -- a frozen word as the view shows it
-pub shown_frozen : (v : View) → IsPossible v → (c x : ℕ) → Has v.frozen c x → shown v c ≡ x
+pub shown_frozen : (v : View) → IsPossible v → (c x : ℕ) → Has v.frozen c x → shown_word v c ≡ x
 shown_frozen v p c x h = not_own (get v.own_words c) (get v.frozen c) x h (λ y e. possible_free v p c (inl (key_of v.frozen c x h)) (key_of v.own_words c y e))
 
 pub word_of_lane : (wide : Bool) (n o : ℕ) → o < words_over wide n * lane_count wide → o / lane_count wide < words_over wide n
@@ -36,15 +36,15 @@ word_of_lane true n o l = omega arith
 word_of_lane false n o l = omega arith
 
 zeros_in : (v : View) → StandsIn v → (i : ℕ) (wide : Bool) (start : ℕ) (fixed : Bool) (n : ℕ) → Has v.forms i (Flat wide start fixed) → Has v.lengths i n → ((q : ℕ) → q < words_over wide n → HasKey v.frozen (start + q))
-    → (o : ℕ) → n ≤ o → o < words_over wide n * lane_count wide → lane_in (shown v) wide start o ≡ 0
+    → (o : ℕ) → n ≤ o → o < words_over wide n * lane_count wide → lane_in (shown_word v) wide start o ≡ 0
 zeros_in v (z, agents, W, vs, j, s, at, live) i wide start fixed n f l h o lo hi = let k = s.knows j v at live in let c : ℕ = start + o / lane_count wide in
-    let word : shown v c ≡ content z W c = shown_by (get v.own_words c) (get v.frozen c) (content z W c) (λ x e. ((s.own_words j v at live).each c x e).1) (λ x e. (k.of_frozen c x e).1)
+    let word : shown_word v c ≡ content z W c = shown_by (get v.own_words c) (get v.frozen c) (content z W c) (λ x e. ((s.own_words j v at live).each c x e).1) (λ x e. (k.of_frozen c x e).1)
     (inr (h (o / lane_count wide) (word_of_lane wide n o hi))) in
-    lane_same (shown v) (content z W) wide start o word
+    lane_same (shown_word v) (content z W) wide start o word
     ∙ subst (λ (m : ℕ). m ≤ o → o < words_over wide m * lane_count wide → lane_in (content z W) wide start o ≡ 0) (k.of_lengths i n l).1 ((k.of_forms i (Flat wide start fixed) f).shows.2 o) lo hi
 
 pub possible_zeros : (v : View) → IsPossible v → (i : ℕ) (wide : Bool) (start : ℕ) (fixed : Bool) (n : ℕ) → Has v.forms i (Flat wide start fixed) → Has v.lengths i n → ((q : ℕ) → q < words_over wide n → HasKey v.frozen (start + q))
-    → (o : ℕ) → n ≤ o → o < words_over wide n * lane_count wide → lane_in (shown v) wide start o ≡ 0
+    → (o : ℕ) → n ≤ o → o < words_over wide n * lane_count wide → lane_in (shown_word v) wide start o ≡ 0
 possible_zeros v p i wide start fixed n f l h o lo hi = ∥∥₁_elim p (Prim.hlevel props) (λ t. zeros_in v t i wide start fixed n f l h o lo hi)
 
 open_in : (v : View) → StandsIn v → (us : List ℕ) (k i : ℕ) → Has v.slots k i → Has v.units i us → IsShutAt v us k → ⊥
@@ -66,7 +66,7 @@ thin_answer_in : (v : View) → StandsIn v → (s t k i : ℕ) (us : List ℕ) �
 thin_answer_in v (z, agents, W, vs, l, st, at, live) s t k i us f u h w = let know = st.knows l v at live in let n = know.of_forms s (Thin t) f in let here = know.of_slots k i h in
     let later : Some n.now ≡ Some (Thin t) = ap Some (⊎_elim (λ e. sym e) (λ (x : IsLater (Thin t) n.now). absurd (thin_last n.now x)) n.later) in
     let stands = (st.standing s n.born) in let d : Some stands.now ≡ Some (Thin t) = sym stands.decodes ∙ (n.decodes ∙ later) in let is : stands.now ≡ Thin t = cc in
-    let there = subst (Stands z W vs s) is stands.stands in let slot_is = there.3 in
+    let there = subst (StandsAs z W vs s) is stands.stands in let slot_is = there.3 in
     let same : units_of z W t ≡ units_of z W i = n.shows.1 ∙ ((know.of_units s us u).1 ∙ sym (know.of_units i us w).1) in
     let one : slot_is.0 ≡ k = st.different slot_is.0 k t i slot_is.1 here.0 slot_is.2 here.1 same in
     let number : t + 1 ≡ i + 1 = sym slot_is.2 ∙ (ap (λ (q : ℕ). slot z W q) one ∙ here.1) in omega arith

@@ -9,7 +9,7 @@ or_is : (b c : Bool) → (b || c) ≡ (if b then true else c)
 or_is true c = refl
 or_is false c = refl
 
-pub wide_same : (us : List ℕ) → texts.is_wide us ≡ rows.is_wide us
+pub wide_same : (us : List ℕ) → texts.is_wide us ≡ rows.takes_two_bytes us
 wide_same [] = refl
 wide_same (u ∷ us) = or_is (nat_lt 255 u) (texts.is_wide us) ∙ ap (λ (b : Bool). if nat_lt 255 u then true else b) (wide_same us)
 

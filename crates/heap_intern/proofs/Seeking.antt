@@ -14,7 +14,7 @@ use Rattle.heap_rule.specs.Forms.{IsCons, IsSliced}
 use Rattle.heap_rule.specs.Maps.{Has, HasKey}
 use Rattle.heap_rule.specs.Slots.{Differs}
 use Rattle.heap_rule.specs.Sound.{IsPossible}
-use Rattle.heap_rule.specs.Views.{HasLength, shown}
+use Rattle.heap_rule.specs.Views.{HasLength, shown_word}
 use Rattle.heap_rule.proofs.MapLemmas.{has_key, key_of}
 use Rattle.heap_rule.proofs.Possible.{possible_lane, possible_length}
 use Rattle.heap_rule.proofs.UnitLemmas.{lane_same}
@@ -129,7 +129,7 @@ words_frozen v t none h q l = let f = first_lane t.wide t.len q l in let o : ℕ
 lane_is : (w : View) → IsPossible w → (i : ℕ) (wide : Bool) (start : ℕ) (fixed : Bool) (us : List ℕ) (o unit : ℕ) → Has w.forms i (Flat wide start fixed) → Has w.units i us → o < length us
     → HasLane w wide start o unit → unit ≡ get_or us o 0
 lane_is w p i wide start fixed us o unit f u l h = let c : ℕ = start + o / lane_count wide in
-    h.lane ∙ (lane_same (λ _. h.word) (shown w) wide start o (sym (shown_frozen w p c h.word h.frozen))
+    h.lane ∙ (lane_same (λ _. h.word) (shown_word w) wide start o (sym (shown_frozen w p c h.word h.frozen))
     ∙ possible_lane w p i wide start fixed us o f u l (inr (key_of w.frozen c h.word h.frozen)))
 
 -- a fixed Flat whose lanes are those units has them, and one with another lane differs

@@ -2,10 +2,10 @@
 use Rattle.std.proofs.Common.{◌≡◌, ℕ, ◌++◌, sym, refl, ap, ◌∙◌, append-nil, append_assoc}
 use Rattle.std.proofs.lemmas.List.{append_cancel_left}
 use Rattle.atomic_table.specs.Seated.{TableId}
-use Rattle.js_store.specs.State.{Sizes}
+use Rattle.js_store.specs.State.{StoreSizes}
 use Rattle.heap_rule.specs.declared.size.HeapSize.{HeapSize}
 use Rattle.heap_rule.specs.declared.view.View.{View}
-use Rattle.heap_rule.specs.Agents.{joined, left_after_split, right_after_split}
+use Rattle.heap_rule.specs.Agents.{joined_view, left_after_split, right_after_split}
 use Rattle.heap_rule.specs.Claims.{loaded_counter}
 use Rattle.heap_rule.specs.declared.size.Counter.TheVariants.{Ids, Words}
 use Rattle.heap_rule.specs.Paths.{Calls}
@@ -17,10 +17,10 @@ use Rattle.heap_table.specs.declared.heap.Heap.{Heap}
 use Rattle.heap_table.specs.Agents.{Belongs, size_of, view_of}
 use Rattle.heap_table.specs.Known.{KeepsKnown}
 use Rattle.heap_intern.specs.Sessions.{state_by, table_of}
-use Rattle.heap_intern.specs.Shares.{IsJoined, left_by, right_by, sizes_of, total_by}
+use Rattle.heap_intern.specs.Shares.{IsSessionJoined, giver_after, right_by, sizes_of, total_by}
 use Rattle.heap_intern.proofs.States.{known_same, settled_same, shut_same}
 
-pub state_left : (v : View) (give l : ℕ) (t : TableId) → state_by (left_after_split v give) l t ≡ left_by (state_by v l t) give
+pub state_left : (v : View) (give l : ℕ) (t : TableId) → state_by (left_after_split v give) l t ≡ giver_after (state_by v l t) give
 unfolding shut differs
 state_left v give l t = refl
 
@@ -29,21 +29,21 @@ unfolding shut differs
 state_right v give l t = λ i. record (right_by (state_by v l t) give) { history = append-nil (history v) i }
 
 -- sizes that a store tells are those of the heap
-abbrev pub sizes_in : HeapSize → Sizes
+abbrev pub sizes_in : HeapSize → StoreSizes
 sizes_in z = record { ids = z.ids; words = z.words; slots = z.slots }
 
 pub sizes_are : (y z : HeapSize) → sizes_in y ≡ sizes_in z → y ≡ z
 sizes_are y z e = λ i. record { ids = (e i).ids; words = (e i).words; slots = (e i).slots }
 
-module _ (v b : View) (l m : ℕ) (t u : TableId) (p : IsPossible v) (o : IsPossible b) (k : KeepsKnown v (joined v b)) (n : KeepsKnown b (joined v b)) (z : b.sizes ≡ v.sizes) where
-  pub state_joined : IsJoined (state_by v l t) (state_by b m u) (state_by (joined v b) l t)
+module _ (v b : View) (l m : ℕ) (t u : TableId) (p : IsPossible v) (o : IsPossible b) (k : KeepsKnown v (joined_view v b)) (n : KeepsKnown b (joined_view v b)) (z : b.sizes ≡ v.sizes) where
+  pub state_joined : IsSessionJoined (state_by v l t) (state_by b m u) (state_by (joined_view v b) l t)
   state_joined = record {
-    known = known_same v (joined v b) k;
-    known_of_other = known_same b (joined v b) n;
-    settled = settled_same v (joined v b) k;
-    settled_of_other = settled_same b (joined v b) n;
-    shut = shut_same v (joined v b) k p refl;
-    shut_of_other = shut_same b (joined v b) n o (sym z);
+    known = known_same v (joined_view v b) k;
+    known_of_other = known_same b (joined_view v b) n;
+    settled = settled_same v (joined_view v b) k;
+    settled_of_other = settled_same b (joined_view v b) n;
+    shut = shut_same v (joined_view v b) k p refl;
+    shut_of_other = shut_same b (joined_view v b) n o (sym z);
     history = λ calls e. ap (λ (c : Calls). v.seen ++ (v.mine ++ c)) (append_cancel_left b.seen b.mine calls e) ∙ sym (append_assoc v.seen v.mine calls);
     used_ids = refl;
     used_words = refl;

@@ -9,7 +9,7 @@ use Rattle.atomic_table.specs.Seated.{TableId}
 use Rattle.js_header.specs.declared.form.Form.{Form}
 use Rattle.js_header.specs.declared.form.Form.TheVariants.{Unborn, Flat, Cons, Sliced, Thin}
 use Rattle.js_store.specs.declared.faults.StoreFault.{StoreFault}
-use Rattle.js_store.specs.Faults.{NeverSlots, Step, Uses}
+use Rattle.js_store.specs.Faults.{NeverSlots, StoreStep, Uses}
 use Rattle.js_store.specs.State.{Grows}
 use Rattle.js_store.proofs.Laws.{step_within}
 use Rattle.heap_rule.specs.declared.size.Counters.{Counters}
@@ -20,12 +20,12 @@ use Rattle.heap_rule.specs.Maps.{Has, HasKey}
 use Rattle.heap_rule.specs.Paths.{Calls}
 use Rattle.heap_rule.specs.SlotTests.{shut}
 use Rattle.heap_rule.specs.Sound.{IsPossible}
-use Rattle.heap_rule.specs.Views.{IsSettled, history}
+use Rattle.heap_rule.specs.Views.{IsSeenSettled, history}
 use Rattle.heap_rule.proofs.MapLemmas.{has_key}
 use Rattle.heap_rule.proofs.SlotTests.{shut_exactly}
 use Rattle.heap_table.specs.Known.{KeepsKnown}
-use Rattle.heap_read.specs.Reads.{Continues, Reads}
-use Rattle.heap_intern.specs.Goes.{Goes, Looks}
+use Rattle.heap_read.specs.Reads.{Continues, OnlyLoads}
+use Rattle.heap_intern.specs.Goes.{AddsCalls, Looks}
 use Rattle.heap_intern.proofs.Visiting.{shut_kept}
 use Rattle.heap_intern.specs.Sessions.{state_by}
 use Rattle.heap_intern.specs.Settled.{is_settled}
@@ -46,10 +46,10 @@ settled_of (Some (Cons wide left right)) h = let e : false ≡ true = h in absur
 settled_of (Some (Sliced wide parent offset)) h = (Sliced wide parent offset, refl, λ x. x)
 settled_of (Some (Thin target)) h = (Thin target, refl, λ x. x)
 
-pub settled_test : (v : View) (i : ℕ) → IsSettled v i → IsTrue (is_settled (get v.forms i))
+pub settled_test : (v : View) (i : ℕ) → IsSeenSettled v i → IsTrue (is_settled (get v.forms i))
 settled_test v i h = subst (λ (o : Option Form). IsTrue (is_settled o)) (sym h.1) (test_of h.0 h.2)
 
-pub test_settled : (v : View) (i : ℕ) → IsTrue (is_settled (get v.forms i)) → IsSettled v i
+pub test_settled : (v : View) (i : ℕ) → IsTrue (is_settled (get v.forms i)) → IsSeenSettled v i
 test_settled v i h = settled_of (get v.forms i) h
 
 -- what is known of a number
@@ -92,13 +92,13 @@ pub grows_continues : (v w : View) (l : ℕ) (t : TableId) → IsPossible v → 
 grows_continues v w l t p c = grows_by v w l t p c.known c.sizes c.agents c.share c.seen c.ids_used c.words_used c.ids_low c.words_low
     (λ u i h. subst (λ (h : Calls). Contains h (u, i)) (λ j. sym c.seen j ++ sym c.mine j) h)
 
-pub history_reads : (v w : View) → Reads v w → history w ≡ history v
+pub history_reads : (v w : View) → OnlyLoads v w → history w ≡ history v
 history_reads v w r = λ i. r.seen i ++ r.mine i
 
 pub history_continues : (v w : View) → Continues v w → history w ≡ history v
 history_continues v w c = λ i. c.seen i ++ c.mine i
 
-pub step_reads : (v w : View) (l : ℕ) (t : TableId) → IsPossible v → Reads v w → Step (state_by v l t) (state_by w l t) None 0 0
+pub step_reads : (v w : View) (l : ℕ) (t : TableId) → IsPossible v → OnlyLoads v w → StoreStep (state_by v l t) (state_by w l t) None 0 0
 step_reads v w l t p r = let ui = ap (λ (n : Counters). n.ids) r.used in let uw = ap (λ (n : Counters). n.words) r.used in let li = ap (λ (n : Counters). n.ids) r.low in let lw = ap (λ (n : Counters). n.words) r.low in record {
   grows = grows_by v w l t p r.known r.sizes r.agents r.share r.seen (omega arith) (omega arith) (omega arith) (omega arith) (λ u i h. subst (λ (h : Calls). Contains h (u, i)) (sym (history_reads v w r)) h);
   honest = tt;
@@ -107,32 +107,32 @@ step_reads v w l t p r = let ui = ap (λ (n : Counters). n.ids) r.used in let uw
 }
 
 -- a call on the string table
-pub history_goes : (v w : View) (calls : Calls) → Goes v w calls → history w ≡ history v ++ calls
+pub history_goes : (v w : View) (calls : Calls) → AddsCalls v w calls → history w ≡ history v ++ calls
 history_goes v w calls g = (λ i. g.seen i ++ g.mine i) ∙ sym (append_assoc v.seen v.mine calls)
 
-pub grows_goes : (v w : View) (calls : Calls) (l : ℕ) (t : TableId) → IsPossible v → Goes v w calls → Grows (state_by v l t) (state_by w l t)
+pub grows_goes : (v w : View) (calls : Calls) (l : ℕ) (t : TableId) → IsPossible v → AddsCalls v w calls → Grows (state_by v l t) (state_by w l t)
 grows_goes v w calls l t p g = grows_by v w l t p g.known g.sizes g.agents g.share g.seen g.ids_used g.words_used g.ids_low g.words_low
     (λ u i h. subst (λ (h : Calls). Contains h (u, i)) (sym (history_goes v w calls g)) (Contains-append_left (history v) calls (u, i) h))
 
 -- the same table, as it was before
-pub step_at : (v w : View) (l : ℕ) (t u : TableId) (f : Option StoreFault) (i n : ℕ) → u ≡ t → Step (state_by v l t) (state_by w l t) f i n → Step (state_by v l t) (state_by w l u) f i n
-step_at v w l t u f i n e h = subst (λ (x : TableId). Step (state_by v l t) (state_by w l x) f i n) (sym e) h
+pub step_at : (v w : View) (l : ℕ) (t u : TableId) (f : Option StoreFault) (i n : ℕ) → u ≡ t → StoreStep (state_by v l t) (state_by w l t) f i n → StoreStep (state_by v l t) (state_by w l u) f i n
+step_at v w l t u f i n e h = subst (λ (x : TableId). StoreStep (state_by v l t) (state_by w l x) f i n) (sym e) h
 
 -- a call that leaves the history, and doesn't find the string table full
-pub uses_at : (v w : View) (l : ℕ) (t u : TableId) (f : Option StoreFault) (i n : ℕ) → u ≡ t → history w ≡ history v → NeverSlots f → Step (state_by v l t) (state_by w l t) f i n → Uses (state_by v l t) (state_by w l u) f i n
+pub uses_at : (v w : View) (l : ℕ) (t u : TableId) (f : Option StoreFault) (i n : ℕ) → u ≡ t → history w ≡ history v → NeverSlots f → StoreStep (state_by v l t) (state_by w l t) f i n → Uses (state_by v l t) (state_by w l u) f i n
 uses_at v w l t u f i n e h never s = record { step = step_at v w l t u f i n e s; no_slots = never; history = h }
 
 -- nothing was used, and more might have been
-pub step_most : (v w : View) (l : ℕ) (t : TableId) (i n : ℕ) → IsPossible v → Reads v w → Step (state_by v l t) (state_by w l t) None i n
+pub step_most : (v w : View) (l : ℕ) (t : TableId) (i n : ℕ) → IsPossible v → OnlyLoads v w → StoreStep (state_by v l t) (state_by w l t) None i n
 step_most v w l t i n p r = step_within (step_reads v w l t p r) (omega arith) (omega arith)
 
 -- loads of slots
-pub step_looks : (v w : View) (l : ℕ) (t : TableId) → IsPossible v → Looks v w → Step (state_by v l t) (state_by w l t) None 0 0
+pub step_looks : (v w : View) (l : ℕ) (t : TableId) → IsPossible v → Looks v w → StoreStep (state_by v l t) (state_by w l t) None 0 0
 step_looks v w l t p k = let a = k.used in let b = k.words in record { grows = grows_goes v w [] l t p k.goes; honest = tt; within_ids = omega arith; within_words = omega arith }
 
 pub history_looks : (v w : View) → Looks v w → history w ≡ history v
 history_looks v w k = history_goes v w [] k.goes ∙ append-nil (history v)
 
 -- a call is entered, and nothing used
-pub found_step : (v w : View) (calls : Calls) (l : ℕ) (t : TableId) → IsPossible v → Goes v w calls → w.used.ids ≡ v.used.ids → w.used.words ≡ v.used.words → Step (state_by v l t) (state_by w l t) None 0 0
+pub found_step : (v w : View) (calls : Calls) (l : ℕ) (t : TableId) → IsPossible v → AddsCalls v w calls → w.used.ids ≡ v.used.ids → w.used.words ≡ v.used.words → StoreStep (state_by v l t) (state_by w l t) None 0 0
 found_step v w calls l t p g e d = record { grows = grows_goes v w calls l t p g; honest = tt; within_ids = omega arith; within_words = omega arith }

@@ -19,7 +19,7 @@ use Rattle.heap_intern.specs.Counting.{count_below, different}
 use Rattle.heap_intern.proofs.SlotLoads.{possible_counted}
 use Rattle.heap_intern.proofs.Distinct.{used_below}
 use Rattle.heap_intern.specs.Sessions.{state_by}
-use Rattle.heap_intern.specs.Whole.{HasAll}
+use Rattle.heap_intern.specs.Whole.{HasWholeCounts}
 
 counts_in : (v : View) → StandsIn v → v.share ≡ v.agents → (v.low.ids ≤ v.used.ids) × (v.low.words ≤ v.used.words) × (v.used.ids ≤ v.sizes.ids) × (v.used.words ≤ v.sizes.words)
 counts_in v (z, agents, W, vs, j, s, at, live) whole =
@@ -63,7 +63,7 @@ count_all : (f : ℕ → Bool) (n : ℕ) → ((k : ℕ) → k < n → f k ≡ tr
 count_all f zero h = refl
 count_all f (suc n) h = one_for (f n) (count_below f n) n (h n (omega arith)) (count_all f n (λ k l. h k (omega arith)))
 
-pub whole_all : (v : View) (l : ℕ) (t : TableId) → IsPossible v → v.share ≡ v.agents → HasAll (state_by v l t)
+pub whole_all : (v : View) (l : ℕ) (t : TableId) → IsPossible v → v.share ≡ v.agents → HasWholeCounts (state_by v l t)
 whole_all v l t p whole = let c = counts v p whole in let e = counted v p whole in record {
   low_ids = c.0;
   low_words = c.1;

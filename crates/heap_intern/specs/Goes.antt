@@ -6,7 +6,7 @@ use Rattle.heap_rule.specs.Maps.{Has}
 use Rattle.heap_rule.specs.Paths.{Calls}
 use Rattle.heap_table.specs.Known.{KeepsKnown}
 
-pub record Goes (v w : View) (calls : Calls) : Type 0 where
+pub record AddsCalls (v w : View) (calls : Calls) : Type 0 where
   pub known : KeepsKnown v w
   pub own_ids : (i n : ℕ) → Has v.own_ids i n → Has w.own_ids i n
   pub own_words : (c x : ℕ) → Has v.own_words c x → Has w.own_words c x
@@ -23,6 +23,6 @@ pub record Goes (v w : View) (calls : Calls) : Type 0 where
 
 -- loads alone: nothing is used, and no call is entered
 pub record Looks (v w : View) : Type 0 where
-  pub goes : Goes v w []
+  pub goes : AddsCalls v w []
   pub used : w.used.ids ≡ v.used.ids
   pub words : w.used.words ≡ v.used.words

@@ -6,5 +6,6 @@ use Rattle.heap_read.specs.Written.{Holds}
 use Rattle.heap_intern.specs.declared.kept.KeptWord.{KeptWord}
 
 -- where the word has any unit, the string is known, and these are units of it
-abbrev pub IsKept : View → KeptWord → Type 0
-IsKept v l = 0 < l.held.count → HasKey v.units l.id × ((us : List ℕ) → Has v.units l.id us → Holds us l.held)
+abbrev pub IsWordKept : View → KeptWord → Type 0
+IsWordKept v l = 0 < l.held.count → HasKey v.units l.id
+    × ((us : List ℕ) → Has v.units l.id us → Holds us l.held)

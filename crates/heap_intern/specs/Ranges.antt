@@ -18,8 +18,8 @@ use Rattle.heap_rule.specs.Sound.{IsPossible, StandsIn}
 abbrev AreUnits : List ℕ → Type 0
 AreUnits us = All (λ x. x < 65536) us
 
-none : AreUnits []
-none = All-nil (λ (x : ℕ). x < 65536)
+empty_units : AreUnits []
+empty_units = All-nil (λ (x : ℕ). x < 65536)
 
 lane_small : (f : ℕ → ℕ) (wide : Bool) (start o : ℕ) → lane_in f wide start o < 65536
 unfolding lane_in lane_of
@@ -27,38 +27,38 @@ lane_small f true start o = let x : ℕ = f (start + o / 4) / 65536 ^ (o % 4) in
 lane_small f false start o = let x : ℕ = f (start + o / 8) / 256 ^ (o % 8) in let goal : x % 256 < 65536 = omega arith in goal
 
 span_small : (f : ℕ → ℕ) (wide : Bool) (start o n : ℕ) → AreUnits (span f wide start o n)
-span_small f wide start o zero = none
+span_small f wide start o zero = empty_units
 span_small f wide start o (suc n) = All-cons (λ (x : ℕ). x < 65536) (lane_in f wide start o) (span f wide start (suc o) n) (lane_small f wide start o) (span_small f wide start (suc o) n)
 
 -- a shape whose own units are small
-abbrev IsSmall : Shape → Type 0
-IsSmall blank = Unit {0}
-IsSmall (whole us) = AreUnits us
-IsSmall (joins left right) = Unit {0}
+abbrev HasSmallUnits : Shape → Type 0
+HasSmallUnits blank = Unit {0}
+HasSmallUnits (whole us) = AreUnits us
+HasSmallUnits (joins left right) = Unit {0}
 
 module _ (z : HeapSize) (W : List ℕ) where
   flat_small : (i : ℕ) (o : Option Form) → AreUnits (flat_by z W i o)
-  flat_small i None = none
-  flat_small i (Some Unborn) = none
+  flat_small i None = empty_units
+  flat_small i (Some Unborn) = empty_units
   flat_small i (Some (Flat wide start true)) = span_small (content z W) wide start 0 (length_word z W i)
-  flat_small i (Some (Flat wide start false)) = none
-  flat_small i (Some (Cons wide left right)) = none
-  flat_small i (Some (Sliced wide parent offset)) = none
-  flat_small i (Some (Thin target)) = none
+  flat_small i (Some (Flat wide start false)) = empty_units
+  flat_small i (Some (Cons wide left right)) = empty_units
+  flat_small i (Some (Sliced wide parent offset)) = empty_units
+  flat_small i (Some (Thin target)) = empty_units
 
   solid_small : (i : ℕ) (o : Option Form) → AreUnits (solid_by z W i o)
-  solid_small i None = none
-  solid_small i (Some Unborn) = none
+  solid_small i None = empty_units
+  solid_small i (Some Unborn) = empty_units
   solid_small i (Some (Flat wide start fixed)) = span_small (content z W) wide start 0 (length_word z W i)
-  solid_small i (Some (Cons wide left right)) = none
-  solid_small i (Some (Sliced wide parent offset)) = none
+  solid_small i (Some (Cons wide left right)) = empty_units
+  solid_small i (Some (Sliced wide parent offset)) = empty_units
   solid_small i (Some (Thin target)) = flat_small target (form_of (form z W target))
 
-  joined_small : (b : Bool) (left right : ℕ) → IsSmall (if b then joins left right else blank)
+  joined_small : (b : Bool) (left right : ℕ) → HasSmallUnits (if b then joins left right else blank)
   joined_small true left right = tt
   joined_small false left right = tt
 
-  by_small : (i : ℕ) (o : Option Form) → IsSmall (shape_by z W i o)
+  by_small : (i : ℕ) (o : Option Form) → HasSmallUnits (shape_by z W i o)
   by_small i None = tt
   by_small i (Some Unborn) = tt
   by_small i (Some (Flat wide start fixed)) = span_small (content z W) wide start 0 (length_word z W i)
@@ -67,18 +67,20 @@ module _ (z : HeapSize) (W : List ℕ) where
       (All-drop (λ (x : ℕ). x < 65536) offset (solid z W parent) (solid_small parent (form_of (form z W parent))))
   by_small i (Some (Cons wide left right)) = joined_small (nat_lt left i && nat_lt right i) left right
 
-  shape_small : (i : ℕ) → IsSmall (shape z W i)
+  shape_small : (i : ℕ) → HasSmallUnits (shape z W i)
   unfolding shape
   shape_small i = by_small i (form_of (form z W i))
 
-units_small : (below : ℕ → List ℕ) → ((j : ℕ) → AreUnits (below j)) → (s : Shape) → IsSmall s → AreUnits (units_by below s)
-units_small below h blank k = none
+units_small : (below : ℕ → List ℕ) → ((j : ℕ) → AreUnits (below j)) → (s : Shape) → HasSmallUnits s
+    → AreUnits (units_by below s)
+units_small below h blank k = empty_units
 units_small below h (whole us) k = k
 units_small below h (joins left right) k = All-append (λ (x : ℕ). x < 65536) (below left) (below right) (h left) (h right)
 
-within_small : (shapes : ℕ → Shape) → ((i : ℕ) → IsSmall (shapes i)) → (n i : ℕ) → AreUnits (units_within shapes n i)
+within_small : (shapes : ℕ → Shape) → ((i : ℕ) → HasSmallUnits (shapes i)) → (n i : ℕ)
+    → AreUnits (units_within shapes n i)
 unfolding units_within
-within_small shapes h zero i = none
+within_small shapes h zero i = empty_units
 within_small shapes h (suc n) i = units_small (λ j. units_within shapes n j) (λ j. within_small shapes h n j) (shapes i) (h i)
 
 of_small : (z : HeapSize) (W : List ℕ) (i : ℕ) → AreUnits (units_of z W i)

@@ -41,8 +41,8 @@ state_by v limit table = record {
 abbrev pub table_of : Heap → TableId
 table_of h = h.table.shared.table_id
 
-abbrev pub view_in : Session → View
-view_in s = view_of s.text.reader.agent
+abbrev pub session_view : Session → View
+session_view s = view_of s.text.reader.agent
 
 abbrev pub state_in : Session → State SessionFrame
-state_in s = state_by (view_in s) (limit_units s.limit) (table_of s.text.reader.heap.now)
+state_in s = state_by (session_view s) (limit_units s.limit) (table_of s.text.reader.heap.now)

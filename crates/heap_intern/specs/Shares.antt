@@ -4,11 +4,11 @@ use Rattle.heap_rule.specs.Paths.{Calls, StartsWith}
 use Rattle.heap_table.specs.Agents.{Belongs, size_of}
 use Rattle.heap_table.specs.declared.agent.Agent.{Agent}
 use Rattle.heap_table.specs.declared.heap.Heap.{Heap}
-use Rattle.js_store.specs.State.{Sizes, State}
+use Rattle.js_store.specs.State.{StoreSizes, State}
 use Rattle.heap_intern.specs.Sessions.{SessionFrame, table_of}
 
 -- the sizes of a heap, as a store reports them
-abbrev pub sizes_of : Heap → Sizes
+abbrev pub sizes_of : Heap → StoreSizes
 sizes_of h = record { ids = (size_of h).ids; words = (size_of h).words; slots = (size_of h).slots }
 
 -- the session is one of this heap
@@ -20,15 +20,15 @@ abbrev pub IsWhole : State SessionFrame → Type 0
 IsWhole s = s.frame.share ≡ s.frame.agents
 
 -- a split: the giver keeps the rest of its share; the new session knows the same, has used nothing, and its history is the giver's
-abbrev pub left_by : State SessionFrame → ℕ → State SessionFrame
-left_by s give = record s { frame = record s.frame { share = s.frame.share - give } }
+abbrev pub giver_after : State SessionFrame → ℕ → State SessionFrame
+giver_after s give = record s { frame = record s.frame { share = s.frame.share - give } }
 
 abbrev pub right_by : State SessionFrame → ℕ → State SessionFrame
 right_by s give = record s { used_ids = 0; used_words = 0; frame = record s.frame { share = give; seen = s.history } }
 
 -- joining b into a: two sessions of one heap with one limit; b was split off with calls that a knows by now, among which are those that a was
 -- split off with, so that no call is in the history twice
-pub record MayJoin (a b : State SessionFrame) : Type 0 where
+pub record MayJoinSession (a b : State SessionFrame) : Type 0 where
   pub table : b.frame.table ≡ a.frame.table
   pub sizes : b.sizes ≡ a.sizes
   pub limit : b.limit ≡ a.limit
@@ -37,7 +37,7 @@ pub record MayJoin (a b : State SessionFrame) : Type 0 where
 
 -- what both knew, read and used the joined session knows, has read and has used; its history is its own, followed by the calls of the other
 -- since its split
-pub record IsJoined (a b c : State SessionFrame) : Type 0 where
+pub record IsSessionJoined (a b c : State SessionFrame) : Type 0 where
   pub known : (n : ℕ) → IsSome (a.known n) → c.known n ≡ a.known n
   pub known_of_other : (n : ℕ) → IsSome (b.known n) → c.known n ≡ b.known n
   pub settled : (n : ℕ) → IsTrue (a.settled n) → IsTrue (c.settled n)

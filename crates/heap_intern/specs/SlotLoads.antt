@@ -4,7 +4,7 @@ use Rattle.std.specs.FinMap.{get}
 use Rattle.heap_rule.specs.declared.view.View.{View}
 use Rattle.heap_rule.specs.Loads.{added_loads}
 use Rattle.heap_rule.specs.Maps.{Has}
-use Rattle.heap_rule.specs.Paths.{place}
+use Rattle.heap_rule.specs.Paths.{path_slot}
 use Rattle.heap_intern.specs.declared.table.faults.TableFull.{TableFull}
 
 -- how often the view has loaded slot k
@@ -36,5 +36,5 @@ pub record LoadsSlots (v w : View) (answer : Option ℕ) (before after : ℕ) : 
   pub sum : after ≡ before + sum_below times v.sizes.slots
 
 -- the view has seen a string with these units in the first slot of their path
-abbrev pub IsFirst : View → List ℕ → Type 0
-IsFirst v us = (i : ℕ) × Has v.slots (place us v.sizes.slots 0) i × Has v.units i us
+abbrev pub IsInFirstSlot : View → List ℕ → Type 0
+IsInFirstSlot v us = (i : ℕ) × Has v.slots (path_slot us v.sizes.slots 0) i × Has v.units i us

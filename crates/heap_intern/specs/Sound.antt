@@ -42,8 +42,8 @@ pub limit_high : (l : Limit) → limit_units l ≤ 536870888
 limit_high Bits32 = omega arith
 limit_high Bits64 = omega arith
 
-pub sound_of : (v : View) (l : Limit) (t : TableId) → IsPossible v → Sound (state_by v (limit_units l) t)
-sound_of v l t p = record {
+pub session_sound : (v : View) (l : Limit) (t : TableId) → IsPossible v → Sound (state_by v (limit_units l) t)
+session_sound v l t p = record {
   one_number = λ u m n a b. (possible_legal v p u u m n a b).0 (λ i. u);
   one_list = λ u w n a b. (possible_legal v p u w n n a b).1 (λ i. n);
   agrees = λ u w n a h. possible_agrees v p u w n a h;

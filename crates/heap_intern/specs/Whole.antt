@@ -7,7 +7,7 @@ use Rattle.heap_intern.specs.Shares.{IsWhole}
 
 -- No counter was ever read past what the session used, which is no more than the heap has. The history has as many different lists as
 -- slots are used: at most as many as there are, each with an id of its own, and all of them where a list is shut.
-pub record HasAll (s : State SessionFrame) : Type 0 where
+pub record HasWholeCounts (s : State SessionFrame) : Type 0 where
   pub low_ids : s.low_ids ≤ s.used_ids
   pub low_words : s.low_words ≤ s.used_words
   pub ids : s.used_ids ≤ s.sizes.ids
@@ -17,4 +17,4 @@ pub record HasAll (s : State SessionFrame) : Type 0 where
   pub shut : (u : List ℕ) → IsTrue (s.shut u) → different s.history ≡ s.sizes.slots
 
 abbrev pub WholeHasAll : State SessionFrame → Type 0
-WholeHasAll s = IsWhole s → HasAll s
+WholeHasAll s = IsWhole s → HasWholeCounts s

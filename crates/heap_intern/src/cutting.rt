@@ -2,10 +2,10 @@
 ghost use Rattle.std.specs.Prelude.{◌≡◌, ◌+◌, ◌≤◌, length, slice_range, IfOk, OnErr};
 ghost use Rattle.js_store.specs.Faults.{fault_of, Uses};
 ghost use Rattle.js_store.specs.Rows.{cut_ids, cut_words, flat_words};
-ghost use Rattle.js_store.specs.State.{Has, IsKnown, IsSettled, text};
+ghost use Rattle.js_store.specs.State.{NamesUnits, IsKnown, IsSettled, text};
 ghost use Rattle.heap_text.specs.Texts.{KeepsOwn};
 ghost use Rattle.heap_intern.specs.Owning.{Spares};
-ghost use Rattle.heap_intern.specs.Sessions.{state_in, view_in};
+ghost use Rattle.heap_intern.specs.Sessions.{state_in, session_view};
 
 use crate::faults::text_fault;
 use crate::session::Session;
@@ -17,11 +17,11 @@ impl<'h> Session<'h> {
     pub(crate) fn flat_of(&mut self, units: &[u16]) -> Result<JsStr, StoreFault>
         requires { length units.now ≤ (state_in self.old).limit }
         ensures ok { IfOk result
-            (λ r. Has (state_in self.new) r.id units.now × IsSettled (state_in self.new) r.id) }
+            (λ r. NamesUnits (state_in self.new) r.id units.now × IsSettled (state_in self.new) r.id) }
         ensures uses { Uses (state_in self.old) (state_in self.new) (fault_of result)
             1 (flat_words units.now) }
-        ensures own { KeepsOwn (view_in self.old) (view_in self.new) }
-        ensures spared { OnErr result (Spares (view_in self.old) (view_in self.new)) }
+        ensures own { KeepsOwn (session_view self.old) (session_view self.new) }
+        ensures spared { OnErr result (Spares (session_view self.old) (session_view self.new)) }
     {
         match self.text.make_flat(units) {
             Ok(s) => Ok(s),
@@ -34,11 +34,11 @@ impl<'h> Session<'h> {
         requires limit { length units.now ≤ (state_in self.old).limit }
         requires one { length units.now ≡ 1 }
         ensures ok { IfOk result
-            (λ r. Has (state_in self.new) r.id units.now × IsSettled (state_in self.new) r.id) }
+            (λ r. NamesUnits (state_in self.new) r.id units.now × IsSettled (state_in self.new) r.id) }
         ensures uses { Uses (state_in self.old) (state_in self.new) (fault_of result)
             1 (flat_words units.now) }
-        ensures own { KeepsOwn (view_in self.old) (view_in self.new) }
-        ensures spared { OnErr result (Spares (view_in self.old) (view_in self.new)) }
+        ensures own { KeepsOwn (session_view self.old) (session_view self.new) }
+        ensures spared { OnErr result (Spares (session_view self.old) (session_view self.new)) }
     {
         let unit = units[0];
         if let Some(kept) = self.singles.get(unit) {
@@ -60,13 +60,13 @@ impl<'h> Session<'h> {
         requires order { from ≤ to }
         requires within { to ≤ length (text (state_in self.old) s.id) }
         ensures ok { IfOk result
-            (λ r. Has (state_in self.new) r.id (slice_range (text (state_in self.old) s.id) from to)
+            (λ r. NamesUnits (state_in self.new) r.id (slice_range (text (state_in self.old) s.id) from to)
             × IsSettled (state_in self.new) r.id) }
         ensures uses { Uses (state_in self.old) (state_in self.new) (fault_of result)
             (cut_ids from to (length (text (state_in self.old) s.id)))
             (cut_words from to (length (text (state_in self.old) s.id))) }
-        ensures own { KeepsOwn (view_in self.old) (view_in self.new) }
-        ensures spared { OnErr result (Spares (view_in self.old) (view_in self.new)) }
+        ensures own { KeepsOwn (session_view self.old) (session_view self.new) }
+        ensures spared { OnErr result (Spares (session_view self.old) (session_view self.new)) }
     {
         match self.text.slice(s, from, to) {
             Ok(part) => Ok(part),
@@ -81,13 +81,13 @@ impl<'h> Session<'h> {
         requires one { to ≡ from + 1 }
         requires within { to ≤ length (text (state_in self.old) s.id) }
         ensures ok { IfOk result
-            (λ r. Has (state_in self.new) r.id (slice_range (text (state_in self.old) s.id) from to)
+            (λ r. NamesUnits (state_in self.new) r.id (slice_range (text (state_in self.old) s.id) from to)
             × IsSettled (state_in self.new) r.id) }
         ensures uses { Uses (state_in self.old) (state_in self.new) (fault_of result)
             (cut_ids from to (length (text (state_in self.old) s.id)))
             (cut_words from to (length (text (state_in self.old) s.id))) }
-        ensures own { KeepsOwn (view_in self.old) (view_in self.new) }
-        ensures spared { OnErr result (Spares (view_in self.old) (view_in self.new)) }
+        ensures own { KeepsOwn (session_view self.old) (session_view self.new) }
+        ensures spared { OnErr result (Spares (session_view self.old) (session_view self.new)) }
     {
         let unit = self.unit_at(s, from);
         if let Some(kept) = self.singles.get(unit) {

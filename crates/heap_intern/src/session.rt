@@ -2,7 +2,7 @@
 ghost use Rattle.std.specs.Prelude.{◌≡◌};
 ghost use Rattle.js_store.specs.Limits.{limit_units};
 ghost use Rattle.heap_table.specs.Agents.{view_of};
-ghost use Rattle.heap_intern.specs.Lately.{IsKept};
+ghost use Rattle.heap_intern.specs.Lately.{IsWordKept};
 ghost use Rattle.heap_intern.specs.Recent.{AreRecent};
 ghost use Rattle.heap_intern.specs.Singles.{AreSingles};
 
@@ -28,8 +28,8 @@ pub struct Session<'h> {
     pub(crate) singles: Singles,
     pub(crate) recent: Recent,
     ghost one_limit: { text.limit ≡ limit_units limit },
-    ghost last_kept: { IsKept (view_of text.reader.agent) last },
-    ghost older_kept: { IsKept (view_of text.reader.agent) older },
+    ghost last_kept: { IsWordKept (view_of text.reader.agent) last },
+    ghost older_kept: { IsWordKept (view_of text.reader.agent) older },
     ghost singles_kept: { AreSingles (view_of text.reader.agent) singles.ids },
     ghost recent_kept: { AreRecent (view_of text.reader.agent) recent.ids },
 }

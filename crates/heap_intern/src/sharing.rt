@@ -3,12 +3,12 @@ ghost use Rattle.std.specs.Prelude.{◌≡◌, ◌≤◌, ◌<◌, None};
 ghost use Rattle.std.specs.FinMap.{contains_key};
 ghost use Rattle.js_store.specs.Faults.{Uses};
 ghost use Rattle.js_store.specs.Limits.{limit_units};
-ghost use Rattle.heap_rule.specs.Agents.{joined, left_after_split, right_after_split};
+ghost use Rattle.heap_rule.specs.Agents.{joined_view, left_after_split, right_after_split};
 ghost use Rattle.heap_table.specs.Agents.{Belongs, view_of};
 ghost use Rattle.heap_text.specs.Texts.{KeepsOwn};
 ghost use Rattle.heap_intern.specs.Counting.{count_below, different};
-ghost use Rattle.heap_intern.specs.Sessions.{state_by, state_in, table_of, view_in};
-ghost use Rattle.heap_intern.specs.Shares.{BelongsAs, IsJoined, IsWhole, MayJoin, left_by, right_by, total_by};
+ghost use Rattle.heap_intern.specs.Sessions.{state_by, state_in, table_of, session_view};
+ghost use Rattle.heap_intern.specs.Shares.{BelongsAs, IsSessionJoined, IsWhole, MayJoinSession, giver_after, right_by, total_by};
 
 use crate::kept::KeptWord;
 use crate::recent::Recent;
@@ -24,7 +24,7 @@ impl<'h> Session<'h> {
     /// A session of an agent of this heap. The limit is that of the strings that it makes.
     pub fn new(heap: &'h Heap, agent: Agent, limit: Limit) -> Session<'h>
         requires belongs { Belongs agent heap.now }
-        ensures view { view_in result ≡ view_of agent }
+        ensures view { session_view result ≡ view_of agent }
         ensures state { state_in result ≡ state_by (view_of agent) (limit_units limit) (table_of heap.now) }
     {
         Session {
@@ -42,9 +42,9 @@ impl<'h> Session<'h> {
     pub fn split(&mut self, give: u32) -> Session<'h>
         requires some { 1 ≤ give }
         requires less { give < (state_in self.old).frame.share }
-        ensures left_view { view_in self.new ≡ left_after_split (view_in self.old) give }
-        ensures right_view { view_in result ≡ right_after_split (view_in self.old) give }
-        ensures left { state_in self.new ≡ left_by (state_in self.old) give }
+        ensures left_view { session_view self.new ≡ left_after_split (session_view self.old) give }
+        ensures right_view { session_view result ≡ right_after_split (session_view self.old) give }
+        ensures left { state_in self.new ≡ giver_after (state_in self.old) give }
         ensures right { state_in result ≡ right_by (state_in self.old) give }
     {
         Session {
@@ -60,9 +60,10 @@ impl<'h> Session<'h> {
     /// Takes over all that another session of this heap knows, has and used, and its calls since
     /// its split. That was a split off calls that this session knows by now.
     pub fn join(&mut self, other: Session<'h>)
-        requires may { MayJoin (state_in self.old) (state_in other) }
-        ensures view { view_in self.new ≡ joined (view_in self.old) (view_in other.entry) }
-        ensures joined { IsJoined (state_in self.old) (state_in other.entry) (state_in self.new) }
+        requires may { MayJoinSession (state_in self.old) (state_in other) }
+        ensures view { session_view self.new
+            ≡ joined_view (session_view self.old) (session_view other.entry) }
+        ensures joined { IsSessionJoined (state_in self.old) (state_in other.entry) (state_in self.new) }
     {
         let Session { text, .. } = other;
         self.text.join(text);
@@ -73,10 +74,10 @@ impl<'h> Session<'h> {
     pub fn count_interned(&mut self) -> u32
         requires whole { IsWhole (state_in self.old) }
         ensures count { result ≡ different (state_in self.old).history }
-        ensures used { result ≡ count_below (λ k. contains_key (view_in self.new).slots k)
-            (view_in self.new).sizes.slots }
+        ensures used { result ≡ count_below (λ k. contains_key (session_view self.new).slots k)
+            (session_view self.new).sizes.slots }
         ensures uses { Uses (state_in self.old) (state_in self.new) None 0 0 }
-        ensures own { KeepsOwn (view_in self.old) (view_in self.new) }
+        ensures own { KeepsOwn (session_view self.old) (session_view self.new) }
     {
         let text = &mut self.text;
         count_interned(&mut text.reader)
@@ -89,14 +90,14 @@ impl<'h> Session<'h> {
         ensures ids { result.0 ≡ (state_in self.old).used_ids }
         ensures words { result.1 ≡ (state_in self.old).used_words }
         ensures state { state_in self.new ≡ total_by (state_in self.old) }
-        ensures own { KeepsOwn (view_in self.old) (view_in self.new) }
+        ensures own { KeepsOwn (session_view self.old) (session_view self.new) }
     {
         self.text.totals()
     }
 
     /// Its agent.
     pub fn into_agent(self) -> Agent
-        ensures view { view_of result ≡ view_in self.entry }
+        ensures view { view_of result ≡ session_view self.entry }
         ensures belongs { BelongsAs (state_in self.entry) result }
     {
         let Session { text, .. } = self;

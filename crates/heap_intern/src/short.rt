@@ -2,15 +2,15 @@
 ghost use Rattle.std.specs.Prelude.{◌≡◌, ◌≤◌, ◌↔◌, ℕ, List, length, IsTrue, None, IfOk, IfSome, OnErr};
 ghost use Rattle.js_store.specs.Faults.{fault_of, Uses};
 ghost use Rattle.js_store.specs.Rows.{flat_words};
-ghost use Rattle.js_store.specs.State.{Has, IsSettled};
+ghost use Rattle.js_store.specs.State.{NamesUnits, IsSettled};
 ghost use Rattle.heap_rule.specs.Maps as maps;
 ghost use Rattle.heap_rule.specs.Views as views;
 ghost use Rattle.heap_table.specs.Agents.{view_of};
-ghost use Rattle.heap_read.specs.Reads.{Reads};
+ghost use Rattle.heap_read.specs.Reads.{OnlyLoads};
 ghost use Rattle.heap_read.specs.Windows.{IsWindow};
 ghost use Rattle.heap_text.specs.Texts.{KeepsOwn};
 ghost use Rattle.heap_intern.specs.Owning.{Spares};
-ghost use Rattle.heap_intern.specs.Sessions.{state_in, view_in};
+ghost use Rattle.heap_intern.specs.Sessions.{state_in, session_view};
 
 use crate::recent::Mark;
 use crate::session::Session;
@@ -27,11 +27,11 @@ impl<'h> Session<'h> {
         requires limit { length units.now ≤ (state_in self.old).limit }
         requires few { length units.now ≤ 32 }
         ensures ok { IfOk result
-            (λ r. Has (state_in self.new) r.id units.now × IsSettled (state_in self.new) r.id) }
+            (λ r. NamesUnits (state_in self.new) r.id units.now × IsSettled (state_in self.new) r.id) }
         ensures uses { Uses (state_in self.old) (state_in self.new) (fault_of result)
             1 (flat_words units.now) }
-        ensures own { KeepsOwn (view_in self.old) (view_in self.new) }
-        ensures spared { OnErr result (Spares (view_in self.old) (view_in self.new)) }
+        ensures own { KeepsOwn (session_view self.old) (session_view self.new) }
+        ensures spared { OnErr result (Spares (session_view self.old) (session_view self.new)) }
     {
         let mark = Mark::new(units);
         if let Some(kept) = self.recent_of(mark, units) {
@@ -50,9 +50,9 @@ impl<'h> Session<'h> {
     fn recent_of(&mut self, mark: Mark, units: &[u16]) -> Option<JsStr>
         requires { length units.now ≤ 32 }
         ensures has { IfSome result
-            (λ r. Has (state_in self.new) r.id units.now × IsSettled (state_in self.new) r.id) }
+            (λ r. NamesUnits (state_in self.new) r.id units.now × IsSettled (state_in self.new) r.id) }
         ensures uses { Uses (state_in self.old) (state_in self.new) None 0 0 }
-        ensures reads { Reads (view_in self.old) (view_in self.new) }
+        ensures reads { OnlyLoads (session_view self.old) (session_view self.new) }
     {
         let kept = match self.recent.get(mark) {
             Some(kept) => kept,
@@ -69,11 +69,11 @@ impl<'h> Session<'h> {
 #[inline(never)]
 fn has_units(text: &mut Text, s: JsStr, units: &[u16]) -> bool
     requires known { maps.HasKey (view_of text.old.reader.agent).units s.id }
-    requires settled { views.IsSettled (view_of text.old.reader.agent) s.id }
+    requires settled { views.IsSeenSettled (view_of text.old.reader.agent) s.id }
     requires few { length units.now ≤ 32 }
     ensures heap { text.new.reader.heap ≡ text.old.reader.heap }
     ensures limit { text.new.limit ≡ text.old.limit }
-    ensures reads { Reads (view_of text.old.reader.agent) (view_of text.new.reader.agent) }
+    ensures reads { OnlyLoads (view_of text.old.reader.agent) (view_of text.new.reader.agent) }
     ensures has { (us : List ℕ) → maps.Has (view_of text.old.reader.agent).units s.id us
         → IsTrue result ↔ (us ≡ units.now) }
 {
@@ -93,7 +93,7 @@ fn shows(text: &mut Text, window: Window, units: &[u16], read: &mut [u16]) -> bo
     requires room { length read.old ≡ length units.now }
     ensures heap { text.new.reader.heap ≡ text.old.reader.heap }
     ensures limit { text.new.limit ≡ text.old.limit }
-    ensures reads { Reads (view_of text.old.reader.agent) (view_of text.new.reader.agent) }
+    ensures reads { OnlyLoads (view_of text.old.reader.agent) (view_of text.new.reader.agent) }
     ensures shows { (us : List ℕ) → IsWindow (view_of text.old.reader.agent) window us
         → window.len ≡ length us → IsTrue result ↔ (us ≡ units.now) }
 {

@@ -1,11 +1,11 @@
 // Reading a word of a string, and the units in it.
 ghost use Rattle.std.specs.Prelude.{◌≡◌, ℕ, List, ◌<◌, length, slice_index};
 ghost use Rattle.heap_rule.specs.Maps.{Has};
-ghost use Rattle.heap_rule.specs.Views.{IsSettled};
+ghost use Rattle.heap_rule.specs.Views.{IsSeenSettled};
 ghost use Rattle.heap_table.specs.Agents.{view_of};
-ghost use Rattle.heap_read.specs.Reads.{Reads};
-ghost use Rattle.heap_intern.specs.Lately.{IsKept};
-ghost use Rattle.heap_intern.specs.Sessions.{view_in};
+ghost use Rattle.heap_read.specs.Reads.{OnlyLoads};
+ghost use Rattle.heap_intern.specs.Lately.{IsWordKept};
+ghost use Rattle.heap_intern.specs.Sessions.{session_view};
 
 use crate::kept::KeptWord;
 use crate::session::Session;
@@ -16,12 +16,12 @@ impl<'h> Session<'h> {
     // kept of this string, else of the older one.
     #[inline(never)]
     pub(crate) fn unit_by_loads(&mut self, s: JsStr, i: u32) -> u16
-        requires settled { IsSettled (view_in self.old) s.id }
-        requires within { (us : List ℕ) × Has (view_in self.old).units s.id us × (i < length us) }
+        requires settled { IsSeenSettled (session_view self.old) s.id }
+        requires within { (us : List ℕ) × Has (session_view self.old).units s.id us × (i < length us) }
         ensures limit { self.new.limit ≡ self.old.limit }
         ensures heap { self.new.text.reader.heap ≡ self.old.text.reader.heap }
-        ensures reads { Reads (view_in self.old) (view_in self.new) }
-        ensures unit { (us : List ℕ) → Has (view_in self.old).units s.id us → result ≡ slice_index us i }
+        ensures reads { OnlyLoads (session_view self.old) (session_view self.new) }
+        ensures unit { (us : List ℕ) → Has (session_view self.old).units s.id us → result ≡ slice_index us i }
     {
         let (next, unit) = word_with(&mut self.text, s, i);
         if self.last.id == s.id {
@@ -36,12 +36,12 @@ impl<'h> Session<'h> {
 
 // Unit `i` of a settled string, and the word that has it.
 fn word_with(text: &mut Text, s: JsStr, i: u32) -> (KeptWord, u16)
-    requires settled { IsSettled (view_of text.old.reader.agent) s.id }
+    requires settled { IsSeenSettled (view_of text.old.reader.agent) s.id }
     requires within { (us : List ℕ) × Has (view_of text.old.reader.agent).units s.id us × (i < length us) }
     ensures heap { text.new.reader.heap ≡ text.old.reader.heap }
     ensures limit { text.new.limit ≡ text.old.limit }
-    ensures reads { Reads (view_of text.old.reader.agent) (view_of text.new.reader.agent) }
-    ensures kept { IsKept (view_of text.new.reader.agent) result.0 }
+    ensures reads { OnlyLoads (view_of text.old.reader.agent) (view_of text.new.reader.agent) }
+    ensures kept { IsWordKept (view_of text.new.reader.agent) result.0 }
     ensures unit { (us : List ℕ) → Has (view_of text.old.reader.agent).units s.id us
         → result.1 ≡ slice_index us i }
 {

@@ -9,7 +9,7 @@ use Rattle.heap_rule.specs.Views.{IsFrozen}
 use Rattle.heap_table.specs.Known.{KeepsKnown}
 use Rattle.heap_read.specs.declared.source.HeldWord.{HeldWord}
 use Rattle.heap_read.specs.declared.string.Window.{Window}
-use Rattle.heap_read.specs.Frozen.{HasLane, HasOther, IsHeld}
+use Rattle.heap_read.specs.Frozen.{HasLane, HasOther, IsWordHeld}
 use Rattle.heap_read.specs.Reads.{HoldsForms}
 use Rattle.heap_read.specs.Windows.{IsFrozenWindow}
 use Rattle.heap_read.specs.Written.{HasAt, Holds, held_unit}
@@ -29,7 +29,7 @@ frozen_window_stays v u w holds k f c lo hi = frozen_stays v u holds k c (f c lo
 pub unit_held_is : (us : List ℕ) (h : HeldWord) (k : ℕ) → Holds us h → h.from ≤ k → k < h.from + h.count → held_unit h k ≡ get_or us k 0
 unit_held_is us h k r l m = let e : h.from + (k - h.from) ≡ k = omega arith in r.each (k - h.from) (omega arith) ∙ ap (λ (j : ℕ). get_or us j 0) e
 
-pub lane_held : (v : View) (w : Window) (h : HeldWord) (k : ℕ) → IsHeld v w h → h.from ≤ k → k < h.from + h.count → HasLane v w.wide w.start (w.offset + k) (held_unit h k)
+pub lane_held : (v : View) (w : Window) (h : HeldWord) (k : ℕ) → IsWordHeld v w h → h.from ≤ k → k < h.from + h.count → HasLane v w.wide w.start (w.offset + k) (held_unit h k)
 lane_held v w h k r l m = let e : h.from + (k - h.from) ≡ k = omega arith in
     subst (λ (j : ℕ). HasLane v w.wide w.start (w.offset + j) (held_unit h k)) e (r.each (k - h.from) (omega arith))
 
@@ -38,7 +38,7 @@ pub alike : (g h : HeldWord) (i k : ℕ) → g.from ≤ i → h.from ≤ i → g
 alike g h i k l m a b e = let f : g.lane + (i + k - g.from) ≡ h.lane + (i + k - h.from) = omega arith in
     λ n. lane_of (b n) (a n) (f n)
 
-module _ (u y : View) (b : Window) (us : List ℕ) (left right : HeldWord) (i count : ℕ) (kept : KeepsKnown u y) (hl : Holds us left) (hr : IsHeld y b right) (al : HasAt left i count) (ar : HasAt right i count) where
+module _ (u y : View) (b : Window) (us : List ℕ) (left right : HeldWord) (i count : ℕ) (kept : KeepsKnown u y) (hl : Holds us left) (hr : IsWordHeld y b right) (al : HasAt left i count) (ar : HasAt right i count) where
   -- what was compared before, and the words
   pub compared_on : ((k : ℕ) → k < i → HasLane u b.wide b.start (b.offset + k) (get_or us k 0)) → ((k : ℕ) → k < count → held_unit left (i + k) ≡ held_unit right (i + k))
       → (k : ℕ) → k < i + count → HasLane y b.wide b.start (b.offset + k) (get_or us k 0)
@@ -61,7 +61,7 @@ module _ (u y : View) (b : Window) (us : List ℕ) (left right : HeldWord) (i co
   }
 
 -- all words up to those of the word that is held were loaded
-pub words_on : (u x : View) (w : Window) (h : HeldWord) (i : ℕ) → KeepsKnown u x → IsHeld x w h → h.from ≤ i → i < h.from + h.count
+pub words_on : (u x : View) (w : Window) (h : HeldWord) (i : ℕ) → KeepsKnown u x → IsWordHeld x w h → h.from ≤ i → i < h.from + h.count
     → ((k : ℕ) → k < i → HasKey u.frozen (w.start + (w.offset + k) / lane_count w.wide)) → (k : ℕ) → k < i + (h.count - (i - h.from)) → HasKey x.frozen (w.start + (w.offset + k) / lane_count w.wide)
 words_on u x w h i kept r lo hi old k l = ⊎_elim
     (λ (m : k < i). word_kept u x kept (w.start + (w.offset + k) / lane_count w.wide) (old k m))

@@ -17,7 +17,7 @@ use Rattle.heap_rule.proofs.MapLemmas.{has_key, insert_same, key_of}
 use Rattle.heap_rule.proofs.Possible.{possible_slot}
 use Rattle.heap_table.specs.Known.{KeepsKnown}
 use Rattle.heap_read.specs.declared.string.Window.{Window}
-use Rattle.heap_read.specs.Frozen.{HasLane, IsFixedBy, IsFixedWindow, IsHeld}
+use Rattle.heap_read.specs.Frozen.{HasLane, IsFixedBy, IsFixedWindow, IsWordHeld}
 use Rattle.heap_read.specs.Windows.{IsFrozenWindow}
 use Rattle.heap_read.proofs.Holding.{lane_by, lane_small, same_word}
 use Rattle.heap_read.proofs.Leading.{possible_target}
@@ -46,7 +46,7 @@ possible_fixed v p i way f h = ⊎_elim
 -- the lanes of a word that was loaded
 pub held_lanes : (x : View) (w : Window) (i at k back count word : ℕ) → i < w.len → at ≡ (w.offset + i) / lane_count w.wide → k ≡ (w.offset + i) % lane_count w.wide
     → back ≤ k → back ≤ i → count ≤ lane_count w.wide - (k - back) → count ≤ w.len - (i - back) → Has x.frozen (w.start + at) word
-    → IsHeld x w (record { word = word; wide = w.wide; lane = k - back; from = i - back; count = count })
+    → IsWordHeld x w (record { word = word; wide = w.wide; lane = k - back; from = i - back; count = count })
 held_lanes x w i at k back count word l a b m n r s has = let small = lane_small w.wide (w.offset + i) in record {
   lanes = omega arith;
   within = omega arith;

@@ -13,7 +13,7 @@ use Rattle.heap_rule.specs.Claims.{loaded_counter, won_claim}
 use Rattle.heap_rule.specs.Births.{stored_word, stored_length}
 use Rattle.heap_rule.proofs.MapLemmas.{key_of, insert_same, insert_other}
 use Rattle.heap_table.specs.Known.{KeepsKnown}
-use Rattle.heap_read.specs.Reads.{Continues, Reads}
+use Rattle.heap_read.specs.Reads.{Continues, OnlyLoads}
 use Rattle.heap_read.specs.Written.{AreWords}
 use Rattle.heap_read.proofs.Loaded.{key_more, known_trans}
 
@@ -34,7 +34,7 @@ continues_trans u v w a b = let a0 = a.ids_used in let b0 = b.ids_used in let a1
   slot_loads = b.slot_loads ∙ a.slot_loads;
 }
 
-pub continues_reads : (v w : View) → Reads v w → Continues v w
+pub continues_reads : (v w : View) → OnlyLoads v w → Continues v w
 continues_reads v w r = record {
   known = r.known;
   sizes = r.sizes;

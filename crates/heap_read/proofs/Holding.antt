@@ -6,7 +6,7 @@ use Rattle.heap_rule.specs.declared.view.View.{View}
 use Rattle.heap_rule.specs.Contents.{lane_in}
 use Rattle.heap_rule.specs.Maps.{HasKey}
 use Rattle.heap_rule.specs.Sound.{IsPossible}
-use Rattle.heap_rule.specs.Views.{shown}
+use Rattle.heap_rule.specs.Views.{shown_word}
 use Rattle.heap_read.specs.declared.source.HeldWord.{HeldWord}
 use Rattle.heap_read.specs.declared.string.Window.{Window}
 use Rattle.heap_read.specs.Windows.{IsWindow}
@@ -29,7 +29,7 @@ lane_by f wide start o c k word e m h = λ i. lane_of wide ((h ∙ ap f (sym e))
 
 pub held_window : (x : View) (w : Window) (us : List ℕ) (i at k back count word : ℕ) → IsPossible x → IsWindow x w us → i < w.len
     → at ≡ (w.offset + i) / lane_count w.wide → k ≡ (w.offset + i) % lane_count w.wide → back ≤ k → back ≤ i → count ≤ lane_count w.wide - (k - back) → count ≤ w.len - (i - back)
-    → HasKey x.own_words (w.start + at) ⊎ HasKey x.frozen (w.start + at) → word ≡ shown x (w.start + at)
+    → HasKey x.own_words (w.start + at) ⊎ HasKey x.frozen (w.start + at) → word ≡ shown_word x (w.start + at)
     → Holds us (record { word = word; wide = w.wide; lane = k - back; from = i - back; count = count })
 held_window x w us i at k back count word p h l a b m n r s has is = let small = lane_small w.wide (w.offset + i) in let long = window_length x w us h in record {
   lanes = omega arith;
@@ -38,7 +38,7 @@ held_window x w us i at k back count word p h l a b m n r s has is = let small =
       let o' : w.offset + j ≡ o - back + q = omega arith in
       let word_is : w.start + (w.offset + j) / lane_count w.wide ≡ w.start + at = ap (λ (y : ℕ). w.start + y / lane_count w.wide) o' ∙ (ap (λ (y : ℕ). w.start + y) e.0 ∙ ap (λ (y : ℕ). w.start + y) (sym a)) in
       let lane_is : (w.offset + j) % lane_count w.wide ≡ k - back + q = ap (λ (y : ℕ). y % lane_count w.wide) o' ∙ (e.1 ∙ ap (λ (y : ℕ). y - back + q) (sym b)) in
-      lane_by (shown x) w.wide w.start (w.offset + j) (w.start + at) (k - back + q) word word_is lane_is is
+      lane_by (shown_word x) w.wide w.start (w.offset + j) (w.start + at) (k - back + q) word word_is lane_is is
       ∙ window_unit x w us j p h (omega arith) (subst (λ (c : ℕ). HasKey x.own_words c ⊎ HasKey x.frozen c) (sym word_is) has);
 }
 
@@ -70,7 +70,7 @@ holds_back xs ys n h e r = let m = length-append xs ys in let s = r.within in re
 
 -- the word of unit i shows the units from there on
 pub shows_on : (x : View) (w : Window) (us : List ℕ) (i at word : ℕ) → IsPossible x → IsWindow x w us → i < w.len → at ≡ (w.offset + i) / lane_count w.wide
-    → HasKey x.own_words (w.start + at) ⊎ HasKey x.frozen (w.start + at) → word ≡ shown x (w.start + at) → ShowsOn w us i word
+    → HasKey x.own_words (w.start + at) ⊎ HasKey x.frozen (w.start + at) → word ≡ shown_word x (w.start + at) → ShowsOn w us i word
 shows_on x w us i at word p h l a has is = record {
   each = λ k m n. let k0 : ℕ = (w.offset + i) % lane_count w.wide in
       let held = held_window x w us i at k0 0 (k + 1) word p h l a refl (omega arith) (omega arith) (omega arith) (omega arith) has is in

@@ -12,7 +12,7 @@ use Rattle.heap_rule.specs.Loads.{with_form, loaded_form, loaded_length, loaded_
 use Rattle.heap_rule.specs.Learning.{learned_all}
 use Rattle.heap_rule.proofs.MapLemmas.{has_key, insert_other, insert_same, key_of}
 use Rattle.heap_table.specs.Known.{KeepsKnown}
-use Rattle.heap_read.specs.Reads.{Reads}
+use Rattle.heap_read.specs.Reads.{OnlyLoads}
 
 pub known_trans : (u v w : View) → KeepsKnown u v → KeepsKnown v w → KeepsKnown u w
 known_trans u v w a b = record {
@@ -36,7 +36,7 @@ module _ {X : Type 0} where
       (λ e. key_of (insert m k x) q x (ap (get (insert m k x)) e ∙ insert_same m k x))
       (λ ne. let p = has_key m q h in key_of (insert m k x) q p.0 (insert_other m k q x ne ∙ p.1))
 
-pub reads_trans : (u v w : View) → Reads u v → Reads v w → Reads u w
+pub reads_trans : (u v w : View) → OnlyLoads u v → OnlyLoads v w → OnlyLoads u w
 reads_trans u v w a b = record {
   known = known_trans u v w a.known b.known;
   sizes = b.sizes ∙ a.sizes;
@@ -53,26 +53,26 @@ reads_trans u v w a b = record {
   slot_loads = b.slot_loads ∙ a.slot_loads;
 }
 
-pub reads_refl : (v : View) → Reads v v
+pub reads_refl : (v : View) → OnlyLoads v v
 reads_refl v = record { known = known_refl v; sizes = refl; agents = refl; live = refl; share = refl; used = refl; low = refl; own_ids = refl; own_words = refl; slots = refl; seen = refl; mine = refl; slot_loads = refl }
 
-pub reads_length : (v w : View) (i n : ℕ) → KeepsKnown v w → w ≡ learned_all (loaded_length v i n) → Reads v w
-reads_length v w i n k e = subst (Reads v) (sym e)
+pub reads_length : (v w : View) (i n : ℕ) → KeepsKnown v w → w ≡ learned_all (loaded_length v i n) → OnlyLoads v w
+reads_length v w i n k e = subst (OnlyLoads v) (sym e)
     record { known = subst (KeepsKnown v) e k; sizes = refl; agents = refl; live = refl; share = refl; used = refl; low = refl; own_ids = refl; own_words = refl; slots = refl; seen = refl; mine = refl; slot_loads = refl }
 
-form_by : (v : View) (i n : ℕ) (o : Option Form) → KeepsKnown v (learned_all (record (with_form v i o) { form_loads = n })) → Reads v (learned_all (record (with_form v i o) { form_loads = n }))
+form_by : (v : View) (i n : ℕ) (o : Option Form) → KeepsKnown v (learned_all (record (with_form v i o) { form_loads = n })) → OnlyLoads v (learned_all (record (with_form v i o) { form_loads = n }))
 form_by v i n None k = record { known = k; sizes = refl; agents = refl; live = refl; share = refl; used = refl; low = refl; own_ids = refl; own_words = refl; slots = refl; seen = refl; mine = refl; slot_loads = refl }
 form_by v i n (Some f) k = record { known = k; sizes = refl; agents = refl; live = refl; share = refl; used = refl; low = refl; own_ids = refl; own_words = refl; slots = refl; seen = refl; mine = refl; slot_loads = refl }
 
-pub reads_form : (v w : View) (i x : ℕ) → KeepsKnown v w → w ≡ learned_all (loaded_form v i x) → Reads v w
-reads_form v w i x k e = subst (Reads v) (sym e) (form_by v i _ (form_of x) (subst (KeepsKnown v) e k))
+pub reads_form : (v w : View) (i x : ℕ) → KeepsKnown v w → w ≡ learned_all (loaded_form v i x) → OnlyLoads v w
+reads_form v w i x k e = subst (OnlyLoads v) (sym e) (form_by v i _ (form_of x) (subst (KeepsKnown v) e k))
 
-word_by : (v : View) (c x : ℕ) (b : Bool) → KeepsKnown v (learned_all (cond b v (record v { frozen = insert v.frozen c x }))) → Reads v (learned_all (cond b v (record v { frozen = insert v.frozen c x })))
+word_by : (v : View) (c x : ℕ) (b : Bool) → KeepsKnown v (learned_all (cond b v (record v { frozen = insert v.frozen c x }))) → OnlyLoads v (learned_all (cond b v (record v { frozen = insert v.frozen c x })))
 word_by v c x true k = record { known = k; sizes = refl; agents = refl; live = refl; share = refl; used = refl; low = refl; own_ids = refl; own_words = refl; slots = refl; seen = refl; mine = refl; slot_loads = refl }
 word_by v c x false k = record { known = k; sizes = refl; agents = refl; live = refl; share = refl; used = refl; low = refl; own_ids = refl; own_words = refl; slots = refl; seen = refl; mine = refl; slot_loads = refl }
 
-pub reads_word : (v w : View) (c x : ℕ) → KeepsKnown v w → w ≡ learned_all (loaded_word v c x) → Reads v w
-reads_word v w c x k e = subst (Reads v) (sym e) (word_by v c x (contains_key v.own_words c) (subst (KeepsKnown v) e k))
+pub reads_word : (v w : View) (c x : ℕ) → KeepsKnown v w → w ≡ learned_all (loaded_word v c x) → OnlyLoads v w
+reads_word v w c x k e = subst (OnlyLoads v) (sym e) (word_by v c x (contains_key v.own_words c) (subst (KeepsKnown v) e k))
 
 -- the word that was loaded is one that the view has
 has_by : (v : View) (c x : ℕ) (b : Bool) → contains_key v.own_words c ≡ b

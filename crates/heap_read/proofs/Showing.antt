@@ -7,7 +7,7 @@ use Rattle.js_units.specs.Lanes.{lane_count, lane_of, words_over}
 use Rattle.heap_rule.specs.declared.view.View.{View}
 use Rattle.heap_rule.specs.Contents.{lane_in}
 use Rattle.heap_rule.specs.Maps.{Has, HasKey}
-use Rattle.heap_rule.specs.Views.{LeadsTo, HasLength, IsFrozen, shown}
+use Rattle.heap_rule.specs.Views.{LeadsTo, HasLength, IsFrozen, shown_word}
 use Rattle.heap_rule.specs.Loads.{added_loads, loaded_form, with_form}
 use Rattle.heap_rule.specs.Learning.{learned_all}
 use Rattle.heap_rule.specs.Births.{part}
@@ -81,10 +81,10 @@ part_unit o n i us l = get_or-take n (drop o us) i 0 l ∙ get_or-drop o us i 0
 
 -- a lane of a word that the view has shows its unit
 pub window_unit : (v : View) (w : Window) (us : List ℕ) (i : ℕ) → IsPossible v → IsWindow v w us → i < w.len
-    → HasKey v.own_words (w.start + (w.offset + i) / lane_count w.wide) ⊎ HasKey v.frozen (w.start + (w.offset + i) / lane_count w.wide) → lane_in (shown v) w.wide w.start (w.offset + i) ≡ get_or us i 0
+    → HasKey v.own_words (w.start + (w.offset + i) / lane_count w.wide) ⊎ HasKey v.frozen (w.start + (w.offset + i) / lane_count w.wide) → lane_in (shown_word v) w.wide w.start (w.offset + i) ≡ get_or us i 0
 window_unit v w us i p h l has = let m = h.within in let q = h.place in let e : w.offset + i ≡ h.before + (h.from + i) = omega arith in
     let has' = subst (λ (o : ℕ). HasKey v.own_words (w.start + o / lane_count w.wide) ⊎ HasKey v.frozen (w.start + o / lane_count w.wide)) e has in
-    ap (λ (o : ℕ). lane_in (shown v) w.wide w.start o) e
+    ap (λ (o : ℕ). lane_in (shown_word v) w.wide w.start o) e
     ∙ (possible_unit v p h.of h.id h.before w.wide w.start h.fixed h.whole (h.from + i) h.leads h.form h.known (omega arith) has'
     ∙ (sym (part_unit h.from w.len i h.whole l) ∙ ap (λ (xs : List ℕ). get_or xs i 0) (sym h.shows)))
 

@@ -9,10 +9,10 @@ use Rattle.heap_rule.specs.Births.{stored_word}
 use Rattle.heap_rule.specs.Learning.{learned_all}
 use Rattle.heap_rule.specs.Loads.{loaded_length, loaded_word}
 use Rattle.heap_rule.specs.Maps.{Has, HasKey}
-use Rattle.heap_rule.specs.Views.{shown}
+use Rattle.heap_rule.specs.Views.{shown_word}
 use Rattle.heap_rule.proofs.MapLemmas.{has_key, insert_other, insert_same}
 use Rattle.heap_read.specs.Filling.{own_word}
-use Rattle.heap_read.specs.Reads.{Continues, KeepsBelow, KeepsForms, Reads, Writes}
+use Rattle.heap_read.specs.Reads.{Continues, KeepsBelow, KeepsForms, OnlyLoads, Writes}
 use Rattle.heap_read.proofs.Going.{known_stored}
 use Rattle.heap_read.proofs.Loaded.{key_more, known_refl, known_trans}
 use Rattle.heap_read.proofs.Placing.{IsStored}
@@ -28,7 +28,7 @@ pub forms_word : (v w : View) (c x : ℕ) → w ≡ learned_all (loaded_word v c
 forms_word v w c x e = subst (KeepsForms v) (sym e) (forms_by v c x (contains_key v.own_words c))
 
 -- an own word is shown as the agent stored it
-pub shown_own : (v : View) (c : ℕ) → HasKey v.own_words c → shown v c ≡ own_word v.own_words c
+pub shown_own : (v : View) (c : ℕ) → HasKey v.own_words c → shown_word v c ≡ own_word v.own_words c
 shown_own v c h = let p = has_key v.own_words c h in ap (λ (o : Option ℕ). unwrap_or o (unwrap_or (get v.frozen c) 0)) p.1 ∙ sym (ap (λ (o : Option ℕ). unwrap_or o 0) p.1)
 
 pub word_put : (m : FinMap nat_cmp ℕ) (c x : ℕ) → IsStored (own_word m) (own_word (insert m c x)) c x
@@ -57,7 +57,7 @@ writes_trans u v w a b = record {
   slot_loads = b.slot_loads ∙ a.slot_loads;
 }
 
-pub writes_reads : (v w : View) → Reads v w → Writes v w
+pub writes_reads : (v w : View) → OnlyLoads v w → Writes v w
 writes_reads v w r = record {
   known = r.known;
   sizes = r.sizes;
@@ -94,5 +94,5 @@ continues_writes v w r = record {
   slot_loads = r.slot_loads;
 }
 
-pub below_reads : (start : ℕ) (v w : View) → Reads v w → KeepsBelow start v w
+pub below_reads : (start : ℕ) (v w : View) → OnlyLoads v w → KeepsBelow start v w
 below_reads start v w r q x l h = subst (λ (m : FinMap nat_cmp ℕ). Has m q x) (sym r.own_words) h

@@ -11,7 +11,7 @@ use Rattle.js_units.proofs.Hashing.{hash_append}
 use Rattle.heap_read.specs.declared.source.HeldWord.{HeldWord}
 use Rattle.heap_rule.specs.declared.view.View.{View}
 use Rattle.heap_read.specs.declared.string.Window.{Window}
-use Rattle.heap_read.specs.Reads.{KeepsForms, Reads}
+use Rattle.heap_read.specs.Reads.{KeepsForms, OnlyLoads}
 use Rattle.heap_read.specs.Windows.{IsFrozenWindow, IsWindow}
 use Rattle.heap_rule.specs.Sound.{IsPossible}
 use Rattle.heap_rule.proofs.Possible.{possible_short}
@@ -82,10 +82,10 @@ read_all us from n into e l same =
     ∙ ap (λ m. take m (drop from us)) (sym size)
 
 -- a window shows the same later
-pub window_later : (v u : View) (w : Window) (us : List ℕ) → Reads v u → KeepsForms v u → IsWindow v w us → IsWindow u w us
+pub window_later : (v u : View) (w : Window) (us : List ℕ) → OnlyLoads v u → KeepsForms v u → IsWindow v w us → IsWindow u w us
 window_later v u w us r f h = window_kept v u (forms_held v u f.0) w us r.known h
 
-pub frozen_later : (v u : View) (w : Window) (us : List ℕ) → Reads v u → KeepsForms v u → IsWindow v w us → IsFrozenWindow u w
+pub frozen_later : (v u : View) (w : Window) (us : List ℕ) → OnlyLoads v u → KeepsForms v u → IsWindow v w us → IsFrozenWindow u w
 frozen_later v u w us r f h = window_frozen u w us (window_later v u w us r f h)
 
 pub forms_trans : (v u x : View) → KeepsForms v u → KeepsForms u x → KeepsForms v x

@@ -25,7 +25,7 @@ pub record HasLane (v : View) (wide : Bool) (start o unit : ℕ) : Type 0 where
   pub lane : unit ≡ lane_in (λ _. word) wide start o
 
 -- the word that is held shows units of the window, from words that the view has as frozen
-pub record IsHeld (v : View) (w : Window) (h : HeldWord) : Type 0 where
+pub record IsWordHeld (v : View) (w : Window) (h : HeldWord) : Type 0 where
   pub lanes : h.lane + h.count ≤ lane_count h.wide
   pub within : h.from + h.count ≤ w.len
   pub each : (k : ℕ) → k < h.count → HasLane v w.wide w.start (w.offset + (h.from + k)) (lane_of h.wide h.word (h.lane + k))

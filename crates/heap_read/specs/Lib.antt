@@ -7,4 +7,3 @@ pub mod Written
 pub mod Filling
 pub mod Frozen
 pub mod Shifted
-pub mod Spans

@@ -6,7 +6,7 @@ use Rattle.heap_rule.specs.Maps.{Has, HasKey}
 use Rattle.heap_table.specs.Known.{KeepsKnown}
 
 -- a call that only loads: what is known stays known, what the agent owns, used and read of the counters stays, and so do its slots and history
-pub record Reads (v w : View) : Type 0 where
+pub record OnlyLoads (v w : View) : Type 0 where
   pub known : KeepsKnown v w
   pub sizes : w.sizes ≡ v.sizes
   pub agents : w.agents ≡ v.agents

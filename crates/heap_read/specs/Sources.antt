@@ -14,22 +14,22 @@ use Rattle.heap_read.specs.Windows.{IsWindow}
 abbrev pub piece_units : View → Piece → List ℕ
 piece_units v p = part p.from p.window.len (unwrap_or (get v.units p.of.id) [])
 
-abbrev pub listed : View → UnitSource → List ℕ
-listed v (source.Units us) = us.now
-listed v (source.Piece p) = piece_units v p
-listed v (source.Pieces p q) = piece_units v p ++ piece_units v q
+abbrev pub source_units : View → UnitSource → List ℕ
+source_units v (source.Units us) = us.now
+source_units v (source.Piece p) = piece_units v p
+source_units v (source.Pieces p q) = piece_units v p ++ piece_units v q
 
 abbrev pub ShowsPiece : View → Piece → Type 0
 ShowsPiece v p = HasKey v.units p.of.id × IsWindow v p.window (piece_units v p)
 
 -- each window of the source shows its part
-abbrev pub Shows : View → UnitSource → Type 0
-Shows v (source.Units us) = Unit {0}
-Shows v (source.Piece p) = ShowsPiece v p
-Shows v (source.Pieces p q) = ShowsPiece v p × ShowsPiece v q
+abbrev pub ShowsSource : View → UnitSource → Type 0
+ShowsSource v (source.Units us) = Unit {0}
+ShowsSource v (source.Piece p) = ShowsPiece v p
+ShowsSource v (source.Pieces p q) = ShowsPiece v p × ShowsPiece v q
 
 abbrev pub listed_in : Reader → UnitSource → List ℕ
-listed_in r s = listed (view_in r) s
+listed_in r s = source_units (view_in r) s
 
 -- one-byte lanes are enough for the units, where the lanes are one-byte ones
 abbrev pub FitsLanes : Bool → List ℕ → Type 0

@@ -4,7 +4,7 @@ ghost use Rattle.std.specs.Bool.{MatchBool};
 ghost use Rattle.js_units.specs.Lanes.{lane_count};
 ghost use Rattle.heap_read.specs.Frozen.{HasOther, HasUnits, IsLearned};
 ghost use Rattle.heap_read.specs.Readers.{Moves, view_in};
-ghost use Rattle.heap_read.specs.Reads.{KeepsForms, Reads};
+ghost use Rattle.heap_read.specs.Reads.{KeepsForms, OnlyLoads};
 ghost use Rattle.heap_read.specs.Windows.{IsFrozenWindow, IsWindow};
 ghost use Rattle.heap_read.specs.Written.{HasAt, held_unit};
 
@@ -21,7 +21,7 @@ impl<'h> Reader<'h> {
         requires frozen { IsFrozenWindow (view_in self.old) b }
         requires long { a.len ≡ b.len }
         requires learned { IsLearned (view_in self.old) }
-        ensures reads { Moves Reads self.old self.new }
+        ensures reads { Moves OnlyLoads self.old self.new }
         ensures forms { KeepsForms (view_in self.old) (view_in self.new) }
         ensures learned { IsLearned (view_in self.new) }
         ensures same { (us : List ℕ) → IsWindow (view_in self.old) a us

@@ -7,8 +7,8 @@ ghost use Rattle.heap_rule.specs.Maps.{Has, HasKey};
 ghost use Rattle.heap_table.specs.Agents.{size_of};
 ghost use Rattle.heap_table.specs.Full.{IsFull};
 ghost use Rattle.heap_read.specs.Readers.{Moves, view_in};
-ghost use Rattle.heap_read.specs.Reads.{Continues, KeepsForms, Reads};
-ghost use Rattle.heap_read.specs.Sources.{Shows, listed_in};
+ghost use Rattle.heap_read.specs.Reads.{Continues, KeepsForms, OnlyLoads};
+ghost use Rattle.heap_read.specs.Sources.{ShowsSource, listed_in};
 ghost use Rattle.heap_read.specs.Windows.{IsWindow};
 ghost use Rattle.heap_read.specs.Written.{IsWritten};
 
@@ -22,10 +22,10 @@ use js_units::{lanes, words_for};
 impl<'h> Reader<'h> {
     /// Whether a unit is over 255.
     pub fn has_wide(&mut self, source: &UnitSource, n: u32) -> bool
-        requires shows { Shows (view_in self.old) source.now }
+        requires shows { ShowsSource (view_in self.old) source.now }
         requires count { length (listed_in self.old source.now) ≡ n }
-        ensures reads { Moves Reads self.old self.new }
-        ensures shows { Shows (view_in self.new) source.now }
+        ensures reads { Moves OnlyLoads self.old self.new }
+        ensures shows { ShowsSource (view_in self.new) source.now }
         ensures listed { listed_in self.new source.now ≡ listed_in self.old source.now }
         ensures wide { result ≡ is_wide (listed_in self.old source.now) }
         ensures forms { KeepsForms (view_in self.old) (view_in self.new) }
@@ -41,7 +41,7 @@ impl<'h> Reader<'h> {
     // Whether a unit of a window is over 255. In one-byte lanes none is.
     fn is_wide_in(&mut self, w: Window) -> bool
         requires { (us : List ℕ) × IsWindow (view_in self.old) w us }
-        ensures reads { Moves Reads self.old self.new }
+        ensures reads { Moves OnlyLoads self.old self.new }
         ensures forms { KeepsForms (view_in self.old) (view_in self.new) }
         ensures wide { (us : List ℕ) → IsWindow (view_in self.old) w us → result ≡ is_wide us }
     {
@@ -52,7 +52,7 @@ impl<'h> Reader<'h> {
     fn has_wide_unit(&mut self, w: Window) -> bool
         requires window { (us : List ℕ) × IsWindow (view_in self.old) w us }
         requires lanes { w.wide ≡ true }
-        ensures reads { Moves Reads self.old self.new }
+        ensures reads { Moves OnlyLoads self.old self.new }
         ensures forms { KeepsForms (view_in self.old) (view_in self.new) }
         ensures wide { (us : List ℕ) → IsWindow (view_in self.old) w us → result ≡ is_wide us }
     {
@@ -70,12 +70,12 @@ impl<'h> Reader<'h> {
 
     // Word number `at` of the units.
     fn pack(&mut self, source: &UnitSource, n: u32, wide: bool, at: u32) -> u64
-        requires shows { Shows (view_in self.old) source.now }
+        requires shows { ShowsSource (view_in self.old) source.now }
         requires count { length (listed_in self.old source.now) ≡ n }
         requires wide { wide ≡ is_wide (listed_in self.old source.now) }
         requires within { (n ≤ MAX) × (at < words_over wide n) }
-        ensures reads { Moves Reads self.old self.new }
-        ensures shows { Shows (view_in self.new) source.now }
+        ensures reads { Moves OnlyLoads self.old self.new }
+        ensures shows { ShowsSource (view_in self.new) source.now }
         ensures listed { listed_in self.new source.now ≡ listed_in self.old source.now }
         ensures word { IsWordOf wide (listed_in self.old source.now) at result }
         ensures forms { KeepsForms (view_in self.old) (view_in self.new) }
@@ -90,7 +90,7 @@ impl<'h> Reader<'h> {
 
     /// Content words with the units of a source, now the agent's own. The answer is the first.
     pub fn write(&mut self, source: &UnitSource, n: u32, wide: bool) -> Result<u32, CounterFull>
-        requires shows { Shows (view_in self.old) source.now }
+        requires shows { ShowsSource (view_in self.old) source.now }
         requires count { length (listed_in self.old source.now) ≡ n }
         requires wide { wide ≡ is_wide (listed_in self.old source.now) }
         requires short { n ≤ MAX }

@@ -7,9 +7,9 @@ ghost use Rattle.js_header.specs.declared.form.Form as form;
 ghost use Rattle.heap_rule.specs.Forms.{IsCons, IsLater, IsSolid};
 ghost use Rattle.heap_rule.specs.Loads.{added_loads};
 ghost use Rattle.heap_rule.specs.Maps.{Has, HasKey};
-ghost use Rattle.heap_rule.specs.Views.{IsKnown, IsSettled};
+ghost use Rattle.heap_rule.specs.Views.{MayUse, IsSeenSettled};
 ghost use Rattle.heap_read.specs.Readers.{Moves, view_in};
-ghost use Rattle.heap_read.specs.Reads.{Reads};
+ghost use Rattle.heap_read.specs.Reads.{OnlyLoads};
 ghost use Rattle.heap_read.specs.Sides.{KnowsSide};
 
 use crate::reader::Reader;
@@ -19,8 +19,8 @@ impl<'h> Reader<'h> {
     /// The form of a known string, as it is at this moment, by one load. Where it forwards to
     /// another, the units of that one are known from then on, if its own are.
     pub fn form_now(&mut self, id: u32) -> Form
-        requires known { IsKnown (view_in self.old) id }
-        ensures reads { Moves Reads self.old self.new }
+        requires known { MayUse (view_in self.old) id }
+        ensures reads { Moves OnlyLoads self.old self.new }
         ensures seen { Has (view_in self.new).forms id result }
         ensures others { (i : ℕ) → i ≢ id → get (view_in self.new).forms i ≡ get (view_in self.old).forms i }
         ensures side { KnowsSide (view_in self.new) result }
@@ -29,7 +29,7 @@ impl<'h> Reader<'h> {
         ensures loads { (view_in self.new).form_loads ≡ added_loads (view_in self.old).form_loads 1 }
         ensures born { result ≢ Unborn }
         ensures range { IsInRange result }
-        ensures settled { IsSettled (view_in self.old) id → ¬ IsCons result }
+        ensures settled { IsSeenSettled (view_in self.old) id → ¬ IsCons result }
         ensures later { (f : form.Form) → Has (view_in self.old).forms id f → (f ≡ result)
             ⊎ IsLater f result }
         ensures solid { (j : ℕ) (wide : Bool) (offset : ℕ)

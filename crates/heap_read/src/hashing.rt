@@ -3,7 +3,7 @@ ghost use Rattle.std.specs.Prelude.{◌≡◌, ℕ, List};
 ghost use Rattle.js_units.specs.Lanes.{hash_of};
 ghost use Rattle.heap_read.specs.Frozen.{AreFrozen};
 ghost use Rattle.heap_read.specs.Readers.{Moves, view_in};
-ghost use Rattle.heap_read.specs.Reads.{KeepsForms, Reads};
+ghost use Rattle.heap_read.specs.Reads.{KeepsForms, OnlyLoads};
 ghost use Rattle.heap_read.specs.Windows.{IsWindow};
 
 use crate::reader::Reader;
@@ -15,7 +15,7 @@ impl<'h> Reader<'h> {
     /// from then on.
     pub fn hash_in(&mut self, w: Window) -> u32
         requires { (us : List ℕ) × IsWindow (view_in self.old) w us }
-        ensures reads { Moves Reads self.old self.new }
+        ensures reads { Moves OnlyLoads self.old self.new }
         ensures forms { KeepsForms (view_in self.old) (view_in self.new) }
         ensures hash { (us : List ℕ) → IsWindow (view_in self.old) w us → result ≡ hash_of us }
         ensures frozen { AreFrozen (view_in self.new) w }

@@ -5,8 +5,8 @@ ghost use Rattle.heap_rule.specs.Layout.{MAX};
 ghost use Rattle.heap_rule.specs.Maps.{HasKey};
 ghost use Rattle.heap_read.specs.Filling.{IsFilled, IsPlaced, own_word};
 ghost use Rattle.heap_read.specs.Readers.{Moves, view_in};
-ghost use Rattle.heap_read.specs.Reads.{KeepsBelow, KeepsForms, Reads, Writes};
-ghost use Rattle.heap_read.specs.Sources.{FitsLanes, Shows, listed_in};
+ghost use Rattle.heap_read.specs.Reads.{KeepsBelow, KeepsForms, OnlyLoads, Writes};
+ghost use Rattle.heap_read.specs.Sources.{FitsLanes, ShowsSource, listed_in};
 
 use crate::reader::Reader;
 use crate::shifting::replaced;
@@ -32,15 +32,15 @@ struct Patch {
 impl<'h> Reader<'h> {
     // An own word with these lanes changed. Only one that is not written whole is loaded.
     fn patched(&mut self, at: u32, patch: Patch, source: &UnitSource) -> u64
-        requires shows { Shows (view_in self.old) source.now }
+        requires shows { ShowsSource (view_in self.old) source.now }
         requires own { HasKey (view_in self.old).own_words at }
         requires lanes { patch.low + patch.count ≤ lane_count patch.wide }
         requires within { patch.first + patch.count ≤ length (listed_in self.old source.now) }
         requires short { length (listed_in self.old source.now) ≤ MAX }
         requires fits { FitsLanes patch.wide (listed_in self.old source.now) }
-        ensures reads { Moves Reads self.old self.new }
+        ensures reads { Moves OnlyLoads self.old self.new }
         ensures forms { KeepsForms (view_in self.old) (view_in self.new) }
-        ensures shows { Shows (view_in self.new) source.now }
+        ensures shows { ShowsSource (view_in self.new) source.now }
         ensures listed { listed_in self.new source.now ≡ listed_in self.old source.now }
         ensures placed { IsPlaced patch.wide (own_word (view_in self.old).own_words at) result patch.low
             patch.count (λ k. slice_index (listed_in self.old source.now) (patch.first + k)) }
@@ -55,7 +55,7 @@ impl<'h> Reader<'h> {
 
     /// Lanes `at` on of a run become the units of a source. The run's words are own there.
     pub fn copy_lanes(&mut self, source: &UnitSource, n: u32, to: Run, at: u32)
-        requires shows { Shows (view_in self.old) source.now }
+        requires shows { ShowsSource (view_in self.old) source.now }
         requires count { length (listed_in self.old source.now) ≡ n }
         requires short { at + n ≤ MAX }
         requires own { (o : ℕ) → at ≤ o → o < at + n

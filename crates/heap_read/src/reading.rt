@@ -3,9 +3,9 @@ ghost use Rattle.std.specs.Prelude.{◌≡◌, ℕ, List, ◌+◌, ◌*◌, ◌/
 ghost use Rattle.js_units.specs.Lanes.{words_over};
 ghost use Rattle.heap_rule.specs.Contents.{lane_in};
 ghost use Rattle.heap_rule.specs.Maps.{Has, HasKey};
-ghost use Rattle.heap_rule.specs.Views.{IsSettled, shown};
+ghost use Rattle.heap_rule.specs.Views.{IsSeenSettled, shown_word};
 ghost use Rattle.heap_read.specs.Readers.{Moves, view_in};
-ghost use Rattle.heap_read.specs.Reads.{KeepsForms, Reads};
+ghost use Rattle.heap_read.specs.Reads.{KeepsForms, OnlyLoads};
 ghost use Rattle.heap_read.specs.Sides.{LoadsFewForms};
 ghost use Rattle.heap_read.specs.Windows.{IsFrozenWindow, IsWindow, ShowsAll};
 
@@ -17,7 +17,7 @@ impl<'h> Reader<'h> {
     /// The length of a string, in units.
     pub fn len(&mut self, s: JsStr) -> u32
         requires known { HasKey (view_in self.old).units s.id }
-        ensures reads { Moves Reads self.old self.new }
+        ensures reads { Moves OnlyLoads self.old self.new }
         ensures forms { KeepsForms (view_in self.old) (view_in self.new) }
         ensures length { (us : List ℕ) → Has (view_in self.old).units s.id us → result ≡ length us }
     {
@@ -27,8 +27,8 @@ impl<'h> Reader<'h> {
     /// A window on the units of a settled string, by at most three loads of a form.
     pub fn window(&mut self, s: JsStr) -> Window
         requires known { HasKey (view_in self.old).units s.id }
-        requires settled { IsSettled (view_in self.old) s.id }
-        ensures reads { Moves Reads self.old self.new }
+        requires settled { IsSeenSettled (view_in self.old) s.id }
+        ensures reads { Moves OnlyLoads self.old self.new }
         ensures shows { ShowsAll (view_in self.old) (view_in self.new) s.id result }
         ensures frozen { IsFrozenWindow (view_in self.new) result }
         ensures few { LoadsFewForms (view_in self.old) (view_in self.new) 3 }
@@ -40,9 +40,9 @@ impl<'h> Reader<'h> {
     pub fn unit_in(&mut self, w: Window, i: u32) -> u16
         requires frozen { IsFrozenWindow (view_in self.old) w }
         requires within { i < w.len }
-        ensures reads { Moves Reads self.old self.new }
+        ensures reads { Moves OnlyLoads self.old self.new }
         ensures forms { KeepsForms (view_in self.old) (view_in self.new) }
-        ensures lane { result ≡ lane_in (shown (view_in self.new)) w.wide w.start (w.offset + i) }
+        ensures lane { result ≡ lane_in (shown_word (view_in self.new)) w.wide w.start (w.offset + i) }
         ensures unit { (us : List ℕ) → IsWindow (view_in self.old) w us → result ≡ slice_index us i }
     {
         let place = w.offset + i;
@@ -57,9 +57,9 @@ impl<'h> Reader<'h> {
 
     /// Unit `i` of a settled string, by at most three loads of a form.
     pub fn unit_at(&mut self, s: JsStr, i: u32) -> u16
-        requires settled { IsSettled (view_in self.old) s.id }
+        requires settled { IsSeenSettled (view_in self.old) s.id }
         requires within { (us : List ℕ) × Has (view_in self.old).units s.id us × (i < length us) }
-        ensures reads { Moves Reads self.old self.new }
+        ensures reads { Moves OnlyLoads self.old self.new }
         ensures unit { (us : List ℕ) → Has (view_in self.old).units s.id us → result ≡ slice_index us i }
         ensures few { LoadsFewForms (view_in self.old) (view_in self.new) 3 }
     {

@@ -2,11 +2,11 @@
 ghost use Rattle.std.specs.Prelude.{◌≡◌, ℕ, List, ◌+◌, ◌-◌, ◌/◌, ◌%◌, ◌≤◌, ◌<◌, ◌↔◌, IsTrue, false, slice_index, length};
 ghost use Rattle.js_units.specs.Lanes.{lane_count, lane_of};
 ghost use Rattle.heap_rule.specs.Layout.{MAX};
-ghost use Rattle.heap_read.specs.Frozen.{HoldsAll, IsHeld, IsLearned};
+ghost use Rattle.heap_read.specs.Frozen.{HoldsAll, IsWordHeld, IsLearned};
 ghost use Rattle.heap_read.specs.Readers.{Moves, view_in};
-ghost use Rattle.heap_read.specs.Reads.{KeepsForms, Reads};
+ghost use Rattle.heap_read.specs.Reads.{KeepsForms, OnlyLoads};
 ghost use Rattle.heap_read.specs.Shifted.{HoldsLanes};
-ghost use Rattle.heap_read.specs.Sources.{FitsLanes, Shows, listed_in};
+ghost use Rattle.heap_read.specs.Sources.{FitsLanes, ShowsSource, listed_in};
 ghost use Rattle.heap_read.specs.Windows.{IsFrozenWindow, IsWindow};
 ghost use Rattle.heap_read.specs.Written.{HasAt, Holds, held_unit};
 
@@ -114,10 +114,10 @@ impl<'h> Reader<'h> {
     pub fn hold_in(&mut self, w: Window, i: u32) -> HeldWord
         requires frozen { IsFrozenWindow (view_in self.old) w }
         requires within { i < w.len }
-        ensures reads { Moves Reads self.old self.new }
+        ensures reads { Moves OnlyLoads self.old self.new }
         ensures forms { KeepsForms (view_in self.old) (view_in self.new) }
         ensures has { (result.from ≤ i) × (i < result.from + result.count) }
-        ensures held { IsHeld (view_in self.new) w result }
+        ensures held { IsWordHeld (view_in self.new) w result }
         ensures all { HoldsAll w result }
         ensures holds { (us : List ℕ) → IsWindow (view_in self.old) w us → Holds us result }
         ensures learned { IsLearned (view_in self.new) }
@@ -139,11 +139,11 @@ impl<'h> Reader<'h> {
 
     // The word with this unit of a source.
     fn hold(&mut self, source: &UnitSource, i: u32) -> HeldWord
-        requires shows { Shows (view_in self.old) source.now }
+        requires shows { ShowsSource (view_in self.old) source.now }
         requires within { i < length (listed_in self.old source.now) }
-        ensures reads { Moves Reads self.old self.new }
+        ensures reads { Moves OnlyLoads self.old self.new }
         ensures forms { KeepsForms (view_in self.old) (view_in self.new) }
-        ensures shows { Shows (view_in self.new) source.now }
+        ensures shows { ShowsSource (view_in self.new) source.now }
         ensures listed { listed_in self.new source.now ≡ listed_in self.old source.now }
         ensures has { (result.from ≤ i) × (i < result.from + result.count) }
         ensures holds { Holds (listed_in self.old source.now) result }
@@ -177,14 +177,14 @@ impl<'h> Reader<'h> {
     // The `count` units from number `first` on, as lanes of one word, by a load for each word
     // that they lie in.
     pub(crate) fn word_of(&mut self, source: &UnitSource, wide: bool, first: u32, count: u32) -> u64
-        requires shows { Shows (view_in self.old) source.now }
+        requires shows { ShowsSource (view_in self.old) source.now }
         requires within { first + count ≤ length (listed_in self.old source.now) }
         requires short { length (listed_in self.old source.now) ≤ MAX }
         requires room { count ≤ lane_count wide }
         requires fits { FitsLanes wide (listed_in self.old source.now) }
-        ensures reads { Moves Reads self.old self.new }
+        ensures reads { Moves OnlyLoads self.old self.new }
         ensures forms { KeepsForms (view_in self.old) (view_in self.new) }
-        ensures shows { Shows (view_in self.new) source.now }
+        ensures shows { ShowsSource (view_in self.new) source.now }
         ensures listed { listed_in self.new source.now ≡ listed_in self.old source.now }
         ensures word { HoldsLanes wide result count
             (λ k. slice_index (listed_in self.old source.now) (first + k)) }

@@ -10,7 +10,7 @@ use Rattle.heap_rule.specs.declared.size.HeapSize.{HeapSize}
 use Rattle.heap_rule.specs.Layout.{next_id, next_word, slot, form, length_word, content, IsBorn}
 use Rattle.heap_rule.specs.Contents.{blank, whole, joins, shape, shape_by, units_by, flat, flat_by, solid, solid_by, units_of, units_in, span}
 use Rattle.heap_rule.specs.Forms.{IsSolid, IsSolidForm, IsLater}
-use Rattle.heap_rule.specs.Sound.{IsFree, IsKept, IsStanding, Stands}
+use Rattle.heap_rule.specs.Sound.{IsFree, IsKept, IsStanding, StandsAs}
 use Rattle.heap_rule.proofs.UnitLemmas.{JoinsBelow, EachJoined, units_step, units_unique, flat_same}
 
 -- The new header says the old units at once, and the old one was no fixed Flat
@@ -56,7 +56,7 @@ unfolding shape
 low z W i = low_by z W i (form_of (form z W i))
 
 module _ (z : HeapSize) (W : List ℕ) (vs : List View) (stand : (i : ℕ) → IsBorn z W i → IsStanding z W vs i) where
-  closed_by : (i : ℕ) (f : Form) → Stands z W vs i f → EachJoined (IsBorn z W) (shape_by z W i (Some f))
+  closed_by : (i : ℕ) (f : Form) → StandsAs z W vs i f → EachJoined (IsBorn z W) (shape_by z W i (Some f))
   closed_by i Unborn s = absurd s
   closed_by i (Flat wide start fixed) s = tt
   closed_by i (Thin target) s = tt
@@ -86,7 +86,7 @@ module _ (z : HeapSize) (W : List ℕ) (vs : List View) (stand : (i : ℕ) → I
     pub fixed_stays : (i : ℕ) (wide : Bool) (start : ℕ) → IsBorn z W i → form_of (form z W i) ≡ Some (Flat wide start true) → form z W' i ≡ form z W i
     fixed_stays i wide start b e = ⊎_elim (λ h. h) (λ (t : Turned z W W' vs' i). absurd (t.moving wide start e)) (a.forms i b)
 
-    flat_at : (i : ℕ) (wide : Bool) (start : ℕ) (f : Form) → IsBorn z W i → form_of (form z W i) ≡ Some f → f ≡ Flat wide start true → Stands z W vs i f → form z W' i ≡ form z W i → flat z W i ≡ flat z W' i
+    flat_at : (i : ℕ) (wide : Bool) (start : ℕ) (f : Form) → IsBorn z W i → form_of (form z W i) ≡ Some f → f ≡ Flat wide start true → StandsAs z W vs i f → form z W' i ≡ form z W i → flat z W i ≡ flat z W' i
     flat_at i wide start (Flat w s false) b e is st keep = absurd (cc)
     flat_at i wide start (Flat w s true) b e is st keep = ap (flat_by z W i) e ∙ (span_then i w s b st.0 ∙ ap (flat_by z W' i) (sym (ap form_of keep ∙ e)))
     flat_at i wide start Unborn b e is st keep = absurd (cc)
@@ -107,7 +107,7 @@ module _ (z : HeapSize) (W : List ℕ) (vs : List View) (stand : (i : ℕ) → I
     solid_units_by i (Cons wide left right) h e = absurd h
     solid_units_by i (Sliced wide parent offset) h e = absurd h
 
-    solid_stays_by : (i : ℕ) (f : Form) → IsBorn z W i → IsSolid f → form_of (form z W i) ≡ Some f → Stands z W vs i f → form z W' i ≡ form z W i → solid z W i ≡ solid z W' i
+    solid_stays_by : (i : ℕ) (f : Form) → IsBorn z W i → IsSolid f → form_of (form z W i) ≡ Some f → StandsAs z W vs i f → form z W' i ≡ form z W i → solid z W i ≡ solid z W' i
     solid_stays_by i (Flat wide start fixed) b h e st keep = ap (solid_by z W i) e ∙ (span_then i wide start b st.0 ∙ ap (solid_by z W' i) (sym (ap form_of keep ∙ e)))
     solid_stays_by i (Thin target) b h e st keep = ap (solid_by z W i) e ∙ (flat_stays target st.1.0 st.1.1 st.0 st.1.2 ∙ ap (solid_by z W' i) (sym (ap form_of keep ∙ e)))
     solid_stays_by i Unborn b h e st keep = absurd h
@@ -120,7 +120,7 @@ module _ (z : HeapSize) (W : List ℕ) (vs : List View) (stand : (i : ℕ) → I
         (λ (t : Turned z W W' vs' i). solid_units_by i s.now solid_now s.decodes ∙ sym t.solid_now)
         (a.forms i b)
 
-    shapes_by : (i : ℕ) (f : Form) → IsBorn z W i → Stands z W vs i f → shape_by z W i (Some f) ≡ shape_by z W' i (Some f)
+    shapes_by : (i : ℕ) (f : Form) → IsBorn z W i → StandsAs z W vs i f → shape_by z W i (Some f) ≡ shape_by z W' i (Some f)
     shapes_by i Unborn b s = refl
     shapes_by i (Flat wide start fixed) b s = ap whole (span_then i wide start b s.0)
     shapes_by i (Thin target) b s = ap whole (flat_stays target s.1.0 s.1.1 s.0 s.1.2)

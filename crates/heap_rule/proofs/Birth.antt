@@ -16,9 +16,9 @@ use Rattle.heap_rule.specs.Layout.{form_at, length_at, content_at, next_id, next
 use Rattle.heap_rule.specs.Contents.{shape, shape_by, units_by, units_of, units_in, span, lane_in}
 use Rattle.heap_rule.specs.Maps.{Has, HasKey, without_run, with_run_of, put_some}
 use Rattle.heap_rule.specs.Forms.{IsNarrow}
-use Rattle.heap_rule.specs.Views.{shown}
+use Rattle.heap_rule.specs.Views.{shown_word}
 use Rattle.heap_rule.specs.Sound.{At, IsKept, OwnsIds, OwnsWords, IsStanding, KnowsForm, IsSound}
-use Rattle.heap_rule.specs.Births.{Fits, born_with, units_for}
+use Rattle.heap_rule.specs.Births.{FormFits, born_with, units_for}
 use Rattle.heap_rule.proofs.MapLemmas.{has_insert, has_remove, has_key, key_of}
 use Rattle.heap_rule.proofs.UnitLemmas.{units_step, flat_same, lane_same}
 use Rattle.heap_rule.proofs.ListLemmas.{each_set}
@@ -65,7 +65,7 @@ shown_by None (Some x) t h k e = sym (k x refl)
 shown_by None None t h k e = ⊎_elim (λ (g : false ≡ true). absurd (cc)) (λ (g : false ≡ true). absurd (cc)) e
 
 module _ (z : HeapSize) (agents : ℕ) (W : List ℕ) (vs : List View) (s : IsSound z agents W vs) (j : ℕ) (v : View) (at : At vs j v) (live : v.live ≡ true)
-    (i n : ℕ) (own : Has v.own_ids i n) (wide : Bool) (start : ℕ) (fixed : Bool) (fits : Fits v i n (Flat wide start fixed)) where
+    (i n : ℕ) (own : Has v.own_ids i n) (wide : Bool) (start : ℕ) (fixed : Bool) (fits : FormFits v i n (Flat wide start fixed)) where
   abbrev f : Form
   f = Flat wide start fixed
 
@@ -131,7 +131,7 @@ module _ (z : HeapSize) (agents : ℕ) (W : List ℕ) (vs : List View) (s : IsSo
       (λ (h : HasKey v.frozen c). let p = has_key v.frozen c h in kept_then z W vs s.standing W' vs' agrees c ((s.knows j v at live).of_frozen c p.0 p.1).0)
       (fits.1 c lo hi)
 
-  shown_is : (c : ℕ) → start ≤ c → c < start + words_over wide n → shown v c ≡ content z W' c
+  shown_is : (c : ℕ) → start ≤ c → c < start + words_over wide n → shown_word v c ≡ content z W' c
   shown_is c lo hi = shown_by (get v.own_words c) (get v.frozen c) (content z W' c)
       (λ x h. contents c ∙ ((s.own_words j v at live).each c x h).1) (λ x h. contents c ∙ ((s.knows j v at live).of_frozen c x h).1) (fits.1 c lo hi)
 
@@ -143,11 +143,11 @@ module _ (z : HeapSize) (agents : ℕ) (W : List ℕ) (vs : List View) (s : IsSo
   units_now = units_step (shape z W') (low z W') i ∙ ap (λ (o : Option Form). units_by (units_in (shape z W')) (shape_by z W' i o)) decodes
 
   units_are : units_of z W' i ≡ units_for v n f
-  units_are = units_now ∙ (ap (λ (m : ℕ). span (content z W') wide start 0 m) length_now ∙ sym (flat_same (shown v) (content z W') wide start n shown_is))
+  units_are = units_now ∙ (ap (λ (m : ℕ). span (content z W') wide start 0 m) length_now ∙ sym (flat_same (shown_word v) (content z W') wide start n shown_is))
 
-  lane_now : (b : Bool) (o : ℕ) → o < words_over b n * lane_count b → ((c : ℕ) → start ≤ c → c < start + words_over b n → shown v c ≡ content z W' c) → lane_in (shown v) b start o ≡ lane_in (content z W') b start o
-  lane_now true o h e = lane_same (shown v) (content z W') true start o (e (start + o / 4) (omega arith) (omega arith))
-  lane_now false o h e = lane_same (shown v) (content z W') false start o (e (start + o / 8) (omega arith) (omega arith))
+  lane_now : (b : Bool) (o : ℕ) → o < words_over b n * lane_count b → ((c : ℕ) → start ≤ c → c < start + words_over b n → shown_word v c ≡ content z W' c) → lane_in (shown_word v) b start o ≡ lane_in (content z W') b start o
+  lane_now true o h e = lane_same (shown_word v) (content z W') true start o (e (start + o / 4) (omega arith) (omega arith))
+  lane_now false o h e = lane_same (shown_word v) (content z W') false start o (e (start + o / 8) (omega arith) (omega arith))
 
   kept_now : (c : ℕ) → start ≤ c → c < start + words_over wide (length_word z W' i) → IsKept W' vs' c
   kept_now c lo hi = kept c lo (subst (λ (m : ℕ). c < start + words_over wide m) length_now hi)

@@ -10,7 +10,7 @@ use Rattle.heap_rule.specs.Layout.{slot, form, length_word, content, IsBorn, MAX
 use Rattle.heap_rule.specs.Contents.{units_of, lane_in}
 use Rattle.heap_rule.specs.Forms.{IsNarrow, IsLater, IsSolidForm}
 use Rattle.heap_rule.specs.Paths.{rank}
-use Rattle.heap_rule.specs.Sound.{IsKept, IsStanding, Stands, Shows, KnowsForm, Knows, IsUsed, AreSlots, AreDifferent, Recalls}
+use Rattle.heap_rule.specs.Sound.{IsKept, IsStanding, StandsAs, Shows, KnowsForm, Knows, IsUsed, AreSlots, AreDifferent, Recalls}
 use Rattle.heap_rule.proofs.UnitLemmas.{lane_same}
 use Rattle.heap_rule.proofs.Agreement.{Agrees, Turned, born_then, kept_then, solid_form_then, fixed_stays, span_then, units_then, used_then}
 
@@ -79,7 +79,7 @@ module _ (z : HeapSize) (W : List ℕ) (vs : List View) (stand : (i : ℕ) → I
   some_then : (i : ℕ) → IsBorn z W i → 1 ≤ length (units_of z W i) → 1 ≤ length (units_of z W' i)
   some_then i b h = subst (λ (u : List ℕ). 1 ≤ length u) (same i b) h
 
-  stands_then : (i : ℕ) (f : Form) → IsBorn z W i → Stands z W vs i f → Stands z W' vs' i f
+  stands_then : (i : ℕ) (f : Form) → IsBorn z W i → StandsAs z W vs i f → StandsAs z W' vs' i f
   stands_then i Unborn b s = absurd s
   stands_then i (Flat wide start fixed) b s = (kept_span i wide start b s.0, lanes_then i wide start b s.0 s.1, narrow_then i wide b s.2, λ e. s.3 (sym (a.lengths i b) ∙ e))
   stands_then i (Cons wide left right) b s = (

@@ -15,7 +15,7 @@ use Rattle.heap_rule.specs.Layout.{form_at, length_at, content_at, next_id, next
 use Rattle.heap_rule.specs.Contents.{whole, solid_by, shape, shape_by, units_by, units_of, units_in, span, lane_in}
 use Rattle.heap_rule.specs.Maps.{Has, HasKey}
 use Rattle.heap_rule.specs.Forms.{IsCons, IsNarrow, IsLater}
-use Rattle.heap_rule.specs.Views.{shown}
+use Rattle.heap_rule.specs.Views.{shown_word}
 use Rattle.heap_rule.specs.Sound.{At, IsKept, OwnsIds, OwnsWords, IsStanding, KnowsForm, IsSound, Shows}
 use Rattle.heap_rule.specs.Births.{freeze}
 use Rattle.heap_rule.proofs.Carried.{false_true}
@@ -65,8 +65,8 @@ no_flat old wide start h e = subst IsCons e h
 module _ (z : HeapSize) (agents : ℕ) (W : List ℕ) (vs : List View) (s : IsSound z agents W vs) (j : ℕ) (v : View) (at : At vs j v) (live : v.live ≡ true)
     (i : ℕ) (old : Form) (seen : Has v.forms i old) (cons : IsCons old) (hit : form z W i ≡ word_of old) (us : List ℕ) (units : Has v.units i us) (wide : Bool) (start : ℕ) (range : start < 2 ^ 29)
     (own : (c : ℕ) → start ≤ c → c < start + words_over wide (length us) → HasKey v.own_words c)
-    (lanes : (o : ℕ) → length us ≤ o → o < words_over wide (length us) * lane_count wide → lane_in (shown v) wide start o ≡ 0)
-    (spells : span (shown v) wide start 0 (length us) ≡ us) where
+    (lanes : (o : ℕ) → length us ≤ o → o < words_over wide (length us) * lane_count wide → lane_in (shown_word v) wide start o ≡ 0)
+    (spells : span (shown_word v) wide start 0 (length us) ≡ us) where
   abbrev f : Form
   f = Flat wide start false
 
@@ -126,7 +126,7 @@ module _ (z : HeapSize) (agents : ℕ) (W : List ℕ) (vs : List View) (s : IsSo
         (λ k u ne e l g. s.words_apart j v at live k u e l (λ x'. ne (sym x')) c h g);
   }
 
-  shown_is : (c : ℕ) → start ≤ c → c < start + words_over wide n → shown v c ≡ content z W' c
+  shown_is : (c : ℕ) → start ≤ c → c < start + words_over wide n → shown_word v c ≡ content z W' c
   shown_is c lo hi = shown_by (get v.own_words c) (get v.frozen c) (content z W' c)
       (λ x h. contents c ∙ ((s.own_words j v at live).each c x h).1) (λ x h. contents c ∙ ((s.knows j v at live).of_frozen c x h).1) (inl (own c lo hi))
 
@@ -134,7 +134,7 @@ module _ (z : HeapSize) (agents : ℕ) (W : List ℕ) (vs : List View) (s : IsSo
   length_now = lengths i ∙ ((s.standing i known.born).length_is ∙ ap length units_were)
 
   span_now : span (content z W') wide start 0 (length_word z W' i) ≡ units_of z W i
-  span_now = ap (λ (m : ℕ). span (content z W') wide start 0 m) length_now ∙ (sym (flat_same (shown v) (content z W') wide start n shown_is) ∙ (spells ∙ sym units_were))
+  span_now = ap (λ (m : ℕ). span (content z W') wide start 0 m) length_now ∙ (sym (flat_same (shown_word v) (content z W') wide start n shown_is) ∙ (spells ∙ sym units_were))
 
   whole_now : shape z W' i ≡ whole (units_of z W i)
   unfolding shape
@@ -144,9 +144,9 @@ module _ (z : HeapSize) (agents : ℕ) (W : List ℕ) (vs : List View) (s : IsSo
   unfolding shape
   units_now = units_step (shape z W') (low z W') i ∙ ap (λ (o : Option Form). units_by (units_in (shape z W')) (shape_by z W' i o)) decodes
 
-  lane_now : (b : Bool) (o : ℕ) → o < words_over b n * lane_count b → ((c : ℕ) → start ≤ c → c < start + words_over b n → shown v c ≡ content z W' c) → lane_in (shown v) b start o ≡ lane_in (content z W') b start o
-  lane_now true o h e = lane_same (shown v) (content z W') true start o (e (start + o / 4) (omega arith) (omega arith))
-  lane_now false o h e = lane_same (shown v) (content z W') false start o (e (start + o / 8) (omega arith) (omega arith))
+  lane_now : (b : Bool) (o : ℕ) → o < words_over b n * lane_count b → ((c : ℕ) → start ≤ c → c < start + words_over b n → shown_word v c ≡ content z W' c) → lane_in (shown_word v) b start o ≡ lane_in (content z W') b start o
+  lane_now true o h e = lane_same (shown_word v) (content z W') true start o (e (start + o / 4) (omega arith) (omega arith))
+  lane_now false o h e = lane_same (shown_word v) (content z W') false start o (e (start + o / 8) (omega arith) (omega arith))
 
   kept_now : (c : ℕ) → start ≤ c → c < start + words_over wide (length_word z W' i) → IsKept W' vs' c
   kept_now c lo hi = kept c lo (subst (λ (m : ℕ). c < start + words_over wide m) length_now hi)

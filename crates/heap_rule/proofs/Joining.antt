@@ -17,11 +17,11 @@ use Rattle.heap_rule.specs.declared.view.View.{View}
 use Rattle.heap_rule.specs.declared.size.HeapSize.{HeapSize}
 use Rattle.heap_rule.specs.Layout.{content, length_word, slot, IsBorn}
 use Rattle.heap_rule.specs.Contents.{units_of}
-use Rattle.heap_rule.specs.Maps.{Has, HasKey, put_by, laid_at, laid_over, upper_one}
+use Rattle.heap_rule.specs.Maps.{Has, HasKey, put_if_some, laid_at, laid_over, upper_one}
 use Rattle.heap_rule.specs.Forms.{is_later, later_form}
 use Rattle.heap_rule.specs.Paths.{Calls}
 use Rattle.heap_rule.specs.Views.{history}
-use Rattle.heap_rule.specs.Agents.{joined, spent}
+use Rattle.heap_rule.specs.Agents.{joined_view, spent}
 use Rattle.heap_rule.specs.Sound.{At, EachLive, IsFree, IsKept, OwnsIds, OwnsWords, AreApart, KnowsForm, Knows, Recalls, IsLow, IsMember, IsSound, of_live, total}
 use Rattle.heap_rule.proofs.MapLemmas.{has_insert, insert_same, insert_other, has_key, key_of}
 use Rattle.heap_rule.proofs.ListLemmas.{at_set, set_else, set_there, total_set, of_live_true}
@@ -29,7 +29,7 @@ use Rattle.heap_rule.proofs.Agreement.{Agrees}
 use Rattle.heap_rule.proofs.Carried.{standing_then, knows_then, slots_then, different_then, recalls_then}
 
 module _ {X : Type 0} (f : Option X → X → X) (P : ℕ → X → Type 0) (one_of : (k : ℕ) (o : Option X) (x : X) → ((y : X) → o ≡ Some y → P k y) → P k x → P k (f o x)) where
-  put_has : (m : FinMap nat_cmp X) (k : ℕ) (o : Option X) → ((q : ℕ) (x : X) → Has m q x → P q x) → ((x : X) → o ≡ Some x → P k x) → (q : ℕ) (x : X) → Has (put_by f m k o) q x → P q x
+  put_has : (m : FinMap nat_cmp X) (k : ℕ) (o : Option X) → ((q : ℕ) (x : X) → Has m q x → P q x) → ((x : X) → o ≡ Some x → P k x) → (q : ℕ) (x : X) → Has (put_if_some f m k o) q x → P q x
   put_has m k None h g q x e = h q x e
   put_has m k (Some y) h g q x e = ⊎_elim
       (λ (t : (q ≡ k) × (f (get m k) y ≡ x)). subst (λ (p : ℕ × X). P p.0 p.1) (λ i. (sym t.0 i, t.1 i)) (one_of k (get m k) y (λ z is. h k z is) (g y refl)))
@@ -37,7 +37,7 @@ module _ {X : Type 0} (f : Option X → X → X) (P : ℕ → X → Type 0) (one
 
   laid_has_at : (upper : FinMap nat_cmp X) → ((q : ℕ) (x : X) → Has upper q x → P q x) → (ks : List ℕ) (m : FinMap nat_cmp X) → ((q : ℕ) (x : X) → Has m q x → P q x) → (q : ℕ) (x : X) → Has (laid_at f m upper ks) q x → P q x
   laid_has_at upper g [] m h q x e = h q x e
-  laid_has_at upper g (k ∷ ks) m h q x e = laid_has_at upper g ks (put_by f m k (get upper k)) (put_has m k (get upper k) h (λ y is. g k y is)) q x e
+  laid_has_at upper g (k ∷ ks) m h q x e = laid_has_at upper g ks (put_if_some f m k (get upper k)) (put_has m k (get upper k) h (λ y is. g k y is)) q x e
 
   -- what holds of each key of both maps holds of each key of the one laid over the other
   pub laid_has : (m upper : FinMap nat_cmp X) → ((q : ℕ) (x : X) → Has m q x → P q x) → ((q : ℕ) (x : X) → Has upper q x → P q x) → (q : ℕ) (x : X) → Has (laid_over f m upper) q x → P q x
@@ -48,25 +48,25 @@ or_rest false c e h = h
 or_rest true c e h = absurd (cc)
 
 module _ {X : Type 0} (f : Option X → X → X) where
-  put_keeps : (m : FinMap nat_cmp X) (k : ℕ) (o : Option X) (q : ℕ) → HasKey m q → HasKey (put_by f m k o) q
+  put_keeps : (m : FinMap nat_cmp X) (k : ℕ) (o : Option X) (q : ℕ) → HasKey m q → HasKey (put_if_some f m k o) q
   put_keeps m k None q h = h
   put_keeps m k (Some x) q h = let y : X = f (get m k) x in dite (ℕ_discrete q k)
       (λ e. subst (HasKey (insert m k y)) (sym e) (key_of (insert m k y) k y (insert_same m k y)))
       (λ ne. let p = has_key m q h in key_of (insert m k y) q p.0 (insert_other m k q y ne ∙ p.1))
 
-  put_takes : (m : FinMap nat_cmp X) (k : ℕ) (o : Option X) → IsTrue (is_some o) → HasKey (put_by f m k o) k
+  put_takes : (m : FinMap nat_cmp X) (k : ℕ) (o : Option X) → IsTrue (is_some o) → HasKey (put_if_some f m k o) k
   put_takes m k (Some x) h = let y : X = f (get m k) x in key_of (insert m k y) k y (insert_same m k y)
   put_takes m k None h = let e : false ≡ true = h in absurd (cc)
 
   keeps_at : (upper : FinMap nat_cmp X) (ks : List ℕ) (m : FinMap nat_cmp X) (q : ℕ) → HasKey m q → HasKey (laid_at f m upper ks) q
   keeps_at upper [] m q h = h
-  keeps_at upper (k ∷ ks) m q h = keeps_at upper ks (put_by f m k (get upper k)) q (put_keeps m k (get upper k) q h)
+  keeps_at upper (k ∷ ks) m q h = keeps_at upper ks (put_if_some f m k (get upper k)) q (put_keeps m k (get upper k) q h)
 
   takes_at : (upper : FinMap nat_cmp X) (q : ℕ) → HasKey upper q → (ks : List ℕ) (m : FinMap nat_cmp X) → list_any (eq_by_cmp nat_cmp q) ks ≡ true → HasKey (laid_at f m upper ks) q
   takes_at upper q h [] m e = absurd (cc)
   takes_at upper q h (k ∷ ks) m e = dite (ℕ_discrete q k)
-      (λ is. keeps_at upper ks (put_by f m k (get upper k)) q (subst (HasKey (put_by f m k (get upper k))) (sym is) (put_takes m k (get upper k) (subst (HasKey upper) is h))))
-      (λ ne. takes_at upper q h ks (put_by f m k (get upper k)) (or_rest (eq_by_cmp nat_cmp q k) (list_any (eq_by_cmp nat_cmp q) ks) (unsigned_tied q k ∙ ne_eqb q k ne) e))
+      (λ is. keeps_at upper ks (put_if_some f m k (get upper k)) q (subst (HasKey (put_if_some f m k (get upper k))) (sym is) (put_takes m k (get upper k) (subst (HasKey upper) is h))))
+      (λ ne. takes_at upper q h ks (put_if_some f m k (get upper k)) (or_rest (eq_by_cmp nat_cmp q k) (list_any (eq_by_cmp nat_cmp q) ks) (unsigned_tied q k ∙ ne_eqb q k ne) e))
 
   pub laid_keeps : (m upper : FinMap nat_cmp X) (q : ℕ) → HasKey m q → HasKey (laid_over f m upper) q
   laid_keeps m upper q h = keeps_at upper (keys upper) m q h
@@ -99,7 +99,7 @@ total_gone f (x ∷ xs) (suc j) v e l = let h : total f (set xs j spent) + f v �
 
 module _ (z : HeapSize) (agents : ℕ) (W : List ℕ) (vs : List View) (s : IsSound z agents W vs) (j o : ℕ) (v b : View) (ne : j ≢ o) (at : At vs j v) (live : v.live ≡ true) (at_other : At vs o b) (live_other : b.live ≡ true) where
   abbrev w : View
-  w = joined v b
+  w = joined_view v b
 
   abbrev one : List View
   one = set vs j w

@@ -8,7 +8,7 @@ use Rattle.heap_rule.specs.declared.size.HeapSize.{HeapSize}
 use Rattle.heap_rule.specs.Layout.{content, length_word, IsBorn}
 use Rattle.heap_rule.specs.Contents.{units_of}
 use Rattle.heap_rule.specs.Maps.{Has, HasKey}
-use Rattle.heap_rule.specs.Views.{HasLength, IsFrozen, IsKnown}
+use Rattle.heap_rule.specs.Views.{HasLength, IsFrozen, MayUse}
 use Rattle.heap_rule.specs.Sound.{At, IsKept, IsStanding, Knows, IsSound}
 use Rattle.heap_rule.specs.Loads.{MayLoadWord, loaded_word, loaded_length}
 use Rattle.heap_rule.proofs.MapLemmas.{has_insert, has_key}
@@ -38,7 +38,7 @@ module _ (z : HeapSize) (W : List ℕ) (vs : List View) (stand : (i : ℕ) → I
       let lo = t.7 in let hi = t.8 in f.shows.1 c lo (omega arith)) h
 
 module _ (z : HeapSize) (agents : ℕ) (W : List ℕ) (vs : List View) (s : IsSound z agents W vs) (j : ℕ) (v : View) (at : At vs j v) (live : v.live ≡ true) where
-  pub keeps_loaded_length : (i : ℕ) → IsKnown v i → IsSound z agents W (set vs j (loaded_length v i (length_word z W i)))
+  pub keeps_loaded_length : (i : ℕ) → MayUse v i → IsSound z agents W (set vs j (loaded_length v i (length_word z W i)))
   keeps_loaded_length i known = let x : ℕ = length_word z W i in let w : View = loaded_length v i x in let agrees : Agrees z W vs W (set vs j w) = same_words z agents W vs s j v at live w refl in let k = knew z agents W vs s j v at live W w agrees in
       unmoved z agents W vs s j v at live w live refl refl refl refl refl refl
       record {

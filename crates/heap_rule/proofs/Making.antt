@@ -4,7 +4,7 @@ use Rattle.std.specs.Prelude.{replicate}
 use mathlib.Core.Option.{some-injective, some-ne-none}
 use Rattle.heap_rule.specs.declared.view.View.{View}
 use Rattle.heap_rule.specs.declared.size.HeapSize.{HeapSize}
-use Rattle.heap_rule.specs.Layout.{word_count, form_at, slot_at, slot, IsBorn, IsLawful}
+use Rattle.heap_rule.specs.Layout.{word_count, form_at, slot_at, slot, IsBorn, IsLawfulSize}
 use Rattle.heap_rule.specs.Sound.{EachLive, IsSound}
 use Rattle.heap_rule.specs.Agents.{first_view}
 use Rattle.heap_rule.proofs.MapLemmas.{nothing_has, has_key}
@@ -25,7 +25,7 @@ only : (P : ℕ → View → Type 0) (w : View) → P 0 w → EachLive (w ∷ []
 only P w h zero v e l = subst (P 0) (some-injective w v e) h
 only P w h (suc j) v e l = absurd (some-ne-none v (sym e))
 
-module _ (z : HeapSize) (agents : ℕ) (lawful : IsLawful z) (some_agent : 1 ≤ agents) where
+module _ (z : HeapSize) (agents : ℕ) (lawful : IsLawfulSize z) (some_agent : 1 ≤ agents) where
   abbrev W : List ℕ
   W = replicate (word_count z) 0
 

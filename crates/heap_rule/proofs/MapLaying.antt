@@ -4,7 +4,7 @@ use Rattle.std.specs.List.{All}
 use Rattle.std.specs.Ordering.{nat_cmp}
 use Rattle.std.specs.FinMap.{FinMap, get, insert, entries, empty, same_map, nat_cmp-IsAntisymmetric}
 use Rattle.std.specs.Cmp.{nat_cmp_total}
-use Rattle.heap_rule.specs.Maps.{Has, put_by, laid_at, laid_over, upper_one}
+use Rattle.heap_rule.specs.Maps.{Has, put_if_some, laid_at, laid_over, upper_one}
 use Rattle.heap_rule.proofs.MapLemmas.{nothing_has, has_key, key_of}
 use Rattle.heap_rule.proofs.Joining.{laid_has, laid_takes}
 
@@ -23,9 +23,9 @@ module _ {X : Type 0} (f : Option X → X → X) (upper all : FinMap nat_cmp X) 
   -- the next entry
   pub lay_step : (m m' : FinMap nat_cmp X) (s t : List (ℕ × X)) (k : ℕ) (x y : X) → s ≡ (k, x) ∷ t → laid_at f m upper (map (λ e. e.0) s) ≡ all → All IsFound s → m' ≡ insert m k y → y ≡ f (get m k) x
       → (laid_at f m' upper (map (λ e. e.0) t) ≡ all) × All IsFound t
-  lay_step m m' s t k x y e h g is val = let h' : laid_at f (put_by f m k (get upper k)) upper (map (λ e. e.0) t) ≡ all = subst (λ (l : List (ℕ × X)). laid_at f m upper (map (λ e. e.0) l) ≡ all) e h in
+  lay_step m m' s t k x y e h g is val = let h' : laid_at f (put_if_some f m k (get upper k)) upper (map (λ e. e.0) t) ≡ all = subst (λ (l : List (ℕ × X)). laid_at f m upper (map (λ e. e.0) l) ≡ all) e h in
       let g' : All IsFound ((k, x) ∷ t) = subst (All IsFound) e g in let here : get upper k ≡ Some x = g' 0 (k, x) (omega arith) in (
-        (λ i. laid_at f ((is ∙ (ap (insert m k) val ∙ ap (put_by f m k) (sym here))) i) upper (map (λ e. e.0) t)) ∙ h',
+        (λ i. laid_at f ((is ∙ (ap (insert m k) val ∙ ap (put_if_some f m k) (sym here))) i) upper (map (λ e. e.0) t)) ∙ h',
         (λ j d l. g' (suc j) d (omega arith)),
       )
 

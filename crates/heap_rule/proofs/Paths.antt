@@ -4,7 +4,7 @@ use mathlib.Core.Logic.{dite}
 use native.Mathlib.Decide.{ℕ_discrete}
 use Rattle.std.proofs.Math.Nat.{mod-lt, mod-eq_of_lt, add-mod-mod, mod-add-mod, add-mod_right}
 use Rattle.js_units.specs.Lanes.{hash_of}
-use Rattle.heap_rule.specs.Paths.{path_from, path, rank, place}
+use Rattle.heap_rule.specs.Paths.{path_from, path, rank, path_slot}
 
 length_from : (n k m : ℕ) → length (path_from n k m) ≡ m
 length_from n k zero = refl
@@ -25,14 +25,14 @@ pub path_at : (u : List ℕ) (n k : ℕ) → k < n → get_or (path u n) (rank u
 path_at u n k l = let c : ℕ = hash_of u % n in let small : c < n = mod-lt (hash_of u) (omega arith) in let e : c + (k + (n - c)) ≡ k + n = omega arith in
     step_from n c n (rank u n k) (rank_inside u n k l) ∙ (add-mod-mod c (k + (n - c)) n ∙ (ap (λ (x : ℕ). x % n) e ∙ (add-mod_right k n ∙ mod-eq_of_lt l)))
 
-pub place_inside : (u : List ℕ) (n r : ℕ) → r < n → place u n r < n
+pub place_inside : (u : List ℕ) (n r : ℕ) → r < n → path_slot u n r < n
 place_inside u n r l = mod-lt (hash_of u % n + r) (omega arith)
 
-pub rank_place : (u : List ℕ) (n r : ℕ) → r < n → rank u n (place u n r) ≡ r
+pub rank_place : (u : List ℕ) (n r : ℕ) → r < n → rank u n (path_slot u n r) ≡ r
 rank_place u n r l = let c : ℕ = hash_of u % n in let small : c < n = mod-lt (hash_of u) (omega arith) in let e : c + r + (n - c) ≡ r + n = omega arith in
     mod-add-mod (c + r) n (n - c) ∙ (ap (λ (x : ℕ). x % n) e ∙ (add-mod_right r n ∙ mod-eq_of_lt l))
 
-pub place_rank : (u : List ℕ) (n k : ℕ) → k < n → place u n (rank u n k) ≡ k
+pub place_rank : (u : List ℕ) (n k : ℕ) → k < n → path_slot u n (rank u n k) ≡ k
 place_rank u n k l = let c : ℕ = hash_of u % n in let small : c < n = mod-lt (hash_of u) (omega arith) in let e : c + (k + (n - c)) ≡ k + n = omega arith in
     add-mod-mod c (k + (n - c)) n ∙ (ap (λ (x : ℕ). x % n) e ∙ (add-mod_right k n ∙ mod-eq_of_lt l))
 
@@ -44,14 +44,14 @@ module _ (P : ℕ → Type 0) (u : List ℕ) (n : ℕ) where
   pub ranks_none : Below 0
   ranks_none j l h = absurd (omega arith)
 
-  pub ranks_next : (r : ℕ) → Below r → P (place u n r) → Below (r + 1)
+  pub ranks_next : (r : ℕ) → Below r → P (path_slot u n r) → Below (r + 1)
   ranks_next r p here j l m = dite (ℕ_discrete (rank u n j) r)
-      (λ e. subst P (ap (place u n) (sym e) ∙ place_rank u n j l) here)
+      (λ e. subst P (ap (path_slot u n) (sym e) ∙ place_rank u n j l) here)
       (λ ne. let k : ℕ = rank u n j in let m' : k < r + 1 = m in let ne' : k ≢ r = ne in let lt : k < r = omega arith in p j l lt)
 
   pub ranks_all : Below n → (j : ℕ) → j < n → P j
   ranks_all p j l = p j l (rank_inside u n j l)
 
   -- the ranks below that of the slot of rank r
-  pub ranks_before : (r : ℕ) → r < n → Below r → Below (rank u n (place u n r))
+  pub ranks_before : (r : ℕ) → r < n → Below r → Below (rank u n (path_slot u n r))
   ranks_before r l p j m h = p j m (subst (λ (x : ℕ). rank u n j < x) (rank_place u n r l) h)

@@ -6,11 +6,11 @@ use Rattle.js_header.specs.declared.form.Form.{Form}
 use Rattle.js_header.specs.declared.form.Form.TheVariants.{Unborn, Flat, Cons, Sliced, Thin}
 use Rattle.heap_rule.specs.declared.view.View.{View}
 use Rattle.heap_rule.specs.declared.size.HeapSize.{HeapSize}
-use Rattle.heap_rule.specs.Layout.{content, length_word, MAX, IsLawful}
+use Rattle.heap_rule.specs.Layout.{content, length_word, MAX, IsLawfulSize}
 use Rattle.heap_rule.specs.Contents.{lane_in, span, units_of}
 use Rattle.heap_rule.specs.Maps.{Has, HasKey}
 use Rattle.heap_rule.specs.Forms.{IsLater}
-use Rattle.heap_rule.specs.Views.{IsFrozen, HasLength, LeadsTo, shown}
+use Rattle.heap_rule.specs.Views.{IsFrozen, HasLength, LeadsTo, shown_word}
 use Rattle.std.proofs.Math.Logic.{∥∥₁_elim}
 use Rattle.std.proofs.Props.{props}
 use Rattle.heap_rule.specs.Sound.{Knows, IsPossible, StandsIn}
@@ -29,10 +29,10 @@ pub possible_frozen : (v : View) → IsPossible v → (c : ℕ) → IsFrozen v c
 possible_frozen v p c h = ∥∥₁_elim p (Prim.hlevel props) (λ t. frozen_in v t c h)
 
 -- the sizes are those of a heap
-lawful_in : (v : View) → StandsIn v → IsLawful v.sizes
-lawful_in v (z, agents, W, vs, j, s, at, live) = subst IsLawful (sym (sizes_are z agents W vs s j v at live)) s.lawful
+lawful_in : (v : View) → StandsIn v → IsLawfulSize v.sizes
+lawful_in v (z, agents, W, vs, j, s, at, live) = subst IsLawfulSize (sym (sizes_are z agents W vs s j v at live)) s.lawful
 
-pub possible_lawful : (v : View) → IsPossible v → IsLawful v.sizes
+pub possible_lawful : (v : View) → IsPossible v → IsLawfulSize v.sizes
 possible_lawful v p = ∥∥₁_elim p (Prim.hlevel props) (λ t. lawful_in v t)
 
 -- a length that is known is that of the units
@@ -91,32 +91,32 @@ module _ (z : HeapSize) (W : List ℕ) (vs : List View) (v : View) (k : Knows z 
 
 -- what the view has of a word under the Flat to which it leads shows the unit of the string
 unit_in : (v : View) → StandsIn v → (s i offset : ℕ) (wide : Bool) (start : ℕ) (fixed : Bool) (us : List ℕ) (o : ℕ) → LeadsTo v s i offset → Has v.forms i (Flat wide start fixed) → Has v.units s us → o < length us
-    → HasKey v.own_words (start + (offset + o) / lane_count wide) ⊎ HasKey v.frozen (start + (offset + o) / lane_count wide) → lane_in (shown v) wide start (offset + o) ≡ get_or us o 0
+    → HasKey v.own_words (start + (offset + o) / lane_count wide) ⊎ HasKey v.frozen (start + (offset + o) / lane_count wide) → lane_in (shown_word v) wide start (offset + o) ≡ get_or us o 0
 unit_in v (z, agents, W, vs, j, s, at, live) q i offset wide start fixed us o way f h l has = let k = s.knows j v at live in let u = k.of_units q us h in let form = k.of_forms i (Flat wide start fixed) f in
     let c : ℕ = start + (offset + o) / lane_count wide in
-    let word : shown v c ≡ content z W c = shown_by (get v.own_words c) (get v.frozen c) (content z W c) (λ x e. ((s.own_words j v at live).each c x e).1) (λ x e. (k.of_frozen c x e).1) has in
+    let word : shown_word v c ≡ content z W c = shown_by (get v.own_words c) (get v.frozen c) (content z W c) (λ x e. ((s.own_words j v at live).each c x e).1) (λ x e. (k.of_frozen c x e).1) has in
     let n : length_word z W i ≡ length (units_of z W i) = (s.standing i form.born).length_is in let room = led_within z W vs v k q i offset us u.1 way in
     let plain : 0 + (offset + o) ≡ offset + o = omega arith in
-    lane_same (shown v) (content z W) wide start (offset + o) word
+    lane_same (shown_word v) (content z W) wide start (offset + o) word
     ∙ sym (led_unit z W vs v k q i offset o us u.1 way l ∙ (ap (λ (xs : List ℕ). get_or xs (offset + o) 0) form.shows.0
     ∙ (span_lane (content z W) wide start 0 (length_word z W i) (offset + o) (omega arith) ∙ ap (λ (x : ℕ). lane_in (content z W) wide start x) plain)))
 
 pub possible_unit : (v : View) → IsPossible v → (s i offset : ℕ) (wide : Bool) (start : ℕ) (fixed : Bool) (us : List ℕ) (o : ℕ) → LeadsTo v s i offset → Has v.forms i (Flat wide start fixed) → Has v.units s us → o < length us
-    → HasKey v.own_words (start + (offset + o) / lane_count wide) ⊎ HasKey v.frozen (start + (offset + o) / lane_count wide) → lane_in (shown v) wide start (offset + o) ≡ get_or us o 0
+    → HasKey v.own_words (start + (offset + o) / lane_count wide) ⊎ HasKey v.frozen (start + (offset + o) / lane_count wide) → lane_in (shown_word v) wide start (offset + o) ≡ get_or us o 0
 possible_unit v p q i offset wide start fixed us o way f h l has = ∥∥₁_elim p (Prim.hlevel props) (λ t. unit_in v t q i offset wide start fixed us o way f h l has)
 
 -- what the view has of a word under a Flat shows the unit of its id
 lane_there : (v : View) → StandsIn v → (i : ℕ) (wide : Bool) (start : ℕ) (fixed : Bool) (us : List ℕ) (o : ℕ) → Has v.forms i (Flat wide start fixed) → Has v.units i us → o < length us
-    → HasKey v.own_words (start + o / lane_count wide) ⊎ HasKey v.frozen (start + o / lane_count wide) → lane_in (shown v) wide start o ≡ get_or us o 0
+    → HasKey v.own_words (start + o / lane_count wide) ⊎ HasKey v.frozen (start + o / lane_count wide) → lane_in (shown_word v) wide start o ≡ get_or us o 0
 lane_there v (z, agents, W, vs, j, s, at, live) i wide start fixed us o f h l has = let k = s.knows j v at live in let u = k.of_units i us h in let c : ℕ = start + o / lane_count wide in
-    let word : shown v c ≡ content z W c = shown_by (get v.own_words c) (get v.frozen c) (content z W c) (λ x e. ((s.own_words j v at live).each c x e).1) (λ x e. (k.of_frozen c x e).1) has in
+    let word : shown_word v c ≡ content z W c = shown_by (get v.own_words c) (get v.frozen c) (content z W c) (λ x e. ((s.own_words j v at live).each c x e).1) (λ x e. (k.of_frozen c x e).1) has in
     let n : length_word z W i ≡ length us = (s.standing i u.0).length_is ∙ ap length u.1 in
     let spans : us ≡ span (content z W) wide start 0 (length us) = sym u.1 ∙ ((k.of_forms i (Flat wide start fixed) f).shows.0 ∙ ap (λ (m : ℕ). span (content z W) wide start 0 m) n) in
     let plain : 0 + o ≡ o = omega arith in
-    lane_same (shown v) (content z W) wide start o word ∙ sym (ap (λ (xs : List ℕ). get_or xs o 0) spans ∙ (span_lane (content z W) wide start 0 (length us) o l ∙ ap (λ (x : ℕ). lane_in (content z W) wide start x) plain))
+    lane_same (shown_word v) (content z W) wide start o word ∙ sym (ap (λ (xs : List ℕ). get_or xs o 0) spans ∙ (span_lane (content z W) wide start 0 (length us) o l ∙ ap (λ (x : ℕ). lane_in (content z W) wide start x) plain))
 
 pub possible_lane : (v : View) → IsPossible v → (i : ℕ) (wide : Bool) (start : ℕ) (fixed : Bool) (us : List ℕ) (o : ℕ) → Has v.forms i (Flat wide start fixed) → Has v.units i us → o < length us
-    → HasKey v.own_words (start + o / lane_count wide) ⊎ HasKey v.frozen (start + o / lane_count wide) → lane_in (shown v) wide start o ≡ get_or us o 0
+    → HasKey v.own_words (start + o / lane_count wide) ⊎ HasKey v.frozen (start + o / lane_count wide) → lane_in (shown_word v) wide start o ≡ get_or us o 0
 possible_lane v p i wide start fixed us o f h l has = ∥∥₁_elim p (Prim.hlevel props) (λ t. lane_there v t i wide start fixed us o f h l has)
 
 none_later : (f : Form) (wide : Bool) (start : ℕ) → IsLater f (Flat wide start true) → ⊥

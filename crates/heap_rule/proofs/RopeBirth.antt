@@ -16,8 +16,8 @@ use Rattle.heap_rule.specs.Layout.{MAX, form_at, length_at, content_at, next_id,
 use Rattle.heap_rule.specs.Contents.{shape, shape_by, solid, units_by, units_of, units_in}
 use Rattle.heap_rule.specs.Maps.{Has, HasKey}
 use Rattle.heap_rule.specs.Forms.{IsCons, IsSliced, IsSolid, IsSolidForm, IsLater, IsNarrow}
-use Rattle.heap_rule.specs.Births.{shown_part, units_for, Fits, born_with}
-use Rattle.heap_rule.specs.Sound.{At, IsStanding, Stands, Shows, KnowsForm, OwnsIds, OwnsWords, IsSound}
+use Rattle.heap_rule.specs.Births.{shown_part, units_for, FormFits, born_with}
+use Rattle.heap_rule.specs.Sound.{At, IsStanding, StandsAs, Shows, KnowsForm, OwnsIds, OwnsWords, IsSound}
 use Rattle.heap_rule.proofs.MapLemmas.{has_insert, has_remove, has_key, key_of}
 use Rattle.heap_rule.proofs.UnitLemmas.{units_step}
 use Rattle.heap_rule.proofs.Agreement.{Agrees, low, solid_stays, units_then}
@@ -111,7 +111,7 @@ module _ (z : HeapSize) (agents : ℕ) (W : List ℕ) (vs : List View) (s : IsSo
     unfolding shape
     shown_now = units_step (shape z W') (low z W') i ∙ ap (λ (o : Option Form). units_by (units_in (shape z W')) (shape_by z W' i o)) decodes
 
-    module _ (units_now : units_of z W' i ≡ us) (size : length us ≡ n) (real : f ≢ Unborn) (stands : Stands z W' vs' i f) where
+    module _ (units_now : units_of z W' i ≡ us) (size : length us ≡ n) (real : f ≢ Unborn) (stands : StandsAs z W' vs' i f) where
       born_now : IsBorn z W' i
       born_now = (inside, λ e. real (let d : Some Unborn ≡ Some f = ap form_of (sym e) ∙ decodes in let same : f ≡ Unborn = cc in same))
 
@@ -175,7 +175,7 @@ module _ (z : HeapSize) (agents : ℕ) (W : List ℕ) (vs : List View) (s : IsSo
       }
 
   -- a Cons
-  module _ (wide : Bool) (left right : ℕ) (fits : Fits v i n (Cons wide left right)) where
+  module _ (wide : Bool) (left right : ℕ) (fits : FormFits v i n (Cons wide left right)) where
     abbrev cons : Form
     cons = Cons wide left right
 
@@ -207,7 +207,7 @@ module _ (z : HeapSize) (agents : ℕ) (W : List ℕ) (vs : List View) (s : IsSo
     joint_now = shown_now cons cons_range joint
         ∙ (if_both [] [] (units_of z cons_words) left right (nat_lt left i) (nat_lt right i) (lt-ltb left i fits.0) (lt-ltb right i fits.1) ∙ (λ d. left_now d ++ right_now d))
 
-    cons_stands : Stands z cons_words (vs' cons cons_range joint) i cons
+    cons_stands : StandsAs z cons_words (vs' cons cons_range joint) i cons
     cons_stands = (
       fits.0,
       fits.1,
@@ -230,7 +230,7 @@ module _ (z : HeapSize) (agents : ℕ) (W : List ℕ) (vs : List View) (s : IsSo
     agrees_cons_birth = subst (λ (xs : List ℕ). Agrees z W vs cons_words (set vs j (record v { own_ids = remove v.own_ids i; units = insert v.units i xs; forms = insert v.forms i cons; lengths = insert v.lengths i n }))) (sym units_are) (agrees_rope cons cons_range joint)
 
   -- a Sliced
-  module _ (wide : Bool) (parent offset : ℕ) (fits : Fits v i n (Sliced wide parent offset)) where
+  module _ (wide : Bool) (parent offset : ℕ) (fits : FormFits v i n (Sliced wide parent offset)) where
     abbrev sliced : Form
     sliced = Sliced wide parent offset
 
@@ -265,7 +265,7 @@ module _ (z : HeapSize) (agents : ℕ) (W : List ℕ) (vs : List View) (s : IsSo
     parent_form : form z sliced_words parent ≡ form z W parent
     parent_form = let a = fits.0 in forms sliced sliced_range piece parent (λ e. omega arith)
 
-    sliced_stands : Stands z sliced_words (vs' sliced sliced_range piece) i sliced
+    sliced_stands : StandsAs z sliced_words (vs' sliced sliced_range piece) i sliced
     sliced_stands = (
       fits.0,
       born_still sliced sliced_range piece parent parent_is.0,

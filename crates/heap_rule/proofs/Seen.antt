@@ -15,9 +15,9 @@ use Rattle.heap_rule.specs.Contents.{units_of}
 use Rattle.heap_rule.specs.Maps.{Has}
 use Rattle.heap_rule.specs.Paths.{Calls}
 use Rattle.heap_rule.specs.Views.{history}
-use Rattle.heap_rule.specs.Sound.{At, IsStanding, Stands, KnowsForm, Knows, IsSound}
+use Rattle.heap_rule.specs.Sound.{At, IsStanding, StandsAs, KnowsForm, Knows, IsSound}
 use Rattle.heap_rule.specs.HeaderMoves.{seen_form}
-use Rattle.heap_rule.specs.Slots.{with_slot, MayEnter, entered, loaded_slot}
+use Rattle.heap_rule.specs.Slots.{with_slot, MayEnter, calls_entered, loaded_slot}
 use Rattle.heap_rule.proofs.MapLemmas.{has_insert, insert_same, insert_other, key_insert}
 use Rattle.heap_rule.proofs.Agreement.{Agrees}
 use Rattle.heap_rule.proofs.Carried.{standing_then}
@@ -40,7 +40,7 @@ module _ (z : HeapSize) (agents : ℕ) (W : List ℕ) (vs : List View) (s : IsSo
         of_met = k.of_met;
         of_units = k.of_units;
         of_forms = λ q g h. ⊎_elim (λ (t : (q ≡ i) × (f ≡ g)). subst (λ (y : ℕ × Form). KnowsForm z W vs' y.0 y.1) (λ d. (sym t.0 d, t.1 d))
-            record { born = b; now = f; decodes = st.decodes; later = inl refl; shows = stands_shows z W vs' stand' i f st.decodes (subst (Stands z W vs' i) same now.stands) })
+            record { born = b; now = f; decodes = st.decodes; later = inl refl; shows = stands_shows z W vs' stand' i f st.decodes (subst (StandsAs z W vs' i) same now.stands) })
             (λ (t : (q ≢ i) × Has v.forms q g). k.of_forms q g t.1) (has_insert v.forms i q f g h);
         of_lengths = k.of_lengths;
         of_frozen = k.of_frozen;
@@ -70,7 +70,7 @@ module _ (z : HeapSize) (agents : ℕ) (W : List ℕ) (vs : List View) (s : IsSo
 
     -- what the history has after a call entered it
     entered_right : (entry : Option (List ℕ)) → MayEnter v k entry → (slots : FinMap nat_cmp ℕ) → ((l q : ℕ) → Has v.slots l q → Has slots l q)
-        → (u : List ℕ) (q : ℕ) → Contains (v.seen ++ entered v k entry) (u, q) → ((l : ℕ) × Has slots l q) × (u ≡ units_of z W q)
+        → (u : List ℕ) (q : ℕ) → Contains (v.seen ++ calls_entered v k entry) (u, q) → ((l : ℕ) × Has slots l q) × (u ≡ units_of z W q)
     entered_right None may slots kept u q c = let r = s.recalls j v at live u q c in ((r.0.0, kept r.0.0 q r.0.1), r.1)
     entered_right (Some us) (i, saw, units) slots kept u q c = let x : ℕ = unwrap_or (get v.slots k) 0 in let is : x ≡ i = ap (λ (o : Option ℕ). unwrap_or o 0) saw in ⊎_elim
         (λ (h : Contains (history v) (u, q)). let r = s.recalls j v at live u q h in ((r.0.0, kept r.0.0 q r.0.1), r.1))
@@ -78,7 +78,7 @@ module _ (z : HeapSize) (agents : ℕ) (W : List ℕ) (vs : List View) (s : IsSo
         ((k, subst (Has slots k) second (kept k i saw)), sym first ∙ (sym ((s.knows j v at live).of_units i us units).1 ∙ ap (units_of z W) second)))
         (last_or (history v) (us, x) (u, q) (subst (λ (l : Calls). Contains l (u, q)) (sym (append_assoc v.seen v.mine ((us, x) ∷ []))) c))
 
-    entered_still : (entry : Option (List ℕ)) (u : List ℕ) (q : ℕ) → Contains v.mine (u, q) → Contains (entered v k entry) (u, q)
+    entered_still : (entry : Option (List ℕ)) (u : List ℕ) (q : ℕ) → Contains v.mine (u, q) → Contains (calls_entered v k entry) (u, q)
     entered_still None u q h = h
     entered_still (Some us) u q h = Contains-append_left v.mine ((us, unwrap_or (get v.slots k) 0) ∷ []) (u, q) h
 

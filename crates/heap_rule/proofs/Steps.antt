@@ -8,9 +8,9 @@ use Rattle.heap_rule.specs.declared.size.HeapSize.{HeapSize}
 use Rattle.heap_rule.specs.declared.size.Counter.{Counter}
 use Rattle.heap_rule.specs.declared.size.Counter.TheVariants.{Ids, Words}
 use Rattle.heap_rule.specs.declared.size.Counters.{Counters}
-use Rattle.heap_rule.specs.Layout.{counter_at, end_of, form_at, length_at, content_at, next_id, next_word, form, length_word, content, MAX, with_count, count_in}
+use Rattle.heap_rule.specs.Layout.{counter_at, end_of, form_at, length_at, content_at, next_id, next_word, form, length_word, content, MAX, with_count, counter_value}
 use Rattle.heap_rule.specs.Maps.{Has, HasKey, with_run}
-use Rattle.heap_rule.specs.Views.{IsKnown}
+use Rattle.heap_rule.specs.Views.{MayUse}
 use Rattle.heap_rule.specs.Sound.{At, IsFree, IsKept, IsCounted, OwnsIds, OwnsWords, Knows, Recalls, AreAdded, IsLow, IsSound, IsWithin, IsPossible, StandsIn, total}
 use Rattle.std.proofs.Math.Logic.{∥∥₁_elim}
 use Rattle.std.proofs.Props.{props}
@@ -346,17 +346,17 @@ module _ (z : HeapSize) (agents : ℕ) (W : List ℕ) (vs : List View) (s : IsSo
       }
 
   -- what the rule says of a counter
-  pub counter_found : (k : Counter) → (count_in v.low k ≤ get_or W (counter_at k) 0) × (get_or W (counter_at k) 0 ≤ end_of v.sizes k)
+  pub counter_found : (k : Counter) → (counter_value v.low k ≤ get_or W (counter_at k) 0) × (get_or W (counter_at k) 0 ≤ end_of v.sizes k)
   counter_found Ids = let l = (s.lows j v at live).0 in let e = s.counted.ids_end in (omega arith, subst (λ (y : HeapSize). next_id W ≤ y.ids) (sym sizes_are) e)
   counter_found Words = let l = (s.lows j v at live).1 in let e = s.counted.words_end in (omega arith, subst (λ (y : HeapSize). next_word W ≤ y.words) (sym sizes_are) e)
 
   -- a known id lies below the counter
-  pub known_below : (i : ℕ) → IsKnown v i → i < next_id W
+  pub known_below : (i : ℕ) → MayUse v i → i < next_id W
   known_below i h = let k = s.knows j v at live in ⊎_elim (λ g. let p = has_key v.units i g in (s.standing i (k.of_units i p.0 p.1).0).below) (λ g. (s.standing i (k.of_met i g)).below) h
 
   pub within : IsWithin v
   within = let e = s.counted in let a = e.ids_end in let b = e.words_end in record {
-    known = subst (λ (y : HeapSize). (i : ℕ) → IsKnown v i → i < y.ids) (sym sizes_are) (λ i h. let l = known_below i h in omega arith);
+    known = subst (λ (y : HeapSize). (i : ℕ) → MayUse v i → i < y.ids) (sym sizes_are) (λ i h. let l = known_below i h in omega arith);
     ids = subst (λ (y : HeapSize). (i : ℕ) → HasKey v.own_ids i → i < y.ids) (sym sizes_are) (λ i h. let p = has_key v.own_ids i h in let l = ((s.own_ids j v at live).each i p.0 p.1).0 in omega arith);
     words = subst (λ (y : HeapSize). (c : ℕ) → HasKey v.own_words c → c < y.words) (sym sizes_are) (λ c h. let p = has_key v.own_words c h in let l = ((s.own_words j v at live).each c p.0 p.1).0 in omega arith);
   }

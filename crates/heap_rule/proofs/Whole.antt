@@ -7,7 +7,7 @@ use Rattle.heap_rule.specs.declared.view.View.{View}
 use Rattle.heap_rule.specs.declared.size.HeapSize.{HeapSize}
 use Rattle.heap_rule.specs.declared.size.Counter.{Counter}
 use Rattle.heap_rule.specs.declared.size.Counter.TheVariants.{Ids, Words}
-use Rattle.heap_rule.specs.Layout.{count_in, counter_at, slot}
+use Rattle.heap_rule.specs.Layout.{counter_value, counter_at, slot}
 use Rattle.heap_rule.specs.Sound.{At, EachLive, IsSound, of_live, total}
 use Rattle.heap_rule.proofs.ListLemmas.{of_live_true}
 
@@ -68,7 +68,7 @@ module _ (z : HeapSize) (agents : ℕ) (W : List ℕ) (vs : List View) (s : IsSo
   shares k u at' l = (s.members k u at' l).0
 
   -- the counter is what the agent used
-  pub whole_counter : (k : Counter) → v.share ≡ v.agents → get_or W (counter_at k) 0 ≡ count_in v.used k
+  pub whole_counter : (k : Counter) → v.share ≡ v.agents → get_or W (counter_at k) 0 ≡ counter_value v.used k
   whole_counter Ids e = s.added.ids ∙ alone (λ u. u.used.ids) vs j v at live shares (s.added.shares ∙ (sym (s.members j v at live).2 ∙ sym e))
   whole_counter Words e = s.added.words ∙ alone (λ u. u.used.words) vs j v at live shares (s.added.shares ∙ (sym (s.members j v at live).2 ∙ sym e))
 

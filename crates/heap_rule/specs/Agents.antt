@@ -79,8 +79,8 @@ abbrev pub MayJoin : View → View → Type 0
 MayJoin v b = (b.live ≡ true) × StartsWith b.seen v.seen × StartsWith (history v) b.seen
 
 -- v has what both have; of two forms of an id the later one, and its own where neither is later
-abbrev pub joined : View → View → View
-joined v b = record {
+abbrev pub joined_view : View → View → View
+joined_view v b = record {
   sizes = v.sizes;
   agents = v.agents;
   live = v.live;

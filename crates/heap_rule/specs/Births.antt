@@ -10,7 +10,7 @@ use Rattle.heap_rule.specs.Layout.{MAX}
 use Rattle.heap_rule.specs.Contents.{span, lane_in}
 use Rattle.heap_rule.specs.Maps.{Has, HasKey, without_run, with_run_of, first_some, first_in}
 use Rattle.heap_rule.specs.Forms.{IsCons, IsSliced, IsNarrow}
-use Rattle.heap_rule.specs.Views.{shown}
+use Rattle.heap_rule.specs.Views.{shown_word}
 
 -- storing an own content word
 abbrev pub stored_word : View → ℕ → ℕ → View
@@ -50,7 +50,7 @@ shown_part v p o n = first_some (part_within o n 0 (get v.units p))
 
 -- the n units that a form will show, by what the view has
 abbrev pub units_for : View → ℕ → Form → List ℕ
-units_for v n (Flat wide start fixed) = span (shown v) wide start 0 n
+units_for v n (Flat wide start fixed) = span (shown_word v) wide start 0 n
 units_for v n (Cons wide left right) = unwrap_or (get v.units left) [] ++ unwrap_or (get v.units right) []
 units_for v n (Sliced wide parent offset) = unwrap_or (shown_part v parent offset n) []
 units_for v n _ = []
@@ -65,21 +65,21 @@ IsParent v p = ((f : Form) × Has v.forms p f × (IsCons f → ⊥) × (IsSliced
 -- that are not wide are below 256 anyhow.
 -- A Cons: two known strings with smaller ids, neither empty, of n units together, at least 13.
 -- A Sliced: at least 13 units, which the view shows to be a part of a parent with a smaller id.
-abbrev pub Fits : View → ℕ → ℕ → Form → Type 0
-Fits v i n (Flat wide start fixed) = (start < 2 ^ 29)
+abbrev pub FormFits : View → ℕ → ℕ → Form → Type 0
+FormFits v i n (Flat wide start fixed) = (start < 2 ^ 29)
     × ((c : ℕ) → start ≤ c → c < start + words_over wide n → HasKey v.own_words c ⊎ HasKey v.frozen c)
-    × ((o : ℕ) → n ≤ o → o < words_over wide n * lane_count wide → lane_in (shown v) wide start o ≡ 0)
+    × ((o : ℕ) → n ≤ o → o < words_over wide n * lane_count wide → lane_in (shown_word v) wide start o ≡ 0)
     × (n ≡ 0 → start ≡ 0)
-Fits v i n (Cons wide left right) = (left < i) × (right < i) × (13 ≤ n)
+FormFits v i n (Cons wide left right) = (left < i) × (right < i) × (13 ≤ n)
     × ((a : List ℕ) × (b : List ℕ) × Has v.units left a × Has v.units right b × (1 ≤ length a)
     × (1 ≤ length b) × (length a + length b ≡ n) × IsNarrow wide (a ++ b))
-Fits v i n (Sliced wide parent offset) = (parent < i) × (13 ≤ n) × IsParent v parent
+FormFits v i n (Sliced wide parent offset) = (parent < i) × (13 ≤ n) × IsParent v parent
     × ((us : List ℕ) × (shown_part v parent offset n ≡ Some us) × IsNarrow wide us)
-Fits v i n _ = ⊥
+FormFits v i n _ = ⊥
 
 -- the form may be published for the own id i: it fits the length that was stored for it
 abbrev pub MayBear : View → ℕ → Form → Type 0
-MayBear v i f = (n : ℕ) × Has v.own_ids i n × Fits v i n f
+MayBear v i f = (n : ℕ) × Has v.own_ids i n × FormFits v i n f
 
 -- the own ones of n content words become frozen
 abbrev pub freeze : View → ℕ → ℕ → View

@@ -4,7 +4,7 @@ use Rattle.std.specs.Prelude.{◌≡◌, ℕ, ◌+◌, ◌≤◌, ◌==◌, if�
 use Rattle.heap_rule.specs.declared.view.View.{View}
 use Rattle.heap_rule.specs.declared.size.Counter.{Counter}
 use Rattle.heap_rule.specs.declared.size.Counter.TheVariants.{Ids, Words}
-use Rattle.heap_rule.specs.Layout.{count_in, with_count, end_of}
+use Rattle.heap_rule.specs.Layout.{counter_value, with_count, end_of}
 use Rattle.heap_rule.specs.Maps.{with_run}
 
 -- the view has seen the counter at x
@@ -14,7 +14,7 @@ loaded_counter v k x = record v { low = with_count v.low k x }
 -- at most what was seen of the counter, within its end, and one id at a time
 abbrev pub MayClaim : View → Counter → ℕ → ℕ → Type 0
 MayClaim v k at want =
-    (at ≤ count_in v.low k) × (at + want ≤ end_of v.sizes k) × (1 ≤ want) × (k ≡ Ids → want ≡ 1)
+    (at ≤ counter_value v.low k) × (at + want ≤ end_of v.sizes k) × (1 ≤ want) × (k ≡ Ids → want ≡ 1)
 
 -- the pieces from `at` on are own, each with the word 0
 abbrev pub with_pieces : View → Counter → ℕ → ℕ → View
@@ -24,7 +24,7 @@ with_pieces v Words at want = record v { own_words = with_run v.own_words at wan
 -- the claim succeeded: the pieces are own and count as used, and the counter was seen behind them
 abbrev pub won_claim : View → Counter → ℕ → ℕ → View
 won_claim v k at want = record (with_pieces v k at want)
-    { used = with_count v.used k (count_in v.used k + want); low = with_count v.low k (at + want) }
+    { used = with_count v.used k (counter_value v.used k + want); low = with_count v.low k (at + want) }
 
 -- the compare-exchange of the counter from `at` to `at + want`
 abbrev pub claimed : View → Counter → ℕ → ℕ → ℕ → View

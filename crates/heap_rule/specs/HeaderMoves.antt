@@ -10,7 +10,7 @@ use Rattle.heap_rule.specs.declared.view.View.{View}
 use Rattle.heap_rule.specs.Contents.{span, lane_in}
 use Rattle.heap_rule.specs.Maps.{Has, HasKey}
 use Rattle.heap_rule.specs.Forms.{IsCons}
-use Rattle.heap_rule.specs.Views.{shown}
+use Rattle.heap_rule.specs.Views.{shown_word}
 use Rattle.heap_rule.specs.Births.{freeze_form}
 
 -- the form that is there after a compare-exchange of a header; only a load meets the ids that it names
@@ -25,8 +25,8 @@ MayFlatten v i old (Flat wide start false) = Has v.forms i old × IsCons old × 
     × ((us : List ℕ) × Has v.units i us
     × ((c : ℕ) → start ≤ c → c < start + words_over wide (length us) → HasKey v.own_words c)
     × ((o : ℕ) → length us ≤ o → o < words_over wide (length us) * lane_count wide
-    → lane_in (shown v) wide start o ≡ 0)
-    × (span (shown v) wide start 0 (length us) ≡ us))
+    → lane_in (shown_word v) wide start o ≡ 0)
+    × (span (shown_word v) wide start 0 (length us) ≡ us))
 MayFlatten v i old _ = ⊥
 
 -- the compare-exchange of the form word from a Cons to a Flat: it is there and its words are frozen, or the

@@ -8,44 +8,44 @@ use Rattle.js_header.specs.declared.form.Form.TheVariants.{Thin}
 use Rattle.heap_rule.specs.declared.view.View.{View}
 use Rattle.heap_rule.specs.declared.size.HeapSize.{HeapSize}
 use Rattle.heap_rule.specs.declared.size.Counter.{Counter}
-use Rattle.heap_rule.specs.Layout.{IsLawful, counter_at, slot_at, form_at, length_at, content_at, word_count, IsBorn}
+use Rattle.heap_rule.specs.Layout.{IsLawfulSize, counter_at, slot_at, form_at, length_at, content_at, word_count, IsBorn}
 use Rattle.heap_rule.specs.Contents.{units_of}
 use Rattle.heap_rule.specs.Maps.{HasKey}
-use Rattle.heap_rule.specs.Views.{IsKnown}
+use Rattle.heap_rule.specs.Views.{MayUse}
 use Rattle.heap_rule.specs.Claims.{loaded_counter, MayClaim, claimed}
 use Rattle.heap_rule.specs.Births.{stored_word, MayStoreLength, stored_length, MayBear, born}
 use Rattle.heap_rule.specs.Learning.{learned, learned_all}
 use Rattle.heap_rule.specs.Loads.{loaded_form, loaded_length, MayLoadWord, loaded_word}
 use Rattle.heap_rule.specs.HeaderMoves.{MayFlatten, flattened, MayThin, thinned}
 use Rattle.heap_rule.specs.Slots.{MayEnter, loaded_slot, MayTakeSlot, took_slot}
-use Rattle.heap_rule.specs.Agents.{first_view, spent, left_after_split, right_after_split, MayJoin, joined}
+use Rattle.heap_rule.specs.Agents.{first_view, spent, left_after_split, right_after_split, MayJoin, joined_view}
 use Rattle.heap_rule.specs.Sound.{At, IsSound, AreLegal}
 
 -- a step on one word, with what it is called with: the counter, id, content word or slot, and what is stored,
 -- expected or looked for
-pub data Kind : Type 0 where
-  load_counter : Counter → Kind
-  claim : Counter → ℕ → ℕ → Kind
-  store_word : ℕ → ℕ → Kind
-  store_length : ℕ → ℕ → Kind
-  birth : ℕ → Form → Kind
-  load_form : ℕ → Kind
-  load_length : ℕ → Kind
-  load_word : ℕ → Kind
-  flatten : ℕ → Form → Form → Kind
-  thin : ℕ → Form → ℕ → Kind
-  load_slot : ℕ → Option (List ℕ) → Kind
-  take_slot : ℕ → ℕ → Kind
+pub data StepKind : Type 0 where
+  load_counter : Counter → StepKind
+  claim : Counter → ℕ → ℕ → StepKind
+  store_word : ℕ → ℕ → StepKind
+  store_length : ℕ → ℕ → StepKind
+  birth : ℕ → Form → StepKind
+  load_form : ℕ → StepKind
+  load_length : ℕ → StepKind
+  load_word : ℕ → StepKind
+  flatten : ℕ → Form → Form → StepKind
+  thin : ℕ → Form → ℕ → StepKind
+  load_slot : ℕ → Option (List ℕ) → StepKind
+  take_slot : ℕ → ℕ → StepKind
 
 -- where it may come, by the agent's view
-abbrev pub MayCome : View → Kind → Type 0
+abbrev pub MayCome : View → StepKind → Type 0
 MayCome v (load_counter k) = Unit {0}
 MayCome v (claim k at want) = MayClaim v k at want
 MayCome v (store_word c n) = HasKey v.own_words c
 MayCome v (store_length i n) = MayStoreLength v i n
 MayCome v (birth i f) = MayBear v i f
-MayCome v (load_form i) = IsKnown v i
-MayCome v (load_length i) = IsKnown v i
+MayCome v (load_form i) = MayUse v i
+MayCome v (load_length i) = MayUse v i
 MayCome v (load_word c) = MayLoadWord v c
 MayCome v (flatten i old new) = MayFlatten v i old new
 MayCome v (thin i old t) = MayThin v i old t
@@ -53,7 +53,7 @@ MayCome v (load_slot k entry) = (k < v.sizes.slots) × MayEnter v k entry
 MayCome v (take_slot k i) = MayTakeSlot v k i
 
 -- the place of its word
-abbrev pub place_of : HeapSize → Kind → ℕ
+abbrev pub place_of : HeapSize → StepKind → ℕ
 place_of z (load_counter k) = counter_at k
 place_of z (claim k at want) = counter_at k
 place_of z (store_word c n) = content_at z c
@@ -75,7 +75,7 @@ pub data Access : Type 0 where
   exchanges : ℕ → ℕ → Access
 
 -- how a step of this kind goes to its word
-abbrev pub access_of : Kind → Access
+abbrev pub access_of : StepKind → Access
 access_of (claim k at want) = exchanges at (at + want)
 access_of (store_word c n) = stores n
 access_of (store_length i n) = stores n
@@ -86,13 +86,13 @@ access_of (take_slot k i) = exchanges 0 (i + 1)
 access_of _ = loads
 
 -- what it leaves there
-abbrev pub left_by : Access → ℕ → ℕ
-left_by loads x = x
-left_by (stores n) x = n
-left_by (exchanges old new) x = if x == old then new else x
+abbrev pub word_left : Access → ℕ → ℕ
+word_left loads x = x
+word_left (stores n) x = n
+word_left (exchanges old new) x = if x == old then new else x
 
 -- what the view becomes, before anything is learned
-abbrev pub view_after : View → Kind → ℕ → View
+abbrev pub view_after : View → StepKind → ℕ → View
 view_after v (load_counter k) x = loaded_counter v k x
 view_after v (claim k at want) x = claimed v k at want x
 view_after v (store_word c n) x = stored_word v c n
@@ -107,7 +107,7 @@ view_after v (load_slot k entry) x = loaded_slot v k entry x
 view_after v (take_slot k i) x = took_slot v k i x
 
 -- which kinds learn: each load and each compare-exchange, but those on a counter
-abbrev pub learns : Kind → Bool
+abbrev pub learns : StepKind → Bool
 learns (load_counter k) = false
 learns (claim k at want) = false
 learns (store_word c n) = false
@@ -116,24 +116,25 @@ learns (birth i f) = false
 learns _ = true
 
 -- what the view becomes on the running heap, where all that can be learned is learned
-abbrev pub view_on_heap : View → Kind → ℕ → View
+abbrev pub view_on_heap : View → StepKind → ℕ → View
 view_on_heap v e x = if learns e then learned_all (view_after v e x) else view_after v e x
 
 -- the rule holds of the new words and views, and every born id stays born and keeps its units
-abbrev pub Keeps : HeapSize → ℕ → List ℕ → List ℕ → List View → Type 0
-Keeps z agents W W' vs' =
+abbrev pub KeepsRule : HeapSize → ℕ → List ℕ → List ℕ → List View → Type 0
+KeepsRule z agents W W' vs' =
     IsSound z agents W' vs' × ((i : ℕ) → IsBorn z W i → IsBorn z W' i × (units_of z W' i ≡ units_of z W i))
 
 -- each of these kinds keeps the rule and the units, whatever is learned with it
 abbrev pub KindsKeep : Type 0
-KindsKeep = (z : HeapSize) (agents : ℕ) (W : List ℕ) (vs : List View) (j : ℕ) (v : View) (e : Kind)
+KindsKeep = (z : HeapSize) (agents : ℕ) (W : List ℕ) (vs : List View) (j : ℕ) (v : View) (e : StepKind)
     (names : List ℕ) → IsSound z agents W vs → At vs j v → v.live ≡ true → MayCome v e
-    → Keeps z agents W (slice_set W (place_of z e) (left_by (access_of e) (slice_index W (place_of z e))))
+    → KeepsRule z agents W (slice_set W (place_of z e)
+    (word_left (access_of e) (slice_index W (place_of z e))))
     (slice_set vs j (learned (view_after v e (slice_index W (place_of z e))) names))
 
 -- the heap is made, all words 0, with one agent that has the whole share
 abbrev pub MakingKeeps : Type 0
-MakingKeeps = (z : HeapSize) (agents : ℕ) → IsLawful z → 1 ≤ agents
+MakingKeeps = (z : HeapSize) (agents : ℕ) → IsLawfulSize z → 1 ≤ agents
     → IsSound z agents (replicate (word_count z) 0) (first_view z agents ∷ [])
 
 -- so do the steps that change no word: an agent is split off, and one is joined
@@ -146,7 +147,7 @@ SplittingKeeps = (z : HeapSize) (agents : ℕ) (W : List ℕ) (vs : List View) (
 abbrev pub JoiningKeeps : Type 0
 JoiningKeeps = (z : HeapSize) (agents : ℕ) (W : List ℕ) (vs : List View) (j o : ℕ) (v b : View)
     → IsSound z agents W vs → (j ≡ o → ⊥) → At vs j v → v.live ≡ true → At vs o b → MayJoin v b
-    → IsSound z agents W (slice_set (slice_set vs j (joined v b)) o spent)
+    → IsSound z agents W (slice_set (slice_set vs j (joined_view v b)) o spent)
 
 -- where the rule holds, all histories together give each list of units one id and each id one list
 abbrev pub SoundIsLegal : Type 0

@@ -11,14 +11,14 @@ abbrev pub MAX : ℕ
 MAX = 536870888
 
 -- each size is in 1 to 2^29 - 1, and together they are at most 2^29
-abbrev pub IsLawful : HeapSize → Type 0
-IsLawful z = (1 ≤ z.ids) × (z.ids < 2 ^ 29) × (1 ≤ z.words) × (z.words < 2 ^ 29) × (1 ≤ z.slots)
+abbrev pub IsLawfulSize : HeapSize → Type 0
+IsLawfulSize z = (1 ≤ z.ids) × (z.ids < 2 ^ 29) × (1 ≤ z.words) × (z.words < 2 ^ 29) × (1 ≤ z.slots)
     × (z.slots < 2 ^ 29) × (z.ids + z.words + z.slots ≤ 2 ^ 29)
 
 -- one number for each of the two counters
-abbrev pub count_in : Counters → Counter → ℕ
-count_in n Ids = n.ids
-count_in n Words = n.words
+abbrev pub counter_value : Counters → Counter → ℕ
+counter_value n Ids = n.ids
+counter_value n Words = n.words
 
 -- the counters with another number for one of the two
 abbrev pub with_count : Counters → Counter → ℕ → Counters

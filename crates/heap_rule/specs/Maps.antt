@@ -36,14 +36,14 @@ module _ {X : Type 0} where
 -- has
 module _ {X : Type 0} (f : Option X → X → X) where
   -- the map m with f of what it has at the key k and an upper value, if there is one
-  abbrev pub put_by : FinMap nat_cmp X → ℕ → Option X → FinMap nat_cmp X
-  put_by m k None = m
-  put_by m k (Some x) = insert m k (f (get m k) x)
+  abbrev pub put_if_some : FinMap nat_cmp X → ℕ → Option X → FinMap nat_cmp X
+  put_if_some m k None = m
+  put_if_some m k (Some x) = insert m k (f (get m k) x)
 
   -- the lower map m with the upper one laid over it at these keys
   abbrev pub laid_at : FinMap nat_cmp X → FinMap nat_cmp X → List ℕ → FinMap nat_cmp X
   laid_at m upper [] = m
-  laid_at m upper (k ∷ ks) = laid_at (put_by m k (get upper k)) upper ks
+  laid_at m upper (k ∷ ks) = laid_at (put_if_some m k (get upper k)) upper ks
 
   -- the lower map m with the upper one laid over it at all keys of the upper one
   abbrev pub laid_over : FinMap nat_cmp X → FinMap nat_cmp X → FinMap nat_cmp X

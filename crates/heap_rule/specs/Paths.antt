@@ -17,8 +17,8 @@ abbrev pub rank : List ℕ → ℕ → ℕ → ℕ
 rank u slots k = (k + (slots - hash_of u % slots)) % slots
 
 -- the slot of rank r on it
-abbrev pub place : List ℕ → ℕ → ℕ → ℕ
-place u slots r = (hash_of u % slots + r) % slots
+abbrev pub path_slot : List ℕ → ℕ → ℕ → ℕ
+path_slot u slots r = (hash_of u % slots + r) % slots
 
 -- the pairs of units and id that calls of intern had and gave, the oldest first
 abbrev pub Calls : Type 0

@@ -27,25 +27,25 @@ MayEnter v k None = Unit {0}
 MayEnter v k (Some us) = (i : ℕ) × Has v.slots k i × Has v.units i us
 
 -- what the view knows of the string that it saw in the slot
-abbrev pub units_by : View → Option ℕ → Option (List ℕ)
-units_by v None = None
-units_by v (Some i) = get v.units i
+abbrev pub units_seen : View → Option ℕ → Option (List ℕ)
+units_seen v None = None
+units_seen v (Some i) = get v.units i
 
 -- what the view knows of the string that it saw in slot k: its units
 abbrev pub entry_in : View → ℕ → Option (List ℕ)
-entry_in v k = units_by v (get v.slots k)
+entry_in v k = units_seen v (get v.slots k)
 
 -- the agent's own calls after the load of a slot; with an entry there is one more, which had these units and
 -- gave the id in the slot
-abbrev pub entered : View → ℕ → Option (List ℕ) → Calls
-entered v k None = v.mine
-entered v k (Some us) = v.mine ++ (us, unwrap_or (get v.slots k) 0) ∷ []
+abbrev pub calls_entered : View → ℕ → Option (List ℕ) → Calls
+calls_entered v k None = v.mine
+calls_entered v k (Some us) = v.mine ++ (us, unwrap_or (get v.slots k) 0) ∷ []
 
 -- slot k was loaded with the word x: its id is seen there, the load counts, and an entry is in the history
 abbrev pub loaded_slot : View → ℕ → Option (List ℕ) → ℕ → View
 loaded_slot v k entry x = let w : View = with_slot v k x in record w {
   slot_loads = insert v.slot_loads k (added_loads (unwrap_or (get v.slot_loads k) 0) 1);
-  mine = entered v k entry;
+  mine = calls_entered v k entry;
 }
 
 -- the string i is known not to have the units us: by its length, by its units, or by one lane of a frozen

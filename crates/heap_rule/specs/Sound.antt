@@ -12,12 +12,12 @@ use Rattle.js_header.specs.declared.form.Form.TheVariants.{Unborn, Flat, Cons, S
 use Rattle.heap_rule.specs.declared.view.View.{View}
 use Rattle.heap_rule.specs.declared.size.HeapSize.{HeapSize}
 use Rattle.heap_rule.specs.declared.size.Counters.{Counters}
-use Rattle.heap_rule.specs.Layout.{MAX, IsLawful, word_count, next_id, next_word, slot, form, length_word, content, IsBorn}
+use Rattle.heap_rule.specs.Layout.{MAX, IsLawfulSize, word_count, next_id, next_word, slot, form, length_word, content, IsBorn}
 use Rattle.heap_rule.specs.Contents.{span, lane_in, units_of}
 use Rattle.heap_rule.specs.Maps.{Has, HasKey}
 use Rattle.heap_rule.specs.Forms.{IsSolidForm, IsLater, IsNarrow}
 use Rattle.heap_rule.specs.Paths.{rank, Agree}
-use Rattle.heap_rule.specs.Views.{history, IsKnown}
+use Rattle.heap_rule.specs.Views.{history, MayUse}
 
 -- the list has x at place j
 abbrev pub At : {A : Type 0} → List A → ℕ → A → Type 0
@@ -75,20 +75,20 @@ module _ (z : HeapSize) (W : List ℕ) (vs : List View) where
   -- A Sliced: a born parent with a smaller id that is Flat or Thin and long enough, at least 13 units, and
   -- narrow as a Flat is.
   -- A Thin: a fixed Flat with the same units, which is in a slot.
-  abbrev pub Stands : ℕ → Form → Type 0
-  Stands i Unborn = ⊥
-  Stands i (Flat wide start fixed) =
+  abbrev pub StandsAs : ℕ → Form → Type 0
+  StandsAs i Unborn = ⊥
+  StandsAs i (Flat wide start fixed) =
       ((c : ℕ) → start ≤ c → c < start + words_over wide (length_word z W i) → IsKept W vs c)
       × ((o : ℕ) → length_word z W i ≤ o → o < words_over wide (length_word z W i) * lane_count wide
       → lane_in (content z W) wide start o ≡ 0)
       × IsNarrow wide (units_of z W i) × (length_word z W i ≡ 0 → start ≡ 0)
-  Stands i (Cons wide left right) = (left < i) × (right < i) × IsBorn z W left × IsBorn z W right
+  StandsAs i (Cons wide left right) = (left < i) × (right < i) × IsBorn z W left × IsBorn z W right
       × (1 ≤ length (units_of z W left)) × (1 ≤ length (units_of z W right))
       × (13 ≤ length_word z W i) × IsNarrow wide (units_of z W i)
-  Stands i (Sliced wide parent offset) = (parent < i) × IsBorn z W parent
+  StandsAs i (Sliced wide parent offset) = (parent < i) × IsBorn z W parent
       × IsSolidForm (form_of (form z W parent)) × (offset + length_word z W i ≤ length (units_of z W parent))
       × (13 ≤ length_word z W i) × IsNarrow wide (units_of z W i)
-  Stands i (Thin target) = IsBorn z W target
+  StandsAs i (Thin target) = IsBorn z W target
       × ((wide : Bool) × (start : ℕ) × (form_of (form z W target) ≡ Some (Flat wide start true)))
       × (units_of z W target ≡ units_of z W i)
       × ((k : ℕ) × (k < z.slots) × (slot z W k ≡ target + 1))
@@ -101,7 +101,7 @@ module _ (z : HeapSize) (W : List ℕ) (vs : List View) where
     pub below : i < next_id W
     pub length_is : length_word z W i ≡ length (units_of z W i)
     pub short : length_word z W i ≤ MAX
-    pub stands : Stands i now
+    pub stands : StandsAs i now
 
   -- What a form that was seen still says of its string, whatever form is now there: all that it asks of its
   -- string and that never changes.
@@ -193,7 +193,7 @@ IsMember z agents v = (1 ≤ v.share) × (v.sizes ≡ z) × (v.agents ≡ agents
 
 -- the rule; its parts have their numbers from docs/HEAP-PROOF.md
 pub record IsSound (z : HeapSize) (agents : ℕ) (W : List ℕ) (vs : List View) : Type 0 where
-  pub lawful : IsLawful z  -- rule 1
+  pub lawful : IsLawfulSize z  -- rule 1
   pub counted : IsCounted z W  -- rule 1
   pub own_ids : EachLive vs (λ _ v. OwnsIds z W v.own_ids)  -- rule 2
   pub own_words : EachLive vs (λ _ v. OwnsWords z W v.own_words)  -- rule 2
@@ -223,7 +223,7 @@ IsPossible v = ∥ StandsIn v ∥₁
 
 -- of this, that what the view knows and owns lies in the heap
 pub record IsWithin (v : View) : Type 0 where
-  pub known : (i : ℕ) → IsKnown v i → i < v.sizes.ids
+  pub known : (i : ℕ) → MayUse v i → i < v.sizes.ids
   pub ids : (i : ℕ) → HasKey v.own_ids i → i < v.sizes.ids
   pub words : (c : ℕ) → HasKey v.own_words c → c < v.sizes.words
 

@@ -14,12 +14,12 @@ abbrev pub history : View → Calls
 history v = v.seen ++ v.mine
 
 -- the view may use the string i: it has its units, or has met its id
-abbrev pub IsKnown : View → ℕ → Type 0
-IsKnown v i = HasKey v.units i ⊎ HasKey v.met i
+abbrev pub MayUse : View → ℕ → Type 0
+MayUse v i = HasKey v.units i ⊎ HasKey v.met i
 
 -- seen with another form than Cons
-abbrev pub IsSettled : View → ℕ → Type 0
-IsSettled v i = (f : Form) × Has v.forms i f × (IsCons f → ⊥)
+abbrev pub IsSeenSettled : View → ℕ → Type 0
+IsSeenSettled v i = (f : Form) × Has v.forms i f × (IsCons f → ⊥)
 
 -- The view leads from the string s to the string i, the units of s being those of i from `offset` on: s is i,
 -- or forwards to it; or s is a part of i, or of a string that forwards to i.
@@ -42,5 +42,5 @@ IsFrozen v c = HasKey v.frozen c ⊎ ((i : ℕ) × (wide : Bool) × (start : ℕ
     × Has v.forms i (Flat wide start fixed) × HasLength v i n × (start ≤ c) × (c < start + words_over wide n))
 
 -- the content word as the view has it, own or frozen
-abbrev pub shown : View → ℕ → ℕ
-shown v c = unwrap_or (get v.own_words c) (unwrap_or (get v.frozen c) 0)
+abbrev pub shown_word : View → ℕ → ℕ
+shown_word v c = unwrap_or (get v.own_words c) (unwrap_or (get v.frozen c) 0)

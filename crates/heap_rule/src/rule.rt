@@ -8,7 +8,7 @@ ghost use Rattle.heap_rule.specs.Views.{history};
 ghost use Rattle.heap_rule.specs.Sound.{IsPossible};
 ghost use Rattle.heap_rule.specs.Slots.{Differs, IsShutAt};
 ghost use Rattle.heap_rule.specs.SlotTests.{differs, shut};
-ghost use Rattle.heap_rule.specs.Paths.{path, place, rank};
+ghost use Rattle.heap_rule.specs.Paths.{path, path_slot, rank};
 ghost use Rattle.heap_rule.specs.Kinds.{KindsKeep, MakingKeeps, SplittingKeeps, JoiningKeeps, SoundIsLegal};
 
 /// Every kind of step keeps the rule, and the units of every string that is born, wherever it may
@@ -29,8 +29,8 @@ pub fn every_path()
     ensures inside { (u : List ℕ) (n k : ℕ) → k < n → rank u n k < n }
     ensures place { (u : List ℕ) (n k : ℕ) → k < n → slice_index (path u n) (rank u n k) ≡ k }
     ensures once { (u : List ℕ) (n k l : ℕ) → k < n → l < n → rank u n k ≡ rank u n l → k ≡ l }
-    ensures back { (u : List ℕ) (n k : ℕ) → k < n → place u n (rank u n k) ≡ k }
-    ensures forth { (u : List ℕ) (n r : ℕ) → r < n → rank u n (place u n r) ≡ r }
+    ensures back { (u : List ℕ) (n k : ℕ) → k < n → path_slot u n (rank u n k) ≡ k }
+    ensures forth { (u : List ℕ) (n r : ℕ) → r < n → rank u n (path_slot u n r) ≡ r }
 {}
 
 /// What an agent knows of the slots of the table. The tests are true exactly where what they test

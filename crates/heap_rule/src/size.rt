@@ -1,6 +1,6 @@
 // The sizes of a heap, its two counters, and where its words lie.
 ghost use Rattle.std.specs.Prelude.{◌≡◌, ◌<◌, ◌↔◌, IsTrue};
-ghost use Rattle.heap_rule.specs.Layout.{IsLawful, count_in, with_count, counter_at, end_of, word_count, form_at, length_at, slot_at, content_at};
+ghost use Rattle.heap_rule.specs.Layout.{IsLawfulSize, counter_value, with_count, counter_at, end_of, word_count, form_at, length_at, slot_at, content_at};
 
 /// The greatest length of a string, 2^29 - 24 (V8's `String::kMaxLength` on 64-bit machines).
 pub const MAX: u32 = 536870888;
@@ -30,7 +30,7 @@ pub struct Counters {
 impl HeapSize {
     /// Whether a heap may have these sizes: each in 1 to 2^29 - 1, and together at most 2^29.
     pub fn is_lawful(&self) -> bool
-        ensures { IsTrue result ↔ IsLawful self.now }
+        ensures { IsTrue result ↔ IsLawfulSize self.now }
     {
         let ids = self.ids;
         let words = self.words;
@@ -53,7 +53,7 @@ impl HeapSize {
 
     /// How many words a heap of these sizes has.
     pub fn word_count(&self) -> usize
-        requires { IsLawful self.now }
+        requires { IsLawfulSize self.now }
         ensures { result ≡ word_count self.now }
     {
         2 + self.slots as usize + 2 * self.ids as usize + self.words as usize
@@ -61,7 +61,7 @@ impl HeapSize {
 
     /// The place of a slot of the string table.
     pub fn slot_place(&self, slot: u32) -> usize
-        requires { IsLawful self.now × (slot < self.now.slots) }
+        requires { IsLawfulSize self.now × (slot < self.now.slots) }
         ensures { result ≡ slot_at self.now slot }
     {
         2 + slot as usize
@@ -69,7 +69,7 @@ impl HeapSize {
 
     /// The place of an id's form word.
     pub fn form_place(&self, id: u32) -> usize
-        requires { IsLawful self.now × (id < self.now.ids) }
+        requires { IsLawfulSize self.now × (id < self.now.ids) }
         ensures { result ≡ form_at self.now id }
     {
         2 + self.slots as usize + 2 * id as usize
@@ -77,7 +77,7 @@ impl HeapSize {
 
     /// The place of an id's length.
     pub fn length_place(&self, id: u32) -> usize
-        requires { IsLawful self.now × (id < self.now.ids) }
+        requires { IsLawfulSize self.now × (id < self.now.ids) }
         ensures { result ≡ length_at self.now id }
     {
         3 + self.slots as usize + 2 * id as usize
@@ -85,7 +85,7 @@ impl HeapSize {
 
     /// The place of a content word.
     pub fn content_place(&self, at: u32) -> usize
-        requires { IsLawful self.now × (at < self.now.words) }
+        requires { IsLawfulSize self.now × (at < self.now.words) }
         ensures { result ≡ content_at self.now at }
     {
         2 + self.slots as usize + 2 * self.ids as usize + at as usize
@@ -107,7 +107,7 @@ impl Counter {
 impl Counters {
     /// The number for this counter.
     pub fn get(&self, counter: Counter) -> u32
-        ensures { result ≡ count_in self.now counter }
+        ensures { result ≡ counter_value self.now counter }
     {
         match counter {
             Counter::Ids => self.ids,

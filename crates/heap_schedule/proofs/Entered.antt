@@ -10,7 +10,7 @@ use Rattle.heap_rule.proofs.ListLemmas.{at_index}
 use Rattle.heap_core.specs.Core.{Core}
 use Rattle.heap_core.specs.Events.{HasEntry, view_at}
 use Rattle.heap_rule.specs.Sound.{At}
-use Rattle.heap_schedule.specs.Play.{entry_in}
+use Rattle.heap_schedule.specs.Play.{slot_units}
 
 none_or_some : {A : Type 0} (o : Option A) → (o ≡ None) ⊎ ((x : A) × (o ≡ Some x))
 none_or_some None = inl refl
@@ -30,15 +30,15 @@ at_own [] j d h = absurd (omega arith)
 at_own (x ∷ xs) zero d h = refl
 at_own (x ∷ xs) (suc j) d h = at_own xs j d (omega arith)
 
-pub has_entry : (s : Core) (j k : ℕ) (us : List ℕ) → HasEntry s j k us → entry_in s j k ≡ Some us
+pub has_entry : (s : Core) (j k : ℕ) (us : List ℕ) → HasEntry s j k us → slot_units s j k ≡ Some us
 has_entry s j k us e =
     let v : view_at s j ≡ e.0 = at_index s.views j e.0 spent e.2 in
     subst (λ (w : View). option_and_then (λ i. get w.units i) (get w.slots k) ≡ Some us) (sym v)
     (ap (option_and_then (λ i. get e.0.units i)) e.3 ∙ e.4)
 
-pub no_entry : (s : Core) (j k : ℕ) → ((us : List ℕ) → HasEntry s j k us → ⊥) → entry_in s j k ≡ None
+pub no_entry : (s : Core) (j k : ℕ) → ((us : List ℕ) → HasEntry s j k us → ⊥) → slot_units s j k ≡ None
 no_entry s j k none = elim (cases_lt j (length s.views)) [
-  | inl l ↦ elim (none_or_some (entry_in s j k)) [
+  | inl l ↦ elim (none_or_some (slot_units s j k)) [
     | inl n ↦ n
     | inr us ↦ (let p = parts (λ i. get (view_at s j).units i) (get (view_at s j).slots k) us.0 us.1 in
         absurd (none us.0 (view_at s j, p.0, at_own s.views j spent l, p.1, p.2)))

@@ -12,14 +12,14 @@ use Rattle.heap_core.proofs.Kept.{birth_born}
 use Rattle.heap_schedule.specs.declared.line.Line.{Line}
 use Rattle.heap_schedule.specs.declared.line.Line.TheVariants as line
 use Rattle.heap_schedule.specs.Lines.{Turn, named, plain}
-use Rattle.heap_schedule.specs.Play.{CanPlay, CanPlayAll, EndsAfter, all_played, entry_in, played}
-use Rattle.heap_schedule.specs.Kept.{IsBornIn, IsKept, WasPlayed}
+use Rattle.heap_schedule.specs.Play.{CanPlay, CanPlayAll, EndsAfter, all_played, slot_units, played}
+use Rattle.heap_schedule.specs.Kept.{IsBornIn, AreLinesKept, WasPlayed}
 use Rattle.heap_schedule.proofs.Played.{may_back, same_after}
 
 -- the event of a line
 abbrev event_in : Core → Line → Event
 event_in s (line.Event e) = e
-event_in s (line.Enter j k names) = event.LoadSlot j k (entry_in s j k) names
+event_in s (line.Enter j k names) = event.LoadSlot j k (slot_units s j k) names
 
 line_may : (s : Core) (l : Line) → CanPlay s (named l) → Enabled s (event_in s l)
 line_may s (line.Event e) may = may_back s e may
@@ -73,7 +73,7 @@ bears (l ∷ ls) zero k s j i f lt h may at = absurd (omega arith)
 bears (l ∷ ls) (suc n) zero s j i f lt h may at = birth_bears s (named l) j i f h (some-injective (named l) (plain (event.Birth j i f)) at) may.0
 bears (l ∷ ls) (suc n) (suc k) s j i f lt h may at = bears ls n k (played s (named l)) j i f (omega arith) (line_keeps s l h may.0).0 may.1 at
 
-all_kept : (ls : List Line) (n : ℕ) (s : Core) → IsSoundCore s → CanPlayAll (take n (map named ls)) s → IsKept (map named ls) s n
+all_kept : (ls : List Line) (n : ℕ) (s : Core) → IsSoundCore s → CanPlayAll (take n (map named ls)) s → AreLinesKept (map named ls) s n
 all_kept ls n s h may = record {
   born = λ k i lt at.
       let next : suc k ≡ k + 1 = omega arith in

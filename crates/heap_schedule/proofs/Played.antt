@@ -10,7 +10,7 @@ use Rattle.heap_core.specs.declared.event.Refusal.{Refusal}
 use Rattle.heap_core.specs.declared.event.Refusal.TheVariants.{NotEnabled, Memory}
 use Rattle.heap_core.specs.Events.{Enabled, IsSoundCore, after, found}
 use Rattle.heap_schedule.specs.Lines.{Turn, named, enters, loads_slot, turn_of}
-use Rattle.heap_schedule.specs.Play.{CanPlay, CanPlayAll, EndsAfter, IsEntering, IsOver, IsPlayed, all_played, entry_in, played, word_for, words_for}
+use Rattle.heap_schedule.specs.Play.{CanPlay, CanPlayAll, EndsAfter, IsEntering, IsOver, IsPlayed, all_played, slot_units, played, word_for, words_for}
 
 may : (s : Core) (e : Event) → Enabled s e → CanPlay s (turn_of e)
 may s (event.Make z a) h = h
@@ -83,7 +83,7 @@ plays_event s t e (Ok x) en af fo refused un so = (may s e en, af ∙ same_after
 plays_event s t e (Err NotEnabled) en af fo refused un so = ((λ h. refused refl (may_back s e h)), un)
 plays_event s t e (Err Memory) en af fo refused un so = un
 
-of_slot : (s t : Core) (j k : ℕ) (names : List ℕ) (r : Result ℕ Refusal) → IsSome (entry_in s j k) → IsPlayed s (loads_slot j k (entry_in s j k) names) t r
+of_slot : (s t : Core) (j k : ℕ) (names : List ℕ) (r : Result ℕ Refusal) → IsSome (slot_units s j k) → IsPlayed s (loads_slot j k (slot_units s j k) names) t r
     → IsPlayed s (enters j k names) t r
 of_slot s t j k names (Ok x) some p = ((some, p.0), p.1, p.2, p.3)
 of_slot s t j k names (Err NotEnabled) some p = ((λ h. p.0 h.1), p.1)

@@ -14,10 +14,10 @@ abbrev pub onto_first : ℕ → List (List ℕ) → List (List ℕ)
 onto_first c [] = (c ∷ []) ∷ []
 onto_first c (p ∷ ps) = (c ∷ p) ∷ ps
 
-abbrev pub pieces : ℕ → List ℕ → List (List ℕ)
-pieces separator [] = [] ∷ []
-pieces separator (c ∷ cs) = if c == separator then [] ∷ pieces separator cs
-    else onto_first c (pieces separator cs)
+abbrev pub fields_between : ℕ → List ℕ → List (List ℕ)
+fields_between separator [] = [] ∷ []
+fields_between separator (c ∷ cs) = if c == separator then [] ∷ fields_between separator cs
+    else onto_first c (fields_between separator cs)
 
 abbrev pub differs : ℕ → ℕ → Bool
 differs separator c = not (c == separator)
@@ -55,12 +55,12 @@ abbrev pub first_keyword : Option Keyword → Option Keyword → Option Keyword
 first_keyword None other = other
 first_keyword (Some word) other = Some word
 
-abbrev pub keyword_of : List ℕ → Option Keyword
-keyword_of bs = first_keyword (shared_keyword bs) (first_keyword (own_keyword bs) (slot_keyword bs))
+abbrev pub schedule_keyword : List ℕ → Option Keyword
+schedule_keyword bs = first_keyword (shared_keyword bs) (first_keyword (own_keyword bs) (slot_keyword bs))
 
 -- A number below 2^64, by its decimal digits: no sign, no zero in front, and nothing else.
-abbrev pub number_of : List ℕ → Option ℕ
-number_of bs = if nat_lt (digits_value 10 bs) (2 ^ 64) && bytes_eq bs (decimal (digits_value 10 bs))
+abbrev pub decimal_number : List ℕ → Option ℕ
+decimal_number bs = if nat_lt (digits_value 10 bs) (2 ^ 64) && bytes_eq bs (decimal (digits_value 10 bs))
     then Some (digits_value 10 bs) else None
 
 abbrev pub field_by : Option Keyword → Option ℕ → Option Field
@@ -69,7 +69,7 @@ field_by None (Some number) = Some (field.Number number)
 field_by None None = None
 
 abbrev pub field_of : List ℕ → Option Field
-field_of bs = field_by (keyword_of bs) (number_of bs)
+field_of bs = field_by (schedule_keyword bs) (decimal_number bs)
 
 -- all of them, or none where one isn't there
 abbrev pub in_front : {A : Type 0} → Option A → Option (List A) → Option (List A)
@@ -82,14 +82,14 @@ all_fields [] = Some []
 all_fields (p ∷ ps) = in_front (field_of p) (all_fields ps)
 
 -- the space
-abbrev pub fields_of : List ℕ → Option (List Field)
-fields_of line = all_fields (pieces 32 line)
+abbrev pub line_fields : List ℕ → Option (List Field)
+line_fields line = all_fields (fields_between 32 line)
 
 -- A result of reading is what there is to be read; it is a refusal where nothing is.
-abbrev pub Gives : {A B : Type 0} → (A → B) → Result A LineFault → Option B → Type 0
-Gives f (Ok a) wanted = wanted ≡ Some (f a)
-Gives f (Err Refused) wanted = wanted ≡ None
-Gives f (Err Memory) wanted = ⊤
+abbrev pub GivesReading : {A B : Type 0} → (A → B) → Result A LineFault → Option B → Type 0
+GivesReading f (Ok a) wanted = wanted ≡ Some (f a)
+GivesReading f (Err Refused) wanted = wanted ≡ None
+GivesReading f (Err Memory) wanted = ⊤
 
 abbrev pub GivesAll : Result (Vec Field Global) LineFault → Option (List Field) → Type 0
-GivesAll r wanted = Gives (λ fields. fields.items) r wanted
+GivesAll r wanted = GivesReading (λ fields. fields.items) r wanted

@@ -22,7 +22,7 @@ abbrev pub IsBornIn : Core → ℕ → Type 0
 IsBornIn s i = IsBorn s.size s.words i
 
 -- of the first n lines
-pub record IsKept (ts : List Turn) (s : Core) (n : ℕ) : Type 0 where
+pub record AreLinesKept (ts : List Turn) (s : Core) (n : ℕ) : Type 0 where
   -- right after its birth a string is born,
   pub born : (k i : ℕ) → k < n → BearsAt ts k i → IsBornIn (after_lines ts s (k + 1)) i
   -- and from then on it has the units that it has at the end, whatever is played;
@@ -33,4 +33,4 @@ pub record IsKept (ts : List Turn) (s : Core) (n : ℕ) : Type 0 where
 -- the first n lines were played, then it was over, and this held throughout
 pub record WasPlayed (ts : List Turn) (s : Core) (n : ℕ) : Type 0 where
   pub ends : EndsAfter ts s n
-  pub kept : IsKept ts s n
+  pub kept : AreLinesKept ts s n

@@ -16,7 +16,7 @@ use Rattle.heap_schedule.specs.declared.field.LineFault.{LineFault}
 use Rattle.heap_schedule.specs.declared.line.Line.{Line}
 use Rattle.heap_schedule.specs.declared.line.Line.TheVariants as line
 use Rattle.heap_schedule.specs.declared.line.Making.{Making}
-use Rattle.heap_schedule.specs.Fields.{Gives}
+use Rattle.heap_schedule.specs.Fields.{GivesReading}
 
 -- What a line names: an event that learns nothing; or one that learns, with the ids that it learns of.
 pub data Turn : Type 0 where
@@ -45,15 +45,15 @@ named (line.Enter j k names) = enters j k names.items
 
 -- ---- fields
 
-abbrev pub number_in : Field → Option ℕ
-number_in (field.Number n) = Some n
-number_in (field.Keyword w) = None
+abbrev pub field_number : Field → Option ℕ
+field_number (field.Number n) = Some n
+field_number (field.Keyword w) = None
 
 -- The number of a view, an id, a content word or a slot, or a count of such. All of these are below 2^32 - 1,
 -- so a greater number, which names nothing, is read as that one.
-abbrev pub place_in : Field → Option ℕ
-place_in (field.Number n) = Some (if nat_lt n 4294967295 then n else 4294967295)
-place_in (field.Keyword w) = None
+abbrev pub field_place : Field → Option ℕ
+field_place (field.Number n) = Some (if nat_lt n 4294967295 then n else 4294967295)
+field_place (field.Keyword w) = None
 
 abbrev pub counter_by : Keyword → Option Counter
 counter_by keyword.Ids = Some counter.Ids
@@ -103,10 +103,10 @@ name_before true (Some i) None = None
 name_before true None is = None
 name_before false i is = None
 
-abbrev pub names_in : List Field → Option (List ℕ)
-names_in [] = Some []
-names_in (f ∷ []) = None
-names_in (f ∷ g ∷ fs) = name_before (is_learn f) (place_in g) (names_in fs)
+abbrev pub field_names : List Field → Option (List ℕ)
+field_names [] = Some []
+field_names (f ∷ []) = None
+field_names (f ∷ g ∷ fs) = name_before (is_learn f) (field_place g) (field_names fs)
 
 -- ---- lines
 
@@ -131,17 +131,17 @@ of_five f _ _ _ _ _ = None
 module _ (fs : List Field) where
   -- the field at a place, read so
   abbrev pub place_at : ℕ → Option ℕ
-  place_at k = place_in (field_at fs k)
+  place_at k = field_place (field_at fs k)
 
-  abbrev pub form_at : ℕ → Option Form
-  form_at k = form_in (field_at fs k)
+  abbrev pub field_form : ℕ → Option Form
+  field_form k = form_in (field_at fs k)
 
-  abbrev pub counter_at : ℕ → Option Counter
-  counter_at k = counter_in (field_at fs k)
+  abbrev pub field_counter : ℕ → Option Counter
+  field_counter k = counter_in (field_at fs k)
 
   -- what is learned, from a place to the end
   abbrev pub names_from : ℕ → Option (List ℕ)
-  names_from k = names_in (drop k fs)
+  names_from k = field_names (drop k fs)
 
   abbrev pub exactly : ℕ → Option Turn → Option Turn
   exactly n turn = if length fs == n then turn else None
@@ -159,17 +159,17 @@ module _ (fs : List Field) where
 
   -- `counter V ids, counter V words`
   abbrev pub counter_line_of : Option Turn
-  counter_line_of = exactly 3 (of_two (λ j k. plain (event.LoadCounter j k)) (place_at 1) (counter_at 2))
+  counter_line_of = exactly 3 (of_two (λ j k. plain (event.LoadCounter j k)) (place_at 1) (field_counter 2))
 
   -- `claim V ids AT WANT, claim V words AT WANT`
   abbrev pub claim_line_of : Option Turn
   claim_line_of = exactly 5 (of_four (λ j k at want. plain (event.Claim j k at want)) (place_at 1)
-      (counter_at 2) (place_at 3) (place_at 4))
+      (field_counter 2) (place_at 3) (place_at 4))
 
   -- `store V C WORD`
   abbrev pub store_line_of : Option Turn
   store_line_of = exactly 4 (of_three (λ j c n. plain (event.StoreWord j c n)) (place_at 1) (place_at 2)
-      (number_in (field_at fs 3)))
+      (field_number (field_at fs 3)))
 
   -- `length V I N`
   abbrev pub length_line_of : Option Turn
@@ -179,7 +179,7 @@ module _ (fs : List Field) where
   -- `birth V I FORM`
   abbrev pub birth_line_of : Option Turn
   birth_line_of =
-      exactly 4 (of_three (λ j i f. plain (event.Birth j i f)) (place_at 1) (place_at 2) (form_at 3))
+      exactly 4 (of_three (λ j i f. plain (event.Birth j i f)) (place_at 1) (place_at 2) (field_form 3))
 
   -- `form V I`
   abbrev pub form_line_of : Option Turn
@@ -199,12 +199,12 @@ module _ (fs : List Field) where
   -- `flatten V I OLD NEW`
   abbrev pub flatten_line_of : Option Turn
   flatten_line_of = at_least 5 (of_five (λ j i old new names. flattens j i old new names) (place_at 1)
-      (place_at 2) (form_at 3) (form_at 4) (names_from 5))
+      (place_at 2) (field_form 3) (field_form 4) (names_from 5))
 
   -- `thin V I OLD TARGET`
   abbrev pub thin_line_of : Option Turn
   thin_line_of = at_least 5 (of_five (λ j i old t names. thins j i old t names) (place_at 1) (place_at 2)
-      (form_at 3) (place_at 4) (names_from 5))
+      (field_form 3) (place_at 4) (names_from 5))
 
   -- `take V K I`
   abbrev pub take_line_of : Option Turn
@@ -274,7 +274,7 @@ making_of fs = if (length fs == 5) && is_heap (field_at fs 0)
 -- ---- results
 
 abbrev pub GivesLine : Result Line LineFault → Option Turn → Type 0
-GivesLine r wanted = Gives named r wanted
+GivesLine r wanted = GivesReading named r wanted
 
 abbrev pub GivesNames : Result (Vec ℕ Global) LineFault → Option (List ℕ) → Type 0
-GivesNames r wanted = Gives (λ names. names.items) r wanted
+GivesNames r wanted = GivesReading (λ names. names.items) r wanted

@@ -12,8 +12,8 @@ use Rattle.heap_schedule.specs.declared.line.Making.{Making}
 use Rattle.heap_schedule.specs.Lines.{Turn, plain, loads_header, loads_word, flattens, thins, loads_slot, takes_slot, enters, turn_of}
 
 -- the units that the view has of the string that it saw in the slot
-abbrev pub entry_in : Core → ℕ → ℕ → Option (List ℕ)
-entry_in s j k = option_and_then (λ i. get (view_at s j).units i) (get (view_at s j).slots k)
+abbrev pub slot_units : Core → ℕ → ℕ → Option (List ℕ)
+slot_units s j k = option_and_then (λ i. get (view_at s j).units i) (get (view_at s j).slots k)
 
 abbrev pub CanPlay : Core → Turn → Type 0
 CanPlay s (plain e) = Enabled s e
@@ -23,7 +23,7 @@ CanPlay s (flattens j i old new names) = CanFlatten s j i old new names
 CanPlay s (thins j i old t names) = CanThinTo s j i old t names
 CanPlay s (loads_slot j k entry names) = CanLoadSlot s j k entry names
 CanPlay s (takes_slot j k i names) = CanTakeSlot s j k i names
-CanPlay s (enters j k names) = IsSome (entry_in s j k) × CanLoadSlot s j k (entry_in s j k) names
+CanPlay s (enters j k names) = IsSome (slot_units s j k) × CanLoadSlot s j k (slot_units s j k) names
 
 -- the machine after it
 abbrev pub played : Core → Turn → Core
@@ -34,7 +34,7 @@ played s (flattens j i old new names) = after_flatten s j i old new names
 played s (thins j i old t names) = after_thin s j i old t names
 played s (loads_slot j k entry names) = after_load_slot s j k entry names
 played s (takes_slot j k i names) = after_take_slot s j k i names
-played s (enters j k names) = after_load_slot s j k (entry_in s j k) names
+played s (enters j k names) = after_load_slot s j k (slot_units s j k) names
 
 -- the word that was there before it
 abbrev pub word_for : Core → Turn → ℕ
@@ -72,8 +72,8 @@ pub record EndsAfter (ts : List Turn) (s : Core) (n : ℕ) : Type 0 where
   pub over : IsOver (all_played (take n ts) s) (drop n ts)
 
 -- the machine that the first line makes
-abbrev pub made : Making → Core
-made m = record {
+abbrev pub machine_made : Making → Core
+machine_made m = record {
   size = m.size;
   agents = m.agents;
   words = replicate (word_count m.size) 0;
@@ -82,8 +82,9 @@ made m = record {
 
 -- an event that loads the slot with that entry, or why there is none
 abbrev pub IsEntering : Core → ℕ → ℕ → List ℕ → Result Event Refusal → Type 0
-IsEntering s j k names (Ok e) = IsSome (entry_in s j k) × (turn_of e ≡ loads_slot j k (entry_in s j k) names)
-IsEntering s j k names (Err NotEnabled) = entry_in s j k ≡ None
+IsEntering s j k names (Ok e) = IsSome (slot_units s j k)
+    × (turn_of e ≡ loads_slot j k (slot_units s j k) names)
+IsEntering s j k names (Err NotEnabled) = slot_units s j k ≡ None
 IsEntering s j k names (Err Memory) = ⊤
 
 -- what playing a line answers, and what it leads to

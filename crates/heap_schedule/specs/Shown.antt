@@ -37,5 +37,5 @@ abbrev pub string_lines : Core → ℕ → List ℕ
 string_lines s zero = []
 string_lines s (suc n) = string_lines s n ++ line_of_id s n
 
-abbrev pub shown : Core → List ℕ → List ℕ
-shown s xs = found_lines xs (length xs) ++ string_lines s s.size.ids
+abbrev pub shown_lines : Core → List ℕ → List ℕ
+shown_lines s xs = found_lines xs (length xs) ++ string_lines s s.size.ids

@@ -1,7 +1,7 @@
 // The fields of a line: words and numbers with one space between them.
 ghost use Rattle.std.specs.Prelude.{◌≡◌, ◌+◌, ◌<◌, ◌≤◌, bytes_eq, drop, length};
 ghost use Rattle.std.specs.List.{prefix_len};
-ghost use Rattle.heap_schedule.specs.Fields.{GivesAll, differs, field_of, fields_of, keyword_of, number_of, own_keyword, shared_keyword, slot_keyword};
+ghost use Rattle.heap_schedule.specs.Fields.{GivesAll, differs, field_of, line_fields, schedule_keyword, decimal_number, own_keyword, shared_keyword, slot_keyword};
 
 use itoa::Buffer;
 use std::alloc::Global;
@@ -131,7 +131,7 @@ fn slot_keyword(bytes: &[u8]) -> Option<Keyword>
 }
 
 fn keyword_of(bytes: &[u8]) -> Option<Keyword>
-    ensures { result ≡ keyword_of bytes.now }
+    ensures { result ≡ schedule_keyword bytes.now }
 {
     if let Some(word) = shared_keyword(bytes) {
         return Some(word);
@@ -144,7 +144,7 @@ fn keyword_of(bytes: &[u8]) -> Option<Keyword>
 
 // The number whose decimal digits this is.
 fn number_of(bytes: &[u8]) -> Option<u64>
-    ensures { result ≡ number_of bytes.now }
+    ensures { result ≡ decimal_number bytes.now }
 {
     let text = match str::from_utf8(bytes) {
         Ok(text) => text,
@@ -197,7 +197,7 @@ pub(crate) fn behind(bytes: &[u8], at: usize) -> &[u8]
 
 /// The fields of a line.
 pub(crate) fn fields(alloc: Global, line: &[u8]) -> Result<Vec<Field>, LineFault>
-    ensures { GivesAll result (fields_of line.now) }
+    ensures { GivesAll result (line_fields line.now) }
 {
     let mut fields = Vec::new(alloc);
     let mut rest = line;

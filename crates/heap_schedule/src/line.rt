@@ -1,7 +1,7 @@
 // The lines of a schedule, each with its fields.
 ghost use Rattle.std.specs.Prelude.{◌≡◌, true, IfOk};
-ghost use Rattle.heap_schedule.specs.Fields.{Gives};
-ghost use Rattle.heap_schedule.specs.Lines.{GivesLine, GivesNames, counter_in, form_in, is_enter, is_heap, is_learn, is_small, line_by, line_of, making_of, names_in, number_in, place_in, birth_line_of, claim_line_of, counter_line_of, flatten_line_of, form_line_of, join_line_of, len_line_of, length_line_of, slot_line_of, split_line_of, store_line_of, take_line_of, thin_line_of, word_line_of};
+ghost use Rattle.heap_schedule.specs.Fields.{GivesReading};
+ghost use Rattle.heap_schedule.specs.Lines.{GivesLine, GivesNames, counter_in, form_in, is_enter, is_heap, is_learn, is_small, line_by, line_of, making_of, field_names, field_number, field_place, birth_line_of, claim_line_of, counter_line_of, flatten_line_of, form_line_of, join_line_of, len_line_of, length_line_of, slot_line_of, split_line_of, store_line_of, take_line_of, thin_line_of, word_line_of};
 
 use crate::field::{Field, Keyword, LineFault};
 use heap_core::{Counter, Event, HeapSize};
@@ -24,7 +24,7 @@ pub enum Line {
 }
 
 fn number_in(field: Field) -> Result<u64, LineFault>
-    ensures { Gives (λ n. n) result (number_in field) }
+    ensures { GivesReading (λ n. n) result (field_number field) }
 {
     match field {
         Field::Number(number) => Ok(number),
@@ -35,7 +35,7 @@ fn number_in(field: Field) -> Result<u64, LineFault>
 // The number of a view, an id, a content word or a slot, or a count of such. All of these are below
 // 2^32 - 1, so a greater number is as little of use as that one.
 fn place_in(field: Field) -> Result<u32, LineFault>
-    ensures { Gives (λ n. n) result (place_in field) }
+    ensures { GivesReading (λ n. n) result (field_place field) }
 {
     match field {
         Field::Number(number) => {
@@ -49,7 +49,7 @@ fn place_in(field: Field) -> Result<u32, LineFault>
 }
 
 fn counter_in(field: Field) -> Result<Counter, LineFault>
-    ensures { Gives (λ k. k) result (counter_in field) }
+    ensures { GivesReading (λ k. k) result (counter_in field) }
 {
     match field {
         Field::Keyword(word) => match word {
@@ -62,7 +62,7 @@ fn counter_in(field: Field) -> Result<Counter, LineFault>
 }
 
 fn form_in(field: Field) -> Result<Form, LineFault>
-    ensures { Gives (λ f. f) result (form_in field) }
+    ensures { GivesReading (λ f. f) result (form_in field) }
 {
     match field {
         Field::Number(number) => match decode(number) {
@@ -84,7 +84,7 @@ fn is_learn(field: Field) -> bool
 
 // The ids that are learned, each behind a word `learn`.
 fn names_in(alloc: Global, fields: &[Field]) -> Result<Vec<u32>, LineFault>
-    ensures { GivesNames result (names_in fields.now) }
+    ensures { GivesNames result (field_names fields.now) }
 {
     let mut names = Vec::new(alloc);
     let mut rest = fields;
@@ -396,7 +396,7 @@ fn is_heap(field: Field) -> bool
 
 /// The first line, of these fields.
 pub(crate) fn making_of(fields: &[Field]) -> Result<Making, LineFault>
-    ensures read { Gives (λ m. m) result (making_of fields.now) }
+    ensures read { GivesReading (λ m. m) result (making_of fields.now) }
     ensures small { IfOk result (λ m. is_small m ≡ true) }
 {
     if fields.len() != 5 {

@@ -5,7 +5,8 @@ ghost use Rattle.std.specs.String.{string_bytes};
 ghost use Rattle.js_io.specs.SinkState.{SinkState, WritesAll};
 ghost use Rattle.heap_schedule.specs.Lines.{is_small};
 ghost use Rattle.heap_schedule.specs.Text.{turns_of};
-ghost use Rattle.heap_schedule.specs.Outcome.{FileOutcome, IsEnd, IsShown, Outcome, TextOutcome, file_in, no_memory, not_of_form, not_read, play_status, printed, report_of, sinks, stop_line, too_large};
+ghost use Rattle.heap_schedule.specs.Outcome.{FileOutcome, IsShown, PlayOutcome, TextOutcome, file_in, no_memory, not_of_form, not_read, play_status, play_report, stop_line, too_large};
+ghost use Rattle.js_io.specs.Report.{IsEnd, Printed, sinks};
 
 use crate::play::play_lines;
 use crate::schedule::Schedule;
@@ -106,7 +107,7 @@ fn play(alloc: Global, schedule: &Schedule) -> Result<Shown, NoMemory>
 
 // Writes what is shown, and where a line isn't enabled its number.
 fn tell_play<O: Sink, E: Sink>(shown: &Shown, lines: usize, out: &mut O, err: &mut E) -> u8
-    ensures { IsEnd (printed (play_status lines shown.now.played) shown.now.bytes.items
+    ensures { IsEnd (Printed (play_status lines shown.now.played) shown.now.bytes.items
         (stop_line lines shown.now.played)) result
         (sinks (O.state out.old) (E.state err.old)) (sinks (O.state out.new) (E.state err.new)) }
 {
@@ -127,7 +128,7 @@ fn tell_play<O: Sink, E: Sink>(shown: &Shown, lines: usize, out: &mut O, err: &m
 // What is reported in place of a play, whatever the other sink received. A fault of err changes no status.
 
 fn tell_memory<E: Sink>(err: &mut E) -> u8
-    ensures { (out : SinkState) → IsEnd (report_of no_memory) result
+    ensures { (out : SinkState) → IsEnd (play_report no_memory) result
         (sinks out (E.state err.old)) (sinks out (E.state err.new)) }
 {
     let _ = write_all(err, b"jssched: out of memory\n");
@@ -135,7 +136,7 @@ fn tell_memory<E: Sink>(err: &mut E) -> u8
 }
 
 fn tell_unread<E: Sink>(err: &mut E, name: &str) -> u8
-    ensures { (out : SinkState) → IsEnd (report_of (not_read name.now)) result
+    ensures { (out : SinkState) → IsEnd (play_report (not_read name.now)) result
         (sinks out (E.state err.old)) (sinks out (E.state err.new)) }
 {
     let _ = write_both(err, name.as_bytes(), b": cannot be read\n");
@@ -143,7 +144,7 @@ fn tell_unread<E: Sink>(err: &mut E, name: &str) -> u8
 }
 
 fn tell_large<E: Sink>(err: &mut E, name: &str) -> u8
-    ensures { (out : SinkState) → IsEnd (report_of (too_large name.now)) result
+    ensures { (out : SinkState) → IsEnd (play_report (too_large name.now)) result
         (sinks out (E.state err.old)) (sinks out (E.state err.new)) }
 {
     let _ = write_both(err, name.as_bytes(), b": larger than 1048576 bytes\n");
@@ -152,7 +153,7 @@ fn tell_large<E: Sink>(err: &mut E, name: &str) -> u8
 
 #[tactic(auto, using(crate::proofs::Told::told))]
 fn tell_refused<E: Sink>(err: &mut E, line: usize) -> u8
-    ensures { (out : SinkState) → IsEnd (report_of (not_of_form line)) result
+    ensures { (out : SinkState) → IsEnd (play_report (not_of_form line)) result
         (sinks out (E.state err.old)) (sinks out (E.state err.new)) }
 {
     let _ = write_number(err, line, b": refused\n");
@@ -215,7 +216,8 @@ pub fn run_schedule<F: Files, O: Sink, E: Sink>(
     out: &mut O,
     err: &mut E,
 ) -> Status
-    ensures outcome { Outcome (map string_bytes words.now) (F.state files.old) (F.state files.new) result.code
+    ensures outcome { PlayOutcome (map string_bytes words.now) (F.state files.old) (F.state files.new)
+        result.code
         (sinks (O.state out.old) (E.state err.old)) (sinks (O.state out.new) (E.state err.new)) }
 {
     match file_name(words) {

@@ -1,7 +1,7 @@
 // What is shown of a play.
 ghost use Rattle.std.specs.Prelude.{◌≡◌, ◌<◌, ◌++◌, length, codes, decimal, IfOk, OnOk};
 ghost use Rattle.heap_core.specs.Events.{IsSoundCore};
-ghost use Rattle.heap_schedule.specs.Shown.{found_line, found_lines, hex_digit, line_of_id, shown, string_line, string_lines, unit_text, unit_texts};
+ghost use Rattle.heap_schedule.specs.Shown.{found_line, found_lines, hex_digit, line_of_id, shown_lines, string_line, string_lines, unit_text, unit_texts};
 
 use heap_core::CoreState;
 use itoa::Buffer;
@@ -113,7 +113,7 @@ fn add_strings(alloc: Global, state: &CoreState, out: &mut Vec<u8>) -> Result<()
 /// All that is shown of a play that found these words and led to this machine.
 pub(crate) fn show(alloc: Global, state: &CoreState, found: &[u64]) -> Result<Vec<u8>, NoMemory>
     requires { IsSoundCore state.now }
-    ensures { IfOk result (λ bytes. bytes.items ≡ shown state.now found.now) }
+    ensures { IfOk result (λ bytes. bytes.items ≡ shown_lines state.now found.now) }
 {
     let mut out = Vec::new(alloc);
     add_found_lines(&mut out, found)?;

@@ -1,6 +1,6 @@
 // The text of a schedule.
 ghost use Rattle.std.specs.Prelude.{◌≡◌, true, IfOk};
-ghost use Rattle.heap_schedule.specs.Fields.{Gives, pieces};
+ghost use Rattle.heap_schedule.specs.Fields.{GivesReading, fields_between};
 ghost use Rattle.heap_schedule.specs.Lines.{GivesLine, is_small};
 ghost use Rattle.heap_schedule.specs.Text.{GivesLines, GivesSchedule, lines_from, making_in, schedule_of, turn_in};
 
@@ -25,7 +25,7 @@ fn read_line(alloc: Global, line: &[u8]) -> Result<Line, LineFault>
 }
 
 fn read_making(alloc: Global, line: &[u8]) -> Result<Making, LineFault>
-    ensures read { Gives (λ m. m) result (making_in line.now) }
+    ensures read { GivesReading (λ m. m) result (making_in line.now) }
     ensures small { IfOk result (λ m. is_small m ≡ true) }
 {
     let fields = fields(alloc, line)?;
@@ -34,7 +34,7 @@ fn read_making(alloc: Global, line: &[u8]) -> Result<Making, LineFault>
 
 // The lines behind the first.
 fn read_lines(alloc: Global, text: &[u8]) -> Result<Vec<Line>, TextStop>
-    ensures { GivesLines result (lines_from 2 (pieces 10 text.now)) }
+    ensures { GivesLines result (lines_from 2 (fields_between 10 text.now)) }
 {
     let mut lines = Vec::new(alloc);
     let mut rest = text;

@@ -13,7 +13,7 @@ use Rattle.heap_rule.specs.Layout.{content, form, length_word, slot, IsBorn}
 use Rattle.heap_rule.specs.Contents.{units_of}
 use Rattle.heap_rule.specs.Maps.{Has, HasKey, upper_one}
 use Rattle.heap_rule.specs.Forms.{later_form}
-use Rattle.heap_rule.specs.Agents.{joined, spent}
+use Rattle.heap_rule.specs.Agents.{joined_view, spent}
 use Rattle.std.proofs.Math.Logic.{∥∥₁_elim}
 use Rattle.std.proofs.Props.{props}
 use Rattle.heap_rule.specs.Sound.{At, IsSound, IsPossible, StandsIn, Knows, KnowsForm, OwnsIds, OwnsWords}
@@ -21,7 +21,7 @@ use Rattle.heap_rule.proofs.MapLemmas.{has_key, key_of}
 use Rattle.heap_rule.proofs.ListLemmas.{set_else, set_there}
 use Rattle.heap_rule.proofs.Joining.{keeps_joined, laid_keeps, laid_takes}
 use Rattle.heap_table.specs.Rule.{AreSeenAlike}
-use Rattle.heap_table.specs.Known.{KeepsKnown, HasAll}
+use Rattle.heap_table.specs.Known.{KeepsKnown, HasAllOf}
 use Rattle.heap_table.specs.Taken.{same_number, fits_form, has_all, agree, taken}
 use Rattle.heap_table.proofs.Fitting.{fits_same, same_met, same_number_decides, fits_true, fits_met, fits_flat, fits_thin, fits_settled, fits_later}
 use Rattle.heap_table.proofs.Alike.{now_born}
@@ -38,7 +38,7 @@ record HasKeys (v w : View) : Type 0 where
   own_ids : (q : ℕ) → HasKey v.own_ids q → HasKey w.own_ids q
   own_words : (q : ℕ) → HasKey v.own_words q → HasKey w.own_words q
 
-keys_stay : (v b : View) → HasKeys v (joined v b)
+keys_stay : (v b : View) → HasKeys v (joined_view v b)
 keys_stay v b = record {
   units = laid_keeps upper_one v.units b.units;
   met = laid_keeps upper_one v.met b.met;
@@ -50,7 +50,7 @@ keys_stay v b = record {
   own_words = laid_keeps upper_one v.own_words b.own_words;
 }
 
-keys_come : (v b : View) → HasKeys b (joined v b)
+keys_come : (v b : View) → HasKeys b (joined_view v b)
 keys_come v b = record {
   units = laid_takes upper_one v.units b.units;
   met = laid_takes upper_one v.met b.met;
@@ -86,7 +86,7 @@ module _ (z : HeapSize) (W : List ℕ) where
 
 module _ (z : HeapSize) (agents : ℕ) (W : List ℕ) (vs : List View) (s : IsSound z agents W vs) (alike : AreSeenAlike vs) (j o : ℕ) (v b : View) (ne : j ≢ o) (at : At vs j v) (live : v.live ≡ true) (at_other : At vs o b) (live_other : b.live ≡ true) where
   abbrev w : View
-  w = joined v b
+  w = joined_view v b
 
   abbrev vs' : List View
   vs' = set (set vs j w) o spent
@@ -110,8 +110,8 @@ module _ (z : HeapSize) (agents : ℕ) (W : List ℕ) (vs : List View) (s : IsSo
   pub both_agree : agree v b ≡ true
   both_agree = and_from _ _ own_stays other_comes
 
-pub taken_is : (v b : View) → agree v b ≡ true → taken v b ≡ joined v b
-taken_is v b e = ap (λ (t : Bool). record (joined v b) { share = cond t (v.share + b.share) 0 }) e
+pub taken_is : (v b : View) → agree v b ≡ true → taken v b ≡ joined_view v b
+taken_is v b e = ap (λ (t : Bool). record (joined_view v b) { share = cond t (v.share + b.share) 0 }) e
 
 some_share : (t : Bool) (n : ℕ) → 1 ≤ cond t n 0 → t ≡ true
 some_share true n h = refl
@@ -138,7 +138,7 @@ module _ (v w : View) (keys : HasKeys v w) (test : has_all v w ≡ true) where
     slots = same_met same_number v.slots w.slots same_number_decides (and_parts _ _ d.1).0;
   }
 
-  all_by : HasAll v w
+  all_by : HasAllOf v w
   all_by = let a = and_parts _ _ test in let b = and_parts _ _ a.1 in let c = and_parts _ _ b.1 in let d = and_parts _ _ c.1 in let e = and_parts _ _ d.1 in let f = and_parts _ _ e.1 in record {
     own_ids = same_met same_number v.own_ids w.own_ids same_number_decides f.0;
     own_words = same_met same_number v.own_words w.own_words same_number_decides f.1;
@@ -150,13 +150,13 @@ module _ (v w : View) (keys : HasKeys v w) (test : has_all v w ≡ true) where
   }
 
 module _ (v b : View) (e : agree v b ≡ true) where
-  known_joined : KeepsKnown v (joined v b) × KeepsKnown b (joined v b)
-  known_joined = let t = and_parts _ _ e in (known_by v (joined v b) (keys_stay v b) t.0, known_by b (joined v b) (keys_come v b) t.1)
+  known_joined : KeepsKnown v (joined_view v b) × KeepsKnown b (joined_view v b)
+  known_joined = let t = and_parts _ _ e in (known_by v (joined_view v b) (keys_stay v b) t.0, known_by b (joined_view v b) (keys_come v b) t.1)
 
-  all_joined : HasAll v (joined v b) × HasAll b (joined v b)
-  all_joined = let t = and_parts _ _ e in (all_by v (joined v b) (keys_stay v b) t.0, all_by b (joined v b) (keys_come v b) t.1)
+  all_joined : HasAllOf v (joined_view v b) × HasAllOf b (joined_view v b)
+  all_joined = let t = and_parts _ _ e in (all_by v (joined_view v b) (keys_stay v b) t.0, all_by b (joined_view v b) (keys_come v b) t.1)
 
 -- So a view that is found to be the taken one, and to stand in a sound state, is the joined one and has all that both have.
-pub taken_over : (v b w : View) → w ≡ taken v b → IsPossible w → (w ≡ joined v b) × (KeepsKnown v w × KeepsKnown b w) × (HasAll v w × HasAll b w)
-taken_over v b w is p = let e : agree v b ≡ true = possible_agree v b (subst IsPossible is p) in let same : joined v b ≡ w = sym (is ∙ taken_is v b e) in
-    subst (λ (x : View). (x ≡ joined v b) × (KeepsKnown v x × KeepsKnown b x) × (HasAll v x × HasAll b x)) same (refl, known_joined v b e, all_joined v b e)
+pub taken_over : (v b w : View) → w ≡ taken v b → IsPossible w → (w ≡ joined_view v b) × (KeepsKnown v w × KeepsKnown b w) × (HasAllOf v w × HasAllOf b w)
+taken_over v b w is p = let e : agree v b ≡ true = possible_agree v b (subst IsPossible is p) in let same : joined_view v b ≡ w = sym (is ∙ taken_is v b e) in
+    subst (λ (x : View). (x ≡ joined_view v b) × (KeepsKnown v x × KeepsKnown b x) × (HasAllOf v x × HasAllOf b x)) same (refl, known_joined v b e, all_joined v b e)

@@ -11,12 +11,12 @@ use Rattle.heap_rule.specs.declared.size.HeapSize.{HeapSize}
 use Rattle.heap_rule.specs.Layout.{form, IsBorn}
 use Rattle.heap_rule.specs.Maps.{Has}
 use Rattle.heap_rule.specs.Forms.{IsLater, is_later, later_form}
-use Rattle.heap_rule.specs.Agents.{joined, spent}
+use Rattle.heap_rule.specs.Agents.{joined_view, spent}
 use Rattle.heap_rule.specs.Births.{freeze_form}
 use Rattle.heap_rule.specs.HeaderMoves.{flattened, seen_form, thinned}
 use Rattle.heap_rule.specs.Learning.{learned_all}
 use Rattle.std.specs.Prelude.{unwrap_or}
-use Rattle.heap_rule.specs.Sound.{At, EachLive, IsSound, Stands}
+use Rattle.heap_rule.specs.Sound.{At, EachLive, IsSound, StandsAs}
 use Rattle.heap_rule.proofs.MapLemmas.{has_insert, nothing_has}
 use Rattle.heap_rule.proofs.ListLemmas.{at_set, each_set}
 use Rattle.heap_rule.proofs.Splitting.{each_snoc}
@@ -119,13 +119,13 @@ module _ (vs : List View) (h : AreSeenAlike vs) (j : ℕ) (v : View) (at : At vs
       either_way true a c = c
       either_way false a c = a
 
-  pub alike_joined : (o : ℕ) (b : View) → At vs o b → b.live ≡ true → AreSeenAlike (set (set vs j (joined v b)) o spent)
-  alike_joined o b at' live' = let w : View = joined v b in
+  pub alike_joined : (o : ℕ) (b : View) → At vs o b → b.live ≡ true → AreSeenAlike (set (set vs j (joined_view v b)) o spent)
+  alike_joined o b at' live' = let w : View = joined_view v b in
       let one = alike_set w (λ i f e. inr (laid_has later_form (IsAlike vs) (one_of (IsAlike vs)) v.forms b.forms (λ q x c k u a l g d. h j v at live k u a l q x g c d) (λ q x c k u a l g d. h o b at' live' k u a l q x g c d) i f e)) in
       λ k x a l q y c m. one k x (gone k x a l) l q y (gone q y c m) m
     where
-      gone : (k : ℕ) (x : View) → At (set (set vs j (joined v b)) o spent) k x → x.live ≡ true → At (set vs j (joined v b)) k x
-      gone k x a l = ⊎_elim (λ (t : (k ≡ o) × (spent ≡ x)). absurd (let dead : false ≡ true = ap (λ (y : View). y.live) t.1 ∙ l in cc)) (λ (t : (k ≢ o) × At (set vs j (joined v b)) k x). t.1) (at_set (set vs j (joined v b)) o k spent x a)
+      gone : (k : ℕ) (x : View) → At (set (set vs j (joined_view v b)) o spent) k x → x.live ≡ true → At (set vs j (joined_view v b)) k x
+      gone k x a l = ⊎_elim (λ (t : (k ≡ o) × (spent ≡ x)). absurd (let dead : false ≡ true = ap (λ (y : View). y.live) t.1 ∙ l in cc)) (λ (t : (k ≢ o) × At (set vs j (joined_view v b)) k x). t.1) (at_set (set vs j (joined_view v b)) o k spent x a)
 
 module _ (z : HeapSize) (agents : ℕ) (W : List ℕ) (vs : List View) (s : IsSound z agents W vs) where
   -- the form that stands
@@ -139,7 +139,7 @@ module _ (z : HeapSize) (agents : ℕ) (W : List ℕ) (vs : List View) (s : IsSo
 
   -- a born string has a form
   pub now_born : (i : ℕ) (now : Form) → IsBorn z W i → form_of (form z W i) ≡ Some now → now ≡ Unborn → ⊥
-  now_born i now b e un = let t = s.standing i b in let d : Some t.now ≡ Some now = sym t.decodes ∙ e in let is : t.now ≡ now = cc in subst (Stands z W vs i) (is ∙ un) t.stands
+  now_born i now b e un = let t = s.standing i b in let d : Some t.now ≡ Some now = sym t.decodes ∙ e in let is : t.now ≡ now = cc in subst (StandsAs z W vs i) (is ∙ un) t.stands
 
   module _ (h : AreSeenAlike vs) (j : ℕ) (v : View) (at : At vs j v) (live : v.live ≡ true) where
     -- a compare-exchange of a header, which puts a form in or finds the one that stands

@@ -12,22 +12,22 @@ use Rattle.atomic_table.specs.Table.{State, step, keeps, Allows, Joins, Splits}
 use Rattle.heap_rule.specs.declared.view.View.{View}
 use Rattle.heap_rule.specs.declared.size.Counter.{Counter}
 use Rattle.heap_rule.specs.declared.size.Counter.TheVariants.{Ids, Words}
-use Rattle.heap_rule.specs.Layout.{IsLawful, counter_at, end_of, content_at, form_at, length_at, length_word, slot_at, word_count, IsBorn, MAX}
+use Rattle.heap_rule.specs.Layout.{IsLawfulSize, counter_at, end_of, content_at, form_at, length_at, length_word, slot_at, word_count, IsBorn, MAX}
 use Rattle.heap_rule.specs.declared.size.HeapSize.{HeapSize}
-use Rattle.heap_rule.specs.Agents.{joined, spent, noted, left_after_split, right_after_split}
+use Rattle.heap_rule.specs.Agents.{joined_view, spent, noted, left_after_split, right_after_split}
 use Rattle.heap_rule.specs.Loads.{with_form, added_loads, loaded_form, loaded_length, loaded_word, MayLoadWord}
-use Rattle.heap_rule.specs.Slots.{MayEnter, units_by, entry_in, loaded_slot, MayTakeSlot, took_slot}
+use Rattle.heap_rule.specs.Slots.{MayEnter, units_seen, entry_in, loaded_slot, MayTakeSlot, took_slot}
 use Rattle.heap_rule.specs.Learning.{learned_all, all_named}
 use Rattle.heap_rule.specs.Claims.{loaded_counter, claimed, won_claim, MayClaim}
-use Rattle.heap_rule.specs.Births.{stored_word, MayStoreLength, stored_length, Fits, MayBear, freeze_form, born, born_with}
+use Rattle.heap_rule.specs.Births.{stored_word, MayStoreLength, stored_length, FormFits, MayBear, freeze_form, born, born_with}
 use Rattle.heap_rule.specs.HeaderMoves.{CanThin, MayFlatten, MayThin, flattened, seen_form, thinned}
 use Rattle.heap_rule.specs.Forms.{IsCons, IsLater, IsSliced, IsSolidForm}
-use Rattle.heap_rule.specs.Kinds.{Keeps, flatten, thin}
+use Rattle.heap_rule.specs.Kinds.{KeepsRule, flatten, thin}
 use Rattle.std.proofs.Math.Logic.{∥∥₁_elim}
 use Rattle.std.proofs.Props.{props}
 use Rattle.heap_rule.specs.Sound.{IsSound, IsPossible, StandsIn}
 use Rattle.heap_rule.specs.Maps.{Has, HasKey}
-use Rattle.heap_rule.specs.Views.{IsKnown, IsSettled, shown}
+use Rattle.heap_rule.specs.Views.{MayUse, IsSeenSettled, shown_word}
 use Rattle.js_header.specs.Form.{IsInRange, form_of, word_of}
 use Rattle.js_header.specs.declared.form.Form.{Form}
 use Rattle.js_header.specs.declared.form.Form.TheVariants.{Unborn, Flat, Cons, Sliced, Thin}
@@ -51,7 +51,7 @@ use Rattle.heap_table.specs.Taken.{taken}
 use Rattle.heap_table.proofs.Agreeing.{both_agree, taken_is}
 use Rattle.heap_table.proofs.Alike.{IsAlike, alike_flattened, alike_joined, alike_now, alike_put, alike_same, alike_split, alike_thinned, alike_unborn, now_born}
 use Rattle.heap_table.proofs.Stay.{known_form, known_length, known_word, known_birth, known_flattened, known_thinned, known_slot, known_took}
-use Rattle.heap_table.specs.Plays.{Looked, Noted, Sat, FoundCounter, LoadedCounter, Claimed, StoredWord, StoredLength, GaveBirth, FlattenedForm, ThinnedForm, LoadedForm, LoadedLength, LoadedWord, SawSlot, TookSlot, FoundForm, FoundSlot, Stays}
+use Rattle.heap_table.specs.Plays.{Looked, Noted, Sat, FoundCounter, LoadedCounter, Claimed, StoredWord, StoredLength, GaveBirth, FlattenedForm, ThinnedForm, LoadedForm, LoadedLength, LoadedWord, SawSlot, TookSlot, FoundForm, FoundSlot, StaysSound}
 use Rattle.heap_table.specs.Agents.{Belongs}
 use Rattle.heap_table.specs.Known.{KeepsKnown}
 use Rattle.heap_table.specs.declared.agent.Agent.{Agent}
@@ -190,7 +190,7 @@ module _ (key : HeapKey) (slots id : ℕ) (me : Sat) (live : me.0.live ≡ true)
         (record { slots = refl; sizes = refl; live = refl; share = refl; possible = after_possible s at (set s.words (content_at key.size c) n) w live kept }, λ d e. let is : c ≡ d = one_content me.0.sizes c d e in ap (λ (y : ℕ). stored_word me.0 y n) is),
       )
 
-  pub loads_form : (i : ℕ) → IsKnown me.0 i → Allows (KeepsHeap key) slots id me (form_at me.0.sizes i) (λ n. n) (LoadedForm (step slots (form_at me.0.sizes i) 0 0 none) me)
+  pub loads_form : (i : ℕ) → MayUse me.0 i → Allows (KeepsHeap key) slots id me (form_at me.0.sizes i) (λ n. n) (LoadedForm (step slots (form_at me.0.sizes i) 0 0 none) me)
   loads_form i known s (h, b) _ at _ = let z : HeapSize = me.0.sizes in let x : ℕ = get_or s.words (form_at z i) 0 in let w : View = learned_all (loaded_form me.0 i x) in
       let same : z ≡ key.size = sizes_are key.size key.agents s.words s.views h id me.0 at live in
       let kept : IsSound key.size key.agents s.words (set s.views id w) = subst (λ (y : HeapSize). IsSound key.size key.agents s.words (set s.views id (learned_all (loaded_form me.0 i (get_or s.words (form_at y i) 0))))) (sym same)
@@ -256,7 +256,7 @@ module _ (key : HeapKey) (slots id : ℕ) (me : Sat) (live : me.0.live ≡ true)
       )
 
   -- a birth
-  bears_form : (i n : ℕ) (f : Form) → IsInRange f → Has me.0.own_ids i n → Fits me.0 i n f
+  bears_form : (i n : ℕ) (f : Form) → IsInRange f → Has me.0.own_ids i n → FormFits me.0 i n f
       → Allows (KeepsHeap key) slots id me (form_at me.0.sizes i) (λ _. word_of f) (λ _. GaveBirth (step slots (form_at me.0.sizes i) (word_of f) 0 none) me (word_of f))
   bears_form i n f range own fits s (h, b) _ at _ = let w : View = born me.0 i f in let z : HeapSize = key.size in let t = born_same me.0 i f in
       let same : me.0.sizes ≡ z = sizes_are key.size key.agents s.words s.views h id me.0 at live in
@@ -282,7 +282,7 @@ module _ (key : HeapKey) (slots id : ℕ) (me : Sat) (live : me.0.live ≡ true)
   then_learned s at w l h = subst (λ (vs : List View). IsSound key.size key.agents s.words vs) (set_twice s.views id w (learned_all w))
       (keeps_learned key.size key.agents s.words (set s.views id w) h id w (set_there s.views id w me.0 at) l (all_named (entries w.forms)))
 
-  pub loads_length : (i : ℕ) → IsKnown me.0 i → Allows (KeepsHeap key) slots id me (length_at me.0.sizes i) (λ n. n) (LoadedLength (step slots (length_at me.0.sizes i) 0 0 none) me)
+  pub loads_length : (i : ℕ) → MayUse me.0 i → Allows (KeepsHeap key) slots id me (length_at me.0.sizes i) (λ n. n) (LoadedLength (step slots (length_at me.0.sizes i) 0 0 none) me)
   loads_length i known s (h, b) _ at _ = let z : HeapSize = me.0.sizes in let x : ℕ = get_or s.words (length_at z i) 0 in let w : View = learned_all (loaded_length me.0 i x) in
       let same : z ≡ key.size = sizes_are key.size key.agents s.words s.views h id me.0 at live in
       let kept : IsSound key.size key.agents s.words (set s.views id w) = then_learned s at (loaded_length me.0 i x) live
@@ -296,9 +296,9 @@ module _ (key : HeapKey) (slots id : ℕ) (me : Sat) (live : me.0.live ≡ true)
       )
 
   -- what the view has for the word afterwards is what was found
-  word_shown : (c x : ℕ) (own : Option ℕ) → get me.0.own_words c ≡ own → ((y : ℕ) → Has me.0.own_words c y → y ≡ x) → x ≡ shown (loaded_word me.0 c x) c
-  word_shown c x (Some y) e found = sym (ap (λ (o : Option ℕ). shown (cond (is_some o) me.0 (record me.0 { frozen = insert me.0.frozen c x })) c) e ∙ (ap (λ (o : Option ℕ). unwrap_or o (unwrap_or (get me.0.frozen c) 0)) e ∙ found y e))
-  word_shown c x None e found = sym (ap (λ (o : Option ℕ). shown (cond (is_some o) me.0 (record me.0 { frozen = insert me.0.frozen c x })) c) e
+  word_shown : (c x : ℕ) (own : Option ℕ) → get me.0.own_words c ≡ own → ((y : ℕ) → Has me.0.own_words c y → y ≡ x) → x ≡ shown_word (loaded_word me.0 c x) c
+  word_shown c x (Some y) e found = sym (ap (λ (o : Option ℕ). shown_word (cond (is_some o) me.0 (record me.0 { frozen = insert me.0.frozen c x })) c) e ∙ (ap (λ (o : Option ℕ). unwrap_or o (unwrap_or (get me.0.frozen c) 0)) e ∙ found y e))
+  word_shown c x None e found = sym (ap (λ (o : Option ℕ). shown_word (cond (is_some o) me.0 (record me.0 { frozen = insert me.0.frozen c x })) c) e
       ∙ (ap (λ (o : Option ℕ). unwrap_or o (unwrap_or (get (insert me.0.frozen c x) c) 0)) e ∙ ap (λ (o : Option ℕ). unwrap_or o 0) (insert_same me.0.frozen c x)))
 
   word_same : (c x : ℕ) (b : Bool) → IsSameSeer me.0 (cond b me.0 (record me.0 { frozen = insert me.0.frozen c x }))
@@ -319,7 +319,7 @@ module _ (key : HeapKey) (slots id : ℕ) (me : Sat) (live : me.0.live ≡ true)
           record { slots = refl; sizes = t.0; live = t.1; share = t.2; possible = after_possible s at s.words w (t.1 ∙ live) kept },
           known_word key.size key.agents s.words s.views h id me.0 at live c x (ap (λ (y : HeapSize). get_or s.words (content_at y c) 0) (sym same)) kept,
           t.3,
-          λ d e. let is : c ≡ d = one_content z c d e in subst (λ (y : ℕ). (w ≡ learned_all (loaded_word me.0 y x)) × (x ≡ shown w y)) is (refl, word_shown c x (get me.0.own_words c) refl found),
+          λ d e. let is : c ≡ d = one_content z c d e in subst (λ (y : ℕ). (w ≡ learned_all (loaded_word me.0 y x)) × (x ≡ shown_word w y)) is (refl, word_shown c x (get me.0.own_words c) refl found),
         ),
       )
 
@@ -353,7 +353,7 @@ module _ (key : HeapKey) (slots id : ℕ) (me : Sat) (live : me.0.live ≡ true)
   takes_slot k i may s (h, b) _ at _ = let z : HeapSize = key.size in let x : ℕ = get_or s.words (slot_at z k) 0 in let v : View = took_slot me.0 k i x in let w : View = learned_all v in let n : ℕ = either (eqb x 0) (i + 1) x in
       let same : me.0.sizes ≡ z = sizes_are z key.agents s.words s.views h id me.0 at live in let t = took_same me.0 k i x in
       let within : k < z.slots = subst (λ (y : HeapSize). k < y.slots) same may.0 in
-      let all = subst (λ (y : ℕ). Keeps z key.agents s.words (set s.words (slot_at z k) y) (set s.views id w)) (cond_either (eqb x 0) (i + 1) x) (take_by z key.agents s.words s.views h id me.0 at live k i (all_named (entries v.forms)) x within may refl) in (
+      let all = subst (λ (y : ℕ). KeepsRule z key.agents s.words (set s.words (slot_at z k) y) (set s.views id w)) (cond_either (eqb x 0) (i + 1) x) (take_by z key.agents s.words s.views h id me.0 at live k i (all_named (entries v.forms)) x within may refl) in (
         w,
         keeps,
         tt,
@@ -374,9 +374,9 @@ module _ (key : HeapKey) (slots id : ℕ) (me : Sat) (live : me.0.live ≡ true)
       let v : View = flattened me.0 i old new x in let w : View = learned_all v in let t = flattened_same me.0 i old new x in
       let N : HeapSize → ℕ = λ y. either (eqb (X y) (word_of old)) (word_of new) (X y) in let W' : List ℕ = set s.words (form_at z i) (N z) in
       let same : z ≡ key.size = sizes_are key.size key.agents s.words s.views h id me.0 at live in
-      let all : Keeps key.size key.agents s.words W' (set s.views id w) =
-      subst (λ (y : HeapSize). Keeps key.size key.agents s.words (set s.words (form_at y i) (N y)) (set s.views id (learned_all (flattened me.0 i old new (X y))))) (sym same)
-      (subst (λ (y : ℕ). Keeps key.size key.agents s.words (set s.words (form_at key.size i) y) (set s.views id (learned_all (flattened me.0 i old new (X key.size))))) (cond_either (eqb (X key.size) (word_of old)) (word_of new) (X key.size))
+      let all : KeepsRule key.size key.agents s.words W' (set s.views id w) =
+      subst (λ (y : HeapSize). KeepsRule key.size key.agents s.words (set s.words (form_at y i) (N y)) (set s.views id (learned_all (flattened me.0 i old new (X y))))) (sym same)
+      (subst (λ (y : ℕ). KeepsRule key.size key.agents s.words (set s.words (form_at key.size i) y) (set s.views id (learned_all (flattened me.0 i old new (X key.size))))) (cond_either (eqb (X key.size) (word_of old)) (word_of new) (X key.size))
       (kinds_keep key.size key.agents s.words s.views id me.0 (flatten i old new) (all_named (entries (flattened me.0 i old new (X key.size)).forms)) h at live may)) in
       let k = known_flattened key.size key.agents s.words s.views h id me.0 at live W' (λ q c. (all.1 q c).1) i old new may x (ap X (sym same)) all.0 in (
         w,
@@ -387,7 +387,7 @@ module _ (key : HeapKey) (slots id : ℕ) (me : Sat) (live : me.0.live ≡ true)
           record { slots = refl; sizes = t.0; live = t.1; share = t.2; possible = after_possible s at W' w (t.1 ∙ live) all.0 },
           k.0,
           λ d e g p q r a c. let is : i ≡ d = one_form z i d p in let olds : old ≡ e = one_spelling old e old_range a q in let news : new ≡ g = one_spelling new g range c r in
-              subst (λ (y : ℕ × Form × Form). (w ≡ learned_all (flattened me.0 y.0 y.1 y.2 x)) × IsSettled w y.0) (λ m. (is m, olds m, news m)) (refl, k.1),
+              subst (λ (y : ℕ × Form × Form). (w ≡ learned_all (flattened me.0 y.0 y.1 y.2 x)) × IsSeenSettled w y.0) (λ m. (is m, olds m, news m)) (refl, k.1),
         ),
       )
 
@@ -398,9 +398,9 @@ module _ (key : HeapKey) (slots id : ℕ) (me : Sat) (live : me.0.live ≡ true)
       let v : View = thinned me.0 i old t x in let w : View = learned_all v in let same_agent = thinned_same me.0 i t old x in
       let N : HeapSize → ℕ = λ y. either (eqb (X y) (word_of old)) (word_of (Thin t)) (X y) in let W' : List ℕ = set s.words (form_at z i) (N z) in
       let same : z ≡ key.size = sizes_are key.size key.agents s.words s.views h id me.0 at live in
-      let all : Keeps key.size key.agents s.words W' (set s.views id w) =
-      subst (λ (y : HeapSize). Keeps key.size key.agents s.words (set s.words (form_at y i) (N y)) (set s.views id (learned_all (thinned me.0 i old t (X y))))) (sym same)
-      (subst (λ (y : ℕ). Keeps key.size key.agents s.words (set s.words (form_at key.size i) y) (set s.views id (learned_all (thinned me.0 i old t (X key.size))))) (cond_either (eqb (X key.size) (word_of old)) (word_of (Thin t)) (X key.size))
+      let all : KeepsRule key.size key.agents s.words W' (set s.views id w) =
+      subst (λ (y : HeapSize). KeepsRule key.size key.agents s.words (set s.words (form_at y i) (N y)) (set s.views id (learned_all (thinned me.0 i old t (X y))))) (sym same)
+      (subst (λ (y : ℕ). KeepsRule key.size key.agents s.words (set s.words (form_at key.size i) y) (set s.views id (learned_all (thinned me.0 i old t (X key.size))))) (cond_either (eqb (X key.size) (word_of old)) (word_of (Thin t)) (X key.size))
       (kinds_keep key.size key.agents s.words s.views id me.0 (thin i old t) (all_named (entries (thinned me.0 i old t (X key.size)).forms)) h at live may)) in
       let k = known_thinned key.size key.agents s.words s.views h id me.0 at live W' (λ q c. (all.1 q c).1) i t old may x (ap X (sym same)) all.0 in (
         w,
@@ -443,7 +443,7 @@ module _ (key : HeapKey) (slots id : ℕ) (me : Sat) (live : me.0.live ≡ true)
 
 pub joins : (key : HeapKey) (id other : ℕ) (v b : View) → v.live ≡ true → b.live ≡ true → Joins (KeepsHeap key) id v other b (taken v b) spent
 joins key id other v b live live' s (h, alike) at ne at' = let apart : id ≢ other = (λ e. ne (sym e)) in let at_other : get_elem? s.views other ≡ some b = sym (set_else s.views id other (taken v b) ne) ∙ at' in
-    let same : taken v b ≡ joined v b = taken_is v b (both_agree key.size key.agents s.words s.views h alike id other v b apart at live at_other live') in (
+    let same : taken v b ≡ joined_view v b = taken_is v b (both_agree key.size key.agents s.words s.views h alike id other v b apart at live at_other live') in (
       subst (λ (w : View). IsSound key.size key.agents s.words (set (set s.views id w) other spent)) (sym same) (keeps_joined key.size key.agents s.words s.views h id other v b apart at live at_other live'),
       subst (λ (w : View). AreSeenAlike (set (set s.views id w) other spent)) (sym same) (alike_joined s.views alike id v at live other b at_other live'),
     )
@@ -451,7 +451,7 @@ joins key id other v b live live' s (h, alike) at ne at' = let apart : id ≢ ot
 pub splits : (key : HeapKey) (id : ℕ) (v : View) → v.live ≡ true → 1 ≤ v.giving → v.giving < v.share → Splits (KeepsHeap key) id v (left_after_split v v.giving) (right_after_split v v.giving)
 splits key id v live some_give less s (h, b) at = (keeps_split key.size key.agents s.words s.views h id v at live v.giving some_give less, alike_split s.views b id v at live (left_after_split v v.giving) (right_after_split v v.giving) refl refl)
 
-pub end_small : (z : HeapSize) (k : Counter) → IsLawful z → end_of z k < 2 ^ 29
+pub end_small : (z : HeapSize) (k : Counter) → IsLawfulSize z → end_of z k < 2 ^ 29
 end_small z Ids h = h.1
 end_small z Words h = h.3
 
@@ -460,7 +460,7 @@ pub word_within : (v : View) → IsPossible v → (c : ℕ) → MayLoadWord v c 
 word_within v p c may = ⊎_elim (λ (h : HasKey v.own_words c). (possible_within v p).words c h) (λ h. possible_frozen v p c h) may
 
 -- a form that may be born is spelt by a word
-sliced_in : (v : View) → StandsIn v → (i n : ℕ) (wide : Bool) (parent offset : ℕ) → Has v.own_ids i n → Fits v i n (Sliced wide parent offset) → (parent < 2 ^ 29) × (offset < 2 ^ 29)
+sliced_in : (v : View) → StandsIn v → (i n : ℕ) (wide : Bool) (parent offset : ℕ) → Has v.own_ids i n → FormFits v i n (Sliced wide parent offset) → (parent < 2 ^ 29) × (offset < 2 ^ 29)
 sliced_in v (z, agents, W, vs, j, s, at, live) i n wide parent offset own fits = let know = s.knows j v at live in
     let born : IsBorn z W parent = ⊎_elim (λ (t : (f : Form) × Has v.forms parent f × (IsCons f → ⊥) × (IsSliced f → ⊥)). (know.of_forms parent t.0 t.1).born)
     (λ (t : (l : ℕ) × (x : Bool) × (o : ℕ) × Has v.forms l (Sliced x parent o)). (know.of_forms t.0 (Sliced t.1 parent t.2) t.3).shows.0) fits.2 in
@@ -548,11 +548,11 @@ pub form_small : (z : HeapSize) (i : ℕ) → i < z.ids → form_at z i < word_c
 form_small z i h = omega arith
 
 -- an agent belongs to its heap after a step of its seat
-pub belongs_then : (h : Heap) (a b : Agent) → Belongs a h → b.share ≡ a.share → b.seat.table_id ≡ a.seat.table_id → Stays a.seat.me b.seat.me → Belongs b h
+pub belongs_then : (h : Heap) (a b : Agent) → Belongs a h → b.share ≡ a.share → b.seat.table_id ≡ a.seat.table_id → StaysSound a.seat.me b.seat.me → Belongs b h
 belongs_then h a b g n t s = (t ∙ g.0, s.sizes ∙ g.1, s.live ∙ g.2, s.slots ∙ g.3, s.share ∙ (g.4 ∙ sym n), s.possible)
 
 -- what the view knows of a string that it saw in a slot may enter the history
-pub may_enter : (v : View) (k : ℕ) (o : Option ℕ) → get v.slots k ≡ o → MayEnter v k (units_by v o)
+pub may_enter : (v : View) (k : ℕ) (o : Option ℕ) → get v.slots k ≡ o → MayEnter v k (units_seen v o)
 may_enter v k None e = tt
 may_enter v k (Some i) e = with_units v k i e (get v.units i) refl
   where
@@ -568,7 +568,7 @@ form_after : (v : View) (i n : ℕ) (o : Option Form) (f : Form) → o ≡ Some 
 form_after v i n None f e = absurd (cc)
 form_after v i n (Some g) f e = insert_same v.forms i g ∙ e
 
-pub settled_form : (v w : View) (i x : ℕ) (f : Form) → form_of x ≡ Some f → w ≡ learned_all (loaded_form v i x) → KeepsKnown v w → IsSettled v i → IsCons f → ⊥
+pub settled_form : (v w : View) (i x : ℕ) (f : Form) → form_of x ≡ Some f → w ≡ learned_all (loaded_form v i x) → KeepsKnown v w → IsSeenSettled v i → IsCons f → ⊥
 settled_form v w i x f spelt e k h cons = let t = k.settled i h in
     let there : Has w.forms i f = subst (λ (u : View). Has u.forms i f) (sym e) (form_after v i (added_loads v.form_loads 1) (form_of x) f spelt) in
     let same : Some t.0 ≡ Some f = sym t.1 ∙ there in let is : f ≡ t.0 = cc in t.2 (subst IsCons is cons)

@@ -8,7 +8,7 @@ use Rattle.std.specs.Cmp.{unsigned_tied}
 use Rattle.std.specs.FinMap.{FinMap, get, keys, contains_key-keys}
 use Rattle.js_header.specs.declared.form.Form.{Form}
 use Rattle.js_header.specs.declared.form.Form.TheVariants.{Unborn, Flat, Cons, Sliced, Thin}
-use Rattle.heap_rule.specs.Maps.{Has, put_by, laid_at, laid_over}
+use Rattle.heap_rule.specs.Maps.{Has, put_if_some, laid_at, laid_over}
 use Rattle.heap_rule.specs.Forms.{IsLater, is_later, later_form}
 use Rattle.heap_rule.proofs.MapLemmas.{insert_same, insert_other, key_of}
 use Rattle.heap_table.specs.Rule.{AreOfOneLine}
@@ -102,33 +102,33 @@ again None x = ap (λ t. cond t x x) (not_self x)
 again (Some f) x = again_by (is_later f x) f x refl
 
 module _ (upper : FinMap nat_cmp Form) (q : ℕ) where
-  put_else : (m : FinMap nat_cmp Form) (k : ℕ) (o : Option Form) → q ≢ k → get (put_by later_form m k o) q ≡ get m q
+  put_else : (m : FinMap nat_cmp Form) (k : ℕ) (o : Option Form) → q ≢ k → get (put_if_some later_form m k o) q ≡ get m q
   put_else m k None ne = refl
   put_else m k (Some x) ne = insert_other m k q (later_form (get m k) x) ne
 
   -- the upper map has nothing there
   none_at : get upper q ≡ None → (ks : List ℕ) (m : FinMap nat_cmp Form) → get (laid_at later_form m upper ks) q ≡ get m q
   none_at e [] m = refl
-  none_at e (k ∷ ks) m = none_at e ks (put_by later_form m k (get upper k)) ∙ dite (ℕ_discrete q k)
-      (λ is. ap (λ (o : Option Form). get (put_by later_form m k o) q) (ap (get upper) (sym is) ∙ e))
+  none_at e (k ∷ ks) m = none_at e ks (put_if_some later_form m k (get upper k)) ∙ dite (ℕ_discrete q k)
+      (λ is. ap (λ (o : Option Form). get (put_if_some later_form m k o) q) (ap (get upper) (sym is) ∙ e))
       (λ ne. put_else m k (get upper k) ne)
 
-  put_here : (m : FinMap nat_cmp Form) (x : Form) → get upper q ≡ Some x → get (put_by later_form m q (get upper q)) q ≡ Some (later_form (get m q) x)
-  put_here m x e = ap (λ (o : Option Form). get (put_by later_form m q o) q) e ∙ insert_same m q (later_form (get m q) x)
+  put_here : (m : FinMap nat_cmp Form) (x : Form) → get upper q ≡ Some x → get (put_if_some later_form m q (get upper q)) q ≡ Some (later_form (get m q) x)
+  put_here m x e = ap (λ (o : Option Form). get (put_if_some later_form m q o) q) e ∙ insert_same m q (later_form (get m q) x)
 
   module _ (x : Form) (e : get upper q ≡ Some x) where
     stays_at : (ks : List ℕ) (m : FinMap nat_cmp Form) (y : Form) → Has m q y → later_form (Some y) x ≡ y → Has (laid_at later_form m upper ks) q y
     stays_at [] m y h same = h
-    stays_at (k ∷ ks) m y h same = stays_at ks (put_by later_form m k (get upper k)) y (dite (ℕ_discrete q k)
-        (λ is. subst (λ (r : ℕ). get (put_by later_form m r (get upper r)) q ≡ Some y) is (put_here m x e ∙ (ap (λ (o : Option Form). Some (later_form o x)) h ∙ ap Some same)))
+    stays_at (k ∷ ks) m y h same = stays_at ks (put_if_some later_form m k (get upper k)) y (dite (ℕ_discrete q k)
+        (λ is. subst (λ (r : ℕ). get (put_if_some later_form m r (get upper r)) q ≡ Some y) is (put_here m x e ∙ (ap (λ (o : Option Form). Some (later_form o x)) h ∙ ap Some same)))
         (λ ne. put_else m k (get upper k) ne ∙ h)) same
 
     some_at : (ks : List ℕ) (m : FinMap nat_cmp Form) → list_any (eq_by_cmp nat_cmp q) ks ≡ true → Has (laid_at later_form m upper ks) q (later_form (get m q) x)
     some_at [] m h = absurd (false_true h)
     some_at (k ∷ ks) m h = dite (ℕ_discrete q k)
-        (λ is. stays_at ks (put_by later_form m k (get upper k)) (later_form (get m q) x) (subst (λ (r : ℕ). get (put_by later_form m r (get upper r)) q ≡ Some (later_form (get m q) x)) is (put_here m x e)) (again (get m q) x))
+        (λ is. stays_at ks (put_if_some later_form m k (get upper k)) (later_form (get m q) x) (subst (λ (r : ℕ). get (put_if_some later_form m r (get upper r)) q ≡ Some (later_form (get m q) x)) is (put_here m x e)) (again (get m q) x))
         (λ ne. let other = put_else m k (get upper k) ne in subst (λ (o : Option Form). Has (laid_at later_form m upper (k ∷ ks)) q (later_form o x)) other
-        (some_at ks (put_by later_form m k (get upper k)) (or_rest (eq_by_cmp nat_cmp q k) (list_any (eq_by_cmp nat_cmp q) ks) (unsigned_tied q k ∙ ne_eqb q k ne) h)))
+        (some_at ks (put_if_some later_form m k (get upper k)) (or_rest (eq_by_cmp nat_cmp q k) (list_any (eq_by_cmp nat_cmp q) ks) (unsigned_tied q k ∙ ne_eqb q k ne) h)))
 
     pub laid_some : (m : FinMap nat_cmp Form) → Has (laid_over later_form m upper) q (later_form (get m q) x)
     laid_some m = some_at (keys upper) m (sym (contains_key-keys upper q) ∙ key_of upper q x e)

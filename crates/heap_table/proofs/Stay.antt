@@ -20,9 +20,9 @@ use Rattle.heap_rule.specs.Learning.{justified, learn_one, learn_into, learned_a
 use Rattle.heap_rule.specs.Loads.{met_ids, with_form, added_loads, loaded_form, loaded_length, loaded_word}
 use Rattle.heap_rule.specs.Births.{born, freeze, units_for}
 use Rattle.heap_rule.specs.HeaderMoves.{CanThin, MayFlatten, MayThin, flattened, seen_form, thinned}
-use Rattle.heap_rule.specs.Views.{IsSettled}
+use Rattle.heap_rule.specs.Views.{IsSeenSettled}
 use Rattle.heap_rule.specs.Slots.{with_slot, loaded_slot, took_slot}
-use Rattle.heap_rule.specs.Sound.{At, IsSound, Stands}
+use Rattle.heap_rule.specs.Sound.{At, IsSound, StandsAs}
 use Rattle.heap_rule.proofs.MapLemmas.{insert_same, insert_other, has_key, key_of}
 use Rattle.heap_rule.proofs.ListLemmas.{set_there}
 use Rattle.heap_rule.proofs.Seen.{slot_kept}
@@ -284,17 +284,17 @@ module _ (z : HeapSize) (agents : ℕ) (W : List ℕ) (vs : List View) (s : IsSo
   -- flattening; b says whether the Cons was found
   known_flat : (W' : List ℕ) → KeepsUnits W' → (i : ℕ) (old : Form) → Has v.forms i old → IsCons old → (wide : Bool) (start n : ℕ) (b : Bool) → (b ≡ false → form z W i ≢ word_of old)
       → let w : View = cond b (record (freeze v start n) { forms = insert v.forms i (Flat wide start false) }) (seen_form v i (form_of (form z W i))) in
-      IsSound z agents W' (set vs j (learned_all w)) → KeepsKnown v (learned_all w) × IsSettled (learned_all w) i
+      IsSound z agents W' (set vs j (learned_all w)) → KeepsKnown v (learned_all w) × IsSeenSettled (learned_all w) i
   known_flat W' same i old seen cons wide start n true ne kept = let f : Form = Flat wide start false in
       (known_moved W' same i old seen (no_fixed old cons) (no_thin old cons) f (λ a c. c) (record (freeze v start n) { forms = insert v.forms i f }) live refl refl refl refl refl (frozen_stay start n) kept, (f, insert_same v.forms i f, λ c. c))
   known_flat W' same i old seen cons wide start n false ne kept = let t = known_lost W' same i old seen (no_fixed old cons) (no_thin old cons) (form_of (form z W i)) refl (ne refl) kept in
       (t.0, (t.1.0, t.1.1, λ c. no_cons_later old t.1.0 t.1.2 c))
 
   pub known_flattened : (W' : List ℕ) → KeepsUnits W' → (i : ℕ) (old new : Form) → MayFlatten v i old new → (x : ℕ) → form z W i ≡ x → IsSound z agents W' (set vs j (learned_all (flattened v i old new x)))
-      → KeepsKnown v (learned_all (flattened v i old new x)) × IsSettled (learned_all (flattened v i old new x)) i
+      → KeepsKnown v (learned_all (flattened v i old new x)) × IsSeenSettled (learned_all (flattened v i old new x)) i
   known_flattened W' same i old (Flat wide start false) may x e kept = let n : ℕ = words_over wide (length (unwrap_or (get v.units i) [])) in
       let P : ℕ → Type 0 = λ y. let w : View = cond (eqb y (word_of old)) (record (freeze v start n) { forms = insert v.forms i (Flat wide start false) }) (seen_form v i (form_of y)) in
-      IsSound z agents W' (set vs j (learned_all w)) → KeepsKnown v (learned_all w) × IsSettled (learned_all w) i in
+      IsSound z agents W' (set vs j (learned_all w)) → KeepsKnown v (learned_all w) × IsSeenSettled (learned_all w) i in
       subst P e (known_flat W' same i old may.0 may.1 wide start n (eqb (form z W i) (word_of old)) (λ miss hit. let yes : eqb (form z W i) (word_of old) ≡ true = eq-eqb (form z W i) (word_of old) hit in cc)) kept
   known_flattened W' same i old (Flat wide start true) may x e kept = absurd may
   known_flattened W' same i old Unborn may x e kept = absurd may
@@ -305,7 +305,7 @@ module _ (z : HeapSize) (agents : ℕ) (W : List ℕ) (vs : List View) (s : IsSo
   -- another agent forwarded a string to the same one: two used slots have different units
   thin_found : (i t u : ℕ) → IsBorn z W i → form_of (form z W i) ≡ Some (Thin u) → (k : ℕ) → Has v.slots k t → units_of z W t ≡ units_of z W i → u ≡ t
   thin_found i t u names e k there units = let st = s.standing i names in let d : Some st.now ≡ Some (Thin u) = sym st.decodes ∙ e in let is : st.now ≡ Thin u = cc in
-      let stands : Stands z W vs i (Thin u) = subst (Stands z W vs i) is st.stands in let mine = (s.knows j v at live).of_slots k t there in let other = stands.3 in
+      let stands : StandsAs z W vs i (Thin u) = subst (StandsAs z W vs i) is st.stands in let mine = (s.knows j v at live).of_slots k t there in let other = stands.3 in
       let one : k ≡ other.0 = s.different k other.0 t u mine.0 other.1 mine.1 other.2 (units ∙ sym stands.2) in
       let number : t + 1 ≡ u + 1 = sym mine.1 ∙ (ap (λ (q : ℕ). slot z W q) one ∙ other.2) in omega arith
 

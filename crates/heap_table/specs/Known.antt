@@ -6,7 +6,7 @@ use Rattle.js_header.specs.declared.form.Form.TheVariants.{Flat, Thin}
 use Rattle.heap_rule.specs.declared.view.View.{View}
 use Rattle.heap_rule.specs.Maps.{Has, HasKey}
 use Rattle.heap_rule.specs.Forms.{is_later}
-use Rattle.heap_rule.specs.Views.{IsKnown, IsSettled}
+use Rattle.heap_rule.specs.Views.{MayUse, IsSeenSettled}
 
 -- what the view v knows for good the view w knows too: units, lengths, fixed Flats and Thins, which strings
 -- are settled and which are known, frozen words, and the ids in slots
@@ -16,18 +16,18 @@ pub record KeepsKnown (v w : View) : Type 0 where
   pub flats : (i : ℕ) (wide : Bool) (start : ℕ) → Has v.forms i (Flat wide start true)
       → Has w.forms i (Flat wide start true)
   pub thins : (i t : ℕ) → Has v.forms i (Thin t) → Has w.forms i (Thin t)
-  pub settled : (i : ℕ) → IsSettled v i → IsSettled w i
+  pub settled : (i : ℕ) → IsSeenSettled v i → IsSeenSettled w i
   pub frozen : (c x : ℕ) → Has v.frozen c x → Has w.frozen c x
-  pub known : (i : ℕ) → IsKnown v i → IsKnown w i
+  pub known : (i : ℕ) → MayUse v i → MayUse w i
   pub slots : (k i : ℕ) → Has v.slots k i → Has w.slots k i
 
 -- The view w has what v has beside that: its own ids and words with what it stored there, known ids, frozen
 -- words with their contents, slots with their ids, and for each id with a form a form that isn't an earlier
 -- one.
-pub record HasAll (v w : View) : Type 0 where
+pub record HasAllOf (v w : View) : Type 0 where
   pub own_ids : (i n : ℕ) → Has v.own_ids i n → Has w.own_ids i n
   pub own_words : (c x : ℕ) → Has v.own_words c x → Has w.own_words c x
-  pub known : (i : ℕ) → IsKnown v i → IsKnown w i
+  pub known : (i : ℕ) → MayUse v i → MayUse w i
   pub met : (i : ℕ) → HasKey v.met i → HasKey w.met i
   pub frozen : (c x : ℕ) → Has v.frozen c x → Has w.frozen c x
   pub slots : (k i : ℕ) → Has v.slots k i → Has w.slots k i

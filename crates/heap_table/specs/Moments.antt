@@ -3,7 +3,7 @@ use Rattle.std.specs.Prelude.{◌≡◌, ℕ}
 use mathlib.Core.Option.{none}
 use Rattle.atomic_table.specs.Table.{State, Step, step}
 use Rattle.heap_rule.specs.declared.view.View.{View}
-use Rattle.heap_rule.specs.Kinds.{Kind, Access, loads, stores, exchanges, place_of, access_of, view_on_heap}
+use Rattle.heap_rule.specs.Kinds.{StepKind, Access, loads, stores, exchanges, place_of, access_of, view_on_heap}
 use Rattle.heap_rule.specs.Sound.{IsSound, AreLegal}
 use Rattle.heap_table.specs.declared.rule.HeapKey.{HeapKey}
 use Rattle.heap_table.specs.Plays.{Sat}
@@ -19,23 +19,23 @@ abbrev pub IsLegalTable : (HeapKey → State (Unit {0}) View → Type 0) → Typ
 IsLegalTable holds = (k : HeapKey) (s : State (Unit {0}) View) → holds k s → AreLegal s.views
 
 -- the operands of a step on a word: what it stores, or what it expects and what it puts in its place
-abbrev pub first_of : Access → ℕ
-first_of loads = 0
-first_of (stores n) = n
-first_of (exchanges old new) = old
+abbrev pub first_operand : Access → ℕ
+first_operand loads = 0
+first_operand (stores n) = n
+first_operand (exchanges old new) = old
 
 -- the second operand: what a compare-exchange puts in the place of what it expects
-abbrev pub second_of : Access → ℕ
-second_of (exchanges old new) = new
-second_of _ = 0
+abbrev pub second_operand : Access → ℕ
+second_operand (exchanges old new) = new
+second_operand _ = 0
 
 -- what a play says of a step on the word of a kind, with the operands of that kind: the view becomes what
 -- the kind makes of it by the word found; the kind may go by the view
-abbrev pub IsOfKindBy : (Step (Unit {0}) → Sat → ℕ → Sat → Type 0) → (View → Kind) → Type 0
+abbrev pub IsOfKindBy : (Step (Unit {0}) → Sat → ℕ → Sat → Type 0) → (View → StepKind) → Type 0
 IsOfKindBy tells e = (slots : ℕ) (me me' : Sat) (x : ℕ)
-    → tells (step slots (place_of me.0.sizes (e me.0)) (first_of (access_of (e me.0)))
-    (second_of (access_of (e me.0))) none) me x me' → me'.0 ≡ view_on_heap me.0 (e me.0) x
+    → tells (step slots (place_of me.0.sizes (e me.0)) (first_operand (access_of (e me.0)))
+    (second_operand (access_of (e me.0))) none) me x me' → me'.0 ≡ view_on_heap me.0 (e me.0) x
 
 -- the same for one kind, whatever the view is
-abbrev pub IsOfKind : (Step (Unit {0}) → Sat → ℕ → Sat → Type 0) → Kind → Type 0
+abbrev pub IsOfKind : (Step (Unit {0}) → Sat → ℕ → Sat → Type 0) → StepKind → Type 0
 IsOfKind tells e = IsOfKindBy tells (λ v. e)

@@ -9,10 +9,10 @@ use Rattle.js_header.specs.declared.form.Form.TheVariants.{Unborn, Sliced, Thin}
 use Rattle.heap_rule.specs.declared.view.View.{View}
 use Rattle.heap_rule.specs.declared.size.Counter.{Counter}
 use Rattle.heap_rule.specs.declared.size.Counter.TheVariants.{Ids, Words}
-use Rattle.heap_rule.specs.Layout.{counter_at, end_of, content_at, form_at, length_at, slot_at, MAX, count_in}
+use Rattle.heap_rule.specs.Layout.{counter_at, end_of, content_at, form_at, length_at, slot_at, MAX, counter_value}
 use Rattle.heap_rule.specs.Maps.{Has, HasKey}
 use Rattle.heap_rule.specs.Forms.{IsLater, IsSolidForm}
-use Rattle.heap_rule.specs.Views.{IsKnown, IsSettled, shown}
+use Rattle.heap_rule.specs.Views.{MayUse, IsSeenSettled, shown_word}
 use Rattle.heap_rule.specs.Claims.{loaded_counter, claimed}
 use Rattle.heap_rule.specs.Births.{stored_word, stored_length, born}
 use Rattle.heap_rule.specs.Loads.{loaded_form, loaded_length, loaded_word}
@@ -31,12 +31,12 @@ Sat = Me (Unit {0}) View
 -- end, an id to come is above every known one and every own one, a content word to come above every own one,
 -- and an agent that holds the whole share claimed all of it
 pub record FoundCounter (v : View) (k : Counter) (x : ℕ) : Type 0 where
-  pub grown : count_in v.low k ≤ x
+  pub grown : counter_value v.low k ≤ x
   pub within : x ≤ end_of v.sizes k
-  pub above : k ≡ Ids → (i : ℕ) → IsKnown v i → i < x
+  pub above : k ≡ Ids → (i : ℕ) → MayUse v i → i < x
   pub own_ids : k ≡ Ids → (i : ℕ) → HasKey v.own_ids i → i < x
   pub own_words : k ≡ Words → (c : ℕ) → HasKey v.own_words c → c < x
-  pub whole : v.share ≡ v.agents → x ≡ count_in v.used k
+  pub whole : v.share ≡ v.agents → x ≡ counter_value v.used k
 
 -- What the rule says of the word of a slot that is found: a used slot has one of the heap's ids; what the
 -- view has there is found again; and an agent that holds the whole share has every used slot in a call of its
@@ -54,7 +54,7 @@ pub record FoundForm (v : View) (i x : ℕ) : Type 0 where
       → IsSolidForm (form_of x)
 
 -- what each step of one agent leaves as it is, and that the new view is in a sound state
-pub record Stays (me me' : Sat) : Type 0 where
+pub record StaysSound (me me' : Sat) : Type 0 where
   pub slots : me'.1 ≡ me.1
   pub sizes : me'.0.sizes ≡ me.0.sizes
   pub live : me'.0.live ≡ me.0.live
@@ -63,66 +63,66 @@ pub record Stays (me me' : Sat) : Type 0 where
 
 -- the load of a counter
 abbrev pub LoadedCounter : Step (Unit {0}) → Sat → ℕ → Sat → Type 0
-LoadedCounter st me x me' = Stays me me'
+LoadedCounter st me x me' = StaysSound me me'
     × ((k : Counter) → st.word ≡ counter_at k → (me'.0 ≡ loaded_counter me.0 k x) × FoundCounter me.0 k x)
 
 -- the compare-exchange of a counter, from a number to one that is greater by what is requested
 abbrev pub Claimed : Step (Unit {0}) → Sat → ℕ → Sat → Type 0
-Claimed st me x me' = Stays me me'
+Claimed st me x me' = StaysSound me me'
     × ((k : Counter) (want : ℕ) → st.word ≡ counter_at k → st.second ≡ st.first + want
     → (me'.0 ≡ claimed me.0 k st.first want x) × FoundCounter me.0 k x)
 
 -- the store of an own content word
 abbrev pub StoredWord : Step (Unit {0}) → Sat → ℕ → Sat → Type 0
 StoredWord st me x me' =
-    Stays me me' × ((c : ℕ) → st.word ≡ content_at me.0.sizes c → me'.0 ≡ stored_word me.0 c st.first)
+    StaysSound me me' × ((c : ℕ) → st.word ≡ content_at me.0.sizes c → me'.0 ≡ stored_word me.0 c st.first)
 
 -- the store of the length of an own id
 abbrev pub StoredLength : Step (Unit {0}) → Sat → ℕ → Sat → Type 0
 StoredLength st me x me' =
-    Stays me me' × ((i : ℕ) → st.word ≡ length_at me.0.sizes i → me'.0 ≡ stored_length me.0 i st.first)
+    StaysSound me me' × ((i : ℕ) → st.word ≡ length_at me.0.sizes i → me'.0 ≡ stored_length me.0 i st.first)
 
 -- the store of the form word of an own id, by which it is born
 abbrev pub GaveBirth : Step (Unit {0}) → Sat → ℕ → Sat → Type 0
-GaveBirth st me x me' = Stays me me' × KeepsKnown me.0 me'.0
+GaveBirth st me x me' = StaysSound me me' × KeepsKnown me.0 me'.0
     × ((i : ℕ) (f : Form) → st.word ≡ form_at me.0.sizes i
     → st.first ≡ word_of f → IsInRange f → me'.0 ≡ born me.0 i f)
 
 -- the load of a form word: the word that is found is that of a form, and the string is born
 abbrev pub LoadedForm : Step (Unit {0}) → Sat → ℕ → Sat → Type 0
-LoadedForm st me x me' = Stays me me' × KeepsKnown me.0 me'.0
+LoadedForm st me x me' = StaysSound me me' × KeepsKnown me.0 me'.0
     × ((f : Form) × (form_of x ≡ Some f) × (f ≡ Unborn → ⊥))
     × ((i : ℕ) → st.word ≡ form_at me.0.sizes i
     → (me'.0 ≡ learned_all (loaded_form me.0 i x)) × FoundForm me.0 i x)
 
 -- the load of a length word: the length is at most the greatest one
 abbrev pub LoadedLength : Step (Unit {0}) → Sat → ℕ → Sat → Type 0
-LoadedLength st me x me' = Stays me me' × KeepsKnown me.0 me'.0 × (x ≤ MAX) × (me'.0.forms ≡ me.0.forms)
+LoadedLength st me x me' = StaysSound me me' × KeepsKnown me.0 me'.0 × (x ≤ MAX) × (me'.0.forms ≡ me.0.forms)
     × ((i : ℕ) → st.word ≡ length_at me.0.sizes i → me'.0 ≡ learned_all (loaded_length me.0 i x))
 
 -- the load of a content word: the view has afterwards what was found
 abbrev pub LoadedWord : Step (Unit {0}) → Sat → ℕ → Sat → Type 0
-LoadedWord st me x me' = Stays me me' × KeepsKnown me.0 me'.0 × (me'.0.forms ≡ me.0.forms)
+LoadedWord st me x me' = StaysSound me me' × KeepsKnown me.0 me'.0 × (me'.0.forms ≡ me.0.forms)
     × ((c : ℕ) → st.word ≡ content_at me.0.sizes c
-    → (me'.0 ≡ learned_all (loaded_word me.0 c x)) × (x ≡ shown me'.0 c))
+    → (me'.0 ≡ learned_all (loaded_word me.0 c x)) × (x ≡ shown_word me'.0 c))
 
 -- the compare-exchange of a form word to that of a Flat: the string is settled afterwards, whoever settled it
 abbrev pub FlattenedForm : Step (Unit {0}) → Sat → ℕ → Sat → Type 0
-FlattenedForm st me x me' = Stays me me' × KeepsKnown me.0 me'.0
+FlattenedForm st me x me' = StaysSound me me' × KeepsKnown me.0 me'.0
     × ((i : ℕ) (old new : Form) → st.word ≡ form_at me.0.sizes i
     → st.first ≡ word_of old → st.second ≡ word_of new → IsInRange old → IsInRange new
-    → (me'.0 ≡ learned_all (flattened me.0 i old new x)) × IsSettled me'.0 i)
+    → (me'.0 ≡ learned_all (flattened me.0 i old new x)) × IsSeenSettled me'.0 i)
 
 -- the compare-exchange of a form word to that of a Thin: the string forwards to t afterwards, whoever did it
 abbrev pub ThinnedForm : Step (Unit {0}) → Sat → ℕ → Sat → Type 0
-ThinnedForm st me x me' = Stays me me' × KeepsKnown me.0 me'.0
+ThinnedForm st me x me' = StaysSound me me' × KeepsKnown me.0 me'.0
     × ((i t : ℕ) (old : Form) → st.word ≡ form_at me.0.sizes i
     → st.first ≡ word_of old → st.second ≡ word_of (Thin t) → IsInRange old → t < 2 ^ 29
     → (me'.0 ≡ learned_all (thinned me.0 i old t x)) × Has me'.0.forms i (Thin t))
 
 -- a load of a slot, with the entry that the view has for the history
 abbrev pub SawSlot : (View → ℕ → Option (List ℕ)) → Step (Unit {0}) → Sat → ℕ → Sat → Type 0
-SawSlot entry st me x me' = Stays me me' × KeepsKnown me.0 me'.0 × (me'.0.forms ≡ me.0.forms)
+SawSlot entry st me x me' = StaysSound me me' × KeepsKnown me.0 me'.0 × (me'.0.forms ≡ me.0.forms)
     × ((k : ℕ) → st.word ≡ slot_at me.0.sizes k
     → (me'.0 ≡ learned_all (loaded_slot me.0 k (entry me.0 k) x)) × FoundSlot me.0 k x)
 
@@ -136,14 +136,14 @@ EnteredSlot = SawSlot entry_in
 
 -- the compare-exchange of a slot from 0 to the word of an id
 abbrev pub TookSlot : Step (Unit {0}) → Sat → ℕ → Sat → Type 0
-TookSlot st me x me' = Stays me me' × KeepsKnown me.0 me'.0 × (me'.0.forms ≡ me.0.forms)
+TookSlot st me x me' = StaysSound me me' × KeepsKnown me.0 me'.0 × (me'.0.forms ≡ me.0.forms)
     × ((k i : ℕ) → st.word ≡ slot_at me.0.sizes k → st.second ≡ i + 1
     → (me'.0 ≡ learned_all (took_slot me.0 k i x)) × FoundSlot me.0 k x)
 
 -- a note of the share that a running split is about to give
 abbrev pub Noted : Step (Unit {0}) → Sat → ℕ → Sat → Type 0
-Noted st me x me' = Stays me me' × (me'.0 ≡ noted me.0 st.first)
+Noted st me x me' = StaysSound me me' × (me'.0 ≡ noted me.0 st.first)
 
 -- a step that changes nothing, and shows that the share is at most 64
 abbrev pub Looked : Step (Unit {0}) → Sat → ℕ → Sat → Type 0
-Looked st me x me' = Stays me me' × (me'.0 ≡ me.0) × (me.0.share ≤ 64)
+Looked st me x me' = StaysSound me me' × (me'.0 ≡ me.0) × (me.0.share ≤ 64)

@@ -9,7 +9,7 @@ use Rattle.std.specs.FinMap.{FinMap, get, keys}
 use Rattle.js_header.specs.declared.form.Form.{Form}
 use Rattle.js_header.specs.declared.form.Form.TheVariants.{Flat, Cons, Sliced, Thin}
 use Rattle.heap_rule.specs.declared.view.View.{View}
-use Rattle.heap_rule.specs.Agents.{joined}
+use Rattle.heap_rule.specs.Agents.{joined_view}
 
 module _ {X : Type 0} (fits : X → X → Bool) where
   -- what is in the place of an entry fits it
@@ -47,7 +47,7 @@ has_all v w = fits_all bytes_eq v.units w.units && (fits_all same_number v.lengt
     && (fits_all same_number v.own_ids w.own_ids && fits_all same_number v.own_words w.own_words)))))
 
 abbrev pub agree : View → View → Bool
-agree v b = has_all v (joined v b) && has_all b (joined v b)
+agree v b = has_all v (joined_view v b) && has_all b (joined_view v b)
 
 abbrev pub taken : View → View → View
-taken v b = record (joined v b) { share = if agree v b then v.share + b.share else 0 }
+taken v b = record (joined_view v b) { share = if agree v b then v.share + b.share else 0 }

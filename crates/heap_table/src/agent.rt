@@ -1,10 +1,10 @@
 // An agent: its share, and how agents are split off.
 ghost use Rattle.std.specs.Prelude.{◌≡◌, ℕ, ◌+◌, ◌++◌, ◌≤◌, ◌<◌};
 ghost use Rattle.heap_table.specs.Agents.{Belongs, share_of, view_of};
-ghost use Rattle.heap_table.specs.Known.{HasAll, KeepsKnown};
+ghost use Rattle.heap_table.specs.Known.{HasAllOf, KeepsKnown};
 ghost use Rattle.heap_rule.specs.Claims.{loaded_counter};
 ghost use Rattle.heap_rule.specs.Views.{history};
-ghost use Rattle.heap_rule.specs.Agents.{MayJoin, joined, left_after_split, noted, right_after_split};
+ghost use Rattle.heap_rule.specs.Agents.{MayJoin, joined_view, left_after_split, noted, right_after_split};
 
 use crate::heap::Heap;
 use crate::rule::{ByNote, Looks, NotesShare, TakesOver};
@@ -80,11 +80,11 @@ impl Agent {
     pub fn join(&mut self, heap: &Heap, other: Agent)
         requires belongs { Belongs self.old heap.now × Belongs other heap.now }
         requires may { MayJoin (view_of self.old) (view_of other) }
-        ensures view { view_of self.new ≡ joined (view_of self.old) (view_of other) }
+        ensures view { view_of self.new ≡ joined_view (view_of self.old) (view_of other) }
         ensures known { KeepsKnown (view_of self.old) (view_of self.new) }
         ensures known_of_other { KeepsKnown (view_of other) (view_of self.new) }
-        ensures all { HasAll (view_of self.old) (view_of self.new) }
-        ensures all_of_other { HasAll (view_of other) (view_of self.new) }
+        ensures all { HasAllOf (view_of self.old) (view_of self.new) }
+        ensures all_of_other { HasAllOf (view_of other) (view_of self.new) }
         ensures history { history (view_of self.new) ≡ history (view_of self.old) ++ (view_of other).mine }
         ensures share { share_of self.new ≡ share_of self.old + share_of other }
         ensures belongs { Belongs self.new heap.now }

@@ -1,8 +1,8 @@
 // Claims on the two counters.
 ghost use Rattle.std.specs.Prelude.{◌≡◌, ℕ, ◌+◌, ◌*◌, ◌≤◌, ◌<◌, IfOk, IfErr};
-ghost use Rattle.heap_rule.specs.Layout.{count_in, end_of};
+ghost use Rattle.heap_rule.specs.Layout.{counter_value, end_of};
 ghost use Rattle.heap_rule.specs.Maps.{HasKey};
-ghost use Rattle.heap_rule.specs.Views.{IsKnown};
+ghost use Rattle.heap_rule.specs.Views.{MayUse};
 ghost use Rattle.heap_rule.specs.Claims.{loaded_counter, MayClaim, claimed, won_claim};
 ghost use Rattle.heap_table.specs.Agents.{Belongs, view_of, size_of};
 ghost use Rattle.heap_table.specs.Plays.{FoundCounter};
@@ -58,7 +58,8 @@ impl Agent {
             (λ at. (view_of self.new ≡ won_claim (view_of self.old) counter at want)
             × FoundCounter (view_of self.old) counter at) }
         ensures room { IfOk result (λ at. at + want ≤ end_of (size_of heap.now) counter) }
-        ensures low { count_in (view_of self.old).low counter ≤ count_in (view_of self.new).low counter }
+        ensures low { counter_value (view_of self.old).low counter
+            ≤ counter_value (view_of self.new).low counter }
         ensures err { IfErr result
             (λ f. (view_of self.new ≡ loaded_counter (view_of self.old) counter f.at)
             × IsFull f want (end_of (size_of heap.now) counter)) }
@@ -86,7 +87,7 @@ impl Agent {
         ensures view { IfOk result (λ id. view_of self.new ≡ won_claim (view_of self.old) Counter.Ids id 1) }
         ensures room { IfOk result (λ id. id < (size_of heap.now).ids) }
         ensures low { (view_of self.old).low.ids ≤ (view_of self.new).low.ids }
-        ensures above { IfOk result (λ id. (i : ℕ) → IsKnown (view_of self.old) i → i < id) }
+        ensures above { IfOk result (λ id. (i : ℕ) → MayUse (view_of self.old) i → i < id) }
         ensures above_own { IfOk result (λ id. (i : ℕ) → HasKey (view_of self.old).own_ids i → i < id) }
         ensures refused { IfErr result
             (λ f. (view_of self.new ≡ loaded_counter (view_of self.old) Counter.Ids f.at)

@@ -4,7 +4,7 @@ ghost use Rattle.heap_rule.specs.HeaderMoves.{MayFlatten, MayThin, flattened, th
 ghost use Rattle.js_header.specs.declared.form.Form.TheVariants.{Thin};
 ghost use Rattle.heap_rule.specs.Maps.{Has};
 ghost use Rattle.heap_rule.specs.Learning.{learned_all};
-ghost use Rattle.heap_rule.specs.Views.{IsSettled};
+ghost use Rattle.heap_rule.specs.Views.{IsSeenSettled};
 ghost use Rattle.heap_table.specs.Agents.{Belongs, view_of};
 ghost use Rattle.heap_table.specs.Headers.{IsMoved, header_found};
 ghost use Rattle.heap_table.specs.Known.{KeepsKnown};
@@ -23,7 +23,7 @@ impl Agent {
         ensures belongs { Belongs self.new heap.now }
         ensures known { KeepsKnown (view_of self.old) (view_of self.new) }
         ensures view { view_of self.new ≡ learned_all (flattened (view_of self.old) id old new result) }
-        ensures settled { IsSettled (view_of self.new) id }
+        ensures settled { IsSeenSettled (view_of self.new) id }
     {
         let place = heap.size.form_place(id);
         heap.table
@@ -42,7 +42,7 @@ impl Agent {
         ensures step { IsMoved old result }
         ensures view { view_of self.new
             ≡ learned_all (flattened (view_of self.old) id old new (header_found old result)) }
-        ensures settled { IsSettled (view_of self.new) id }
+        ensures settled { IsSeenSettled (view_of self.new) id }
     {
         let word = self.try_flatten(heap, id, old, new);
         if word == encode(old) {

@@ -1,6 +1,6 @@
 // The table of a heap, and its making.
 ghost use Rattle.std.specs.Prelude.{◌≡◌, ℕ, ◌+◌, ◌*◌, ◌≤◌, ◌<◌, ◌^◌, ◌↔◌, [], IfOk, IsTrue, IsOk, Err};
-ghost use Rattle.heap_rule.specs.Layout.{IsLawful, word_count};
+ghost use Rattle.heap_rule.specs.Layout.{IsLawfulSize, word_count};
 ghost use Rattle.heap_rule.specs.Agents.{first_view};
 ghost use Rattle.heap_table.specs.MayMake.{MayMake};
 
@@ -27,7 +27,7 @@ pub struct Heap {
     ghost counted: { table.shared.table_id.words ≡ word_count size },
     ghost sized: { table.shared.key.size ≡ size },
     ghost few: { table.shared.key.agents ≤ 64 },
-    ghost lawful: { IsLawful size },
+    ghost lawful: { IsLawfulSize size },
 }
 
 impl Heap {

@@ -3,7 +3,7 @@
 ghost use Rattle.std.specs.Prelude.{◌≡◌, ◌≢◌, ℕ, Bool, ◌⊎◌, ◌+◌, ◌*◌, ◌≤◌, ◌<◌, ◌^◌, Some};
 ghost use Rattle.heap_rule.specs.Forms.{IsCons, IsLater, IsSolid};
 ghost use Rattle.heap_rule.specs.Maps.{Has};
-ghost use Rattle.heap_rule.specs.Views.{IsKnown, IsSettled, shown};
+ghost use Rattle.heap_rule.specs.Views.{MayUse, IsSeenSettled, shown_word};
 ghost use Rattle.heap_rule.specs.Layout.{MAX};
 ghost use Rattle.heap_rule.specs.Loads.{MayLoadWord, loaded_form, loaded_length, loaded_word};
 ghost use Rattle.heap_rule.specs.Learning.{learned_all};
@@ -23,14 +23,14 @@ impl Agent {
     /// a Sliced was cut from is a Flat or a Thin.
     pub fn load_form(&mut self, heap: &Heap, id: u32) -> Form
         requires belongs { Belongs self.old heap.now }
-        requires known { IsKnown (view_of self.old) id }
+        requires known { MayUse (view_of self.old) id }
         ensures belongs { Belongs self.new heap.now }
         ensures known { KeepsKnown (view_of self.old) (view_of self.new) }
         ensures view { (word : ℕ) × (form_of word ≡ Some result)
             × (view_of self.new ≡ learned_all (loaded_form (view_of self.old) id word)) }
         ensures born { result ≢ Unborn }
         ensures range { IsInRange result }
-        ensures settled { IsSettled (view_of self.old) id → ¬ IsCons result }
+        ensures settled { IsSeenSettled (view_of self.old) id → ¬ IsCons result }
         ensures later { (f : form.Form) → Has (view_of self.old).forms id f
             → (f ≡ result) ⊎ IsLater f result }
         ensures solid { (j : ℕ) (wide : Bool) (offset : ℕ)
@@ -49,7 +49,7 @@ impl Agent {
     /// The length of a known id, in units.
     pub fn load_length(&mut self, heap: &Heap, id: u32) -> u32
         requires belongs { Belongs self.old heap.now }
-        requires known { IsKnown (view_of self.old) id }
+        requires known { MayUse (view_of self.old) id }
         ensures belongs { Belongs self.new heap.now }
         ensures known { KeepsKnown (view_of self.old) (view_of self.new) }
         ensures view { view_of self.new ≡ learned_all (loaded_length (view_of self.old) id result) }
@@ -69,7 +69,7 @@ impl Agent {
         ensures known { KeepsKnown (view_of self.old) (view_of self.new) }
         ensures view { view_of self.new ≡ learned_all (loaded_word (view_of self.old) at result) }
         ensures forms { (view_of self.new).forms ≡ (view_of self.old).forms }
-        ensures shown { result ≡ shown (view_of self.new) at }
+        ensures shown { result ≡ shown_word (view_of self.new) at }
     {
         heap.table
             .shared

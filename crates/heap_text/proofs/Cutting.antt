@@ -19,7 +19,7 @@ use Rattle.heap_rule.specs.Forms.{IsCons, IsNarrow}
 use Rattle.heap_rule.specs.Layout.{length_word}
 use Rattle.heap_rule.specs.Maps.{Has, HasKey, first_in, first_some}
 use Rattle.heap_rule.specs.Sound.{IsPossible, StandsIn}
-use Rattle.heap_rule.specs.Views.{IsKnown}
+use Rattle.heap_rule.specs.Views.{MayUse}
 use Rattle.heap_rule.proofs.MapLemmas.{insert_other, insert_same, key_of}
 use Rattle.heap_rule.proofs.Parts.{shown_part_right}
 use Rattle.heap_table.specs.Known.{KeepsKnown}
@@ -27,7 +27,7 @@ use Rattle.heap_text.specs.declared.faults.TextFull.{TextFull}
 use Rattle.heap_read.specs.declared.string.JsStr.{JsStr}
 use Rattle.heap_text.specs.Joins.{IsNoId, IsPart, IsPartCut, offset_of, parent_of}
 use Rattle.heap_read.specs.Sides.{KnowsSide}
-use Rattle.heap_read.specs.Reads.{Continues, Reads}
+use Rattle.heap_read.specs.Reads.{Continues, OnlyLoads}
 use Rattle.heap_text.proofs.Pieces.{part_part, spared_after, uses_after}
 use Rattle.heap_text.proofs.Sides.{first_at, first_two}
 
@@ -86,7 +86,7 @@ cut_parent v s (Cons wide left right) h n = absurd (n tt)
 cut_parent v s (Sliced wide parent offset) h n = inr (s, wide, offset, h)
 cut_parent v s (Thin target) h n = inl (Thin target, h, n, λ x. x)
 
-pub parent_known : (v : View) (s : ℕ) (f : Form) → KnowsSide v f → HasKey v.units s → IsKnown v (parent_of s f)
+pub parent_known : (v : View) (s : ℕ) (f : Form) → KnowsSide v f → HasKey v.units s → MayUse v (parent_of s f)
 parent_known v s Unborn side h = inl h
 parent_known v s (Flat wide start fixed) side h = inl h
 parent_known v s (Cons wide left right) side h = inl h
@@ -134,7 +134,7 @@ module _ (u y : View) (id s from n parent offset : ℕ) (wide : Bool) (f : Form)
   part_units = subst (λ (w : View). Has (born w id (Sliced wide parent offset)).units id us) (sym is) (born_part (stored_length (won_claim u Ids id 1) id n) id n wide parent offset us own here)
 
 -- what was answered after loads, from before them
-module _ (v u w : View) (z : HeapSize) (read : Reads v u) where
+module _ (v u w : View) (z : HeapSize) (read : OnlyLoads v u) where
   pub part_after : (s : JsStr) (from : ℕ) (us : List ℕ) (r : Result JsStr TextFull) → IsPartCut u w z s from us r → IsPartCut v w z s from us r
   part_after s from us r h = ⊎_elim
       (λ (c : (t : JsStr) × (r ≡ Ok t) × IsPart u w s from t us). inl (c.0, c.1, (c.2.0, c.2.1, uses_after v u w 1 0 0 read.used refl c.2.2)))

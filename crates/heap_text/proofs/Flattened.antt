@@ -16,7 +16,7 @@ use Rattle.heap_rule.specs.Contents.{lane_in, span}
 use Rattle.heap_rule.specs.HeaderMoves.{flattened, seen_form}
 use Rattle.heap_rule.specs.Learning.{learned_all}
 use Rattle.heap_rule.specs.Maps.{Has, HasKey, with_run, without_run}
-use Rattle.heap_rule.specs.Views.{shown}
+use Rattle.heap_rule.specs.Views.{shown_word}
 use Rattle.heap_rule.proofs.Birth.{length_span}
 use Rattle.heap_rule.proofs.MapLemmas.{has_key, insert_other, insert_same, key_of, remove_other}
 use Rattle.heap_rule.proofs.Possible.{span_lane}
@@ -68,15 +68,15 @@ zero_lane f wide start o e = ap (λ (x : ℕ). lane_of wide x (o % lane_count wi
 -- the words of a run are all own, were 0, and the units stand in the lanes from 0 on
 module _ (v : View) (before : FinMap nat_cmp ℕ) (wide : Bool) (start : ℕ) (us : List ℕ) (f : IsFilled wide start (own_word before) (own_word v.own_words) 0 (length us) (λ k. get_or us k 0))
     (own : (q : ℕ) → q < words_over wide (length us) → HasKey v.own_words (start + q)) where
-  shown_lane : (o : ℕ) → o < words_over wide (length us) * lane_count wide → lane_in (shown v) wide start o ≡ lane_in (own_word v.own_words) wide start o
-  shown_lane o l = lane_same (shown v) (own_word v.own_words) wide start o (shown_own v (start + o / lane_count wide) (own (o / lane_count wide) (word_inside wide (length us) o l)))
+  shown_lane : (o : ℕ) → o < words_over wide (length us) * lane_count wide → lane_in (shown_word v) wide start o ≡ lane_in (own_word v.own_words) wide start o
+  shown_lane o l = lane_same (shown_word v) (own_word v.own_words) wide start o (shown_own v (start + o / lane_count wide) (own (o / lane_count wide) (word_inside wide (length us) o l)))
 
-  pub filled_span : span (shown v) wide start 0 (length us) ≡ us
-  filled_span = same_number_lists (span (shown v) wide start 0 (length us)) us (length_span (shown v) wide start 0 (length us))
-      (λ k l. let n = length_span (shown v) wide start 0 (length us) in let l' : k < length us = omega arith in let m : 0 + k < length us = omega arith in
-      span_lane (shown v) wide start 0 (length us) k l' ∙ (shown_lane (0 + k) (lane_there wide (length us) (0 + k) m) ∙ f.inside k l'))
+  pub filled_span : span (shown_word v) wide start 0 (length us) ≡ us
+  filled_span = same_number_lists (span (shown_word v) wide start 0 (length us)) us (length_span (shown_word v) wide start 0 (length us))
+      (λ k l. let n = length_span (shown_word v) wide start 0 (length us) in let l' : k < length us = omega arith in let m : 0 + k < length us = omega arith in
+      span_lane (shown_word v) wide start 0 (length us) k l' ∙ (shown_lane (0 + k) (lane_there wide (length us) (0 + k) m) ∙ f.inside k l'))
 
-  pub filled_zeros : ((q : ℕ) → q < words_over wide (length us) → Has before (start + q) 0) → (o : ℕ) → length us ≤ o → o < words_over wide (length us) * lane_count wide → lane_in (shown v) wide start o ≡ 0
+  pub filled_zeros : ((q : ℕ) → q < words_over wide (length us) → Has before (start + q) 0) → (o : ℕ) → length us ≤ o → o < words_over wide (length us) * lane_count wide → lane_in (shown_word v) wide start o ≡ 0
   filled_zeros none o lo hi = shown_lane o hi ∙ (f.above o (omega arith) ∙ zero_lane (own_word before) wide start o (ap (λ (x : Option ℕ). unwrap_or x 0) (none (o / lane_count wide) (word_inside wide (length us) o hi))))
 
 key_without : (m : FinMap nat_cmp ℕ) (c n q : ℕ) → q < c → HasKey m q → HasKey (without_run m c n) q

@@ -20,9 +20,9 @@ use Rattle.heap_text.specs.declared.faults.JoinFault.{JoinFault}
 use Rattle.heap_text.specs.declared.faults.JoinFault.TheVariants.{Full}
 use Rattle.heap_text.specs.declared.faults.TextFull.{TextFull}
 use Rattle.heap_read.specs.declared.string.JsStr.{JsStr}
-use Rattle.heap_text.specs.Joins.{IsCopied, IsCopy, IsLinked, IsNoId, IsRefused, IsRope, IsWideIn, wide_bit}
+use Rattle.heap_text.specs.Joins.{IsCopied, IsCopy, IsLinked, IsNoId, IsTextRefused, IsRope, IsWideIn, wide_bit}
 use Rattle.heap_read.specs.Sides.{KnowsSide}
-use Rattle.heap_read.specs.Reads.{Continues, Reads}
+use Rattle.heap_read.specs.Reads.{Continues, OnlyLoads}
 use Rattle.heap_read.proofs.Leading.{narrow_sliced, narrow_thin}
 use Rattle.heap_text.proofs.Pieces.{spared_after, uses_after}
 
@@ -97,10 +97,10 @@ lifted (Err f) = Err (Full f)
 
 module _ (v w : View) (z : HeapSize) where
   pub copied_lifted : (us : List ℕ) (r : Result JsStr TextFull) → IsCopied v w z us r
-      → ((t : JsStr) × (lifted r ≡ Ok t) × IsCopy v w t us) ⊎ ((f : TextFull) × (lifted r ≡ Err (Full f)) × IsRefused v w z us f)
+      → ((t : JsStr) × (lifted r ≡ Ok t) × IsCopy v w t us) ⊎ ((f : TextFull) × (lifted r ≡ Err (Full f)) × IsTextRefused v w z us f)
   copied_lifted us r h = ⊎_elim
       (λ (c : (t : JsStr) × (r ≡ Ok t) × IsCopy v w t us). inl (c.0, ap lifted c.1, c.2))
-      (λ (c : (f : TextFull) × (r ≡ Err f) × IsRefused v w z us f). inr (c.0, ap lifted c.1, c.2)) h
+      (λ (c : (f : TextFull) × (r ≡ Err f) × IsTextRefused v w z us f). inr (c.0, ap lifted c.1, c.2)) h
 
   pub linked_lifted : (a b : JsStr) (us : List ℕ) (r : Result JsStr TextFull) → IsLinked v w z a b us r
       → ((t : JsStr) × (lifted r ≡ Ok t) × IsRope v w a b t us) ⊎ ((f : TextFull) × (lifted r ≡ Err (Full f)) × IsNoId v w z f)
@@ -109,11 +109,11 @@ module _ (v w : View) (z : HeapSize) where
       (λ (c : (f : TextFull) × (r ≡ Err f) × IsNoId v w z f). inr (c.0, ap lifted c.1, c.2)) h
 
 -- what was answered after loads, from before them
-module _ (v u w : View) (z : HeapSize) (read : Reads v u) where
+module _ (v u w : View) (z : HeapSize) (read : OnlyLoads v u) where
   pub copied_after : (us : List ℕ) (r : Result JsStr TextFull) → IsCopied u w z us r → IsCopied v w z us r
   copied_after us r h = let n : ℕ = words_over (is_wide us) (length us) in ⊎_elim
       (λ (c : (t : JsStr) × (r ≡ Ok t) × IsCopy u w t us). inl (c.0, c.1, (c.2.0, c.2.1, uses_after v u w 1 n n read.used refl c.2.2)))
-      (λ (c : (f : TextFull) × (r ≡ Err f) × IsRefused u w z us f). inr (c.0, c.1, (c.2.0, spared_after v u w n n c.0 read refl c.2.1))) h
+      (λ (c : (f : TextFull) × (r ≡ Err f) × IsTextRefused u w z us f). inr (c.0, c.1, (c.2.0, spared_after v u w n n c.0 read refl c.2.1))) h
 
   pub linked_after : (a b : JsStr) (us : List ℕ) (r : Result JsStr TextFull) → IsLinked u w z a b us r → IsLinked v w z a b us r
   linked_after a b us r h = ⊎_elim

@@ -12,14 +12,14 @@ use Rattle.heap_rule.specs.Births.{born, stored_length}
 use Rattle.heap_rule.specs.Claims.{loaded_counter, won_claim}
 use Rattle.heap_rule.specs.Maps.{Has, HasKey, without_run}
 use Rattle.heap_rule.proofs.MapLemmas.{insert_other, insert_same, key_of, remove_other}
-use Rattle.heap_read.specs.Reads.{KeepsBelow, Reads}
+use Rattle.heap_read.specs.Reads.{KeepsBelow, OnlyLoads}
 use Rattle.heap_read.proofs.Going.{run_below}
 use Rattle.heap_text.specs.Texts.{KeepsOwn}
 
 pub own_trans : (u v w : View) → KeepsOwn u v → KeepsOwn v w → KeepsOwn u w
 own_trans u v w a b = record { ids = λ i n h. b.ids i n (a.ids i n h); words = λ c x h. b.words c x (a.words c x h) }
 
-pub own_reads : (v w : View) → Reads v w → KeepsOwn v w
+pub own_reads : (v w : View) → OnlyLoads v w → KeepsOwn v w
 own_reads v w r = record {
   ids = λ i n h. subst (λ (m : FinMap nat_cmp ℕ). Has m i n) (sym r.own_ids) h;
   words = λ c x h. subst (λ (m : FinMap nat_cmp ℕ). Has m c x) (sym r.own_words) h;

@@ -11,9 +11,9 @@ use Rattle.heap_rule.proofs.MapLemmas.{key_of}
 use Rattle.heap_read.specs.declared.string.JsStr.{JsStr}
 use Rattle.heap_read.specs.declared.string.Window.{Window}
 use Rattle.heap_read.specs.Sources.{ShowsPiece, piece_units}
-use Rattle.heap_text.specs.Joins.{IsCopy, IsRefused}
-use Rattle.heap_text.specs.Texts.{IsSpared, Told, Uses}
-use Rattle.heap_read.specs.Reads.{Reads}
+use Rattle.heap_text.specs.Joins.{IsCopy, IsTextRefused}
+use Rattle.heap_text.specs.Texts.{IsSpared, Told, UsesExactly}
+use Rattle.heap_read.specs.Reads.{OnlyLoads}
 use Rattle.js_units.specs.Lanes.{is_wide, words_over}
 use Rattle.heap_text.specs.declared.faults.TextFull.{TextFull}
 use Rattle.heap_text.specs.declared.faults.TextFull.TheVariants.{Ids, Words}
@@ -77,11 +77,11 @@ module _ (v : View) (s : JsStr) (us : List ℕ) (known : Has v.units s.id us) wh
   }
 
 -- uses after loads are those from before them
-pub uses_after : (v u w : View) (ids words words' : ℕ) → u.used ≡ v.used → words ≡ words' → Uses u w ids words → Uses v w ids words'
-uses_after v u w ids words words' e f h = subst (λ (n : Counters). (w.used.ids ≡ n.ids + ids) × (w.used.words ≡ n.words + words')) e (subst (Uses u w ids) f h)
+pub uses_after : (v u w : View) (ids words words' : ℕ) → u.used ≡ v.used → words ≡ words' → UsesExactly u w ids words → UsesExactly v w ids words'
+uses_after v u w ids words words' e f h = subst (λ (n : Counters). (w.used.ids ≡ n.ids + ids) × (w.used.words ≡ n.words + words')) e (subst (UsesExactly u w ids) f h)
 
 -- and so is what a refusal spares
-pub spared_after : (v u w : View) (words words' : ℕ) (f : TextFull) → Reads v u → words ≡ words' → IsSpared u w words f → IsSpared v w words' f
+pub spared_after : (v u w : View) (words words' : ℕ) (f : TextFull) → OnlyLoads v u → words ≡ words' → IsSpared u w words f → IsSpared v w words' f
 spared_after v u w words words' f r e h = let a : u.used.words ≡ v.used.words = ap (λ (n : Counters). n.words) r.used in let b = h.used_words in record {
   used_ids = h.used_ids ∙ ap (λ (n : Counters). n.ids) r.used;
   used_words = omega arith;
@@ -91,7 +91,7 @@ spared_after v u w words words' f r e h = let a : u.used.words ≡ v.used.words 
 }
 
 -- a call refused for words, which claimed none; and one refused for an id, which keeps the words that it wrote
-pub spared_words : (v u w : View) (words end : ℕ) (f : CounterFull) → Reads v u → IsFull f words end → w.used.ids ≡ u.used.ids → w.used.words ≡ u.used.words → w.own_ids ≡ u.own_ids
+pub spared_words : (v u w : View) (words end : ℕ) (f : CounterFull) → OnlyLoads v u → IsFull f words end → w.used.ids ≡ u.used.ids → w.used.words ≡ u.used.words → w.own_ids ≡ u.own_ids
     → ((c : ℕ) → HasKey u.own_words c → HasKey w.own_words c) → IsSpared v w words (Words f)
 spared_words v u w words end f r full a b c k = let e = full.0 in spared_after v u w words words (Words f) r refl record {
   used_ids = a;
@@ -101,7 +101,7 @@ spared_words v u w words end f r full a b c k = let e = full.0 in spared_after v
   claimed = (0, 0, (omega arith), (λ q l. absurd (omega arith)), (λ q l k. absurd (omega arith)));
 }
 
-pub spared_ids : (v u w x : View) (start words at : ℕ) (f : CounterFull) → Reads v u → x ≡ loaded_counter w counter.Ids at → w.used.ids ≡ u.used.ids → w.used.words ≡ u.used.words + words → w.own_ids ≡ u.own_ids
+pub spared_ids : (v u w x : View) (start words at : ℕ) (f : CounterFull) → OnlyLoads v u → x ≡ loaded_counter w counter.Ids at → w.used.ids ≡ u.used.ids → w.used.words ≡ u.used.words + words → w.own_ids ≡ u.own_ids
     → ((c : ℕ) → HasKey u.own_words c → HasKey w.own_words c) → ((q : ℕ) → q < words → HasKey w.own_words (start + q)) → ((q : ℕ) → q < words → HasKey u.own_words (start + q) → ⊥) → IsSpared v x words (Ids f)
 spared_ids v u w x start words at f r e a b c k own fresh = subst (λ (y : View). IsSpared v y words (Ids f)) (sym e) (spared_after v u (loaded_counter w counter.Ids at) words words (Ids f) r refl record {
   used_ids = a;
@@ -112,10 +112,10 @@ spared_ids v u w x start words at f r e a b c k own fresh = subst (λ (y : View)
 })
 
 -- the answer of a copy, after loads
-pub copy_answer : (v w x : View) (z : HeapSize) (r : Result JsStr TextFull) (xs us : List ℕ) (n : ℕ) → xs ≡ us → words_over (is_wide xs) n ≡ words_over (is_wide us) (length us) → Reads v w
-    → IfOk r (λ s. Has x.units s.id xs) → IfOk r (λ s. (start : ℕ) × Has x.forms s.id (Flat (is_wide xs) start false)) → IfOk r (λ s. Uses w x 1 (words_over (is_wide xs) n))
+pub copy_answer : (v w x : View) (z : HeapSize) (r : Result JsStr TextFull) (xs us : List ℕ) (n : ℕ) → xs ≡ us → words_over (is_wide xs) n ≡ words_over (is_wide us) (length us) → OnlyLoads v w
+    → IfOk r (λ s. Has x.units s.id xs) → IfOk r (λ s. (start : ℕ) × Has x.forms s.id (Flat (is_wide xs) start false)) → IfOk r (λ s. UsesExactly w x 1 (words_over (is_wide xs) n))
     → IfErr r (λ f. Told x z (words_over (is_wide xs) n) f) → IfErr r (λ f. IsSpared w x (words_over (is_wide xs) n) f)
-    → ((t : JsStr) × (r ≡ Ok t) × IsCopy v x t us) ⊎ ((f : TextFull) × (r ≡ Err f) × IsRefused v x z us f)
+    → ((t : JsStr) × (r ≡ Ok t) × IsCopy v x t us) ⊎ ((f : TextFull) × (r ≡ Err f) × IsTextRefused v x z us f)
 copy_answer v w x z (Ok s) xs us n all words r a b c d e = inl (
   s,
   refl,

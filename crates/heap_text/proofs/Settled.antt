@@ -15,7 +15,7 @@ use Rattle.heap_table.specs.Known.{KeepsKnown}
 use Rattle.heap_text.specs.Filling.{IsBoth, units_at}
 use Rattle.heap_text.specs.Settling.{HasSides, IsFlattened, IsNoRoom}
 use Rattle.heap_text.proofs.Sides.{units_there}
-use Rattle.heap_read.specs.Reads.{Reads}
+use Rattle.heap_read.specs.Reads.{OnlyLoads}
 use Rattle.heap_text.proofs.Pieces.{spared_after, uses_after}
 
 module _ {A E : Type 0} where
@@ -47,7 +47,7 @@ sides_of b x i left right m us k below known both = let e = both.left_count in l
   joined = both.both;
 }
 
-module _ (v u w : View) (read : Reads v u) where
+module _ (v u w : View) (read : OnlyLoads v u) where
   pub flattened_after : (i : ℕ) (us : List ℕ) (wide : Bool) → IsFlattened u w i us wide → IsFlattened v w i us wide
   flattened_after i us wide h = let n : ℕ = words_over wide (length us) in record {
     narrow = h.narrow;

@@ -5,7 +5,7 @@ use Rattle.heap_rule.specs.Maps.{HasKey}
 use Rattle.heap_table.specs.Known.{KeepsKnown}
 use Rattle.heap_text.specs.Filling.{IsBoth, units_at}
 use Rattle.heap_read.specs.Filling.{IsFilled, own_word}
-use Rattle.heap_read.specs.Reads.{Reads}
+use Rattle.heap_read.specs.Reads.{OnlyLoads}
 use Rattle.heap_text.proofs.Progress.{IsFilling, filled_left, filled_right}
 use Rattle.heap_text.proofs.Sides.{units_are, units_there}
 
@@ -15,21 +15,21 @@ units_kept v w i k h = units_are w i (units_at v i) (k.units i (units_at v i) (u
 
 -- u is the view before the turn, f has loaded the form, g the length of the left side, and h is that after the side was filled
 module _ (wide : Bool) (start : ℕ) (first : ℕ → ℕ) (at0 n0 : ℕ) (us0 : List ℕ) (at n : ℕ) (u f g h : View) (id left right m : ℕ) where
-  pub same_own : Reads u f → Reads f g → own_word g.own_words ≡ own_word u.own_words
+  pub same_own : OnlyLoads u f → OnlyLoads f g → own_word g.own_words ≡ own_word u.own_words
   same_own a b = ap own_word (b.own_words ∙ a.own_words)
 
-  pub both_here : Reads u f → HasKey u.units id → IsFilling wide start first (own_word u.own_words) at0 n0 us0 at n (units_at u id)
+  pub both_here : OnlyLoads u f → HasKey u.units id → IsFilling wide start first (own_word u.own_words) at0 n0 us0 at n (units_at u id)
       → IsBoth (units_at f id) (units_at g left) (units_at g right) m (length (units_at f id)) → IsBoth (units_at u id) (units_at g left) (units_at g right) m n
   both_here a k i b = let same = units_kept u f id a.known k in
       subst (λ (x : ℕ). IsBoth (units_at u id) (units_at g left) (units_at g right) m x) i.count (subst (λ (us : List ℕ). IsBoth us (units_at g left) (units_at g right) m (length us)) same b)
 
-  pub turn_left : Reads u f → Reads f g → HasKey g.units right → KeepsKnown g h → IsFilling wide start first (own_word u.own_words) at0 n0 us0 at n (units_at u id) → IsBoth (units_at u id) (units_at g left) (units_at g right) m n
+  pub turn_left : OnlyLoads u f → OnlyLoads f g → HasKey g.units right → KeepsKnown g h → IsFilling wide start first (own_word u.own_words) at0 n0 us0 at n (units_at u id) → IsBoth (units_at u id) (units_at g left) (units_at g right) m n
       → IsFilled wide start (own_word g.own_words) (own_word h.own_words) at m (λ k. get_or (units_at g left) k 0) → IsFilling wide start first (own_word h.own_words) at0 n0 us0 (at + m) (n - m) (units_at h right)
   turn_left a b k c i both done = subst (λ (us : List ℕ). IsFilling wide start first (own_word h.own_words) at0 n0 us0 (at + m) (n - m) us) (sym (units_kept g h right c k))
       (filled_left wide start first (own_word u.own_words) (own_word h.own_words) at0 n0 us0 at n (units_at u id) (units_at g left) (units_at g right) m i both
       (subst (λ (w : ℕ → ℕ). IsFilled wide start w (own_word h.own_words) at m (λ k. get_or (units_at g left) k 0)) (same_own a b) done))
 
-  pub turn_right : Reads u f → Reads f g → HasKey g.units left → KeepsKnown g h → IsFilling wide start first (own_word u.own_words) at0 n0 us0 at n (units_at u id) → IsBoth (units_at u id) (units_at g left) (units_at g right) m n
+  pub turn_right : OnlyLoads u f → OnlyLoads f g → HasKey g.units left → KeepsKnown g h → IsFilling wide start first (own_word u.own_words) at0 n0 us0 at n (units_at u id) → IsBoth (units_at u id) (units_at g left) (units_at g right) m n
       → IsFilled wide start (own_word g.own_words) (own_word h.own_words) (at + m) (n - m) (λ k. get_or (units_at g right) k 0) → IsFilling wide start first (own_word h.own_words) at0 n0 us0 at m (units_at h left)
   turn_right a b k c i both done = subst (λ (us : List ℕ). IsFilling wide start first (own_word h.own_words) at0 n0 us0 at m us) (sym (units_kept g h left c k))
       (filled_right wide start first (own_word u.own_words) (own_word h.own_words) at0 n0 us0 at n (units_at u id) (units_at g left) (units_at g right) m i both

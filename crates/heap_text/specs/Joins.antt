@@ -13,15 +13,17 @@ use Rattle.heap_text.specs.declared.faults.TextFull.{TextFull}
 use Rattle.heap_text.specs.declared.faults.TextFull.TheVariants.{Ids}
 use Rattle.heap_table.specs.declared.claims.CounterFull.{CounterFull}
 use Rattle.heap_read.specs.declared.string.JsStr.{JsStr}
-use Rattle.heap_text.specs.Texts.{IsSpared, Told, Uses}
+use Rattle.heap_text.specs.Texts.{IsSpared, Told, UsesExactly}
 
 -- a new flat string with these units: one id, and the words that hold them
 abbrev pub IsCopy : View → View → JsStr → List ℕ → Type 0
-IsCopy v w s us = Has w.units s.id us × ((start : ℕ) × Has w.forms s.id (Flat (is_wide us) start false)) × Uses v w 1 (words_over (is_wide us) (length us))
+IsCopy v w s us = Has w.units s.id us × ((start : ℕ) × Has w.forms s.id (Flat (is_wide us) start false))
+    × UsesExactly v w 1 (words_over (is_wide us) (length us))
 
 -- a call that was refused for lack of ids or words: it reported that there is no room, and no string has what it used
-abbrev pub IsRefused : View → View → HeapSize → List ℕ → TextFull → Type 0
-IsRefused v w z us f = Told w z (words_over (is_wide us) (length us)) f × IsSpared v w (words_over (is_wide us) (length us)) f
+abbrev pub IsTextRefused : View → View → HeapSize → List ℕ → TextFull → Type 0
+IsTextRefused v w z us f = Told w z (words_over (is_wide us) (length us)) f
+    × IsSpared v w (words_over (is_wide us) (length us)) f
 
 -- the fewest units of a Cons, and of a Sliced
 abbrev pub MIN_CONS : ℕ
@@ -44,7 +46,7 @@ abbrev pub IsRope : View → View → JsStr → JsStr → JsStr → List ℕ →
 IsRope v w a b s us = Has w.units s.id us
     × ((f : Form) × (g : Form) × (left : Bool) × (right : Bool) × Has w.forms a.id f × Has w.forms b.id g × IsWideIn w f left × IsWideIn w g right
     × Has w.forms s.id (Cons (left || right) a.id b.id))
-    × Uses v w 1 0
+    × UsesExactly v w 1 0
 
 -- the string from which a Sliced is cut, by the form of the string s that is cut: the parent of a Sliced, else s; and where the units of s begin there
 abbrev pub parent_of : ℕ → Form → ℕ
@@ -60,7 +62,7 @@ offset_of _ = 0
 abbrev pub IsPart : View → View → JsStr → ℕ → JsStr → List ℕ → Type 0
 IsPart v w s from t us = Has w.units t.id us
     × ((f : Form) × (wide : Bool) × Has w.forms s.id f × IsWideIn w f wide × Has w.forms t.id (Sliced wide (parent_of s.id f) (offset_of f + from)))
-    × Uses v w 1 0
+    × UsesExactly v w 1 0
 
 -- a call that was refused for lack of an id, and used nothing
 abbrev pub IsNoId : View → View → HeapSize → TextFull → Type 0
@@ -73,7 +75,8 @@ AreJoinable v a b n = (us : List ℕ) × (vs : List ℕ) × Has v.units a.id us 
 
 -- what joining answers where a copy of the units is made, and where a Cons is
 abbrev pub IsCopied : View → View → HeapSize → List ℕ → Result JsStr TextFull → Type 0
-IsCopied v w z us r = ((t : JsStr) × (r ≡ Ok t) × IsCopy v w t us) ⊎ ((f : TextFull) × (r ≡ Err f) × IsRefused v w z us f)
+IsCopied v w z us r = ((t : JsStr) × (r ≡ Ok t) × IsCopy v w t us)
+    ⊎ ((f : TextFull) × (r ≡ Err f) × IsTextRefused v w z us f)
 
 abbrev pub IsLinked : View → View → HeapSize → JsStr → JsStr → List ℕ → Result JsStr TextFull → Type 0
 IsLinked v w z a b us r = ((t : JsStr) × (r ≡ Ok t) × IsRope v w a b t us) ⊎ ((f : TextFull) × (r ≡ Err f) × IsNoId v w z f)
@@ -93,7 +96,8 @@ module _ (v w : View) (z : HeapSize) where
     pub left_empty : length us + length vs ≤ most → length us ≡ 0 → (t : JsStr) × (answer ≡ Ok t) × IsItself v w b t
     pub right_empty : length us + length vs ≤ most → 0 < length us → length vs ≡ 0 → (t : JsStr) × (answer ≡ Ok t) × IsItself v w a t
     pub short : length us + length vs ≤ most → 0 < length us → 0 < length vs → length us + length vs < MIN_CONS
-        → ((t : JsStr) × (answer ≡ Ok t) × IsCopy v w t (us ++ vs)) ⊎ ((f : TextFull) × (answer ≡ Err (Full f)) × IsRefused v w z (us ++ vs) f)
+        → ((t : JsStr) × (answer ≡ Ok t) × IsCopy v w t (us ++ vs))
+        ⊎ ((f : TextFull) × (answer ≡ Err (Full f)) × IsTextRefused v w z (us ++ vs) f)
     pub rope : length us + length vs ≤ most → 0 < length us → 0 < length vs → MIN_CONS ≤ length us + length vs
         → ((t : JsStr) × (answer ≡ Ok t) × IsRope v w a b t (us ++ vs)) ⊎ ((f : TextFull) × (answer ≡ Err (Full f)) × IsNoId v w z f)
 

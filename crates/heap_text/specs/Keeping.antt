@@ -2,6 +2,6 @@
 use Rattle.std.specs.Prelude.{◌≡◌}
 use Rattle.heap_text.specs.declared.text.Text.{Text}
 
-pub record Keeps (a b : Text) : Type 0 where
+pub record KeepsText (a b : Text) : Type 0 where
   pub heap : b.reader.heap ≡ a.reader.heap
   pub limit : b.limit ≡ a.limit

@@ -10,8 +10,8 @@ use Rattle.heap_rule.specs.Maps.{Has, HasKey}
 use Rattle.heap_table.specs.declared.claims.CounterFull.{CounterFull}
 use Rattle.heap_text.specs.declared.faults.TextFull.{TextFull}
 use Rattle.heap_text.specs.declared.faults.TextFull.TheVariants.{Words}
-use Rattle.heap_read.specs.Reads.{Reads}
-use Rattle.heap_text.specs.Texts.{IsSpared, Told, Uses}
+use Rattle.heap_read.specs.Reads.{OnlyLoads}
+use Rattle.heap_text.specs.Texts.{IsSpared, Told, UsesExactly}
 
 -- Two strings that are known, neither of them empty, with smaller numbers than i, have the units us between them.
 pub record HasSides (w : View) (i : ℕ) (us : List ℕ) : Type 0 where
@@ -30,7 +30,7 @@ pub record HasSides (w : View) (i : ℕ) (us : List ℕ) : Type 0 where
 -- the wide bit of the Cons; or they stay the agent's own, where another agent's Flat is there. What was own is so still.
 pub record IsFlattened (v w : View) (i : ℕ) (us : List ℕ) (wide : Bool) : Type 0 where
   pub narrow : IsNarrow wide us
-  pub used : Uses v w 0 (words_over wide (length us))
+  pub used : UsesExactly v w 0 (words_over wide (length us))
   pub own_ids : w.own_ids ≡ v.own_ids
   pub own_words : (c : ℕ) → HasKey v.own_words c → HasKey w.own_words c
   pub sides : HasSides w i us
@@ -47,7 +47,7 @@ IsSeenLater v w i = (f : Form) → Has v.forms i f → (g : Form) × Has w.forms
 
 -- no Cons was loaded, and nothing used; or a Cons was, and became flat with its wide bit
 abbrev pub IsSettling : View → View → ℕ → List ℕ → Type 0
-IsSettling v w i us = Reads v w ⊎ ((wide : Bool) × IsBitOf v i wide × IsFlattened v w i us wide)
+IsSettling v w i us = OnlyLoads v w ⊎ ((wide : Bool) × IsBitOf v i wide × IsFlattened v w i us wide)
 
 -- a Cons with this wide bit was to become flat, and the content words for it were refused
 pub record IsNoRoom (v w : View) (z : HeapSize) (us : List ℕ) (f : TextFull) (wide : Bool) : Type 0 where

@@ -7,8 +7,8 @@ ghost use Rattle.heap_rule.specs.Maps.{Has};
 ghost use Rattle.heap_table.specs.Agents.{size_of};
 ghost use Rattle.heap_read.specs.Readers.{Moves, view_in};
 ghost use Rattle.heap_read.specs.Reads.{Continues};
-ghost use Rattle.heap_read.specs.Sources.{Shows, listed_in};
-ghost use Rattle.heap_text.specs.Texts.{IsSpared, KeepsOwn, Told, Uses};
+ghost use Rattle.heap_read.specs.Sources.{ShowsSource, listed_in};
+ghost use Rattle.heap_text.specs.Texts.{IsSpared, KeepsOwn, Told, UsesExactly};
 
 use crate::faults::TextFull;
 use heap_read::{JsStr, Reader, UnitSource};
@@ -17,7 +17,7 @@ use js_header::Form;
 // A new flat string with the `n` units of a source. The content words come first, then the
 // id.
 pub(crate) fn copy(reader: &mut Reader, source: &UnitSource, n: u32) -> Result<JsStr, TextFull>
-    requires shows { Shows (view_in reader.old) source.now }
+    requires shows { ShowsSource (view_in reader.old) source.now }
     requires count { length (listed_in reader.old source.now) ≡ n }
     requires short { n ≤ MAX }
     ensures continues { Moves Continues reader.old reader.new }
@@ -29,7 +29,7 @@ pub(crate) fn copy(reader: &mut Reader, source: &UnitSource, n: u32) -> Result<J
         × Has (view_in reader.new).forms s.id
         (Flat (is_wide (listed_in reader.old source.now)) start false)) }
     ensures used { IfOk result
-        (λ s. Uses (view_in reader.old) (view_in reader.new) 1
+        (λ s. UsesExactly (view_in reader.old) (view_in reader.new) 1
         (words_over (is_wide (listed_in reader.old source.now)) n)) }
     ensures refused { IfErr result
         (λ f. Told (view_in reader.new) (size_of reader.old.heap.now)

@@ -6,10 +6,10 @@ ghost use Rattle.heap_rule.specs.Forms.{IsCons};
 ghost use Rattle.heap_rule.specs.Layout.{MAX};
 ghost use Rattle.heap_rule.specs.Loads.{added_loads};
 ghost use Rattle.heap_rule.specs.Maps.{Has, HasKey};
-ghost use Rattle.heap_rule.specs.Views.{IsKnown};
+ghost use Rattle.heap_rule.specs.Views.{MayUse};
 ghost use Rattle.heap_read.specs.Filling.{IsFilled, own_word};
 ghost use Rattle.heap_read.specs.Readers.{Moves, view_in};
-ghost use Rattle.heap_read.specs.Reads.{KeepsBelow, KeepsForms, Reads, Writes};
+ghost use Rattle.heap_read.specs.Reads.{KeepsBelow, KeepsForms, OnlyLoads, Writes};
 ghost use Rattle.heap_read.specs.Sides.{KnowsSide, LoadsForms, target_loads};
 ghost use Rattle.heap_read.specs.Windows.{IsWindow, ShowsAll};
 ghost use Rattle.heap_text.specs.Filling.{HoldsAbove, IsBoth, units_at};
@@ -23,8 +23,8 @@ use std::sync::ledger::Ledger;
 pub(crate) fn left_length(reader: &mut Reader, id: u32, left: u32, right: u32) -> u32
     requires cons { (wide : Bool) × Has (view_in reader.old).forms id (Cons wide left right) }
     requires known { HasKey (view_in reader.old).units id }
-    requires met { IsKnown (view_in reader.old) left }
-    ensures reads { Moves Reads reader.old reader.new }
+    requires met { MayUse (view_in reader.old) left }
+    ensures reads { Moves OnlyLoads reader.old reader.new }
     ensures forms { KeepsForms (view_in reader.old) (view_in reader.new) }
     ensures below { (left < id) × (right < id) }
     ensures known { HasKey (view_in reader.new).units left
@@ -48,7 +48,7 @@ fn leaf_window<L: Ledger>(
     requires born { form ≢ Unborn }
     requires leaf { ¬ IsCons form }
     requires side { KnowsSide (view_in reader.old) form }
-    ensures reads { Moves Reads reader.old reader.new }
+    ensures reads { Moves OnlyLoads reader.old reader.new }
     ensures above { HoldsAbove (view_in reader.old) (view_in reader.new) of.id }
     ensures shows { ShowsAll (view_in reader.old) (view_in reader.new) of.id result }
     ensures loads { LoadsForms (view_in reader.old) (view_in reader.new) (steps.new - steps.old) }

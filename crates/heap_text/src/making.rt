@@ -5,15 +5,15 @@ ghost use Rattle.js_header.specs.declared.form.Form.TheVariants.{Flat, Unborn};
 ghost use Rattle.heap_rule.specs.Layout.{MAX};
 ghost use Rattle.heap_rule.specs.Births.{part};
 ghost use Rattle.heap_rule.specs.Maps.{Has, HasKey};
-ghost use Rattle.heap_rule.specs.Views.{IsSettled};
+ghost use Rattle.heap_rule.specs.Views.{IsSeenSettled};
 ghost use Rattle.heap_table.specs.Agents.{size_of, view_of};
 ghost use Rattle.heap_read.specs.Readers.{Moves, view_in};
-ghost use Rattle.heap_read.specs.Reads.{Continues, HoldsForms, Reads};
+ghost use Rattle.heap_read.specs.Reads.{Continues, HoldsForms, OnlyLoads};
 ghost use Rattle.heap_read.specs.Sides.{KnowsSide};
-ghost use Rattle.heap_text.specs.Texts.{IsSpared, KeepsOwn, Told, Uses};
+ghost use Rattle.heap_text.specs.Texts.{IsSpared, KeepsOwn, Told, UsesExactly};
 ghost use Rattle.heap_text.specs.Joins.{AreJoinable, IsCopied, IsCut, IsJoined, IsLinked, IsPartCut, IsWideIn, MIN_CONS, wide_bit};
 ghost use Rattle.heap_text.specs.Joins as joins;
-ghost use Rattle.heap_text.specs.Keeping.{Keeps};
+ghost use Rattle.heap_text.specs.Keeping.{KeepsText};
 
 use crate::copying::copy;
 use crate::faults::{JoinFault, TextFull};
@@ -29,7 +29,7 @@ impl<'h> Text<'h> {
     /// one id, and the content words that hold the units.
     pub fn make_flat(&mut self, units: &[u16]) -> Result<JsStr, TextFull>
         requires short { length units.now ≤ MAX }
-        ensures kept { Keeps self.old self.new }
+        ensures kept { KeepsText self.old self.new }
         ensures continues { Continues (view_of self.old.reader.agent) (view_of self.new.reader.agent) }
         ensures own { KeepsOwn (view_of self.old.reader.agent) (view_of self.new.reader.agent) }
         ensures units { IfOk result (λ s. Has (view_of self.new.reader.agent).units s.id units.now) }
@@ -37,7 +37,7 @@ impl<'h> Text<'h> {
             (λ s. (start : ℕ)
             × Has (view_of self.new.reader.agent).forms s.id (Flat (is_wide units.now) start false)) }
         ensures used { IfOk result
-            (λ s. Uses (view_of self.old.reader.agent) (view_of self.new.reader.agent) 1
+            (λ s. UsesExactly (view_of self.old.reader.agent) (view_of self.new.reader.agent) 1
             (words_over (is_wide units.now) (length units.now))) }
         ensures refused { IfErr result
             (λ f. Told (view_of self.new.reader.agent) (size_of self.old.reader.heap.now)
@@ -60,7 +60,7 @@ impl<'h> Text<'h> {
     pub fn concat(&mut self, a: JsStr, b: JsStr) -> Result<JsStr, JoinFault>
         requires known { HasKey (view_of self.old.reader.agent).units a.id
             × HasKey (view_of self.old.reader.agent).units b.id }
-        ensures kept { Keeps self.old self.new }
+        ensures kept { KeepsText self.old self.new }
         ensures continues { Continues (view_of self.old.reader.agent) (view_of self.new.reader.agent) }
         ensures own { KeepsOwn (view_of self.old.reader.agent) (view_of self.new.reader.agent) }
         ensures units { IfOk result
@@ -94,16 +94,16 @@ impl<'h> Text<'h> {
     /// over 255; from 13 on the answer is a slice, which uses one id and no content word. Its
     /// parent is the string, or, where that is a slice itself, the parent of that one.
     pub fn slice(&mut self, s: JsStr, from: u32, to: u32) -> Result<JsStr, TextFull>
-        requires settled { IsSettled (view_of self.old.reader.agent) s.id }
+        requires settled { IsSeenSettled (view_of self.old.reader.agent) s.id }
         requires within { (us : List ℕ) × Has (view_of self.old.reader.agent).units s.id us × (from ≤ to)
             × (to ≤ length us) }
-        ensures kept { Keeps self.old self.new }
+        ensures kept { KeepsText self.old self.new }
         ensures continues { Continues (view_of self.old.reader.agent) (view_of self.new.reader.agent) }
         ensures own { KeepsOwn (view_of self.old.reader.agent) (view_of self.new.reader.agent) }
         ensures units { IfOk result
             (λ t. (us : List ℕ) → Has (view_of self.old.reader.agent).units s.id us
             → Has (view_of self.new.reader.agent).units t.id (part from (to - from) us)) }
-        ensures settled { IfOk result (λ t. IsSettled (view_of self.new.reader.agent) t.id) }
+        ensures settled { IfOk result (λ t. IsSeenSettled (view_of self.new.reader.agent) t.id) }
         ensures cut { (us : List ℕ) → Has (view_of self.old.reader.agent).units s.id us
             → IsCut (view_of self.old.reader.agent) (view_of self.new.reader.agent)
             (size_of self.old.reader.heap.now) s from to us result }
@@ -149,7 +149,7 @@ fn copy_both(reader: &mut Reader, a: JsStr, b: JsStr, n: u32) -> Result<JsStr, T
 fn side_forms(reader: &mut Reader, a: JsStr, b: JsStr) -> (Form, Form)
     requires known { HasKey (view_in reader.old).units a.id
         × HasKey (view_in reader.old).units b.id }
-    ensures reads { Moves Reads reader.old reader.new }
+    ensures reads { Moves OnlyLoads reader.old reader.new }
     ensures seen { Has (view_in reader.new).forms a.id result.0
         × Has (view_in reader.new).forms b.id result.1 }
     ensures born { (result.0 ≢ Unborn) × (result.1 ≢ Unborn) }
@@ -167,7 +167,7 @@ fn side_forms(reader: &mut Reader, a: JsStr, b: JsStr) -> (Form, Form)
 fn is_wide_side(reader: &mut Reader, of: u32, form: Form) -> bool
     requires seen { Has (view_in reader.old).forms of form }
     requires side { KnowsSide (view_in reader.old) form }
-    ensures reads { Moves Reads reader.old reader.new }
+    ensures reads { Moves OnlyLoads reader.old reader.new }
     ensures held { HoldsForms (view_in reader.old) (view_in reader.new) }
     ensures wide { IsWideIn (view_in reader.new) form result }
 {
@@ -229,7 +229,7 @@ fn join(reader: &mut Reader, a: JsStr, b: JsStr, n: u32) -> Result<JsStr, TextFu
 
 // A flat string with the `n` units of a settled string from `from` on.
 fn copy_part(reader: &mut Reader, s: JsStr, from: u32, n: u32) -> Result<JsStr, TextFull>
-    requires settled { IsSettled (view_in reader.old) s.id }
+    requires settled { IsSeenSettled (view_in reader.old) s.id }
     requires within { (us : List ℕ) × Has (view_in reader.old).units s.id us
         × (from + n ≤ length us) }
     ensures continues { Moves Continues reader.old reader.new }
@@ -255,7 +255,7 @@ fn copy_part(reader: &mut Reader, s: JsStr, from: u32, n: u32) -> Result<JsStr, 
 
 // A Sliced of the `n` units of a settled string from `from` on.
 fn link_part(reader: &mut Reader, s: JsStr, from: u32, n: u32) -> Result<JsStr, TextFull>
-    requires settled { IsSettled (view_in reader.old) s.id }
+    requires settled { IsSeenSettled (view_in reader.old) s.id }
     requires within { (us : List ℕ) × Has (view_in reader.old).units s.id us
         × (from + n ≤ length us) }
     requires long { MIN_CONS ≤ n }
@@ -285,7 +285,7 @@ fn link_part(reader: &mut Reader, s: JsStr, from: u32, n: u32) -> Result<JsStr, 
 
 // A part that is not the whole.
 fn cut(reader: &mut Reader, s: JsStr, from: u32, n: u32) -> Result<JsStr, TextFull>
-    requires settled { IsSettled (view_in reader.old) s.id }
+    requires settled { IsSeenSettled (view_in reader.old) s.id }
     requires within { (us : List ℕ) × Has (view_in reader.old).units s.id us
         × (from + n ≤ length us) }
     ensures continues { Moves Continues reader.old reader.new }

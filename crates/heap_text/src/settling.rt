@@ -3,14 +3,14 @@ ghost use Rattle.std.specs.Prelude.{◌≡◌, ℕ, List, Bool, ◌+◌, ◌-◌
 ghost use Rattle.js_header.specs.declared.form.Form.TheVariants.{Cons};
 ghost use Rattle.heap_rule.specs.Loads.{added_loads};
 ghost use Rattle.heap_rule.specs.Maps.{Has, HasKey};
-ghost use Rattle.heap_rule.specs.Views.{IsKnown, IsSettled};
+ghost use Rattle.heap_rule.specs.Views.{MayUse, IsSeenSettled};
 ghost use Rattle.heap_table.specs.Agents.{size_of, view_of};
 ghost use Rattle.heap_read.specs.Readers.{Moves, view_in};
-ghost use Rattle.heap_read.specs.Reads.{Continues, Reads};
+ghost use Rattle.heap_read.specs.Reads.{Continues, OnlyLoads};
 ghost use Rattle.heap_read.specs.Sides.{LoadsForms};
 ghost use Rattle.heap_text.specs.Texts.{KeepsOwn};
 ghost use Rattle.heap_text.specs.Settling.{HasSides, IsBitOf, IsFlattened, IsNoRoom, IsSeenLater, IsSettling};
-ghost use Rattle.heap_text.specs.Keeping.{Keeps};
+ghost use Rattle.heap_text.specs.Keeping.{KeepsText};
 
 use crate::faults::TextFull;
 use crate::filling::{fill, left_length};
@@ -31,10 +31,10 @@ impl<'h> Text<'h> {
         steps: &mut Steps<L>,
     ) -> Result<(), TextFull>
         requires known { HasKey (view_of self.old.reader.agent).units s.id }
-        ensures kept { Keeps self.old self.new }
+        ensures kept { KeepsText self.old self.new }
         ensures continues { Continues (view_of self.old.reader.agent) (view_of self.new.reader.agent) }
         ensures own { KeepsOwn (view_of self.old.reader.agent) (view_of self.new.reader.agent) }
-        ensures settled { IfOk result (λ u. IsSettled (view_of self.new.reader.agent) s.id) }
+        ensures settled { IfOk result (λ u. IsSeenSettled (view_of self.new.reader.agent) s.id) }
         ensures used { IfOk result
             (λ u. (us : List ℕ) → Has (view_of self.old.reader.agent).units s.id us
             → IsSettling (view_of self.old.reader.agent) (view_of self.new.reader.agent) s.id us) }
@@ -45,9 +45,9 @@ impl<'h> Text<'h> {
             (size_of self.old.reader.heap.now) us f wide) }
         ensures rope { IfErr result (λ f. (us : List ℕ) → Has (view_of self.old.reader.agent).units s.id us
             → HasSides (view_of self.new.reader.agent) s.id us) }
-        ensures again { IsSettled (view_of self.old.reader.agent) s.id
-            → IsOk result × Reads (view_of self.old.reader.agent) (view_of self.new.reader.agent) }
-        ensures later { IsSettled (view_of self.old.reader.agent) s.id
+        ensures again { IsSeenSettled (view_of self.old.reader.agent) s.id
+            → IsOk result × OnlyLoads (view_of self.old.reader.agent) (view_of self.new.reader.agent) }
+        ensures later { IsSeenSettled (view_of self.old.reader.agent) s.id
             → IsSeenLater (view_of self.old.reader.agent) (view_of self.new.reader.agent) s.id }
         ensures loads { (view_of self.new.reader.agent).form_loads
             ≡ added_loads (view_of self.old.reader.agent).form_loads (steps.new - steps.old) }
@@ -76,10 +76,10 @@ impl<'h> Text<'h> {
         requires parts { blank.parts ≡ L.parts }
         requires some { 0 < blank.parts }
         requires known { HasKey (view_of self.old.reader.agent).units s.id }
-        ensures kept { Keeps self.old self.new }
+        ensures kept { KeepsText self.old self.new }
         ensures continues { Continues (view_of self.old.reader.agent) (view_of self.new.reader.agent) }
         ensures own { KeepsOwn (view_of self.old.reader.agent) (view_of self.new.reader.agent) }
-        ensures settled { IfOk result (λ u. IsSettled (view_of self.new.reader.agent) s.id) }
+        ensures settled { IfOk result (λ u. IsSeenSettled (view_of self.new.reader.agent) s.id) }
         ensures used { IfOk result
             (λ u. (us : List ℕ) → Has (view_of self.old.reader.agent).units s.id us
             → IsSettling (view_of self.old.reader.agent) (view_of self.new.reader.agent) s.id us) }
@@ -90,9 +90,9 @@ impl<'h> Text<'h> {
             (size_of self.old.reader.heap.now) us f wide) }
         ensures rope { IfErr result (λ f. (us : List ℕ) → Has (view_of self.old.reader.agent).units s.id us
             → HasSides (view_of self.new.reader.agent) s.id us) }
-        ensures again { IsSettled (view_of self.old.reader.agent) s.id
-            → IsOk result × Reads (view_of self.old.reader.agent) (view_of self.new.reader.agent) }
-        ensures later { IsSettled (view_of self.old.reader.agent) s.id
+        ensures again { IsSeenSettled (view_of self.old.reader.agent) s.id
+            → IsOk result × OnlyLoads (view_of self.old.reader.agent) (view_of self.new.reader.agent) }
+        ensures later { IsSeenSettled (view_of self.old.reader.agent) s.id
             → IsSeenLater (view_of self.old.reader.agent) (view_of self.new.reader.agent) s.id }
         ensures loads { (us : List ℕ) → Has (view_of self.old.reader.agent).units s.id us → 0 < length us
             → (view_of self.new.reader.agent).form_loads
@@ -105,10 +105,10 @@ impl<'h> Text<'h> {
     /// Sees to it that the string is settled, as `settle_counted` does, with no count.
     pub fn settle(&mut self, s: JsStr) -> Result<(), TextFull>
         requires known { HasKey (view_of self.old.reader.agent).units s.id }
-        ensures kept { Keeps self.old self.new }
+        ensures kept { KeepsText self.old self.new }
         ensures continues { Continues (view_of self.old.reader.agent) (view_of self.new.reader.agent) }
         ensures own { KeepsOwn (view_of self.old.reader.agent) (view_of self.new.reader.agent) }
-        ensures settled { IfOk result (λ u. IsSettled (view_of self.new.reader.agent) s.id) }
+        ensures settled { IfOk result (λ u. IsSeenSettled (view_of self.new.reader.agent) s.id) }
         ensures used { IfOk result
             (λ u. (us : List ℕ) → Has (view_of self.old.reader.agent).units s.id us
             → IsSettling (view_of self.old.reader.agent) (view_of self.new.reader.agent) s.id us) }
@@ -119,9 +119,9 @@ impl<'h> Text<'h> {
             (size_of self.old.reader.heap.now) us f wide) }
         ensures rope { IfErr result (λ f. (us : List ℕ) → Has (view_of self.old.reader.agent).units s.id us
             → HasSides (view_of self.new.reader.agent) s.id us) }
-        ensures again { IsSettled (view_of self.old.reader.agent) s.id
-            → IsOk result × Reads (view_of self.old.reader.agent) (view_of self.new.reader.agent) }
-        ensures later { IsSettled (view_of self.old.reader.agent) s.id
+        ensures again { IsSeenSettled (view_of self.old.reader.agent) s.id
+            → IsOk result × OnlyLoads (view_of self.old.reader.agent) (view_of self.new.reader.agent) }
+        ensures later { IsSeenSettled (view_of self.old.reader.agent) s.id
             → IsSeenLater (view_of self.old.reader.agent) (view_of self.new.reader.agent) s.id }
         ensures loads { (us : List ℕ) → Has (view_of self.old.reader.agent).units s.id us → 0 < length us
             → (view_of self.new.reader.agent).form_loads
@@ -142,10 +142,10 @@ fn flatten<L: Ledger>(
 ) -> Result<(), TextFull>
     requires known { HasKey (view_in reader.old).units s.id }
     requires seen { Has (view_in reader.old).forms s.id (Cons wide left right) }
-    requires side { IsKnown (view_in reader.old) left }
+    requires side { MayUse (view_in reader.old) left }
     ensures continues { Moves Continues reader.old reader.new }
     ensures own { KeepsOwn (view_in reader.old) (view_in reader.new) }
-    ensures settled { IfOk result (λ u. IsSettled (view_in reader.new) s.id) }
+    ensures settled { IfOk result (λ u. IsSeenSettled (view_in reader.new) s.id) }
     ensures flat { IfOk result
         (λ u. (us : List ℕ) → Has (view_in reader.old).units s.id us
         → IsFlattened (view_in reader.old) (view_in reader.new) s.id us wide) }

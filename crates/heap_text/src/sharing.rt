@@ -1,10 +1,10 @@
 // `Text`s for several threads on one heap, and what was used of the heap.
 ghost use Rattle.std.specs.Prelude.{◌≡◌, ◌+◌, ◌≤◌, ◌<◌};
-ghost use Rattle.heap_rule.specs.Agents.{MayJoin, joined, left_after_split, right_after_split};
+ghost use Rattle.heap_rule.specs.Agents.{MayJoin, joined_view, left_after_split, right_after_split};
 ghost use Rattle.heap_rule.specs.Claims.{loaded_counter};
 ghost use Rattle.heap_table.specs.Agents.{Belongs, share_of, view_of};
 ghost use Rattle.heap_table.specs.Known.{KeepsKnown};
-ghost use Rattle.heap_text.specs.Keeping.{Keeps};
+ghost use Rattle.heap_text.specs.Keeping.{KeepsText};
 
 use crate::text::Text;
 use heap_read::Reader;
@@ -20,7 +20,7 @@ impl<'h> Text<'h> {
         ensures right { view_of result.reader.agent ≡ right_after_split (view_of self.old.reader.agent) give }
         ensures shares { (share_of self.new.reader.agent + give ≡ share_of self.old.reader.agent)
             × (share_of result.reader.agent ≡ give) }
-        ensures kept { Keeps self.old self.new }
+        ensures kept { KeepsText self.old self.new }
         ensures alike { (result.reader.heap.now ≡ self.old.reader.heap.now)
             × (result.limit ≡ self.old.limit) }
     {
@@ -37,12 +37,12 @@ impl<'h> Text<'h> {
         requires heap { Belongs other.reader.agent self.old.reader.heap.now }
         requires may { MayJoin (view_of self.old.reader.agent) (view_of other.reader.agent) }
         ensures view { view_of self.new.reader.agent
-            ≡ joined (view_of self.old.reader.agent) (view_of other.entry.reader.agent) }
+            ≡ joined_view (view_of self.old.reader.agent) (view_of other.entry.reader.agent) }
         ensures known { KeepsKnown (view_of self.old.reader.agent) (view_of self.new.reader.agent)
             × KeepsKnown (view_of other.entry.reader.agent) (view_of self.new.reader.agent) }
         ensures share { share_of self.new.reader.agent
             ≡ share_of self.old.reader.agent + share_of other.entry.reader.agent }
-        ensures kept { Keeps self.old self.new }
+        ensures kept { KeepsText self.old self.new }
     {
         let Text {
             reader: Reader { agent, .. },
@@ -60,7 +60,7 @@ impl<'h> Text<'h> {
             × (result.1 ≡ (view_of self.old.reader.agent).used.words) }
         ensures view { view_of self.new.reader.agent ≡ loaded_counter
             (loaded_counter (view_of self.old.reader.agent) Counter.Ids result.0) Counter.Words result.1 }
-        ensures kept { Keeps self.old self.new }
+        ensures kept { KeepsText self.old self.new }
     {
         let reader = &mut self.reader;
         reader.agent.totals(reader.heap)

@@ -9,13 +9,13 @@ use Rattle.js_store.proofs.Laws.{step_refl}
 use Rattle.eval_values.specs.declared.value.Stop.{Stop}
 use Rattle.eval_values.specs.declared.value.Stop.TheVariants.{Threw, Unsupported, Store}
 use Rattle.js_item.specs.Seen.{Val}
-use Rattle.eval_values.specs.Outcome.{Ledger, both, Out, gave, ended, threw, unsupported, after, bind, converting, cost, ledger_of}
+use Rattle.eval_values.specs.Outcome.{Ledger, both, Out, gave, ended, threw, unsupported, after_ledger, bind, converting, cost, ledger_of}
 use Rattle.eval_values.specs.Need.{Row, ids_in, words_in}
-use Rattle.eval_values.specs.Ran.{Ran, Cut, Did}
+use Rattle.eval_values.specs.Ran.{MeetsLedger, Cut, ComesTo}
 use Rattle.eval_values.proofs.Compose.{did_after, cut_after, cut_more, ran_both, ran_free, ran_of_step}
 use Rattle.eval_scopes.specs.Bindings.{Bindings, outer}
 use Rattle.js_eval.specs.Script.{Flow, then_flow, go_on, leaves, on_value, left, turns}
-use Rattle.js_eval.specs.Flows.{WroteSome, Wrote, Leaves, Went, LeavesTop, WentTop}
+use Rattle.js_eval.specs.Flows.{WroteSome, Wrote, Leaves, FollowsFlow, LeavesTop, WentTop}
 
 one_after : (x y z : List ℕ) (us vs : List (List ℕ)) → y ≡ x ++ concat us → z ≡ y ++ concat vs → z ≡ x ++ concat (us ++ vs)
 one_after x y z us vs e h = h ∙ (ap (λ q. q ++ concat vs) e ∙ (append_assoc x (concat us) (concat vs) ∙ ap (λ q. x ++ q) (sym (concat-append us vs))))
@@ -42,7 +42,7 @@ both_both l m n =
     let w : l.words + (m.words + n.words) ≡ l.words + m.words + n.words = omega arith in
     cc (append_assoc l.interned m.interned n.interned, append_assoc l.texts m.texts n.texts, i, w)
 
-after_both : {A : Type 0} (l m : Ledger) (o : Out A) → after l (after m o) ≡ after (both l m) o
+after_both : {A : Type 0} (l m : Ledger) (o : Out A) → after_ledger l (after_ledger m o) ≡ after_ledger (both l m) o
 after_both l m (gave x n) = ap (λ q. gave x q) (both_both l m n)
 after_both l m (ended e n) = ap (λ q. ended e q) (both_both l m n)
 
@@ -62,9 +62,9 @@ leaves_top (Err (Store f)) bs ds h = tt
 
 module _ {F : Type 0} where
   -- statements, and then others
-  onward : (a b c : State F) (x y z : List ℕ) (r : Result (Unit {0}) Stop) (bs cs ds : Bindings Val) (o : Out (Unit {0})) (ls : List (List ℕ)) (go : Bindings Val → Flow) → Did a b (λ s v. v) (λ s v. Unit {0}) (Ok tt) o → y ≡ x ++ concat ls → bs ≡ ds → Went b c y z r cs (go bs) → Went a c x z r cs (go_on o ls ds go)
+  onward : (a b c : State F) (x y z : List ℕ) (r : Result (Unit {0}) Stop) (bs cs ds : Bindings Val) (o : Out (Unit {0})) (ls : List (List ℕ)) (go : Bindings Val → Flow) → ComesTo a b (λ s v. v) (λ s v. Unit {0}) (Ok tt) o → y ≡ x ++ concat ls → bs ≡ ds → FollowsFlow b c y z r cs (go bs) → FollowsFlow a c x z r cs (go_on o ls ds go)
   onward a b c x y z r bs cs ds (gave q l) ls go d e h k =
-      let k' : Went b c y z r cs (go ds) = subst (λ (p : Bindings Val). Went b c y z r cs (go p)) h k in
+      let k' : FollowsFlow b c y z r cs (go ds) = subst (λ (p : Bindings Val). FollowsFlow b c y z r cs (go p)) h k in
       record {
         did = did_after a b c (λ s v. v) (λ s v. Unit {0}) l r (go ds).out d.ran k'.did;
         wrote = wrote_more x y z ls (go ds).lines r e k'.wrote;
@@ -72,11 +72,11 @@ module _ {F : Type 0} where
       }
   onward a b c x y z r bs cs ds (ended n l) ls go d e h k = absurd d
 
-  pub went_on : (a b c : State F) (x y z : List ℕ) (r : Result (Unit {0}) Stop) (bs cs : Bindings Val) (f : Flow) (go : Bindings Val → Flow) → Went a b x y (Ok tt) bs f → Went b c y z r cs (go bs) → Went a c x z r cs (then_flow f go)
+  pub went_on : (a b c : State F) (x y z : List ℕ) (r : Result (Unit {0}) Stop) (bs cs : Bindings Val) (f : Flow) (go : Bindings Val → Flow) → FollowsFlow a b x y (Ok tt) bs f → FollowsFlow b c y z r cs (go bs) → FollowsFlow a c x z r cs (then_flow f go)
   went_on a b c x y z r bs cs f go w k = onward a b c x y z r bs cs f.bindings f.out f.lines go w.did w.wrote w.leaves k
 
   -- statements that ended early, and then nothing
-  halted : (a b : State F) (x y : List ℕ) (s : Stop) (bs ds : Bindings Val) (o : Out (Unit {0})) (ls : List (List ℕ)) (go : Bindings Val → Flow) → Did {V = Unit {0}} a b (λ s v. v) (λ s v. Unit {0}) (Err s) o → Wrote x y (Err s) ls → Leaves (Err s) bs ds → Went a b x y (Err s) bs (go_on o ls ds go)
+  halted : (a b : State F) (x y : List ℕ) (s : Stop) (bs ds : Bindings Val) (o : Out (Unit {0})) (ls : List (List ℕ)) (go : Bindings Val → Flow) → ComesTo {V = Unit {0}} a b (λ s v. v) (λ s v. Unit {0}) (Err s) o → Wrote x y (Err s) ls → Leaves (Err s) bs ds → FollowsFlow a b x y (Err s) bs (go_on o ls ds go)
   halted a b x y (Threw k) bs ds (gave q l) ls go d e h = absurd d
   halted a b x y (Threw k) bs ds (ended (threw n) l) ls go d e h = record { did = d; wrote = e; leaves = h }
   halted a b x y (Threw k) bs ds (ended (unsupported n) l) ls go d e h = absurd d
@@ -90,21 +90,21 @@ module _ {F : Type 0} where
   }
   halted a b x y (Store f) bs ds (ended n l) ls go d e h = record { did = d; wrote = e; leaves = tt }
 
-  pub went_halt : (a b : State F) (x y : List ℕ) (s : Stop) (bs : Bindings Val) (f : Flow) (go : Bindings Val → Flow) → Went a b x y (Err s) bs f → Went a b x y (Err s) bs (then_flow f go)
+  pub went_halt : (a b : State F) (x y : List ℕ) (s : Stop) (bs : Bindings Val) (f : Flow) (go : Bindings Val → Flow) → FollowsFlow a b x y (Err s) bs f → FollowsFlow a b x y (Err s) bs (then_flow f go)
   went_halt a b x y s bs f go w = halted a b x y s bs f.bindings f.out f.lines go w.did w.wrote w.leaves
 
   -- nothing more to do
-  pub leaves_went : (a : State F) (x : List ℕ) (bs : Bindings Val) → Went a a x x (Ok tt) bs (leaves bs)
+  pub leaves_went : (a : State F) (x : List ℕ) (bs : Bindings Val) → FollowsFlow a a x x (Ok tt) bs (leaves bs)
   leaves_went a x bs = record { did = record { is = refl; good = tt; ran = ran_free a }; wrote = sym (append-nil x); leaves = refl }
 
   -- an expression, and then what has its value
-  pub value_went : {V A : Type 0} (a b c : State F) (x y : List ℕ) (see : State F → V → A) (fine : State F → V → Type 0) (v : V) (r : Result (Unit {0}) Stop) (bs cs : Bindings Val) (o : Out A) (go : A → Flow) → Did a b see fine (Ok v) o → Went b c x y r cs (go (see b v)) → Went a c x y r cs (on_value o bs go)
+  pub value_went : {V A : Type 0} (a b c : State F) (x y : List ℕ) (see : State F → V → A) (fine : State F → V → Type 0) (v : V) (r : Result (Unit {0}) Stop) (bs cs : Bindings Val) (o : Out A) (go : A → Flow) → ComesTo a b see fine (Ok v) o → FollowsFlow b c x y r cs (go (see b v)) → FollowsFlow a c x y r cs (on_value o bs go)
   value_went a b c x y see fine v r bs cs (gave q l) go d w =
-      let w' : Went b c x y r cs (go q) = subst (λ p. Went b c x y r cs (go p)) d.is w in
+      let w' : FollowsFlow b c x y r cs (go q) = subst (λ p. FollowsFlow b c x y r cs (go p)) d.is w in
       record { did = did_after a b c (λ s v. v) (λ s v. Unit {0}) l r (go q).out d.ran w'.did; wrote = w'.wrote; leaves = w'.leaves }
   value_went a b c x y see fine v r bs cs (ended n l) go d w = absurd d
 
-  pub value_halts : {V A : Type 0} (a b : State F) (x : List ℕ) (see : State F → V → A) (fine : State F → V → Type 0) (n : Stop) (bs cs : Bindings Val) (o : Out A) (go : A → Flow) → cs ≡ bs → Did a b see fine (Err n) o → Went a b x x (Err n) cs (on_value o bs go)
+  pub value_halts : {V A : Type 0} (a b : State F) (x : List ℕ) (see : State F → V → A) (fine : State F → V → Type 0) (n : Stop) (bs cs : Bindings Val) (o : Out A) (go : A → Flow) → cs ≡ bs → ComesTo a b see fine (Err n) o → FollowsFlow a b x x (Err n) cs (on_value o bs go)
   value_halts a b x see fine (Threw k) bs cs (gave q l) go h d = absurd d
   value_halts a b x see fine (Threw k) bs cs (ended (threw n) l) go h d = record { did = d; wrote = sym (append-nil x); leaves = h }
   value_halts a b x see fine (Threw k) bs cs (ended (unsupported n) l) go h d = absurd d
@@ -115,54 +115,54 @@ module _ {F : Type 0} where
   value_halts a b x see fine (Store f) bs cs (ended e l) go h d = record { did = d; wrote = wrote_none x []; leaves = tt }
 
   -- what an evaluation took, and then a flow that begins with another one
-  ran_before : {A : Type 0} (a b c : State F) (x y : List ℕ) (r : Result (Unit {0}) Stop) (bs cs : Bindings Val) (l : Ledger) (o : Out A) (go : A → Flow) → Ran a b l → Went b c x y r cs (on_value o bs go) → Went a c x y r cs (on_value (after l o) bs go)
+  ran_before : {A : Type 0} (a b c : State F) (x y : List ℕ) (r : Result (Unit {0}) Stop) (bs cs : Bindings Val) (l : Ledger) (o : Out A) (go : A → Flow) → MeetsLedger a b l → FollowsFlow b c x y r cs (on_value o bs go) → FollowsFlow a c x y r cs (on_value (after_ledger l o) bs go)
   ran_before a b c x y r bs cs l (gave q m) go h w = record {
-    did = subst (λ (p : Out (Unit {0})). Did a c (λ s v. v) (λ s v. Unit {0}) r p) (after_both l m (go q).out) (did_after a b c (λ s v. v) (λ s v. Unit {0}) l r (after m (go q).out) h w.did);
+    did = subst (λ (p : Out (Unit {0})). ComesTo a c (λ s v. v) (λ s v. Unit {0}) r p) (after_both l m (go q).out) (did_after a b c (λ s v. v) (λ s v. Unit {0}) l r (after_ledger m (go q).out) h w.did);
     wrote = w.wrote;
     leaves = w.leaves;
   }
   ran_before a b c x y r bs cs l (ended e m) go h w = record { did = did_after a b c (λ s v. v) (λ s v. Unit {0}) l r (ended e m) h w.did; wrote = w.wrote; leaves = w.leaves }
 
-  cut_before : {A : Type 0} {a b : State F} {f : StoreFault} (bs : Bindings Val) (l : Ledger) (o : Out A) (go : A → Flow) → Cut a b f l → Cut a b f (ledger_of (on_value (after l o) bs go).out)
+  cut_before : {A : Type 0} {a b : State F} {f : StoreFault} (bs : Bindings Val) (l : Ledger) (o : Out A) (go : A → Flow) → Cut a b f l → Cut a b f (ledger_of (on_value (after_ledger l o) bs go).out)
   cut_before bs l (gave q m) go c = cut_after (both l m) (go q).out (cut_more m c)
   cut_before bs l (ended e m) go c = cut_more m c
 
   -- two evaluations, and then a flow
-  pub bind_went : {V A B : Type 0} (a b c : State F) (x y : List ℕ) (see : State F → V → A) (fine : State F → V → Type 0) (v : V) (r : Result (Unit {0}) Stop) (bs cs : Bindings Val) (o : Out A) (next : A → Out B) (go : B → Flow) → Did a b see fine (Ok v) o → Went b c x y r cs (on_value (next (see b v)) bs go) → Went a c x y r cs (on_value (bind o next) bs go)
-  bind_went a b c x y see fine v r bs cs (gave q l) next go d w = ran_before a b c x y r bs cs l (next q) go d.ran (subst (λ p. Went b c x y r cs (on_value (next p) bs go)) d.is w)
+  pub bind_went : {V A B : Type 0} (a b c : State F) (x y : List ℕ) (see : State F → V → A) (fine : State F → V → Type 0) (v : V) (r : Result (Unit {0}) Stop) (bs cs : Bindings Val) (o : Out A) (next : A → Out B) (go : B → Flow) → ComesTo a b see fine (Ok v) o → FollowsFlow b c x y r cs (on_value (next (see b v)) bs go) → FollowsFlow a c x y r cs (on_value (bind o next) bs go)
+  bind_went a b c x y see fine v r bs cs (gave q l) next go d w = ran_before a b c x y r bs cs l (next q) go d.ran (subst (λ p. FollowsFlow b c x y r cs (on_value (next p) bs go)) d.is w)
   bind_went a b c x y see fine v r bs cs (ended n l) next go d w = absurd d
 
-  pub bind_halts : {V A B : Type 0} (a b : State F) (x : List ℕ) (see : State F → V → A) (fine : State F → V → Type 0) (n : Stop) (bs cs : Bindings Val) (o : Out A) (next : A → Out B) (go : B → Flow) → cs ≡ bs → Did a b see fine (Err n) o → Went a b x x (Err n) cs (on_value (bind o next) bs go)
+  pub bind_halts : {V A B : Type 0} (a b : State F) (x : List ℕ) (see : State F → V → A) (fine : State F → V → Type 0) (n : Stop) (bs cs : Bindings Val) (o : Out A) (next : A → Out B) (go : B → Flow) → cs ≡ bs → ComesTo a b see fine (Err n) o → FollowsFlow a b x x (Err n) cs (on_value (bind o next) bs go)
   bind_halts a b x see fine (Threw k) bs cs (gave q l) next go h d = absurd d
   bind_halts a b x see fine (Threw k) bs cs (ended (threw n) l) next go h d = record { did = d; wrote = sym (append-nil x); leaves = h }
   bind_halts a b x see fine (Threw k) bs cs (ended (unsupported n) l) next go h d = absurd d
   bind_halts a b x see fine (Unsupported k) bs cs (gave q l) next go h d = absurd d
   bind_halts a b x see fine (Unsupported k) bs cs (ended (threw n) l) next go h d = absurd d
   bind_halts a b x see fine (Unsupported k) bs cs (ended (unsupported n) l) next go h d = record { did = d; wrote = sym (append-nil x); leaves = h }
-  bind_halts a b x see fine (Store f) bs cs (gave q l) next go h d = record { did = cut_before bs l (next q) go d; wrote = wrote_none x (on_value (after l (next q)) bs go).lines; leaves = tt }
+  bind_halts a b x see fine (Store f) bs cs (gave q l) next go h d = record { did = cut_before bs l (next q) go d; wrote = wrote_none x (on_value (after_ledger l (next q)) bs go).lines; leaves = tt }
   bind_halts a b x see fine (Store f) bs cs (ended e l) next go h d = record { did = d; wrote = wrote_none x []; leaves = tt }
 
   -- the same where the first one is within the operation of the second
-  pub converting_went : {V A B : Type 0} (row : Row) (a b c : State F) (x y : List ℕ) (see : State F → V → A) (fine : State F → V → Type 0) (v : V) (r : Result (Unit {0}) Stop) (bs cs : Bindings Val) (o : Out A) (next : A → Out B) (go : B → Flow) → Did a b see fine (Ok v) o → Went b c x y r cs (on_value (next (see b v)) bs go) → Went a c x y r cs (on_value (converting row o next) bs go)
-  converting_went row a b c x y see fine v r bs cs (gave q l) next go d w = ran_before a b c x y r bs cs l (next q) go d.ran (subst (λ p. Went b c x y r cs (on_value (next p) bs go)) d.is w)
+  pub converting_went : {V A B : Type 0} (row : Row) (a b c : State F) (x y : List ℕ) (see : State F → V → A) (fine : State F → V → Type 0) (v : V) (r : Result (Unit {0}) Stop) (bs cs : Bindings Val) (o : Out A) (next : A → Out B) (go : B → Flow) → ComesTo a b see fine (Ok v) o → FollowsFlow b c x y r cs (on_value (next (see b v)) bs go) → FollowsFlow a c x y r cs (on_value (converting row o next) bs go)
+  converting_went row a b c x y see fine v r bs cs (gave q l) next go d w = ran_before a b c x y r bs cs l (next q) go d.ran (subst (λ p. FollowsFlow b c x y r cs (on_value (next p) bs go)) d.is w)
   converting_went row a b c x y see fine v r bs cs (ended (threw n) l) next go d w = absurd d
   converting_went row a b c x y see fine v r bs cs (ended (unsupported n) l) next go d w = absurd d
 
-  pub converting_halts : {V A B : Type 0} (row : Row) (a b : State F) (x : List ℕ) (see : State F → V → A) (fine : State F → V → Type 0) (n : Stop) (bs cs : Bindings Val) (o : Out A) (next : A → Out B) (go : B → Flow) → cs ≡ bs → Did a b see fine (Err n) o → Went a b x x (Err n) cs (on_value (converting row o next) bs go)
+  pub converting_halts : {V A B : Type 0} (row : Row) (a b : State F) (x : List ℕ) (see : State F → V → A) (fine : State F → V → Type 0) (n : Stop) (bs cs : Bindings Val) (o : Out A) (next : A → Out B) (go : B → Flow) → cs ≡ bs → ComesTo a b see fine (Err n) o → FollowsFlow a b x x (Err n) cs (on_value (converting row o next) bs go)
   converting_halts row a b x see fine (Threw k) bs cs (gave q l) next go h d = absurd d
   converting_halts row a b x see fine (Threw k) bs cs (ended (threw n) l) next go h d = record { did = (d.0, ran_both d.1 (ran_of_step (ids_in row) (words_in row) (step_refl b) refl (omega arith) (omega arith))); wrote = sym (append-nil x); leaves = h }
   converting_halts row a b x see fine (Threw k) bs cs (ended (unsupported n) l) next go h d = absurd d
   converting_halts row a b x see fine (Unsupported k) bs cs (gave q l) next go h d = absurd d
   converting_halts row a b x see fine (Unsupported k) bs cs (ended (threw n) l) next go h d = absurd d
   converting_halts row a b x see fine (Unsupported k) bs cs (ended (unsupported n) l) next go h d = record { did = d; wrote = sym (append-nil x); leaves = h }
-  converting_halts row a b x see fine (Store f) bs cs (gave q l) next go h d = record { did = cut_before bs l (next q) go d; wrote = wrote_none x (on_value (after l (next q)) bs go).lines; leaves = tt }
+  converting_halts row a b x see fine (Store f) bs cs (gave q l) next go h d = record { did = cut_before bs l (next q) go d; wrote = wrote_none x (on_value (after_ledger l (next q)) bs go).lines; leaves = tt }
   converting_halts row a b x see fine (Store f) bs cs (ended (threw n) l) next go h d = record { did = cut_more (cost row) d; wrote = wrote_none x []; leaves = tt }
   converting_halts row a b x see fine (Store f) bs cs (ended (unsupported n) l) next go h d = record { did = d; wrote = wrote_none x []; leaves = tt }
 
-  pub left_went : (a b : State F) (x y : List ℕ) (r : Result (Unit {0}) Stop) (bs cs : Bindings Val) (f : Flow) → cs ≡ outer bs → Went a b x y r bs f → Went a b x y r cs (left f)
+  pub left_went : (a b : State F) (x y : List ℕ) (r : Result (Unit {0}) Stop) (bs cs : Bindings Val) (f : Flow) → cs ≡ outer bs → FollowsFlow a b x y r bs f → FollowsFlow a b x y r cs (left f)
   left_went a b x y r bs cs f e w = record { did = w.did; wrote = w.wrote; leaves = leaves_outer r bs cs f.bindings e w.leaves }
 
-  pub top_went : (a b : State F) (x y : List ℕ) (r : Result (Unit {0}) Stop) (bs : Bindings Val) (f : Flow) → Went a b x y r bs f → WentTop a b x y r bs.top f
+  pub top_went : (a b : State F) (x y : List ℕ) (r : Result (Unit {0}) Stop) (bs : Bindings Val) (f : Flow) → FollowsFlow a b x y r bs f → WentTop a b x y r bs.top f
   top_went a b x y r bs f w = record { did = w.did; wrote = w.wrote; leaves = leaves_top r bs f.bindings w.leaves }
 
 -- the turns of a `for`
@@ -175,14 +175,14 @@ unfolding turns
 turns_suc go i n bs = refl
 
 module _ {F : Type 0} where
-  pub turns_turn : (a b c : State F) (x y z : List ℕ) (go : ℕ → Bindings Val → Flow) (i m n : ℕ) (r : Result (Unit {0}) Stop) (bs cs ds : Bindings Val) → n ≡ suc m → Went a b x y (Ok tt) cs (go i bs) → Went b c y z r ds (turns go (i + 1) m cs) → Went a c x z r ds (turns go i n bs)
+  pub turns_turn : (a b c : State F) (x y z : List ℕ) (go : ℕ → Bindings Val → Flow) (i m n : ℕ) (r : Result (Unit {0}) Stop) (bs cs ds : Bindings Val) → n ≡ suc m → FollowsFlow a b x y (Ok tt) cs (go i bs) → FollowsFlow b c y z r ds (turns go (i + 1) m cs) → FollowsFlow a c x z r ds (turns go i n bs)
   turns_turn a b c x y z go i m n r bs cs ds e d w =
-      subst (λ (q : ℕ). Went a c x z r ds (turns go i q bs)) (sym e)
-      (subst (λ (q : Flow). Went a c x z r ds q) (sym (turns_suc go i m bs))
+      subst (λ (q : ℕ). FollowsFlow a c x z r ds (turns go i q bs)) (sym e)
+      (subst (λ (q : Flow). FollowsFlow a c x z r ds q) (sym (turns_suc go i m bs))
       (went_on a b c x y z r cs ds (go i bs) (λ q. turns go (i + 1) m q) d w))
 
-  pub turns_halt : (a b : State F) (x y : List ℕ) (go : ℕ → Bindings Val → Flow) (i m n : ℕ) (s : Stop) (bs cs : Bindings Val) → n ≡ suc m → Went a b x y (Err s) cs (go i bs) → Went a b x y (Err s) cs (turns go i n bs)
+  pub turns_halt : (a b : State F) (x y : List ℕ) (go : ℕ → Bindings Val → Flow) (i m n : ℕ) (s : Stop) (bs cs : Bindings Val) → n ≡ suc m → FollowsFlow a b x y (Err s) cs (go i bs) → FollowsFlow a b x y (Err s) cs (turns go i n bs)
   turns_halt a b x y go i m n s bs cs e d =
-      subst (λ (q : ℕ). Went a b x y (Err s) cs (turns go i q bs)) (sym e)
-      (subst (λ (q : Flow). Went a b x y (Err s) cs q) (sym (turns_suc go i m bs))
+      subst (λ (q : ℕ). FollowsFlow a b x y (Err s) cs (turns go i q bs)) (sym e)
+      (subst (λ (q : Flow). FollowsFlow a b x y (Err s) cs q) (sym (turns_suc go i m bs))
       (went_halt a b x y s cs (go i bs) (λ q. turns go (i + 1) m q) d))

@@ -4,7 +4,7 @@ use Rattle.js_store.specs.State.{State}
 use Rattle.js_texts.specs.Texts.{Every}
 use Rattle.js_item.specs.declared.item.Item.{Item}
 use Rattle.js_item.specs.Fine.{IsFine}
-use Rattle.eval_scopes.specs.Bindings.{Bound, Frame, Bindings, bound_in, is_among, inner_first, look, meant, with_value, changed, with_bound, inside, write, written, declare, declared, entered, turned, outer}
+use Rattle.eval_scopes.specs.Bindings.{Bound, BlockFrame, Bindings, bound_in, is_among, inner_first, look, meant, with_value, changed, with_bound, inside, write, written, declare, declared, entered, turned, outer}
 use Rattle.js_eval.specs.Seen.{BoundsFine, BindingsFine}
 
 module _ {F R : Type 0} (s : State F) (name : R → ℕ) where
@@ -26,7 +26,7 @@ module _ {F R : Type 0} (s : State F) (name : R → ℕ) where
   inner_fine None true p h k = tt
   inner_fine None false p h k = k
 
-  look_fine : (fs : List (Frame (Item R))) (top : List (Bound (Item R))) (x : List ℕ) → Every (λ f. BoundsFine s name f.bound) fs → BoundsFine s name top → FoundFine (look fs top x)
+  look_fine : (fs : List (BlockFrame (Item R))) (top : List (Bound (Item R))) (x : List ℕ) → Every (λ f. BoundsFine s name f.bound) fs → BoundsFine s name top → FoundFine (look fs top x)
   look_fine [] top x h k = found_fine top x k
   look_fine (f ∷ fs) top x h k = inner_fine (bound_in f.bound x) (is_among f.names x) (look fs top x) (found_fine f.bound x h.0) (look_fine fs top x h.1 k)
 
@@ -41,11 +41,11 @@ module _ {F R : Type 0} (s : State F) (name : R → ℕ) where
   changed_fine [] x v f h = tt
   changed_fine (b ∷ bs) x v f h = first_changed (bytes_eq b.name x) b bs (changed bs x v) v f h.0 h.1 (changed_fine bs x v f h.1)
 
-  first_write : (t : Bool) (f : Frame (Item R)) (fs : List (Frame (Item R))) (top : List (Bound (Item R))) (cs : List (Bound (Item R))) (bs : Bindings (Item R)) → BoundsFine s name f.bound → BoundsFine s name cs → Every (λ g. BoundsFine s name g.bound) fs → BoundsFine s name top → BindingsFine s name bs → BindingsFine s name (if t then record { blocks = with_bound f cs ∷ fs; top = top } else inside f bs)
+  first_write : (t : Bool) (f : BlockFrame (Item R)) (fs : List (BlockFrame (Item R))) (top : List (Bound (Item R))) (cs : List (Bound (Item R))) (bs : Bindings (Item R)) → BoundsFine s name f.bound → BoundsFine s name cs → Every (λ g. BoundsFine s name g.bound) fs → BoundsFine s name top → BindingsFine s name bs → BindingsFine s name (if t then record { blocks = with_bound f cs ∷ fs; top = top } else inside f bs)
   first_write true f fs top cs bs h k l m n = record { blocks = (k, l); top = m }
   first_write false f fs top cs bs h k l m n = record { blocks = (h, n.blocks); top = n.top }
 
-  write_fine : (fs : List (Frame (Item R))) (top : List (Bound (Item R))) (x : List ℕ) (v : Item R) → IsFine s name v → Every (λ f. BoundsFine s name f.bound) fs → BoundsFine s name top → BindingsFine s name (write fs top x v)
+  write_fine : (fs : List (BlockFrame (Item R))) (top : List (Bound (Item R))) (x : List ℕ) (v : Item R) → IsFine s name v → Every (λ f. BoundsFine s name f.bound) fs → BoundsFine s name top → BindingsFine s name (write fs top x v)
   write_fine [] top x v f h k = record { blocks = tt; top = changed_fine top x v f k }
   write_fine (g ∷ fs) top x v f h k = first_write (is_some (bound_in g.bound x)) g fs top (changed g.bound x v) (write fs top x v) h.0 (changed_fine g.bound x v f h.0) h.1 k (write_fine fs top x v f h.1 k)
 
@@ -56,7 +56,7 @@ module _ {F R : Type 0} (s : State F) (name : R → ℕ) where
   push_fine [] b f h = (f, tt)
   push_fine (c ∷ bs) b f h = (h.0, push_fine bs b f h.1)
 
-  declare_fine : (fs : List (Frame (Item R))) (top : List (Bound (Item R))) (b : Bound (Item R)) → IsFine s name b.value → Every (λ f. BoundsFine s name f.bound) fs → BoundsFine s name top → BindingsFine s name (declare fs top b)
+  declare_fine : (fs : List (BlockFrame (Item R))) (top : List (Bound (Item R))) (b : Bound (Item R)) → IsFine s name b.value → Every (λ f. BoundsFine s name f.bound) fs → BoundsFine s name top → BindingsFine s name (declare fs top b)
   declare_fine [] top b f h k = record { blocks = tt; top = push_fine top b f k }
   declare_fine (g ∷ fs) top b f h k = record { blocks = (push_fine g.bound b f h.0, h.1); top = k }
 
@@ -69,7 +69,7 @@ module _ {F R : Type 0} (s : State F) (name : R → ℕ) where
   pub turned_fine : (x : List ℕ) (v : Item R) (bs : Bindings (Item R)) → IsFine s name v → BindingsFine s name bs → BindingsFine s name (turned x v bs)
   turned_fine x v bs f h = record { blocks = ((f, tt), h.blocks); top = h.top }
 
-  first_outer : (fs : List (Frame (Item R))) (top : List (Bound (Item R))) → Every (λ f. BoundsFine s name f.bound) fs → BoundsFine s name top → BindingsFine s name (outer (record { blocks = fs; top = top }))
+  first_outer : (fs : List (BlockFrame (Item R))) (top : List (Bound (Item R))) → Every (λ f. BoundsFine s name f.bound) fs → BoundsFine s name top → BindingsFine s name (outer (record { blocks = fs; top = top }))
   first_outer [] top h k = record { blocks = tt; top = k }
   first_outer (f ∷ fs) top h k = record { blocks = h.1; top = k }
 

@@ -1,7 +1,7 @@
 -- What bindings stand for in a store: each operation on the bindings of the code is the same one on what they stand for.
 use Rattle.std.proofs.Common.{◌≡◌, ℕ, List, [], ◌∷◌, map, refl, ap, sym, Bool, true, false, Option, Some, None, option_map, is_some, bytes_eq, if◌then◌else◌}
 use Rattle.std.proofs.lemmas.List.{map-append}
-use Rattle.eval_scopes.specs.Bindings.{Bound, Frame, Bindings, bound_in, is_among, inner_first, look, meant, with_value, changed, with_bound, inside, write, written, declare, declared, entered, turned, outer}
+use Rattle.eval_scopes.specs.Bindings.{Bound, BlockFrame, Bindings, bound_in, is_among, inner_first, look, meant, with_value, changed, with_bound, inside, write, written, declare, declared, entered, turned, outer}
 
 abbrev pub bound_by : {T V : Type 0} → (T → V) → Bound T → Bound V
 bound_by see b = record { name = b.name; constant = b.constant; value = see b.value }
@@ -9,10 +9,10 @@ bound_by see b = record { name = b.name; constant = b.constant; value = see b.va
 abbrev pub bounds_by : {T V : Type 0} → (T → V) → List (Bound T) → List (Bound V)
 bounds_by see bs = map (λ b. bound_by see b) bs
 
-abbrev pub frame_by : {T V : Type 0} → (T → V) → Frame T → Frame V
+abbrev pub frame_by : {T V : Type 0} → (T → V) → BlockFrame T → BlockFrame V
 frame_by see f = record { names = f.names; bound = bounds_by see f.bound }
 
-abbrev pub frames_by : {T V : Type 0} → (T → V) → List (Frame T) → List (Frame V)
+abbrev pub frames_by : {T V : Type 0} → (T → V) → List (BlockFrame T) → List (BlockFrame V)
 frames_by see fs = map (λ f. frame_by see f) fs
 
 abbrev pub bindings_by : {T V : Type 0} → (T → V) → Bindings T → Bindings V
@@ -32,7 +32,7 @@ module _ {T V : Type 0} (see : T → V) where
   inner_by None true p = refl
   inner_by None false p = refl
 
-  look_by : (fs : List (Frame T)) (top : List (Bound T)) (x : List ℕ) → look (frames_by see fs) (bounds_by see top) x ≡ option_map (λ b. bound_by see b) (look fs top x)
+  look_by : (fs : List (BlockFrame T)) (top : List (Bound T)) (x : List ℕ) → look (frames_by see fs) (bounds_by see top) x ≡ option_map (λ b. bound_by see b) (look fs top x)
   look_by [] top x = found_by top x
   look_by (f ∷ fs) top x = rw (found_by f.bound x, look_by fs top x) (inner_by (bound_in f.bound x) (is_among f.names x) (look fs top x))
 
@@ -48,7 +48,7 @@ module _ {T V : Type 0} (see : T → V) where
   changed_by [] x v = refl
   changed_by (b ∷ bs) x v = first_changed b bs x v (bytes_eq b.name x) (changed_by bs x v)
 
-  first_outer : (fs : List (Frame T)) (top : List (Bound T)) → outer (bindings_by see (record { blocks = fs; top = top })) ≡ bindings_by see (outer (record { blocks = fs; top = top }))
+  first_outer : (fs : List (BlockFrame T)) (top : List (Bound T)) → outer (bindings_by see (record { blocks = fs; top = top })) ≡ bindings_by see (outer (record { blocks = fs; top = top }))
   first_outer [] top = refl
   first_outer (f ∷ fs) top = refl
 
@@ -61,18 +61,18 @@ module _ {T V : Type 0} (see : T → V) where
   pub turned_by : (x : List ℕ) (v : T) (bs : Bindings T) → turned x (see v) (bindings_by see bs) ≡ bindings_by see (turned x v bs)
   turned_by x v bs = refl
 
-  first_write : (f : Frame T) (fs : List (Frame T)) (top : List (Bound T)) (x : List ℕ) (v : T) (o : Option (Bound T)) → write (frames_by see fs) (bounds_by see top) x (see v) ≡ bindings_by see (write fs top x v) → (if is_some (option_map (λ b. bound_by see b) o) then record { blocks = with_bound (frame_by see f) (changed (bounds_by see f.bound) x (see v)) ∷ frames_by see fs; top = bounds_by see top } else inside (frame_by see f) (write (frames_by see fs) (bounds_by see top) x (see v))) ≡ bindings_by see (if is_some o then record { blocks = with_bound f (changed f.bound x v) ∷ fs; top = top } else inside f (write fs top x v))
+  first_write : (f : BlockFrame T) (fs : List (BlockFrame T)) (top : List (Bound T)) (x : List ℕ) (v : T) (o : Option (Bound T)) → write (frames_by see fs) (bounds_by see top) x (see v) ≡ bindings_by see (write fs top x v) → (if is_some (option_map (λ b. bound_by see b) o) then record { blocks = with_bound (frame_by see f) (changed (bounds_by see f.bound) x (see v)) ∷ frames_by see fs; top = bounds_by see top } else inside (frame_by see f) (write (frames_by see fs) (bounds_by see top) x (see v))) ≡ bindings_by see (if is_some o then record { blocks = with_bound f (changed f.bound x v) ∷ fs; top = top } else inside f (write fs top x v))
   first_write f fs top x v (Some b) h = ap (λ q. record { blocks = record { names = f.names; bound = q } ∷ frames_by see fs; top = bounds_by see top }) (changed_by f.bound x v)
   first_write f fs top x v None h = ap (λ q. inside (frame_by see f) q) h
 
-  write_by : (fs : List (Frame T)) (top : List (Bound T)) (x : List ℕ) (v : T) → write (frames_by see fs) (bounds_by see top) x (see v) ≡ bindings_by see (write fs top x v)
+  write_by : (fs : List (BlockFrame T)) (top : List (Bound T)) (x : List ℕ) (v : T) → write (frames_by see fs) (bounds_by see top) x (see v) ≡ bindings_by see (write fs top x v)
   write_by [] top x v = ap (λ q. record { blocks = []; top = q }) (changed_by top x v)
   write_by (f ∷ fs) top x v = rw (found_by f.bound x) (first_write f fs top x v (bound_in f.bound x) (write_by fs top x v))
 
   pub written_by : (bs : Bindings T) (x : List ℕ) (v : T) → written (bindings_by see bs) x (see v) ≡ bindings_by see (written bs x v)
   written_by bs x v = write_by bs.blocks bs.top x v
 
-  declare_by : (fs : List (Frame T)) (top : List (Bound T)) (b : Bound T) → declare (frames_by see fs) (bounds_by see top) (bound_by see b) ≡ bindings_by see (declare fs top b)
+  declare_by : (fs : List (BlockFrame T)) (top : List (Bound T)) (b : Bound T) → declare (frames_by see fs) (bounds_by see top) (bound_by see b) ≡ bindings_by see (declare fs top b)
   declare_by [] top b = ap (λ q. record { blocks = []; top = q }) (sym (map-append (λ b. bound_by see b) top (b ∷ [])))
   declare_by (f ∷ fs) top b = ap (λ q. record { blocks = record { names = f.names; bound = q } ∷ frames_by see fs; top = bounds_by see top }) (sym (map-append (λ b. bound_by see b) f.bound (b ∷ [])))
 

@@ -6,13 +6,13 @@ use Rattle.eval_values.specs.declared.value.Kind.TheVariants.{ReferenceError}
 use Rattle.eval_values.specs.declared.value.Stop.TheVariants.{Threw}
 use Rattle.js_item.specs.Seen.{Val, seen}
 use Rattle.js_item.specs.Fine.{IsFine}
-use Rattle.eval_values.specs.Does.{Does}
+use Rattle.eval_values.specs.Does.{GivesValue}
 use Rattle.eval_values.specs.Ran.{Stopped}
 use Rattle.eval_values.proofs.Compose.{ran_free}
 use Rattle.eval_scopes.specs.Bindings.{Bound, Bindings, meant}
 use Rattle.js_eval.specs.Expression.{read_out}
 use Rattle.js_eval.specs.Seen.{bound_seen, bindings_seen}
-use Rattle.js_item.specs.Views.{content}
+use Rattle.js_item.specs.Views.{content_of}
 use Rattle.js_eval.specs.Seen.{BindingsFine}
 use Rattle.js_eval.proofs.Mapped.{meant_by, bound_by}
 use Rattle.js_eval.proofs.Kept.{FoundFine, meant_fine}
@@ -31,7 +31,7 @@ module _ {F R : Type 0} (s : State F) (name : R → ℕ) where
   unread bs x e = rw (meant_none bs x e) (refl, ran_free s)
 
   -- a name whose value was copied
-  pub read_one : (bs : Bindings (Item R)) (x : List ℕ) (b : Bound (Item R)) (v : Item R) → meant bs x ≡ Some b → IsFine s name b.value → content v ≡ content b.value → Does name s s (Ok v) (read_out (meant (bindings_seen s name bs) x))
+  pub read_one : (bs : Bindings (Item R)) (x : List ℕ) (b : Bound (Item R)) (v : Item R) → meant bs x ≡ Some b → IsFine s name b.value → content_of v ≡ content_of b.value → GivesValue name s s (Ok v) (read_out (meant (bindings_seen s name bs) x))
   read_one bs x b v e h k = rw (meant_some bs x b e) (record { is = seen_copy s name v b.value k; good = fine_copy s name v b.value k h; ran = ran_seen s name b.value h })
 
   pub found_value : (bs : Bindings (Item R)) (x : List ℕ) (b : Bound (Item R)) → meant bs x ≡ Some b → BindingsFine s name bs → IsFine s name b.value

@@ -1,7 +1,7 @@
 -- The shares of the members of an object literal come to no more than its row.
 use Rattle.std.proofs.Common.{arith, ◌≡◌, ℕ, ◌+◌, ◌*◌, ◌≤◌, List, [], ◌∷◌, length, append_assoc, refl, ap, ◌∙◌, sym, subst, true, false, nat_le, if◌then◌else◌, Result, Ok, Err}
 use Rattle.std.specs.Prelude.{Contains}
-use Rattle.js_store.specs.State.{State, Has}
+use Rattle.js_store.specs.State.{State, NamesUnits}
 use Rattle.eval_tree.specs.Tree.{ExprTree, Entries, no_entries, entry}
 use Rattle.js_item.specs.Contents.{Fields, no_fields}
 use Rattle.js_item.specs.Seen.{Val}
@@ -10,12 +10,12 @@ use Rattle.eval_values.specs.declared.value.Kind.TheVariants.{RangeError}
 use Rattle.eval_values.specs.declared.value.Stop.{Stop}
 use Rattle.eval_values.specs.declared.value.Stop.TheVariants.{Threw, Unsupported, Store}
 use Rattle.eval_values.specs.Need.{Row, parts, ids_in, words_in}
-use Rattle.eval_values.specs.Outcome.{Ledger, Out, gave, ended, threw, unsupported, free, both, cost, after, bind}
-use Rattle.eval_values.specs.Ran.{Interns, InternsSome, Ran, Cut, Did}
+use Rattle.eval_values.specs.Outcome.{Ledger, Out, gave, ended, threw, unsupported, free, both, cost, after_ledger, bind}
+use Rattle.eval_values.specs.Ran.{Interns, InternsSome, MeetsLedger, Cut, ComesTo}
 use Rattle.eval_values.proofs.Needs.{some_most}
 use Rattle.eval_values.proofs.Each.{bind_same}
 use Rattle.js_eval.specs.Initializers.{members_in, key_units, literal_cost, key_interned, with_property, object_out}
-use Rattle.js_eval.specs.Expression.{Scope, expr_out, entries_out}
+use Rattle.js_eval.specs.Expression.{EvalContext, expr_out, entries_out}
 use Rattle.js_eval.specs.Paid.{key_paid, entry_paid, entries_paid}
 
 -- the same ledger, but for i ids and w words at most that it needs more
@@ -55,7 +55,7 @@ paid_refl : {A : Type 0} (o : Out A) → Paid 0 0 o o
 paid_refl (gave x l) = (refl, near_refl 0 0 l)
 paid_refl (ended e l) = (refl, near_refl 0 0 l)
 
-paid_after : {A : Type 0} (i w j v : ℕ) (l m : Ledger) (o p : Out A) → Near i w l m → Paid j v o p → Paid (i + j) (w + v) (after l o) (after m p)
+paid_after : {A : Type 0} (i w j v : ℕ) (l m : Ledger) (o p : Out A) → Near i w l m → Paid j v o p → Paid (i + j) (w + v) (after_ledger l o) (after_ledger m p)
 paid_after i w j v l m (gave x n) (gave y q) h k = (k.0, near_both h k.1)
 paid_after i w j v l m (gave x n) (ended e q) h k = absurd k
 paid_after i w j v l m (ended e n) (gave y q) h k = absurd k
@@ -74,15 +74,15 @@ ledger_same l m a b c d = ap (λ (p : (List (List ℕ) × List (List ℕ)) × (�
 both_assoc : (l m n : Ledger) → both (both l m) n ≡ both l (both m n)
 both_assoc l m n = ledger_same (both (both l m) n) (both l (both m n)) (append_assoc l.interned m.interned n.interned) (append_assoc l.texts m.texts n.texts) (omega arith) (omega arith)
 
-after_free : {A : Type 0} (o : Out A) → after free o ≡ o
+after_free : {A : Type 0} (o : Out A) → after_ledger free o ≡ o
 after_free (gave x m) = ap (λ l. gave x l) (ledger_same (both free m) m refl refl (omega arith) (omega arith))
 after_free (ended e m) = ap (λ l. ended e l) (ledger_same (both free m) m refl refl (omega arith) (omega arith))
 
-after_both : {A : Type 0} (l m : Ledger) (o : Out A) → after (both l m) o ≡ after l (after m o)
+after_both : {A : Type 0} (l m : Ledger) (o : Out A) → after_ledger (both l m) o ≡ after_ledger l (after_ledger m o)
 after_both l m (gave x n) = ap (λ k. gave x k) (both_assoc l m n)
 after_both l m (ended e n) = ap (λ k. ended e k) (both_assoc l m n)
 
-bind_after : {A B : Type 0} (l : Ledger) (o : Out A) (go : A → Out B) → bind (after l o) go ≡ after l (bind o go)
+bind_after : {A B : Type 0} (l : Ledger) (o : Out A) (go : A → Out B) → bind (after_ledger l o) go ≡ after_ledger l (bind o go)
 bind_after l (gave x m) go = after_both l m (go x)
 bind_after l (ended e m) go = refl
 
@@ -90,7 +90,7 @@ bind_assoc : {A B C : Type 0} (o : Out A) (f : A → Out B) (g : B → Out C) �
 bind_assoc (gave x l) f g = bind_after l (f x) g
 bind_assoc (ended e l) f g = refl
 
-entry_bind : {B : Type 0} (key : List ℕ) (value : ExprTree) (s : Scope) (fs : Fields (List ℕ)) (go : Fields (List ℕ) → Out B) → bind (entry_paid key value s fs) go ≡ bind (key_paid s.limit key) (λ k. bind (expr_out value s) (λ v. go (with_property k v fs)))
+entry_bind : {B : Type 0} (key : List ℕ) (value : ExprTree) (s : EvalContext) (fs : Fields (List ℕ)) (go : Fields (List ℕ) → Out B) → bind (entry_paid key value s fs) go ≡ bind (key_paid s.limit key) (λ k. bind (expr_out value s) (λ v. go (with_property k v fs)))
 entry_bind key value s fs go =
     bind_assoc (key_paid s.limit key) _ go
     ∙ bind_same (key_paid s.limit key) _ _ (λ k. bind_assoc (expr_out value s) _ go ∙ bind_same (expr_out value s) _ _ (λ v. after_free (go (with_property k v fs))))
@@ -104,7 +104,7 @@ key_near limit key = elim (nat_le (length key) limit) as (λ t. Paid 4 (2 * leng
       | false ↦ (refl, near_refl 4 (2 * length key + 8) free)
     ]
 
-entries_near : (es : Entries) (s : Scope) (fs : Fields (List ℕ)) → Paid (4 * members_in es) (2 * key_units es + 8 * members_in es) (entries_paid es s fs) (entries_out es s fs)
+entries_near : (es : Entries) (s : EvalContext) (fs : Fields (List ℕ)) → Paid (4 * members_in es) (2 * key_units es + 8 * members_in es) (entries_paid es s fs) (entries_out es s fs)
 entries_near no_entries s fs = paid_refl (gave fs free)
 entries_near (entry key value rest) s fs =
     let n = members_in rest in
@@ -117,11 +117,11 @@ entries_near (entry key value rest) s fs =
 
 -- what was done with a smaller need is done with a row in front that has the rest
 module _ {F : Type 0} (a b : State F) (row : Row) {i w : ℕ} {l m : Ledger} (h : Near i w l m) (p : i ≤ ids_in row) (q : w ≤ words_in row) where
-  ran_paid : Ran a b l → Ran a b (both (cost row) m)
+  ran_paid : MeetsLedger a b l → MeetsLedger a b (both (cost row) m)
   ran_paid r = record {
     grows = r.grows;
     history = subst (λ us. Interns a.history b.history us) h.interned r.history;
-    texts = subst (λ us. (u : List ℕ) → Contains us u → (n : ℕ) × Has b n u) h.texts r.texts;
+    texts = subst (λ us. (u : List ℕ) → Contains us u → (n : ℕ) × NamesUnits b n u) h.texts r.texts;
     within_ids = omega (arith, r.within_ids, h.ids, p);
     within_words = omega (arith, r.within_words, h.words, q);
   }
@@ -136,7 +136,7 @@ module _ {F : Type 0} (a b : State F) (row : Row) {i w : ℕ} {l m : Ledger} (h 
   }
 
 module _ {F V A : Type 0} (a b : State F) (see : State F → V → A) (fine : State F → V → Type 0) (row : Row) (i w : ℕ) (p : i ≤ ids_in row) (q : w ≤ words_in row) where
-  pub did_paid : (r : Result V Stop) (o o' : Out A) → Paid i w o o' → Did a b see fine r o → Did a b see fine r (after (cost row) o')
+  pub did_paid : (r : Result V Stop) (o o' : Out A) → Paid i w o o' → ComesTo a b see fine r o → ComesTo a b see fine r (after_ledger (cost row) o')
   did_paid (Ok v) (gave x l) (gave y m) h d = record { is = d.is ∙ h.0; good = d.good; ran = ran_paid a b row h.1 p q d.ran }
   did_paid (Ok v) (gave x l) (ended f m) h d = absurd h
   did_paid (Ok v) (ended e l) o' h d = absurd d
@@ -156,7 +156,7 @@ module _ {F V A : Type 0} (a b : State F) (see : State F → V → A) (fine : St
   did_paid (Err (Store f)) (ended e l) (ended n m) h d = cut_paid a b row h.1 p q f d
 
 -- an object literal whose members took their shares
-pub literal_paid : {F V : Type 0} (a b : State F) (see : State F → V → Val) (fine : State F → V → Type 0) (at : ℕ) (es : Entries) (s : Scope) (r : Result V Stop) → Did a b see fine r (bind (entries_paid es s no_fields) (λ fs. object_out at fs)) → Did a b see fine r (after (literal_cost es) (bind (entries_out es s no_fields) (λ fs. object_out at fs)))
+pub literal_paid : {F V : Type 0} (a b : State F) (see : State F → V → Val) (fine : State F → V → Type 0) (at : ℕ) (es : Entries) (s : EvalContext) (r : Result V Stop) → ComesTo a b see fine r (bind (entries_paid es s no_fields) (λ fs. object_out at fs)) → ComesTo a b see fine r (after_ledger (literal_cost es) (bind (entries_out es s no_fields) (λ fs. object_out at fs)))
 literal_paid a b see fine at es s r d =
     let n = members_in es in
     let t = key_units es in

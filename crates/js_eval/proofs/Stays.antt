@@ -3,7 +3,7 @@ use Rattle.std.proofs.Common.{◌≡◌, ℕ, List}
 use Rattle.js_store.specs.State.{State, Grows}
 use Rattle.js_store.proofs.Laws.{known_still, text_still}
 use Rattle.js_texts.proofs.Lists.{every_map, map_same}
-use Rattle.eval_scopes.specs.Bindings.{Bound, Frame, Bindings}
+use Rattle.eval_scopes.specs.Bindings.{Bound, BlockFrame, Bindings}
 use Rattle.eval_scopes.specs.Seen.{bindings_of}
 use Rattle.js_item.specs.declared.item.Item.{Item}
 use Rattle.js_item.specs.Fine.{IsFine}
@@ -21,7 +21,7 @@ module _ {F R : Type 0} (a b : State F) (name : R → ℕ) (g : Grows a b) where
   pub bounds_fine_still : (bs : List (Bound (Item R))) → BoundsFine a name bs → BoundsFine b name bs
   bounds_fine_still bs h = every_map (λ e k. fine_still a b name g e.value k) bs h
 
-  frame_still : (f : Frame (Item R)) → BoundsFine a name f.bound → frame_seen b name f ≡ frame_seen a name f
+  frame_still : (f : BlockFrame (Item R)) → BoundsFine a name f.bound → frame_seen b name f ≡ frame_seen a name f
   frame_still f h = cc (bounds_still f.bound h)
 
   pub bindings_still : (bs : Bindings (Item R)) → BindingsFine a name bs → bindings_seen b name bs ≡ bindings_seen a name bs

@@ -9,8 +9,8 @@ use Rattle.js_item.specs.Fine.{IsFine}
 use Rattle.eval_scopes.specs.declared.scope.Scope.{Scope}
 use Rattle.eval_scopes.specs.declared.scope.Place.{Place}
 use Rattle.eval_scopes.specs.declared.scope.Place.TheVariants.{Top, Block}
-use Rattle.eval_scopes.specs.Bindings.{Bound, Frame}
-use Rattle.eval_scopes.specs.Seen.{bounds_of, frame_of, outsides_of, hollows, with_hollows, stacked, bindings_of, got, bound_at, put, put_in, put_at}
+use Rattle.eval_scopes.specs.Bindings.{Bound, BlockFrame}
+use Rattle.eval_scopes.specs.Seen.{bounds_of, frame_of, outsides_of, hollows, with_hollows, stacked, bindings_of, frame_bound, bound_at, put, put_in, put_at}
 use Rattle.js_eval.specs.Seen.{BoundsFine, BindingsFine}
 
 every_parts : {A : Type 0} (P : A → Type 0) (xs ys : List A) → Every P (xs ++ ys) → Every P xs × Every P ys
@@ -32,24 +32,24 @@ every_reversed P [] h = tt
 every_reversed {A} P (x ∷ xs) h = subst (λ (q : List A). Every P q) (sym (reverse-append (x ∷ []) xs)) (every_joined P (reverse xs) (x ∷ []) (every_reversed P xs h.1) (h.0, tt))
 
 module _ {F R : Type 0} (s : State F) (name : R → ℕ) where
-  abbrev AllBound : List (Frame (Item R)) → Type 0
+  abbrev AllBound : List (BlockFrame (Item R)) → Type 0
   AllBound fs = Every (λ f. BoundsFine s name f.bound) fs
 
   -- blocks without a frame have no values
-  below_hollows : (n : ℕ) (fs : List (Frame (Item R))) → AllBound (hollows n fs) → AllBound fs
+  below_hollows : (n : ℕ) (fs : List (BlockFrame (Item R))) → AllBound (hollows n fs) → AllBound fs
   below_hollows zero fs h = h
   below_hollows (suc n) fs h = below_hollows n fs h.1
 
-  among_hollows : (ns : List ℕ) (fs : List (Frame (Item R))) → AllBound (with_hollows ns fs) → AllBound fs
+  among_hollows : (ns : List ℕ) (fs : List (BlockFrame (Item R))) → AllBound (with_hollows ns fs) → AllBound fs
   among_hollows [] fs h = h
   among_hollows (n ∷ ns) [] h = tt
   among_hollows (n ∷ ns) (f ∷ fs) h = (h.0, among_hollows ns fs (below_hollows n (with_hollows ns fs) h.1))
 
-  over_hollows : (n : ℕ) (fs : List (Frame (Item R))) → AllBound fs → AllBound (hollows n fs)
+  over_hollows : (n : ℕ) (fs : List (BlockFrame (Item R))) → AllBound fs → AllBound (hollows n fs)
   over_hollows zero fs h = h
   over_hollows (suc n) fs h = (tt, over_hollows n fs h)
 
-  and_hollows : (ns : List ℕ) (fs : List (Frame (Item R))) → AllBound fs → AllBound (with_hollows ns fs)
+  and_hollows : (ns : List ℕ) (fs : List (BlockFrame (Item R))) → AllBound fs → AllBound (with_hollows ns fs)
   and_hollows [] fs h = h
   and_hollows (n ∷ ns) [] h = tt
   and_hollows (n ∷ ns) (f ∷ fs) h = (h.0, over_hollows n (with_hollows ns fs) (and_hollows ns fs h.1))
@@ -57,10 +57,10 @@ module _ {F R : Type 0} (s : State F) (name : R → ℕ) where
   framed : (scope : Scope (Item R)) → BindingsFine s name (bindings_of scope) → AllBound (map frame_of scope.blocks.frames)
   framed scope h =
       let b = scope.blocks in
-      let fs : List (Frame (Item R)) = map frame_of b.frames in
-      every_unreversed (λ (f : Frame (Item R)). BoundsFine s name f.bound) fs (among_hollows (outsides_of b.frames) (reverse fs) (below_hollows b.hollow (stacked b.frames) h.blocks))
+      let fs : List (BlockFrame (Item R)) = map frame_of b.frames in
+      every_unreversed (λ (f : BlockFrame (Item R)). BoundsFine s name f.bound) fs (among_hollows (outsides_of b.frames) (reverse fs) (below_hollows b.hollow (stacked b.frames) h.blocks))
 
-  got_fine : (fs : List (Frame (Item R))) (k i : ℕ) (b : Bound (Item R)) → Every (λ f. BoundsFine s name f.bound) fs → Some b ≡ got (slice_get fs k) i → IsFine s name b.value
+  got_fine : (fs : List (BlockFrame (Item R))) (k i : ℕ) (b : Bound (Item R)) → Every (λ f. BoundsFine s name f.bound) fs → Some b ≡ frame_bound (slice_get fs k) i → IsFine s name b.value
   got_fine [] k i b h e = cc
   got_fine (f ∷ fs) zero i b h e = every_get (λ c. IsFine s name c.value) f.bound i b h.0 (sym e)
   got_fine (f ∷ fs) (suc k) i b h e = got_fine fs k i b h.1 e
@@ -74,7 +74,7 @@ module _ {F R : Type 0} (s : State F) (name : R → ℕ) where
   put_fine (b ∷ bs) zero v f h = (f, h.1)
   put_fine (b ∷ bs) (suc i) v f h = (h.0, put_fine bs i v f h.1)
 
-  put_in_fine : (fs : List (Frame (Item R))) (k i : ℕ) (v : Item R) → IsFine s name v → Every (λ f. BoundsFine s name f.bound) fs → Every (λ f. BoundsFine s name f.bound) (put_in fs k i v)
+  put_in_fine : (fs : List (BlockFrame (Item R))) (k i : ℕ) (v : Item R) → IsFine s name v → Every (λ f. BoundsFine s name f.bound) fs → Every (λ f. BoundsFine s name f.bound) (put_in fs k i v)
   put_in_fine [] k i v f h = tt
   put_in_fine (g ∷ fs) zero i v f h = (put_fine g.bound i v f h.0, h.1)
   put_in_fine (g ∷ fs) (suc k) i v f h = (h.0, put_in_fine fs k i v f h.1)
@@ -83,8 +83,8 @@ module _ {F R : Type 0} (s : State F) (name : R → ℕ) where
   pub put_at_fine : (scope : Scope (Item R)) (p : Place) (v : Item R) → IsFine s name v → BindingsFine s name (bindings_of scope) → BindingsFine s name (put_at scope p v)
   put_at_fine scope (Top i) v f h = record { blocks = h.blocks; top = put_fine (bounds_of scope.top) i v f h.top }
   put_at_fine scope (Block k i) v f h =
-      let P : Frame (Item R) → Type 0 = λ g. BoundsFine s name g.bound in
+      let P : BlockFrame (Item R) → Type 0 = λ g. BoundsFine s name g.bound in
       let b = scope.blocks in
-      let fs : List (Frame (Item R)) = put_in (map frame_of b.frames) k i v in
+      let fs : List (BlockFrame (Item R)) = put_in (map frame_of b.frames) k i v in
       let fine : AllBound (reverse fs) = every_reversed P fs (put_in_fine (map frame_of b.frames) k i v f (framed scope h)) in
       record { blocks = over_hollows b.hollow (with_hollows (outsides_of b.frames) (reverse fs)) (and_hollows (outsides_of b.frames) (reverse fs) fine); top = h.top }

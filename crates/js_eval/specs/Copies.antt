@@ -3,7 +3,7 @@ use Rattle.std.specs.Prelude.{ℕ, List, Bool}
 use Rattle.eval_scopes.specs.declared.binding_list.Binding.{Binding}
 use Rattle.js_item.specs.declared.item.Item.{Item}
 use Rattle.js_item.specs.Contents.{Content}
-use Rattle.js_item.specs.Views.{content}
+use Rattle.js_item.specs.Views.{content_of}
 
 pub record BoundContent (R : Type 0) : Type 0 where
   pub name : List ℕ
@@ -11,4 +11,4 @@ pub record BoundContent (R : Type 0) : Type 0 where
   pub value : Content R
 
 abbrev pub bound_content : {R : Type 0} → Binding (Item R) → BoundContent R
-bound_content b = record { name = b.name; constant = b.constant; value = content b.value }
+bound_content b = record { name = b.name; constant = b.constant; value = content_of b.value }

@@ -2,7 +2,7 @@
 -- the bindings.
 use Rattle.std.specs.Prelude.{◌≡◌, ℕ, ◌+◌, ◌≤◌, List, ◌++◌, Contains, Some}
 use Rattle.std.specs.List.{concat}
-use Rattle.js_store.specs.State.{State, Has}
+use Rattle.js_store.specs.State.{State, NamesUnits}
 use Rattle.js_store.specs.Faults.{Honest, ids_wanted, words_wanted}
 use Rattle.js_store.specs.declared.faults.StoreFault.{StoreFault}
 use Rattle.js_store.specs.declared.faults.StoreFault.TheVariants as store
@@ -18,21 +18,21 @@ use Rattle.eval_values.specs.Ran.{Interns, InternsSome}
 use Rattle.js_eval.specs.Flows.{WroteSome}
 
 -- how a script ends by its meaning
-abbrev pub end_of : {A : Type 0} → Out A → End
-end_of (gave x l) = Done
-end_of (ended (threw k) l) = Threw k
-end_of (ended (unsupported at) l) = Unsupported at
+abbrev pub script_end : {A : Type 0} → Out A → End
+script_end (gave x l) = Done
+script_end (ended (threw k) l) = Threw k
+script_end (ended (unsupported at) l) = Unsupported at
 
 -- the script ran to its end: the end, the lines and the bindings of the top are those that are meant, the
 -- history grew by what is meant to be interned, every string that an expression gave is known, and what was
 -- used is at most the need
 pub record Finished {F : Type 0} (a b : State F) (x y : List ℕ) (after : List (Bound Val)) (end : End)
     (m : Flow) : Type 0 where
-  pub end_is : end ≡ end_of m.out
+  pub end_is : end ≡ script_end m.out
   pub lines : y ≡ x ++ concat m.lines
   pub bindings : after ≡ m.bindings.top
   pub interned : Interns a.history b.history (meant.interned m)
-  pub texts : (u : List ℕ) → Contains (meant.texts m) u → (n : ℕ) × Has b n u
+  pub texts : (u : List ℕ) → Contains (meant.texts m) u → (n : ℕ) × NamesUnits b n u
   pub within_ids : b.used_ids ≤ a.used_ids + need_ids m
   pub within_words : b.used_words ≤ a.used_words + need_words m
 

@@ -5,25 +5,25 @@ use Rattle.eval_tree.specs.declared.tree.Op.{Op}
 use Rattle.eval_tree.specs.declared.tree.Op.TheVariants.{Or, And, Same, NotSame, Less, Greater, LessEq, GreaterEq, Plus, Minus}
 use Rattle.eval_tree.specs.declared.tree.Method.{Method}
 use Rattle.eval_tree.specs.Tree as tree
-use Rattle.eval_tree.specs.Tree.{ExprTree, Links, no_links, link, Steps, no_steps, length_step, description_step, call_step, index_step, property_step, Exprs, no_exprs, expr, Entries, no_entries, entry, LinkTree, StepTree, of_length, of_description, of_call, of_index, of_property}
+use Rattle.eval_tree.specs.Tree.{ExprTree, Links, no_links, link, StepList, no_steps, length_step, description_step, call_step, index_step, property_step, Exprs, no_exprs, expr, Entries, no_entries, entry, LinkTree, StepTree, of_length, of_description, of_call, of_index, of_property}
 use Rattle.eval_scopes.specs.Bindings.{Bound, Bindings, meant}
 use Rattle.eval_values.specs.declared.value.Kind.TheVariants.{ReferenceError}
 use Rattle.js_item.specs.Seen.{Val}
 use Rattle.js_item.specs.Contents.{Fields, no_fields, undefined, null, bool, number}
-use Rattle.eval_values.specs.Outcome.{Out, gave, after, bind, mapped, free, number_of, needing, throwing}
+use Rattle.eval_values.specs.Outcome.{Out, gave, after_ledger, bind, mapped, free, number_of, needing, throwing}
 use Rattle.eval_values.specs.Need.{nothing}
 use Rattle.eval_values.specs.Conversions.{to_boolean}
 use Rattle.eval_values.specs.Operators.{plus, difference_in, unary_out}
 use Rattle.eval_values.specs.Comparing.{same_out, order_out, is_less, is_greater, is_at_most, is_at_least}
 use Rattle.eval_members.specs.Reading.{maybe_text}
-use Rattle.eval_members.specs.Members.{length_of, description_of, present, called}
+use Rattle.eval_members.specs.Members.{length_property, description_of, present, called}
 use Rattle.eval_members.specs.Arrays.{indexed}
 use Rattle.eval_members.specs.Properties.{property_of}
 use Rattle.eval_builtins.specs.Builtins.{built}
 use Rattle.js_eval.specs.Initializers.{literal_cost, key_interned, with_property, object_out}
 
 -- the literals, what names mean, and the greatest length of a string
-pub record Scope : Type 0 where
+pub record EvalContext : Type 0 where
   pub literals : List (List ℕ)
   pub bindings : Bindings Val
   pub limit : ℕ
@@ -64,7 +64,7 @@ linked op at limit v right = if decides op v then gave v free else bind right (�
 abbrev mutual
   -- what an expression comes to in a scope ("Evaluation" of "Expression"): its value or its end, with what it
   -- needs
-  pub expr_out : ExprTree → Scope → Out Val
+  pub expr_out : ExprTree → EvalContext → Out Val
   expr_out (tree.literal n) s = needing nothing (maybe_text (slice_get s.literals n))
   expr_out (tree.number n) s = needing nothing (number_of n)
   expr_out (tree.variable x) s = read_out (meant s.bindings x)
@@ -80,18 +80,18 @@ abbrev mutual
   expr_out (tree.post of steps) s = bind (expr_out of s) (λ v. steps_out steps s v)
   expr_out (tree.builtin at which args) s = bind (exprs_out args s) (λ vs. built which at s.limit vs)
   expr_out (tree.object at members) s =
-      after (literal_cost members) (bind (entries_out members s no_fields) (λ fs. object_out at fs))
+      after_ledger (literal_cost members) (bind (entries_out members s no_fields) (λ fs. object_out at fs))
 
   -- the links of a chain, from the value on their left
-  pub links_out : Links → Scope → Val → Out Val
+  pub links_out : Links → EvalContext → Val → Out Val
   links_out no_links s v = gave v free
   links_out (link at op right rest) s v =
       bind (linked op at s.limit v (expr_out right s)) (λ x. links_out rest s x)
 
   -- the steps behind a value
-  pub steps_out : Steps → Scope → Val → Out Val
+  pub steps_out : StepList → EvalContext → Val → Out Val
   steps_out no_steps s v = gave v free
-  steps_out (length_step rest) s v = bind (length_of v) (λ x. steps_out rest s x)
+  steps_out (length_step rest) s v = bind (length_property v) (λ x. steps_out rest s x)
   steps_out (description_step rest) s v = bind (description_of v) (λ x. steps_out rest s x)
   steps_out (call_step at method args rest) s v =
       bind (bind (present v) (λ _. bind (exprs_out args s) (λ ws. called method at s.limit v ws)))
@@ -102,34 +102,34 @@ abbrev mutual
 
   -- the members of an object literal from left to right, behind those of an object
   -- ("PropertyDefinitionEvaluation")
-  pub entries_out : Entries → Scope → Fields (List ℕ) → Out (Fields (List ℕ))
+  pub entries_out : Entries → EvalContext → Fields (List ℕ) → Out (Fields (List ℕ))
   entries_out no_entries s fs = gave fs free
   entries_out (entry key value rest) s fs =
       bind (key_interned s.limit key)
       (λ k. bind (expr_out value s) (λ v. entries_out rest s (with_property k v fs)))
 
   -- expressions from left to right
-  pub exprs_out : Exprs → Scope → Out (List Val)
+  pub exprs_out : Exprs → EvalContext → Out (List Val)
   exprs_out no_exprs s = gave [] free
   exprs_out (expr first rest) s = bind (expr_out first s) (λ v. mapped (λ vs. v ∷ vs) (exprs_out rest s))
 
 -- one link, and one step
-abbrev pub link_out : LinkTree → Scope → Val → Out Val
+abbrev pub link_out : LinkTree → EvalContext → Val → Out Val
 link_out l s v = linked l.op l.at s.limit v (expr_out l.right s)
 
 -- a call of a method on a value: TypeError on undefined and null, then the arguments from left to right, then
 -- the method
-abbrev pub call_out : ℕ → Method → Exprs → Scope → Val → Out Val
+abbrev pub call_out : ℕ → Method → Exprs → EvalContext → Val → Out Val
 call_out at method args s v =
     bind (present v) (λ _. bind (exprs_out args s) (λ ws. called method at s.limit v ws))
 
 -- an index behind a value: the expression in the brackets, then the element or property that it names
-abbrev pub index_out : ℕ → ExprTree → Scope → Val → Out Val
+abbrev pub index_out : ℕ → ExprTree → EvalContext → Val → Out Val
 index_out at index s v = bind (expr_out index s) (λ i. indexed at s.limit v i)
 
 -- one step behind a value
-abbrev pub step_out : StepTree → Scope → Val → Out Val
-step_out of_length s v = length_of v
+abbrev pub step_out : StepTree → EvalContext → Val → Out Val
+step_out of_length s v = length_property v
 step_out of_description s v = description_of v
 step_out (of_call at method args) s v = call_out at method args s v
 step_out (of_index at index) s v = index_out at index s v

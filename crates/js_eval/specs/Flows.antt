@@ -8,7 +8,7 @@ use Rattle.eval_scopes.specs.Bindings.{Bound, Bindings}
 use Rattle.js_item.specs.Seen.{Val}
 use Rattle.eval_values.specs.Outcome.{Out, gave, ended}
 use Rattle.js_eval.specs.Script.{Flow}
-use Rattle.eval_values.specs.Ran.{Did}
+use Rattle.eval_values.specs.Ran.{ComesTo}
 
 -- whole lines were written, the first ones of these
 pub record WroteSome (x y : List ℕ) (lines : List (List ℕ)) : Type 0 where
@@ -32,9 +32,9 @@ Leaves (Err (Unsupported at)) after meant = after ≡ meant
 Leaves (Err (Store f)) after meant = Unit {0}
 
 -- what statements did, printed and left is what is meant
-pub record Went {F : Type 0} (a b : State F) (x y : List ℕ) (r : Result (Unit {0}) Stop)
+pub record FollowsFlow {F : Type 0} (a b : State F) (x y : List ℕ) (r : Result (Unit {0}) Stop)
     (bindings : Bindings Val) (f : Flow) : Type 0 where
-  pub did : Did a b (λ s v. v) (λ s v. Unit {0}) r f.out
+  pub did : ComesTo a b (λ s v. v) (λ s v. Unit {0}) r f.out
   pub wrote : Wrote x y r f.lines
   pub leaves : Leaves r bindings f.bindings
 
@@ -47,7 +47,7 @@ LeavesTop (Err (Store f)) after meant = Unit {0}
 
 pub record WentTop {F : Type 0} (a b : State F) (x y : List ℕ) (r : Result (Unit {0}) Stop)
     (top : List (Bound Val)) (f : Flow) : Type 0 where
-  pub did : Did a b (λ s v. v) (λ s v. Unit {0}) r f.out
+  pub did : ComesTo a b (λ s v. v) (λ s v. Unit {0}) r f.out
   pub wrote : Wrote x y r f.lines
   pub leaves : LeavesTop r top f.bindings.top
 

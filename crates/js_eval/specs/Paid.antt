@@ -10,9 +10,9 @@ use Rattle.js_item.specs.Seen.{says, fields_mapped}
 use Rattle.eval_values.specs.declared.value.Kind.TheVariants.{RangeError}
 use Rattle.eval_values.specs.declared.value.Stop.{Stop}
 use Rattle.eval_values.specs.Outcome.{Out, gave, ended, threw, free, bind}
-use Rattle.eval_values.specs.Ran.{Did}
+use Rattle.eval_values.specs.Ran.{ComesTo}
 use Rattle.js_eval.specs.Initializers.{with_property}
-use Rattle.js_eval.specs.Expression.{Scope, expr_out}
+use Rattle.js_eval.specs.Expression.{EvalContext, expr_out}
 
 abbrev pub key_paid : ℕ → List ℕ → Out (List ℕ)
 key_paid limit key =
@@ -21,19 +21,19 @@ key_paid limit key =
     else ended (threw RangeError) free
 
 -- a member behind those of an object
-abbrev pub entry_paid : List ℕ → ExprTree → Scope → Fields (List ℕ) → Out (Fields (List ℕ))
+abbrev pub entry_paid : List ℕ → ExprTree → EvalContext → Fields (List ℕ) → Out (Fields (List ℕ))
 entry_paid key value s fs =
     bind (key_paid s.limit key) (λ k. bind (expr_out value s) (λ v. gave (with_property k v fs) free))
 
-abbrev pub entries_paid : Entries → Scope → Fields (List ℕ) → Out (Fields (List ℕ))
+abbrev pub entries_paid : Entries → EvalContext → Fields (List ℕ) → Out (Fields (List ℕ))
 entries_paid no_entries s fs = gave fs free
 entries_paid (entry key value rest) s fs = bind (entry_paid key value s fs) (λ gs. entries_paid rest s gs)
 
 -- a key, and an object, of the code
 abbrev pub GivesKey : {F R : Type 0} → (R → ℕ) → State F → State F → Result R Stop → Out (List ℕ) → Type 0
-GivesKey name a b r o = Did a b (λ s v. units_of s (name v)) (λ s v. KeyFine (strings_of s) (name v)) r o
+GivesKey name a b r o = ComesTo a b (λ s v. units_of s (name v)) (λ s v. KeyFine (strings_of s) (name v)) r o
 
 abbrev pub Makes : {F R : Type 0} → (R → ℕ) → State F → State F → Result (Fields R) Stop
     → Out (Fields (List ℕ)) → Type 0
 Makes name a b r o =
-    Did a b (λ s fs. fields_mapped (says s name) fs) (λ s fs. FineFields (strings_of s) name fs) r o
+    ComesTo a b (λ s fs. fields_mapped (says s name) fs) (λ s fs. FineFields (strings_of s) name fs) r o

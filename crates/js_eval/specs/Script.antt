@@ -9,10 +9,10 @@ use Rattle.eval_scopes.specs.Bindings.{Bound, Bindings, meant, written, declared
 use Rattle.eval_values.specs.declared.value.Kind.TheVariants.{RangeError, TypeError, ReferenceError}
 use Rattle.js_item.specs.Seen.{Val}
 use Rattle.js_item.specs.Contents.{undefined, number}
-use Rattle.eval_values.specs.Outcome.{Out, gave, ended, threw, after, bind, converting, each, free, cost, ledger_of}
+use Rattle.eval_values.specs.Outcome.{Out, gave, ended, threw, after_ledger, bind, converting, each, free, cost, ledger_of}
 use Rattle.eval_values.specs.Need.{reads, parts, ids_in, words_in}
 use Rattle.eval_values.specs.Conversions.{to_string, to_boolean, string_units, text_units, all_units, all_text_units}
-use Rattle.js_eval.specs.Expression.{Scope, read_out, operated, expr_out, exprs_out}
+use Rattle.js_eval.specs.Expression.{EvalContext, read_out, operated, expr_out, exprs_out}
 
 -- what statements come to: how they end and what they need, the lines that they print, and the bindings that
 -- they leave
@@ -25,7 +25,7 @@ pub record Flow : Type 0 where
 -- error or the profile ended them, nothing more
 abbrev pub go_on : Out (Unit {0}) → List (List ℕ) → Bindings Val → (Bindings Val → Flow) → Flow
 go_on (gave x l) ls bs go =
-    record { out = after l (go bs).out; lines = ls ++ (go bs).lines; bindings = (go bs).bindings }
+    record { out = after_ledger l (go bs).out; lines = ls ++ (go bs).lines; bindings = (go bs).bindings }
 go_on (ended e l) ls bs go = record { out = ended e l; lines = ls; bindings = bs }
 
 -- statements, and then others in the bindings that they leave
@@ -39,7 +39,7 @@ leaves bs = record { out = gave tt free; lines = []; bindings = bs }
 -- an expression, and then what has its value
 abbrev pub on_value : {A : Type 0} → Out A → Bindings Val → (A → Flow) → Flow
 on_value (gave v l) bs go =
-    record { out = after l (go v).out; lines = (go v).lines; bindings = (go v).bindings }
+    record { out = after_ledger l (go v).out; lines = (go v).lines; bindings = (go v).bindings }
 on_value (ended e l) bs go = record { out = ended e l; lines = []; bindings = bs }
 
 -- a name that means this gets a value ("PutValue"): ReferenceError where it has none, then TypeError where it
@@ -67,7 +67,7 @@ line_out limit vs = converting (parts (length vs) (reached_units limit vs)) (eac
     (λ us. gave (line us) (cost (parts (length vs) (all_text_units vs))))
 
 -- the line of a print, whose arguments are evaluated from left to right
-abbrev pub print_out : Exprs → Scope → Out (List ℕ)
+abbrev pub print_out : Exprs → EvalContext → Out (List ℕ)
 print_out args s = bind (exprs_out args s) (λ vs. line_out s.limit vs)
 
 -- one line
@@ -75,12 +75,12 @@ abbrev pub printed : List ℕ → Bindings Val → Flow
 printed l bs = record { out = gave tt free; lines = l ∷ []; bindings = bs }
 
 -- the value of a `let`
-abbrev pub init_out : Option ExprTree → Scope → Out Val
+abbrev pub init_out : Option ExprTree → EvalContext → Out Val
 init_out (Some e) s = expr_out e s
 init_out None s = gave undefined free
 
 -- `x += e`: what the name means is read first
-abbrev pub sum_of_both : ℕ → List ℕ → ExprTree → Scope → Out Val
+abbrev pub sum_of_both : ℕ → List ℕ → ExprTree → EvalContext → Out Val
 sum_of_both at x e s =
     bind (read_out (meant s.bindings x)) (λ v. bind (expr_out e s) (λ w. operated Plus at s.limit v w))
 
@@ -94,16 +94,16 @@ turns go i zero bs = leaves bs
 turns go i (suc n) bs = then_flow (go i bs) (λ cs. turns go (i + 1) n cs)
 
 -- the scope with other bindings
-abbrev pub with_bindings : Scope → Bindings Val → Scope
+abbrev pub with_bindings : EvalContext → Bindings Val → EvalContext
 with_bindings s bs = record { literals = s.literals; bindings = bs; limit = s.limit }
 
 -- a declaration with its value
-abbrev pub declares : List ℕ → Bool → Scope → Val → Flow
+abbrev pub declares : List ℕ → Bool → EvalContext → Val → Flow
 declares x constant s v = leaves (declared s.bindings (record { name = x; constant = constant; value = v }))
 
 abbrev mutual
   -- what a statement comes to in a scope ("Evaluation" of "StatementListItem")
-  pub stmt_flow : StmtTree → Scope → Flow
+  pub stmt_flow : StmtTree → EvalContext → Flow
   stmt_flow (block b) s = block_flow b s
   stmt_flow (let_line at x init) s = on_value (init_out init s) s.bindings (λ v. declares x false s v)
   stmt_flow (const_line at x e) s = on_value (expr_out e s) s.bindings (λ v. declares x true s v)
@@ -118,22 +118,22 @@ abbrev mutual
       0 n s.bindings
 
   -- statements one after another, each in the bindings that those before it left
-  pub stmts_flow : Stmts → Scope → Flow
+  pub stmts_flow : Stmts → EvalContext → Flow
   stmts_flow no_stmts s = leaves s.bindings
   stmts_flow (stmt first rest) s = then_flow (stmt_flow first s) (λ cs. stmts_flow rest (with_bindings s cs))
 
   -- a block: its names are declared, its statements run, and it is left ("Block")
-  pub block_flow : BlockTree → Scope → Flow
+  pub block_flow : BlockTree → EvalContext → Flow
   block_flow (block_of names body) s = left (stmts_flow body (with_bindings s (entered names s.bindings)))
 
   -- the first arm whose test holds, or else what follows
-  pub arms_flow : Arms → (Scope → Flow) → Scope → Flow
+  pub arms_flow : Arms → (EvalContext → Flow) → EvalContext → Flow
   arms_flow no_arms rest s = rest s
   arms_flow (arm test b more) rest s = on_value (expr_out test s) s.bindings
       (λ v. if to_boolean v then block_flow b s else arms_flow more rest s)
 
 -- one turn of a `for`
-abbrev pub turn_flow : List ℕ → BlockTree → Scope → ℕ → Bindings Val → Flow
+abbrev pub turn_flow : List ℕ → BlockTree → EvalContext → ℕ → Bindings Val → Flow
 turn_flow x b s i bs = left (block_flow b (with_bindings s (turned x (number (Int (pos i))) bs)))
 
 -- a literal is interned; no source text spells one past the limit

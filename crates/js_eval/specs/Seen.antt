@@ -1,14 +1,14 @@
 -- What the scope of the code denotes in a store, and when it may be used.
 use Rattle.std.specs.Prelude.{ℕ, List, map}
 use Rattle.js_store.specs.State.{State}
-use Rattle.js_texts.specs.Texts.{Every, AllKnown, texts as texts_seen}
-use Rattle.eval_scopes.specs.Bindings.{Bound, Frame, Bindings}
+use Rattle.js_texts.specs.Texts.{Every, AllKnown, known_texts as texts_seen}
+use Rattle.eval_scopes.specs.Bindings.{Bound, BlockFrame, Bindings}
 use Rattle.eval_scopes.specs.Seen.{bindings_of}
 use Rattle.js_item.specs.declared.item.Item.{Item}
 use Rattle.js_item.specs.Seen.{Val, seen}
 use Rattle.js_item.specs.Fine.{IsFine}
 use Rattle.js_eval.specs.declared.context.Context.{Context}
-use Rattle.js_eval.specs.Expression.{Scope}
+use Rattle.js_eval.specs.Expression.{EvalContext}
 
 abbrev pub bound_seen : {F R : Type 0} → State F → (R → ℕ) → Bound (Item R) → Bound Val
 bound_seen s name b = record { name = b.name; constant = b.constant; value = seen s name b.value }
@@ -16,7 +16,7 @@ bound_seen s name b = record { name = b.name; constant = b.constant; value = see
 abbrev pub bounds_seen : {F R : Type 0} → State F → (R → ℕ) → List (Bound (Item R)) → List (Bound Val)
 bounds_seen s name bs = map (λ b. bound_seen s name b) bs
 
-abbrev pub frame_seen : {F R : Type 0} → State F → (R → ℕ) → Frame (Item R) → Frame Val
+abbrev pub frame_seen : {F R : Type 0} → State F → (R → ℕ) → BlockFrame (Item R) → BlockFrame Val
 frame_seen s name f = record { names = f.names; bound = bounds_seen s name f.bound }
 
 abbrev pub bindings_seen : {F R : Type 0} → State F → (R → ℕ) → Bindings (Item R) → Bindings Val
@@ -37,7 +37,7 @@ pub record ContextFine {F R : Type 0} (s : State F) (name : R → ℕ) (c : Cont
 abbrev pub context_bindings : {F R : Type 0} → State F → (R → ℕ) → Context R → Bindings Val
 context_bindings s name c = bindings_seen s name (bindings_of c.scope)
 
-abbrev pub scope_of : {F R : Type 0} → State F → (R → ℕ) → Context R → Scope
+abbrev pub scope_of : {F R : Type 0} → State F → (R → ℕ) → Context R → EvalContext
 scope_of s name c = record {
   literals = texts_seen s name c.literals.items;
   bindings = context_bindings s name c;

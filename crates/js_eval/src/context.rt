@@ -4,11 +4,11 @@ ghost use Rattle.eval_scopes.specs.Bindings.{meant, declared, entered, turned, o
 ghost use Rattle.eval_scopes.specs.Seen.{Within, IsPlace};
 ghost use Rattle.js_item.specs.Seen.{seen};
 ghost use Rattle.js_item.specs.Fine.{IsFine};
-ghost use Rattle.eval_values.specs.Does.{Does};
+ghost use Rattle.eval_values.specs.Does.{GivesValue};
 ghost use Rattle.js_eval.specs.Expression.{read_out};
 ghost use Rattle.js_eval.specs.Script.{assigned, declares};
 ghost use Rattle.js_eval.specs.Seen.{ContextFine, context_bindings, scope_of};
-ghost use Rattle.js_eval.specs.Flows.{Went};
+ghost use Rattle.js_eval.specs.Flows.{FollowsFlow};
 
 use eval_scopes::{Place, Scope};
 use eval_tree::{Name, Names};
@@ -51,7 +51,7 @@ pub fn read<S: Strings>(
 ) -> Result<Value<S::Ref>, Stop>
     requires { ContextFine (S.state store.now) S.number context.now }
     ensures fine { IfOk result (λ v. IsFine (S.state store.now) S.number v) }
-    ensures did { Does S.number (S.state store.now) (S.state store.now) result
+    ensures did { GivesValue S.number (S.state store.now) (S.state store.now) result
         (read_out (meant (context_bindings (S.state store.now) S.number context.now) name.now)) }
 {
     match context.scope.place_of(name) {
@@ -69,7 +69,7 @@ pub fn read_at<S: Strings>(
     requires context { ContextFine (S.state _store.now) S.number context.now }
     requires within { Within context.now.scope place }
     ensures fine { IfOk result (λ v. IsFine (S.state _store.now) S.number v) }
-    ensures did { (n : List ℕ) → IsPlace context.now.scope n place → Does S.number (S.state _store.now)
+    ensures did { (n : List ℕ) → IsPlace context.now.scope n place → GivesValue S.number (S.state _store.now)
         (S.state _store.now) result (read_out (meant (context_bindings
         (S.state _store.now) S.number context.now) n)) }
 {
@@ -87,7 +87,7 @@ pub fn assign<S: Strings>(
     requires value { IsFine (S.state store.now) S.number value }
     ensures context { ContextFine (S.state store.now) S.number context.new }
     ensures literals { context.new.literals ≡ context.old.literals }
-    ensures went { (x : List ℕ) → Went (S.state store.now) (S.state store.now) x x result
+    ensures went { (x : List ℕ) → FollowsFlow (S.state store.now) (S.state store.now) x x result
         (context_bindings (S.state store.now) S.number context.new)
         (assigned (meant (context_bindings (S.state store.now) S.number context.old) name.now) name.now
         (seen (S.state store.now) S.number value) (context_bindings
@@ -111,7 +111,7 @@ pub fn assign_at<S: Strings>(
     requires value { IsFine (S.state _store.now) S.number value }
     ensures context { ContextFine (S.state _store.now) S.number context.new }
     ensures literals { context.new.literals ≡ context.old.literals }
-    ensures went { (n : List ℕ) → IsPlace context.old.scope n place → (x : List ℕ) → Went
+    ensures went { (n : List ℕ) → IsPlace context.old.scope n place → (x : List ℕ) → FollowsFlow
         (S.state _store.now) (S.state _store.now) x x result
         (context_bindings (S.state _store.now) S.number context.new)
         (assigned (meant (context_bindings (S.state _store.now) S.number context.old) n) n
@@ -137,7 +137,7 @@ pub fn declare<S: Strings>(
     requires value { IsFine (S.state _store.now) S.number value }
     ensures context { ContextFine (S.state _store.now) S.number context.new }
     ensures literals { context.new.literals ≡ context.old.literals }
-    ensures went { (x : List ℕ) → Went (S.state _store.now) (S.state _store.now) x x result
+    ensures went { (x : List ℕ) → FollowsFlow (S.state _store.now) (S.state _store.now) x x result
         (context_bindings (S.state _store.now) S.number context.new)
         (declares name.now constant (scope_of (S.state _store.now) S.number context.old)
         (seen (S.state _store.now) S.number value)) }

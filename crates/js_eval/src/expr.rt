@@ -12,7 +12,7 @@ ghost use Rattle.js_item.specs.Seen.{seen, says, fields_mapped};
 ghost use Rattle.eval_values.specs.Seen.{all_seen, AllFine};
 ghost use Rattle.js_item.specs.Fine.{IsFine, FineFields, strings_of};
 ghost use Rattle.js_eval.specs.Seen.{ContextFine, context_bindings, scope_of};
-ghost use Rattle.eval_values.specs.Does.{Does, GivesAll};
+ghost use Rattle.eval_values.specs.Does.{GivesValue, GivesValues};
 
 use crate::context::{Context, look_up, read};
 use crate::literals::read_literal;
@@ -41,7 +41,7 @@ pub fn expr<S: Strings>(
     ensures grows { Grows (S.state store.old) (S.state store.new) }
     ensures context { ContextFine (S.state store.new) S.number context.now }
     ensures fine { IfOk result (λ v. IsFine (S.state store.new) S.number v) }
-    ensures did { Does S.number (S.state store.old) (S.state store.new) result
+    ensures did { GivesValue S.number (S.state store.old) (S.state store.new) result
         (expr_out (expr_tree e.now) (scope_of (S.state store.old) S.number context.now)) }
 {
     match e {
@@ -76,7 +76,7 @@ fn unary<S: Strings>(
     ensures grows { Grows (S.state store.old) (S.state store.new) }
     ensures context { ContextFine (S.state store.new) S.number context.now }
     ensures fine { IfOk result (λ v. IsFine (S.state store.new) S.number v) }
-    ensures did { Does S.number (S.state store.old) (S.state store.new) result
+    ensures did { GivesValue S.number (S.state store.old) (S.state store.new) result
         (expr_out (tree.unary at minus (expr_tree of.now))
         (scope_of (S.state store.old) S.number context.now)) }
 {
@@ -97,7 +97,7 @@ fn chain<S: Strings>(
     ensures grows { Grows (S.state store.old) (S.state store.new) }
     ensures context { ContextFine (S.state store.new) S.number context.now }
     ensures fine { IfOk result (λ v. IsFine (S.state store.new) S.number v) }
-    ensures did { Does S.number (S.state store.old) (S.state store.new) result
+    ensures did { GivesValue S.number (S.state store.old) (S.state store.new) result
         (expr_out (tree.chain (expr_tree first.now) (links_tree rest.now))
         (scope_of (S.state store.old) S.number context.now)) }
 {
@@ -122,7 +122,7 @@ fn conditional<S: Strings>(
     ensures grows { Grows (S.state store.old) (S.state store.new) }
     ensures context { ContextFine (S.state store.new) S.number context.now }
     ensures fine { IfOk result (λ v. IsFine (S.state store.new) S.number v) }
-    ensures did { Does S.number (S.state store.old) (S.state store.new) result
+    ensures did { GivesValue S.number (S.state store.old) (S.state store.new) result
         (expr_out (tree.conditional (expr_tree test.now) (expr_tree yes.now) (expr_tree no.now))
         (scope_of (S.state store.old) S.number context.now)) }
 {
@@ -147,7 +147,7 @@ fn post<S: Strings>(
     ensures grows { Grows (S.state store.old) (S.state store.new) }
     ensures context { ContextFine (S.state store.new) S.number context.now }
     ensures fine { IfOk result (λ v. IsFine (S.state store.new) S.number v) }
-    ensures did { Does S.number (S.state store.old) (S.state store.new) result
+    ensures did { GivesValue S.number (S.state store.old) (S.state store.new) result
         (expr_out (tree.post (expr_tree of.now) (steps_tree rest.now))
         (scope_of (S.state store.old) S.number context.now)) }
 {
@@ -174,7 +174,7 @@ fn builtin<S: Strings>(
     ensures grows { Grows (S.state store.old) (S.state store.new) }
     ensures context { ContextFine (S.state store.new) S.number context.now }
     ensures fine { IfOk result (λ v. IsFine (S.state store.new) S.number v) }
-    ensures did { Does S.number (S.state store.old) (S.state store.new) result
+    ensures did { GivesValue S.number (S.state store.old) (S.state store.new) result
         (expr_out (tree.builtin at which (exprs_tree args.now))
         (scope_of (S.state store.old) S.number context.now)) }
 {
@@ -195,7 +195,7 @@ fn object_literal<S: Strings>(
     ensures grows { Grows (S.state store.old) (S.state store.new) }
     ensures context { ContextFine (S.state store.new) S.number context.now }
     ensures fine { IfOk result (λ v. IsFine (S.state store.new) S.number v) }
-    ensures did { Does S.number (S.state store.old) (S.state store.new) result
+    ensures did { GivesValue S.number (S.state store.old) (S.state store.new) result
         (expr_out (tree.object at (entries_tree members.now))
         (scope_of (S.state store.old) S.number context.now)) }
 {
@@ -264,7 +264,7 @@ fn links<S: Strings>(
     ensures grows { Grows (S.state store.old) (S.state store.new) }
     ensures context { ContextFine (S.state store.new) S.number context.now }
     ensures fine { IfOk result (λ v. IsFine (S.state store.new) S.number v) }
-    ensures did { Does S.number (S.state store.old) (S.state store.new) result
+    ensures did { GivesValue S.number (S.state store.old) (S.state store.new) result
         (links_out (links_tree rest.now) (scope_of (S.state store.old) S.number context.now)
         (seen (S.state store.old) S.number first)) }
 {
@@ -289,7 +289,7 @@ fn one_link<S: Strings>(
     ensures grows { Grows (S.state store.old) (S.state store.new) }
     ensures context { ContextFine (S.state store.new) S.number context.now }
     ensures fine { IfOk result (λ v. IsFine (S.state store.new) S.number v) }
-    ensures did { Does S.number (S.state store.old) (S.state store.new) result
+    ensures did { GivesValue S.number (S.state store.old) (S.state store.new) result
         (link_out (link_tree link.now) (scope_of (S.state store.old) S.number context.now)
         (seen (S.state store.old) S.number left)) }
 {
@@ -323,7 +323,7 @@ fn steps_of_name<S: Strings>(
     ensures grows { Grows (S.state store.old) (S.state store.new) }
     ensures context { ContextFine (S.state store.new) S.number context.now }
     ensures fine { IfOk result (λ v. IsFine (S.state store.new) S.number v) }
-    ensures did { Does S.number (S.state store.old) (S.state store.new) result
+    ensures did { GivesValue S.number (S.state store.old) (S.state store.new) result
         (bind (read_out (meant (context_bindings (S.state store.old) S.number context.now) name.now))
         (λ v. steps_out (steps_tree rest.now) (scope_of (S.state store.old) S.number context.now) v)) }
 {
@@ -347,7 +347,7 @@ fn steps<S: Strings>(
     ensures grows { Grows (S.state store.old) (S.state store.new) }
     ensures context { ContextFine (S.state store.new) S.number context.now }
     ensures fine { IfOk result (λ v. IsFine (S.state store.new) S.number v) }
-    ensures did { Does S.number (S.state store.old) (S.state store.new) result
+    ensures did { GivesValue S.number (S.state store.old) (S.state store.new) result
         (steps_out (steps_tree rest.now) (scope_of (S.state store.old) S.number context.now)
         (seen (S.state store.old) S.number first.now)) }
 {
@@ -392,7 +392,7 @@ fn one_step<S: Strings>(
     ensures grows { Grows (S.state store.old) (S.state store.new) }
     ensures context { ContextFine (S.state store.new) S.number context.now }
     ensures fine { IfOk result (λ v. IsFine (S.state store.new) S.number v) }
-    ensures did { Does S.number (S.state store.old) (S.state store.new) result
+    ensures did { GivesValue S.number (S.state store.old) (S.state store.new) result
         (step_out (step_tree step.now) (scope_of (S.state store.old) S.number context.now)
         (seen (S.state store.old) S.number value.now)) }
 {
@@ -429,7 +429,7 @@ pub fn exprs<S: Strings>(
     ensures grows { Grows (S.state store.old) (S.state store.new) }
     ensures context { ContextFine (S.state store.new) S.number context.now }
     ensures fine { IfOk result (λ v. AllFine (S.state store.new) S.number v.items) }
-    ensures did { GivesAll S.number (S.state store.old) (S.state store.new) result
+    ensures did { GivesValues S.number (S.state store.old) (S.state store.new) result
         (exprs_out (exprs_tree list.now) (scope_of (S.state store.old) S.number context.now)) }
 {
     let mut values = Vec::new(alloc);

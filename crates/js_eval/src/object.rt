@@ -4,7 +4,7 @@ ghost use Rattle.js_store.specs.State.{Grows, text};
 ghost use Rattle.js_item.specs.Fine.{IsFine, KeyFine, FineFields, strings_of};
 ghost use Rattle.js_item.specs.Seen.{seen, says, fields_mapped};
 ghost use Rattle.eval_values.specs.Outcome.{gave, free};
-ghost use Rattle.eval_values.specs.Does.{Does};
+ghost use Rattle.eval_values.specs.Does.{GivesValue};
 ghost use Rattle.js_eval.specs.Initializers.{with_property, object_out};
 ghost use Rattle.js_eval.specs.Seen.{ContextFine};
 ghost use Rattle.js_eval.specs.Paid.{key_paid, GivesKey, Makes};
@@ -68,7 +68,7 @@ pub fn bounded<S: Strings>(
 ) -> Result<Value<S::Ref>, Stop>
     requires { FineFields (strings_of (S.state _store.now)) S.number object }
     ensures fine { IfOk result (λ v. IsFine (S.state _store.now) S.number v) }
-    ensures did { Does S.number (S.state _store.now) (S.state _store.now) result
+    ensures did { GivesValue S.number (S.state _store.now) (S.state _store.now) result
         (object_out at (fields_mapped (says (S.state _store.now) S.number) object)) }
 {
     if object.is_bounded() {

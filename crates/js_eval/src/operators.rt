@@ -8,7 +8,7 @@ ghost use Rattle.eval_values.specs.Conversions.{to_boolean};
 ghost use Rattle.js_item.specs.Contents.{number};
 ghost use Rattle.js_item.specs.Seen.{seen};
 ghost use Rattle.js_item.specs.Fine.{IsFine};
-ghost use Rattle.eval_values.specs.Does.{Does};
+ghost use Rattle.eval_values.specs.Does.{GivesValue};
 ghost use Rattle.js_eval.specs.Expression.{decides, operated};
 ghost use Rattle.js_eval.specs.Seen.{ContextFine};
 
@@ -74,7 +74,7 @@ pub fn apply<S: Strings>(
     requires right { IsFine (S.state store.old) S.number right }
     ensures grows { Grows (S.state store.old) (S.state store.new) }
     ensures fine { IfOk result (λ v. IsFine (S.state store.new) S.number v) }
-    ensures did { Does S.number (S.state store.old) (S.state store.new) result
+    ensures did { GivesValue S.number (S.state store.old) (S.state store.new) result
         (operated op at (S.state store.old).limit
         (seen (S.state store.old) S.number left.now) (seen (S.state store.old) S.number right)) }
 {
@@ -97,7 +97,7 @@ fn apply_to_any<S: Strings>(
     requires right { IsFine (S.state store.old) S.number right }
     ensures grows { Grows (S.state store.old) (S.state store.new) }
     ensures fine { IfOk result (λ v. IsFine (S.state store.new) S.number v) }
-    ensures did { Does S.number (S.state store.old) (S.state store.new) result
+    ensures did { GivesValue S.number (S.state store.old) (S.state store.new) result
         (operated op at (S.state store.old).limit
         (seen (S.state store.old) S.number left.now) (seen (S.state store.old) S.number right)) }
 {
@@ -142,7 +142,8 @@ fn of_numbers<S: Strings>(
     requires left { IsFine (S.state store.now) S.number left.now }
     requires right { IsFine (S.state store.now) S.number right.now }
     ensures fine { IfSome result (λ v. IsFine (S.state store.now) S.number v) }
-    ensures did { (at limit : ℕ) → IfSome result (λ v. Does S.number (S.state store.now) (S.state store.now)
+    ensures did { (at limit : ℕ) → IfSome result
+        (λ v. GivesValue S.number (S.state store.now) (S.state store.now)
         (Ok v) (operated op at limit (seen (S.state store.now) S.number left.now)
         (seen (S.state store.now) S.number right.now))) }
 {
@@ -171,7 +172,8 @@ pub fn of_both<S: Strings>(_store: &S, op: Op, m: Num, n: Num) -> Option<Value<S
     requires left { IsLawful m }
     requires right { IsLawful n }
     ensures fine { IfSome result (λ v. IsFine (S.state _store.now) S.number v) }
-    ensures did { (at limit : ℕ) → IfSome result (λ v. Does S.number (S.state _store.now) (S.state _store.now)
+    ensures did { (at limit : ℕ) → IfSome result
+        (λ v. GivesValue S.number (S.state _store.now) (S.state _store.now)
         (Ok v) (operated op at limit (number m) (number n))) }
 {
     match op {

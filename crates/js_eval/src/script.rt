@@ -10,11 +10,11 @@ ghost use Rattle.js_item.specs.Seen.{Val, seen};
 ghost use Rattle.js_item.specs.Contents.{number};
 ghost use Rattle.eval_values.specs.Seen.{all_seen, AllFine};
 ghost use Rattle.js_item.specs.Fine.{IsFine};
-ghost use Rattle.eval_values.specs.Does.{Does, Tells};
+ghost use Rattle.eval_values.specs.Does.{GivesValue, GivesPlain};
 ghost use Rattle.eval_values.specs.Conversions.{to_boolean};
 ghost use Rattle.js_eval.specs.Script.{on_value, printed, init_out, sum_of_both, line_out, stmt_flow, stmts_flow, block_flow, arms_flow, turn_flow, turns as turns_flow, meaning};
 ghost use Rattle.js_eval.specs.Seen.{ContextFine, BoundsFine, bounds_seen, context_bindings, scope_of};
-ghost use Rattle.js_eval.specs.Flows.{Went, WentTop, told};
+ghost use Rattle.js_eval.specs.Flows.{FollowsFlow, WentTop, told};
 ghost use Rattle.js_eval.specs.Expression.{expr_out};
 ghost use Rattle.js_number.specs.declared.Num.TheVariants.{Int};
 ghost use Rattle.js_eval.specs.Evaluates.{Evaluates};
@@ -105,7 +105,7 @@ fn statement<'a, S: Strings>(
     ensures grows { Grows (S.state store.old) (S.state store.new) }
     ensures context { ContextFine (S.state store.new) S.number context.new }
     ensures literals { context.new.literals ≡ context.old.literals }
-    ensures went { Went (S.state store.old) (S.state store.new) lines.old lines.new result
+    ensures went { FollowsFlow (S.state store.old) (S.state store.new) lines.old lines.new result
         (context_bindings (S.state store.new) S.number context.new)
         (stmt_flow (stmt_tree s.now) (scope_of (S.state store.old) S.number context.old)) }
 {
@@ -141,7 +141,7 @@ fn statements<'a, S: Strings>(
     ensures grows { Grows (S.state store.old) (S.state store.new) }
     ensures context { ContextFine (S.state store.new) S.number context.new }
     ensures literals { context.new.literals ≡ context.old.literals }
-    ensures went { Went (S.state store.old) (S.state store.new) lines.old lines.new result
+    ensures went { FollowsFlow (S.state store.old) (S.state store.new) lines.old lines.new result
         (context_bindings (S.state store.new) S.number context.new)
         (stmts_flow (stmts_tree body.now) (scope_of (S.state store.old) S.number context.old)) }
 {
@@ -164,7 +164,7 @@ fn block<'a, S: Strings>(
     ensures grows { Grows (S.state store.old) (S.state store.new) }
     ensures context { ContextFine (S.state store.new) S.number context.new }
     ensures literals { context.new.literals ≡ context.old.literals }
-    ensures went { Went (S.state store.old) (S.state store.new) lines.old lines.new result
+    ensures went { FollowsFlow (S.state store.old) (S.state store.new) lines.old lines.new result
         (context_bindings (S.state store.new) S.number context.new)
         (block_flow (block_tree b.now) (scope_of (S.state store.old) S.number context.old)) }
 {
@@ -188,7 +188,7 @@ fn arms<'a, S: Strings>(
     ensures grows { Grows (S.state store.old) (S.state store.new) }
     ensures context { ContextFine (S.state store.new) S.number context.new }
     ensures literals { context.new.literals ≡ context.old.literals }
-    ensures went { Went (S.state store.old) (S.state store.new) lines.old lines.new result
+    ensures went { FollowsFlow (S.state store.old) (S.state store.new) lines.old lines.new result
         (context_bindings (S.state store.new) S.number context.new)
         (arms_flow (arms_tree (map arm_tree list.now)) (λ q. block_flow (block_tree rest.now) q)
         (scope_of (S.state store.old) S.number context.old)) }
@@ -217,7 +217,7 @@ fn turns<'a, S: Strings>(
     ensures grows { Grows (S.state store.old) (S.state store.new) }
     ensures context { ContextFine (S.state store.new) S.number context.new }
     ensures literals { context.new.literals ≡ context.old.literals }
-    ensures went { Went (S.state store.old) (S.state store.new) lines.old lines.new result
+    ensures went { FollowsFlow (S.state store.old) (S.state store.new) lines.old lines.new result
         (context_bindings (S.state store.new) S.number context.new)
         (turns_flow (turn_flow name.now (block_tree body.now)
         (scope_of (S.state store.old) S.number context.old)) 0 bound
@@ -244,7 +244,7 @@ fn turn<'a, S: Strings>(
     ensures grows { Grows (S.state store.old) (S.state store.new) }
     ensures context { ContextFine (S.state store.new) S.number context.new }
     ensures literals { context.new.literals ≡ context.old.literals }
-    ensures went { Went (S.state store.old) (S.state store.new) lines.old lines.new result
+    ensures went { FollowsFlow (S.state store.old) (S.state store.new) lines.old lines.new result
         (context_bindings (S.state store.new) S.number context.new)
         (turn_flow name.now (block_tree body.now) (scope_of (S.state store.old) S.number context.old) i
         (context_bindings (S.state store.old) S.number context.old)) }
@@ -274,7 +274,7 @@ fn holds<S: Strings>(
     requires { ContextFine (S.state store.old) S.number context.now }
     ensures grows { Grows (S.state store.old) (S.state store.new) }
     ensures context { ContextFine (S.state store.new) S.number context.now }
-    ensures did { Tells (S.state store.old) (S.state store.new) result
+    ensures did { GivesPlain (S.state store.old) (S.state store.new) result
         (told to_boolean
         (expr_out (expr_tree test.now) (scope_of (S.state store.old) S.number context.now))) }
 {
@@ -294,7 +294,7 @@ fn is_true_value<S: Strings>(
     requires { ContextFine (S.state store.old) S.number context.now }
     ensures grows { Grows (S.state store.old) (S.state store.new) }
     ensures context { ContextFine (S.state store.new) S.number context.now }
-    ensures did { Tells (S.state store.old) (S.state store.new) result
+    ensures did { GivesPlain (S.state store.old) (S.state store.new) result
         (told to_boolean
         (expr_out (expr_tree test.now) (scope_of (S.state store.old) S.number context.now))) }
 {
@@ -313,7 +313,7 @@ fn evaluate_let<'a, S: Strings>(
     ensures grows { Grows (S.state store.old) (S.state store.new) }
     ensures context { ContextFine (S.state store.new) S.number context.new }
     ensures literals { context.new.literals ≡ context.old.literals }
-    ensures went { (at : ℕ) (x : List ℕ) → Went (S.state store.old) (S.state store.new) x x result
+    ensures went { (at : ℕ) (x : List ℕ) → FollowsFlow (S.state store.old) (S.state store.new) x x result
         (context_bindings (S.state store.new) S.number context.new)
         (stmt_flow (Tree.let_line at name.now (init_tree init.now))
         (scope_of (S.state store.old) S.number context.old)) }
@@ -333,7 +333,7 @@ fn initial<S: Strings>(
     ensures grows { Grows (S.state store.old) (S.state store.new) }
     ensures context { ContextFine (S.state store.new) S.number context.now }
     ensures fine { IfOk result (λ v. IsFine (S.state store.new) S.number v) }
-    ensures did { Does S.number (S.state store.old) (S.state store.new) result
+    ensures did { GivesValue S.number (S.state store.old) (S.state store.new) result
         (init_out (init_tree init.now) (scope_of (S.state store.old) S.number context.now)) }
 {
     match init {
@@ -353,7 +353,7 @@ fn evaluate_const<'a, S: Strings>(
     ensures grows { Grows (S.state store.old) (S.state store.new) }
     ensures context { ContextFine (S.state store.new) S.number context.new }
     ensures literals { context.new.literals ≡ context.old.literals }
-    ensures went { (at : ℕ) (x : List ℕ) → Went (S.state store.old) (S.state store.new) x x result
+    ensures went { (at : ℕ) (x : List ℕ) → FollowsFlow (S.state store.old) (S.state store.new) x x result
         (context_bindings (S.state store.new) S.number context.new)
         (stmt_flow (Tree.const_line at name.now (expr_tree init.now))
         (scope_of (S.state store.old) S.number context.old)) }
@@ -373,7 +373,7 @@ fn evaluate_assign<'a, S: Strings>(
     ensures grows { Grows (S.state store.old) (S.state store.new) }
     ensures context { ContextFine (S.state store.new) S.number context.new }
     ensures literals { context.new.literals ≡ context.old.literals }
-    ensures went { (at : ℕ) (x : List ℕ) → Went (S.state store.old) (S.state store.new) x x result
+    ensures went { (at : ℕ) (x : List ℕ) → FollowsFlow (S.state store.old) (S.state store.new) x x result
         (context_bindings (S.state store.new) S.number context.new)
         (stmt_flow (Tree.assign at name.now (expr_tree value.now))
         (scope_of (S.state store.old) S.number context.old)) }
@@ -395,7 +395,7 @@ fn evaluate_append<'a, S: Strings>(
     ensures grows { Grows (S.state store.old) (S.state store.new) }
     ensures context { ContextFine (S.state store.new) S.number context.new }
     ensures literals { context.new.literals ≡ context.old.literals }
-    ensures went { (name_at : ℕ) (x : List ℕ) → Went (S.state store.old) (S.state store.new) x x result
+    ensures went { (name_at : ℕ) (x : List ℕ) → FollowsFlow (S.state store.old) (S.state store.new) x x result
         (context_bindings (S.state store.new) S.number context.new)
         (stmt_flow (Tree.append at name_at name.now (expr_tree value.now))
         (scope_of (S.state store.old) S.number context.old)) }
@@ -421,7 +421,7 @@ fn append_at<'a, S: Strings>(
     ensures context { ContextFine (S.state store.new) S.number context.new }
     ensures literals { context.new.literals ≡ context.old.literals }
     ensures went { (n : List ℕ) → IsPlace context.old.scope n place → (name_at : ℕ) (x : List ℕ)
-        → Went (S.state store.old) (S.state store.new) x x result
+        → FollowsFlow (S.state store.old) (S.state store.new) x x result
         (context_bindings (S.state store.new) S.number context.new)
         (stmt_flow (Tree.append at name_at n (expr_tree value.now))
         (scope_of (S.state store.old) S.number context.old)) }
@@ -444,7 +444,7 @@ fn sum_with<S: Strings>(
     ensures grows { Grows (S.state store.old) (S.state store.new) }
     ensures context { ContextFine (S.state store.new) S.number context.now }
     ensures fine { IfOk result (λ v. IsFine (S.state store.new) S.number v) }
-    ensures did { (n : List ℕ) → IsPlace context.now.scope n place → Does S.number (S.state store.old)
+    ensures did { (n : List ℕ) → IsPlace context.now.scope n place → GivesValue S.number (S.state store.old)
         (S.state store.new) result
         (sum_of_both at n (expr_tree value.now) (scope_of (S.state store.old) S.number context.now)) }
 {
@@ -463,7 +463,7 @@ fn print<S: Strings>(
     requires { ContextFine (S.state store.old) S.number context.now }
     ensures grows { Grows (S.state store.old) (S.state store.new) }
     ensures context { ContextFine (S.state store.new) S.number context.now }
-    ensures went { Went (S.state store.old) (S.state store.new) lines.old lines.new result
+    ensures went { FollowsFlow (S.state store.old) (S.state store.new) lines.old lines.new result
         (context_bindings (S.state store.new) S.number context.now)
         (stmt_flow (Tree.print (exprs_tree args.now)) (scope_of (S.state store.old) S.number context.now)) }
 {
@@ -479,7 +479,8 @@ fn print_values<S: Strings>(
 ) -> Result<(), Stop>
     requires { AllFine (S.state store.old) S.number values.now }
     ensures grows { Grows (S.state store.old) (S.state store.new) }
-    ensures went { (bs : Bindings Val) → Went (S.state store.old) (S.state store.new) lines.old lines.new
+    ensures went { (bs : Bindings Val)
+        → FollowsFlow (S.state store.old) (S.state store.new) lines.old lines.new
         result bs (on_value
         (line_out (S.state store.old).limit (all_seen (S.state store.old) S.number values.now)) bs
         (λ l. printed l bs)) }

@@ -8,7 +8,7 @@ ghost use Rattle.js_item.specs.Contents.{number};
 ghost use Rattle.js_item.specs.Seen.{Val, seen};
 ghost use Rattle.js_item.specs.Fine.{IsFine};
 ghost use Rattle.js_item.specs.declared.item.Item.TheVariants as value;
-ghost use Rattle.eval_values.specs.Does.{Does};
+ghost use Rattle.eval_values.specs.Does.{GivesValue};
 ghost use Rattle.js_eval.specs.Expression.{expr_out, decides};
 ghost use Rattle.js_eval.specs.Seen.{ContextFine, scope_of};
 
@@ -22,7 +22,8 @@ use js_store::Strings;
 /// Whether a test holds, where it is an operator on two numbers at hand.
 pub fn test_at_hand<S: Strings>(store: &S, context: &Context<S::Ref>, e: &Expr) -> Option<bool>
     requires { ContextFine (S.state store.now) S.number context.now }
-    ensures { IfSome result (λ b. Does S.number (S.state store.now) (S.state store.now) (Ok (value.Bool b))
+    ensures { IfSome result (λ b. GivesValue S.number (S.state store.now) (S.state store.now)
+        (Ok (value.Bool b))
         (expr_out (expr_tree e.now) (scope_of (S.state store.now) S.number context.now))) }
 {
     match e {
@@ -38,7 +39,8 @@ fn truth_of_two<S: Strings>(
     first: &Expr,
 ) -> Option<bool>
     requires { ContextFine (S.state store.now) S.number context.now }
-    ensures { IfSome result (λ b. Does S.number (S.state store.now) (S.state store.now) (Ok (value.Bool b))
+    ensures { IfSome result (λ b. GivesValue S.number (S.state store.now) (S.state store.now)
+        (Ok (value.Bool b))
         (expr_out (tree.chain (expr_tree first.now) (links_tree rest.now))
         (scope_of (S.state store.now) S.number context.now))) }
 {
@@ -58,7 +60,7 @@ pub fn of_two<S: Strings>(
 ) -> Option<Value<S::Ref>>
     requires { ContextFine (S.state store.now) S.number context.now }
     ensures fine { IfSome result (λ v. IsFine (S.state store.now) S.number v) }
-    ensures did { IfSome result (λ v. Does S.number (S.state store.now) (S.state store.now) (Ok v)
+    ensures did { IfSome result (λ v. GivesValue S.number (S.state store.now) (S.state store.now) (Ok v)
         (expr_out (tree.chain (expr_tree first.now) (links_tree rest.now))
         (scope_of (S.state store.now) S.number context.now))) }
 {
@@ -78,7 +80,7 @@ fn of_link<S: Strings>(
 ) -> Option<Value<S::Ref>>
     requires { ContextFine (S.state store.now) S.number context.now }
     ensures fine { IfSome result (λ v. IsFine (S.state store.now) S.number v) }
-    ensures did { IfSome result (λ v. Does S.number (S.state store.now) (S.state store.now) (Ok v)
+    ensures did { IfSome result (λ v. GivesValue S.number (S.state store.now) (S.state store.now) (Ok v)
         (expr_out (tree.chain (expr_tree first.now)
         (tree.link link.now.at link.now.op (expr_tree link.now.right) tree.no_links)) (scope_of (S.state store.now) S.number context.now))) }
 {
@@ -106,7 +108,7 @@ fn is_of_numbers(op: Op) -> bool
 fn number_at_hand<S: Strings>(store: &S, context: &Context<S::Ref>, e: &Expr) -> Option<Num>
     requires { ContextFine (S.state store.now) S.number context.now }
     ensures lawful { IfSome result IsLawful }
-    ensures did { IfSome result (λ n. Does S.number (S.state store.now) (S.state store.now)
+    ensures did { IfSome result (λ n. GivesValue S.number (S.state store.now) (S.state store.now)
         (Ok (value.Number n)) (expr_out (expr_tree e.now)
         (scope_of (S.state store.now) S.number context.now))) }
 {
@@ -131,7 +133,7 @@ pub fn at_hand<'a, S: Strings>(
 ) -> Option<&'a Value<S::Ref>>
     requires { ContextFine (S.state store.now) S.number context.now }
     ensures fine { IfSome result (λ v. IsFine (S.state store.now) S.number v.now) }
-    ensures did { IfSome result (λ v. Does S.number (S.state store.now) (S.state store.now) (Ok v.now)
+    ensures did { IfSome result (λ v. GivesValue S.number (S.state store.now) (S.state store.now) (Ok v.now)
         (expr_out (expr_tree e.now) (scope_of (S.state store.now) S.number context.now))) }
 {
     match e {

@@ -1,6 +1,6 @@
 -- A form is what its word spells.
 use Rattle.std.proofs.Common.{◌≡◌, ℕ, ◌+◌, ◌*◌, ◌/◌, ◌%◌, ◌^◌, ◌<◌, Bool, true, false, cond, sym, refl, ap, ◌∙◌, subst, arith, eqb, eq-eqb, eqb-true, Some, None}
-use Rattle.js_header.specs.Form.{bit, packed, IsInRange, word_of, fields_of, form_of}
+use Rattle.js_header.specs.Form.{bit, packed, IsInRange, word_of, form_by_tag, form_of}
 use Rattle.js_header.specs.declared.form.Form.{Form}
 use Rattle.js_header.specs.declared.form.Form.TheVariants.{Unborn, Flat, Cons, Sliced, Thin}
 
@@ -30,11 +30,11 @@ bit_back : (b : Bool) → eqb (bit b) 1 ≡ b
 bit_back true = refl
 bit_back false = refl
 
-fields_packed : (t : ℕ) (w x : Bool) (a b : ℕ) → t < 8 → a < 2 ^ 29 → b < 2 ^ 29 → fields_of (packed t w x a b) ≡ built t (bit w) (bit x) a b
+fields_packed : (t : ℕ) (w x : Bool) (a b : ℕ) → t < 8 → a < 2 ^ 29 → b < 2 ^ 29 → form_by_tag (packed t w x a b) ≡ built t (bit w) (bit x) a b
 fields_packed t w x a b l h k = let p = bit_small w in let q = bit_small x in
     λ i. built (tag_of t (bit w) (bit x) a b l p q i) (wide_of t (bit w) (bit x) a b l p q i) (fixed_of t (bit w) (bit x) a b l p q i) (first_of t (bit w) (bit x) a b l p q h i) (second_of t (bit w) (bit x) a b l p q h k i)
 
-fields_word : (f : Form) → IsInRange f → fields_of (word_of f) ≡ f
+fields_word : (f : Form) → IsInRange f → form_by_tag (word_of f) ≡ f
 fields_word Unborn h = refl
 fields_word (Flat wide start fixed) h = fields_packed 1 wide fixed start 0 (omega arith) h (omega arith) ∙ (λ i. Flat (bit_back wide i) start (bit_back fixed i))
 fields_word (Cons wide left right) h = fields_packed 2 wide false left right (omega arith) h.0 h.1 ∙ (λ i. Cons (bit_back wide i) left right)
@@ -52,4 +52,4 @@ same_word w g f true h e = let same : g ≡ f = cc in ap word_of (sym same) ∙ 
 same_word w g f false h e = absurd (cc)
 
 pub word_of-form_of : (w : ℕ) (f : Form) → form_of w ≡ Some f → word_of f ≡ w
-word_of-form_of w f e = same_word w (fields_of w) f (eqb (word_of (fields_of w)) w) (λ h. eqb-true (word_of (fields_of w)) w h) e
+word_of-form_of w f e = same_word w (form_by_tag w) f (eqb (word_of (form_by_tag w)) w) (λ h. eqb-true (word_of (form_by_tag w)) w h) e

@@ -40,20 +40,20 @@ abbrev pub second_field : ℕ → ℕ
 second_field w = w / 17179869184 % 536870912
 
 -- bit 3 of a word
-abbrev pub is_wide : ℕ → Bool
-is_wide w = w / 8 % 2 == 1
+abbrev pub is_wide_word : ℕ → Bool
+is_wide_word w = w / 8 % 2 == 1
 
 -- bit 4 of a word
 abbrev pub is_fixed : ℕ → Bool
 is_fixed w = w / 16 % 2 == 1
 
 -- the form that a tag names, with what the word has in that form's fields
-abbrev pub fields_of : ℕ → Form
-fields_of w = if w % 8 == 1 then Flat (is_wide w) (first_field w) (is_fixed w)
-    else (if w % 8 == 2 then Cons (is_wide w) (first_field w) (second_field w)
-    else (if w % 8 == 3 then Sliced (is_wide w) (first_field w) (second_field w)
+abbrev pub form_by_tag : ℕ → Form
+form_by_tag w = if w % 8 == 1 then Flat (is_wide_word w) (first_field w) (is_fixed w)
+    else (if w % 8 == 2 then Cons (is_wide_word w) (first_field w) (second_field w)
+    else (if w % 8 == 3 then Sliced (is_wide_word w) (first_field w) (second_field w)
     else (if w % 8 == 4 then Thin (first_field w) else Unborn)))
 
 -- the form whose word this is; none where it is the word of no form
 abbrev pub form_of : ℕ → Option Form
-form_of w = if word_of (fields_of w) == w then Some (fields_of w) else None
+form_of w = if word_of (form_by_tag w) == w then Some (form_by_tag w) else None

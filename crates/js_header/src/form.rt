@@ -1,7 +1,7 @@
 // Which form a string has, and its one word.
 ghost use Rattle.std.specs.Prelude.{◌≡◌, ◌≢◌, ◌<◌, ◌^◌, ◌↔◌, Some, IfSome, IsNone};
 ghost use Rattle.js_header.specs.declared.form.Form as form;
-ghost use Rattle.js_header.specs.Form.{IsInRange, word_of, form_of, packed, fields_of};
+ghost use Rattle.js_header.specs.Form.{IsInRange, word_of, form_of, packed, form_by_tag};
 
 /// The representation of a string. Each number in it is below 2^29: a content word, an id of a
 /// string, or a number of code units.
@@ -104,7 +104,7 @@ fn pack(tag: u64, wide: bool, fixed: bool, first: u32, second: u32) -> u64
 
 // The form that a tag names, with what the word has in that form's fields.
 fn fields(word: u64) -> Form
-    ensures same { result ≡ fields_of word }
+    ensures same { result ≡ form_by_tag word }
     ensures range { IsInRange result }
 {
     let wide = word / 8 % 2 == 1;

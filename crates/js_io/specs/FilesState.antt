@@ -5,9 +5,9 @@ use Rattle.js_io.specs.Counts.{next_count}
 use Rattle.js_io.specs.declared.files.TheConstants.{FILE_MAX}
 
 -- these bytes are the file's, where its bytes are reported
-abbrev pub Tells : Option (List ℕ) → List ℕ → Type 0
-Tells None bytes = ⊤
-Tells (Some held) bytes = bytes ≡ held
+abbrev pub IsToldAs : Option (List ℕ) → List ℕ → Type 0
+IsToldAs None bytes = ⊤
+IsToldAs (Some held) bytes = bytes ≡ held
 
 -- the file is too large: by its bytes where they are reported, and then nothing is counted; or else one more such
 -- file was counted

@@ -1,7 +1,7 @@
 // Where files are read from.
 ghost use Rattle.std.specs.Prelude.{◌≡◌, ◌≤◌, ℕ, List, length, IfOk, IsErrOf};
 ghost use Rattle.js_io.specs.Counts.{next_count};
-ghost use Rattle.js_io.specs.FilesState.{FilesState, Tells, IsTooLarge};
+ghost use Rattle.js_io.specs.FilesState.{FilesState, IsToldAs, IsTooLarge};
 
 use std::alloc::Global;
 
@@ -30,7 +30,7 @@ pub trait Files {
     fn read(&mut self, alloc: Global, name: &str) -> Result<Vec<u8>, ReadFault>
         ensures held { (other : List ℕ) → (state self.new).held other ≡ (state self.old).held other }
 
-        ensures bytes { IfOk result (λ bytes. Tells ((state self.old).held name.now) bytes.items) }
+        ensures bytes { IfOk result (λ bytes. IsToldAs ((state self.old).held name.now) bytes.items) }
         ensures small { IfOk result (λ bytes. length bytes.items ≤ FILE_MAX) }
 
         ensures failed { IsErrOf result ReadFault.Failed

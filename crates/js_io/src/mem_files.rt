@@ -3,7 +3,7 @@ ghost use Rattle.std.specs.Prelude.{◌≡◌, ◌≤◌, ◌<◌, ◌++◌, ℕ
 ghost use Rattle.std.specs.Option.{option_copied};
 ghost use Rattle.std.specs.String.{string_bytes};
 ghost use Rattle.js_io.specs.Counts.{next_count};
-ghost use Rattle.js_io.specs.MemFiles.{found, found_at, told_files, files_in, held_in, faults_in, blamed_in, calls_in, failing_in, Fails};
+ghost use Rattle.js_io.specs.MemFiles.{newest_of, found_at, told_files, mem_files_state, held_in, faults_in, blamed_in, calls_in, failing_in, ReadFails};
 
 use crate::{FILE_MAX, Files, ReadFault};
 use js_units::NoMemory;
@@ -74,7 +74,7 @@ impl MemFiles {
         ensures failing { OnOk result (failing_in self.new ≡ failing_in self.old ++ call ∷ []) }
         ensures unchanged { OnErr result (failing_in self.new ≡ failing_in self.old) }
         ensures calls { calls_in self.new ≡ calls_in self.old }
-        ensures files { files_in self.new ≡ files_in self.old }
+        ensures files { mem_files_state self.new ≡ mem_files_state self.old }
     {
         match self.failing.push(u64::from(call)) {
             Ok(()) => Ok(()),
@@ -95,7 +95,7 @@ fn mem_file(alloc: Global, name: &str, bytes: &[u8]) -> Result<MemFile, AllocErr
 
 // The bytes of the first file of this name.
 fn find<'a>(files: &'a [MemFile], name: &str) -> Option<&'a [u8]>
-    ensures { option_copied result ≡ found files.now name.now }
+    ensures { option_copied result ≡ newest_of files.now name.now }
 {
     for file in files {
         if file.name.as_str() == name {
@@ -124,9 +124,9 @@ impl Files for MemFiles {
         ensures bytes { IfOk result (λ bytes. held_in self.old name.now ≡ Some bytes.items) }
         ensures small { IfOk result (λ bytes. length bytes.items ≤ FILE_MAX) }
 
-        ensures fails { IsErrOf result ReadFault.Failed → Fails self.old name.now }
-        ensures fails_not_ok { IfOk result (λ _. Fails self.old name.now → ⊥) }
-        ensures fails_not_large { IsErrOf result ReadFault.TooLarge → Fails self.old name.now → ⊥ }
+        ensures fails { IsErrOf result ReadFault.Failed → ReadFails self.old name.now }
+        ensures fails_not_ok { IfOk result (λ _. ReadFails self.old name.now → ⊥) }
+        ensures fails_not_large { IsErrOf result ReadFault.TooLarge → ReadFails self.old name.now → ⊥ }
         ensures calls { calls_in self.new ≡ next_count (calls_in self.old) }
         ensures failing { failing_in self.new ≡ failing_in self.old }
 

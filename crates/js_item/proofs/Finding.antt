@@ -7,8 +7,8 @@ use Rattle.js_store.proofs.Laws.{text_still}
 use Rattle.js_item.specs.Contents.{Content, Fields, no_fields, field, add}
 use Rattle.js_item.proofs.Still.{key_still}
 use Rattle.js_item.specs.declared.item.Member.{Member}
-use Rattle.js_item.specs.Views.{content, fields_of}
-use Rattle.js_item.specs.Fine.{Strings, strings_of, units_at, KeyFine, NoKey, KeysFine, KeysDiffer}
+use Rattle.js_item.specs.Views.{content_of, fields_of}
+use Rattle.js_item.specs.Fine.{KnownStrings, strings_of, units_at, KeyFine, NoKey, KeysFine, KeysDiffer}
 use Rattle.js_item.specs.Puts.{width, one_on, place_by, value_by, put_by, has_units, with_value}
 
 none_head : (b : Bool) (o : Option ℕ) → (if b then Some 0 else one_on o) ≡ None → (b ≡ false) × (o ≡ None)
@@ -45,7 +45,7 @@ pub width_is : {R : Type 0} (ms : List (Member R)) → width (fields_of ms) ≡ 
 width_is [] = refl
 width_is (m ∷ ms) = omega (arith, width_is ms)
 
-pub keys_at : {R : Type 0} (s : Strings) (name : R → ℕ) (ms : List (Member R)) (i : ℕ) (m : Member R) → i < length ms → m ≡ get_or ms i m → KeysFine s name (fields_of ms) → KeyFine s (name m.key)
+pub keys_at : {R : Type 0} (s : KnownStrings) (name : R → ℕ) (ms : List (Member R)) (i : ℕ) (m : Member R) → i < length ms → m ≡ get_or ms i m → KeysFine s name (fields_of ms) → KeyFine s (name m.key)
 keys_at s name [] i m h e k = absurd (omega arith)
 keys_at s name (n ∷ ms) zero m h e k = let P : Member _ → Type 0 = λ p. KeyFine s (name p.key) in subst P (sym e) k.0
 keys_at s name (n ∷ ms) (suc i) m h e k = keys_at s name ms i m (omega arith) e k.1
@@ -65,7 +65,7 @@ told_units a b name g key r t k l e =
     cc (text_still g (name key) k.known, text_still g (name r) l.known)
 
 -- a member that has the key is the first one that has it, since keys differ
-no_key_at : {R : Type 0} (s : Strings) (name : R → ℕ) (u : List ℕ) (ms : List (Member R)) (i : ℕ) (m : Member R) → i < length ms → m ≡ get_or ms i m → NoKey s name u (fields_of ms) → units_at s (name m.key) ≡ u → ⊥
+no_key_at : {R : Type 0} (s : KnownStrings) (name : R → ℕ) (u : List ℕ) (ms : List (Member R)) (i : ℕ) (m : Member R) → i < length ms → m ≡ get_or ms i m → NoKey s name u (fields_of ms) → units_at s (name m.key) ≡ u → ⊥
 no_key_at s name u [] i m h e k = absurd (omega arith)
 no_key_at s name u (n ∷ ms) zero m h e k = let P : Member _ → Type 0 = λ p. units_at s (name p.key) ≡ u → ⊥ in subst P (sym e) k.0
 no_key_at s name u (n ∷ ms) (suc i) m h e k = no_key_at s name u ms i m (omega arith) e k.1
@@ -73,7 +73,7 @@ no_key_at s name u (n ∷ ms) (suc i) m h e k = no_key_at s name u ms i m (omega
 other_key : (u v w : List ℕ) → (v ≡ u → ⊥) → bytes_eq v w ≡ true → bytes_eq u w ≡ false
 other_key u v w n e = false_unless (bytes_eq u w) (λ t. absurd (n ((bytes_eq-Decides v w).0 e ∙ sym ((bytes_eq-Decides u w).0 t))))
 
-module _ {R : Type 0} (s : Strings) (name : R → ℕ) (w : List ℕ) where
+module _ {R : Type 0} (s : KnownStrings) (name : R → ℕ) (w : List ℕ) where
   abbrev named : R → Bool
   named r = bytes_eq (units_at s (name r)) w
 
@@ -163,10 +163,10 @@ module _ {R : Type 0} (is : R → Bool) where
   put_last key value (field k v rest) e = let h = none_head (is k) (place_by is rest) e in rw h.0 (ap (λ fs. field k v fs) (put_last key value rest h.1))
 
   -- the value of the member at the place, and none where there is no place
-  pub value_there : (ms : List (Member R)) (i : ℕ) (m : Member R) → place_by is (fields_of ms) ≡ Some i → m ≡ get_or ms i m → value_by is (fields_of ms) ≡ Some (content m.value)
+  pub value_there : (ms : List (Member R)) (i : ℕ) (m : Member R) → place_by is (fields_of ms) ≡ Some i → m ≡ get_or ms i m → value_by is (fields_of ms) ≡ Some (content_of m.value)
   value_there [] i m e h = cc
   value_there (n ∷ ms) i m e h = elim (one_back (is n.key) (place_by is (fields_of ms)) i e) [
-    | inl p ↦ let same : m ≡ n = h ∙ ap (λ k. get_or (n ∷ ms) k m) p.1 in rw p.0 (ap (λ (q : Member R). Some (content q.value)) (sym same))
+    | inl p ↦ let same : m ≡ n = h ∙ ap (λ k. get_or (n ∷ ms) k m) p.1 in rw p.0 (ap (λ (q : Member R). Some (content_of q.value)) (sym same))
     | inr p ↦ rw p.0 (value_there ms p.1.0 m p.1.2 (h ∙ ap (λ k. get_or (n ∷ ms) k m) p.1.1))
   ]
 

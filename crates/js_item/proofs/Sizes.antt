@@ -5,7 +5,7 @@ use Rattle.js_item.specs.Contents.{Content, Fields, no_fields, field, add, count
 use Rattle.js_item.specs.Puts.{width, put_by}
 use Rattle.js_item.specs.Fine.{depth, depth_in}
 use Rattle.js_item.specs.declared.item.Member.{Member}
-use Rattle.js_item.specs.Views.{content, fields_of}
+use Rattle.js_item.specs.Views.{content_of, fields_of}
 use Rattle.js_item.proofs.Members.{fields_take}
 
 module _ {R : Type 0} where
@@ -28,19 +28,19 @@ module _ {R : Type 0} where
   depth_to (m ∷ ms) (suc i) = omega (arith, depth_to ms i)
 
   module _ (ms : List (Member R)) (fs : Fields R) (are : fields_of ms ≡ fs) (i : ℕ) (m : Member R) (within : i < length ms) (there : m ≡ get_or ms i m) where
-    more : fields_of (take (i + 1) ms) ≡ add m.key (content m.value) (fields_of (take i ms))
+    more : fields_of (take (i + 1) ms) ≡ add m.key (content_of m.value) (fields_of (take i ms))
     more = fields_take ms i m within there
 
-    pub count_more : count (fields_of (take (i + 1) ms)) ≡ count (fields_of (take i ms)) + count_in (content m.value) + 1
-    count_more = ap count more ∙ count_add m.key (content m.value) (fields_of (take i ms))
+    pub count_more : count (fields_of (take (i + 1) ms)) ≡ count (fields_of (take i ms)) + count_in (content_of m.value) + 1
+    count_more = ap count more ∙ count_add m.key (content_of m.value) (fields_of (take i ms))
 
-    pub depth_more : depth (fields_of (take (i + 1) ms)) ≡ max (depth (fields_of (take i ms))) (depth_in (content m.value))
-    depth_more = ap depth more ∙ depth_add m.key (content m.value) (fields_of (take i ms))
+    pub depth_more : depth (fields_of (take (i + 1) ms)) ≡ max (depth (fields_of (take i ms))) (depth_in (content_of m.value))
+    depth_more = ap depth more ∙ depth_add m.key (content_of m.value) (fields_of (take i ms))
 
-    pub count_most : count (fields_of (take i ms)) + count_in (content m.value) + 1 ≤ count fs
+    pub count_most : count (fields_of (take i ms)) + count_in (content_of m.value) + 1 ≤ count fs
     count_most = omega (arith, count_more, count_to ms (i + 1), ap count are)
 
-    pub depth_most : depth_in (content m.value) ≤ depth fs
+    pub depth_most : depth_in (content_of m.value) ≤ depth fs
     depth_most = omega (arith, depth_more, depth_to ms (i + 1), ap depth are)
 
 -- a bounded object has few members

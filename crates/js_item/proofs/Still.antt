@@ -3,19 +3,19 @@ use Rattle.std.proofs.Common.{◌≡◌, ℕ, zero, suc, ◌<◌, Bool, true, fa
 use Rattle.std.specs.Prelude.{if◌then◌else◌, bytes_eq, Contains, Option, Some, Result, Ok, Err, OnOk, OnErr}
 use Rattle.std.proofs.lemmas.List.Elements.{Contains-append_right}
 use Rattle.std.proofs.lemmas.Slice.Eq.{bytes_eq-Decides}
-use Rattle.js_store.specs.State.{State, Grows, Has, IsSettled, Interned, text}
+use Rattle.js_store.specs.State.{State, Grows, NamesUnits, IsSettled, Interned, text}
 use Rattle.js_store.proofs.Laws.{known_still, text_still, has_known, has_text}
 use Rattle.js_texts.specs.Texts.{Every}
 use Rattle.js_texts.proofs.Lists.{every_map}
 use Rattle.js_item.specs.Contents.{Content, undefined, null, bool, number, text as texted, symbol, list, object, Fields, no_fields, field}
 use Rattle.js_item.specs.declared.item.Item.{Item}
 use Rattle.js_item.specs.declared.item.Member.{Member}
-use Rattle.js_item.specs.Views.{content, fields_of}
+use Rattle.js_item.specs.Views.{content_of, fields_of}
 use Rattle.js_item.specs.Puts.{value_by, put_by, names_key}
-use Rattle.js_item.specs.Fine.{Strings, strings_of, units_at, SymbolFine, KeyFine, NoKey, FineOf, FineFields, KeysFine, KeysDiffer, IsFine}
+use Rattle.js_item.specs.Fine.{KnownStrings, strings_of, units_at, SymbolFine, KeyFine, NoKey, FineOf, FineFields, KeysFine, KeysDiffer, IsFine}
 
 -- the keys of a fine object are fine, and differ
-module _ {R : Type 0} (s : Strings) (name : R → ℕ) where
+module _ {R : Type 0} (s : KnownStrings) (name : R → ℕ) where
   pub fine_keys : (fs : Fields R) → FineFields s name fs → KeysFine s name fs
   fine_keys no_fields h = tt
   fine_keys (field key value rest) h = (h.0, fine_keys rest h.2)
@@ -58,7 +58,7 @@ module _ {F : Type 0} (a b : State F) (g : Grows a b) where
       fine_fields_still (field key value rest) h = (key_still (name key) h.0, fine_of_still value h.1, fine_fields_still rest h.2, no_other_still key rest h.0 (fine_keys (strings_of a) name rest h.2) h.3)
 
     pub fine_still : (v : Item R) → IsFine a name v → IsFine b name v
-    fine_still v h = fine_of_still (content v) h
+    fine_still v h = fine_of_still (content_of v) h
 
     pub keys_still : (fs : Fields R) → KeysFine (strings_of a) name fs → KeysFine (strings_of b) name fs
     keys_still no_fields h = tt
@@ -69,10 +69,10 @@ module _ {F : Type 0} (a b : State F) (g : Grows a b) where
     differ_still (field key value rest) k h = (no_other_still key rest k.0 k.1 h.0, differ_still rest k.1 h.1)
 
 -- each value of a fine object is fine, also once one more was put in
-module _ {R : Type 0} (s : Strings) (name : R → ℕ) where
-  pub fine_value : (ms : List (Member R)) (i : ℕ) (m : Member R) → i < length ms → m ≡ get_or ms i m → FineFields s name (fields_of ms) → FineOf s name (content m.value)
+module _ {R : Type 0} (s : KnownStrings) (name : R → ℕ) where
+  pub fine_value : (ms : List (Member R)) (i : ℕ) (m : Member R) → i < length ms → m ≡ get_or ms i m → FineFields s name (fields_of ms) → FineOf s name (content_of m.value)
   fine_value [] i m l e h = absurd (omega arith)
-  fine_value (n ∷ ms) zero m l e h = let P : Member R → Type 0 = λ p. FineOf s name (content p.value) in subst P (sym e) h.1
+  fine_value (n ∷ ms) zero m l e h = let P : Member R → Type 0 = λ p. FineOf s name (content_of p.value) in subst P (sym e) h.1
   fine_value (n ∷ ms) (suc i) m l e h = fine_value ms i m (omega arith) e h.2
 
   fine_pick : (b : Bool) (w v : Content R) (o : Option (Content R)) → (if b then Some w else o) ≡ Some v → FineOf s name w → (o ≡ Some v → FineOf s name v) → FineOf s name v
@@ -159,7 +159,7 @@ module _ {F R : Type 0} (a b : State F) (g : Grows a b) (name : R → ℕ) (key 
     differ_either (Err x) hs e p q = differ_without (q ∙ e)
 
 -- what was interned last is a key
-pub key_made : {F : Type 0} (s : State F) (n : ℕ) (u : List ℕ) (h : List (List ℕ × ℕ)) → Has s n u → IsSettled s n → s.history ≡ h ++ (u, n) ∷ [] → KeyFine (strings_of s) n
+pub key_made : {F : Type 0} (s : State F) (n : ℕ) (u : List ℕ) (h : List (List ℕ × ℕ)) → NamesUnits s n u → IsSettled s n → s.history ≡ h ++ (u, n) ∷ [] → KeyFine (strings_of s) n
 key_made s n u h k t e =
     let there : Contains s.history (u, n) = subst (λ (l : List (List ℕ × ℕ)). Contains l (u, n)) (sym e) (Contains-append_right h ((u, n) ∷ []) (u, n) (0, omega arith, refl)) in
     record {

@@ -17,10 +17,10 @@ tail gnil = gnil
 tail (gnum n) = gnil
 tail (gcons a b) = b
 
-abbrev IsCons : Gv → Type 0
-IsCons gnil = ⊥
-IsCons (gnum n) = ⊥
-IsCons (gcons a b) = Unit {0}
+abbrev IsConsCode : Gv → Type 0
+IsConsCode gnil = ⊥
+IsConsCode (gnum n) = ⊥
+IsConsCode (gcons a b) = Unit {0}
 
 abbrev num_tree : Num → Gv
 num_tree (Int z) = gcons (gnum 0) (coded_ℤ.code z)
@@ -132,8 +132,8 @@ module _ {R : Type 0} (c : Coded R) where
 
     pub fields_one : (x y : Fields R) → fields_tree x ≡ fields_tree y → x ≡ y
     fields_one no_fields no_fields e = refl
-    fields_one no_fields (field k' v' fs') e = absurd (subst IsCons (sym e) tt)
-    fields_one (field k v fs) no_fields e = absurd (subst IsCons e tt)
+    fields_one no_fields (field k' v' fs') e = absurd (subst IsConsCode (sym e) tt)
+    fields_one (field k v fs) no_fields e = absurd (subst IsConsCode e tt)
     fields_one (field k v fs) (field k' v' fs') e =
         let key : k ≡ k' = c.inj k k' (ap (λ g. head (head g)) e) in
         let value : v ≡ v' = content_one v v' (ap (λ g. tail (head g)) e) in

@@ -7,9 +7,9 @@ use Rattle.js_item.specs.declared.item.Item.{Item}
 use Rattle.js_item.specs.declared.item.Item.TheVariants as item
 use Rattle.js_item.specs.declared.item.Member.{Member}
 use Rattle.js_item.specs.declared.item.Object.TheDeep.{deep-Item, deep-Member}
-use Rattle.js_item.specs.Views.{content, fields_of}
+use Rattle.js_item.specs.Views.{content_of, fields_of}
 
-falls_item : {R : Type 0} (v : Item R) → deep-Item R v ≤ count_in (content v) + 1
+falls_item : {R : Type 0} (v : Item R) → deep-Item R v ≤ count_in (content_of v) + 1
 falls_item item.Undefined = omega arith
 falls_item item.Null = omega arith
 falls_item (item.Bool b) = omega arith

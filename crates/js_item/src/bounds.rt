@@ -2,7 +2,7 @@
 ghost use Rattle.std.specs.Prelude.{◌≡◌, ◌+◌, ◌≤◌, ◌↔◌, MatchOption, IsTrue};
 ghost use Rattle.js_item.specs.Contents.{count, count_in};
 ghost use Rattle.js_item.specs.Fine.{depth, depth_in, Bounded};
-ghost use Rattle.js_item.specs.Views.{content};
+ghost use Rattle.js_item.specs.Views.{content_of};
 
 use crate::item::{Item, Object};
 
@@ -12,8 +12,9 @@ impl<R: Copy> Item<R> {
     #[cycle(spend)]
     fn spend(&self, deep: u32, left: u32) -> Option<u32>
         ensures { MatchOption result
-            (depth_in (content self.now) ≤ deep → count_in (content self.now) ≤ left → ⊥)
-            (λ rest. (depth_in (content self.now) ≤ deep) × (rest + count_in (content self.now) ≡ left)) }
+            (depth_in (content_of self.now) ≤ deep → count_in (content_of self.now) ≤ left → ⊥)
+            (λ rest. (depth_in (content_of self.now) ≤ deep)
+            × (rest + count_in (content_of self.now) ≡ left)) }
     {
         match self {
             Item::Object(object) => {

@@ -1,6 +1,6 @@
 // Copies of items.
 ghost use Rattle.std.specs.Prelude.{◌≡◌, IfOk};
-ghost use Rattle.js_item.specs.Views.{content, fields_of};
+ghost use Rattle.js_item.specs.Views.{content_of, fields_of};
 
 use crate::item::{Item, Member, Object};
 use js_units::NoMemory;
@@ -9,7 +9,7 @@ impl<R: Copy> Item<R> {
     /// The same item once more.
     #[cycle(copy)]
     pub fn copy(&self) -> Result<Item<R>, NoMemory>
-        ensures { IfOk result (λ item. content item ≡ content self.now) }
+        ensures { IfOk result (λ item. content_of item ≡ content_of self.now) }
     {
         Ok(match self {
             Item::Undefined => Item::Undefined,

@@ -2,7 +2,7 @@
 ghost use Rattle.std.specs.Prelude.{◌≡◌, ◌<◌, length, OnOk, OnErr};
 ghost use Rattle.js_item.specs.Contents.{no_fields, add};
 ghost use Rattle.js_item.specs.Puts.{width, with_value};
-ghost use Rattle.js_item.specs.Views.{content, fields_of};
+ghost use Rattle.js_item.specs.Views.{content_of, fields_of};
 
 use crate::index::Index;
 use js_number::Num;
@@ -92,7 +92,7 @@ impl<R: Copy> Object<R> {
 
     // Adds a member at the end.
     pub(crate) fn push(&mut self, member: Member<R>) -> Result<(), NoMemory>
-        ensures added { OnOk result (self.new ≡ add member.key (content member.value) self.old) }
+        ensures added { OnOk result (self.new ≡ add member.key (content_of member.value) self.old) }
         ensures unchanged { OnErr result (self.new ≡ self.old) }
     {
         self.members.push(member)?;
@@ -102,7 +102,7 @@ impl<R: Copy> Object<R> {
     // Puts the value in the place of that of the member there.
     pub(crate) fn replace(&mut self, place: u32, value: Item<R>)
         requires { place < width self.old }
-        ensures { self.new ≡ with_value place (content value) self.old }
+        ensures { self.new ≡ with_value place (content_of value) self.old }
     {
         let member = &mut self.members[place as usize];
         member.value = value;

@@ -4,7 +4,7 @@ ghost use Rattle.js_store.specs.State.{text};
 ghost use Rattle.js_store.specs.Faults.{Uses};
 ghost use Rattle.js_item.specs.Fine.{strings_of, KeyFine, KeysFine, KeysDiffer};
 ghost use Rattle.js_item.specs.Puts.{width, has_units, names_key, place_by, value_by, put_by};
-ghost use Rattle.js_item.specs.Views.{content, fields_of};
+ghost use Rattle.js_item.specs.Views.{content_of, fields_of};
 
 use crate::index::FEW;
 use crate::item::{Item, Member, Object};
@@ -74,7 +74,7 @@ impl<R: Copy> Object<R> {
         ensures value { MatchOption result
             (value_by (names_key (S.state store.old) S.number key) self.now ≡ None)
             (λ item. value_by (names_key (S.state store.old) S.number key) self.now
-            ≡ Some (content item.now)) }
+            ≡ Some (content_of item.now)) }
         ensures uses { Uses (S.state store.old) (S.state store.new) None 0 0 }
     {
         match self.find(store, key) {
@@ -97,7 +97,7 @@ impl<R: Copy> Object<R> {
         requires apart { KeysDiffer (strings_of (S.state store.old)) S.number self.old }
         requires key { KeyFine (strings_of (S.state store.old)) (S.number key) }
         ensures added { OnOk result
-            (self.new ≡ put_by (names_key (S.state store.old) S.number key) key (content value) self.old) }
+            (self.new ≡ put_by (names_key (S.state store.old) S.number key) key (content_of value) self.old) }
         ensures unchanged { OnErr result (self.new ≡ self.old) }
         ensures keys { KeysFine (strings_of (S.state store.new)) S.number self.new }
         ensures apart { KeysDiffer (strings_of (S.state store.new)) S.number self.new }

@@ -1,7 +1,7 @@
 // The lines of a run.
 ghost use Rattle.std.specs.Prelude.{◌≡◌, ◌++◌, [], OnOk, OnErr};
 ghost use Rattle.js_store.specs.Faults.{Uses};
-ghost use Rattle.js_texts.specs.Texts.{texts as texts_seen, AllKnown, AllSettled, settle_most, full_fault_of};
+ghost use Rattle.js_texts.specs.Texts.{known_texts as texts_seen, AllKnown, AllSettled, settle_most, full_fault_of};
 ghost use Rattle.js_json.specs.Printing.{line};
 
 use crate::printing::append_line;

@@ -1,11 +1,11 @@
 // Arrays of strings as JSON text.
 ghost use Rattle.std.specs.Prelude.{◌≡◌, ◌+◌, ◌*◌, ◌≤◌, ◌++◌, ◌∷◌, [], length, IfOk, OnOk, IfErr};
-ghost use Rattle.js_store.specs.State.{Has, IsKnown, IsSettled, text as text_of};
+ghost use Rattle.js_store.specs.State.{NamesUnits, IsKnown, IsSettled, text as text_of};
 ghost use Rattle.js_store.specs.Rows.{settle_words};
 ghost use Rattle.js_store.specs.Faults.{Uses};
 ghost use Rattle.js_texts.specs.Answers.{ThrowsLong, full_of};
 ghost use Rattle.js_json.specs.Quoting.{quoted, elements, list_rest, list_text};
-ghost use Rattle.js_texts.specs.Texts.{texts, AllKnown, AllSettled, settle_most, full_fault_of};
+ghost use Rattle.js_texts.specs.Texts.{known_texts, AllKnown, AllSettled, settle_most, full_fault_of};
 ghost use Rattle.js_texts.specs.Use.{made_ids, made_words};
 
 use crate::escapes::{push_quoted, quoted_len};
@@ -25,15 +25,16 @@ pub fn stringify_list<S: Strings>(
 ) -> Result<S::Ref, MethodFault>
     requires { AllKnown (S.state store.old) S.number parts.now }
     ensures value { IfOk result
-        (λ r. Has (S.state store.new) (S.number r)
-        (list_text (texts (S.state store.old) S.number parts.now))) }
+        (λ r. NamesUnits (S.state store.new) (S.number r)
+        (list_text (known_texts (S.state store.old) S.number parts.now))) }
     ensures settled { OnOk result (AllSettled (S.state store.new) S.number parts.now) }
     ensures throws { ThrowsLong result (S.state store.old).limit
-        (length (list_text (texts (S.state store.old) S.number parts.now))) }
+        (length (list_text (known_texts (S.state store.old) S.number parts.now))) }
     ensures uses { Uses (S.state store.old) (S.state store.new) (full_of result)
-        (made_ids (S.state store.old).limit (list_text (texts (S.state store.old) S.number parts.now)))
+        (made_ids (S.state store.old).limit (list_text (known_texts (S.state store.old) S.number parts.now)))
         (2 * settle_most (S.state store.old) S.number parts.now
-        + made_words (S.state store.old).limit (list_text (texts (S.state store.old) S.number parts.now))) }
+        + made_words (S.state store.old).limit
+        (list_text (known_texts (S.state store.old) S.number parts.now))) }
 {
     let length = list_len(alloc, store, parts)?;
     if length > u128::from(store.limit()) {
@@ -51,7 +52,8 @@ pub fn list_len<S: Strings>(
     parts: &[S::Ref],
 ) -> Result<u128, StoreFault>
     requires { AllKnown (S.state store.old) S.number parts.now }
-    ensures value { IfOk result (λ n. n ≡ length (list_text (texts (S.state store.old) S.number parts.now))) }
+    ensures value { IfOk result (λ n. n
+        ≡ length (list_text (known_texts (S.state store.old) S.number parts.now))) }
     ensures settled { OnOk result (AllSettled (S.state store.new) S.number parts.now) }
     ensures most { IfOk result (λ n. n ≤ 2 + length parts.now * 4294967296) }
     ensures uses { Uses (S.state store.old) (S.state store.new) (full_fault_of result) 0
@@ -65,7 +67,8 @@ pub fn list_len<S: Strings>(
 // How many units the elements have with a comma before each, and the last bracket.
 fn rest_len<S: Strings>(alloc: Global, store: &mut S, rest: &[S::Ref]) -> Result<u128, StoreFault>
     requires { AllKnown (S.state store.old) S.number rest.now }
-    ensures value { IfOk result (λ n. n ≡ length (list_rest (texts (S.state store.old) S.number rest.now))) }
+    ensures value { IfOk result (λ n. n
+        ≡ length (list_rest (known_texts (S.state store.old) S.number rest.now))) }
     ensures settled { OnOk result (AllSettled (S.state store.new) S.number rest.now) }
     ensures most { IfOk result (λ n. n ≤ 1 + length rest.now * 4294967296) }
     ensures uses { Uses (S.state store.old) (S.state store.new) (full_fault_of result) 0
@@ -98,7 +101,7 @@ fn list_units<S: Strings>(
     parts: &[S::Ref],
 ) -> Result<Units, StoreFault>
     requires { AllKnown (S.state store.old) S.number parts.now }
-    ensures value { IfOk result (λ u. u ≡ list_text (texts (S.state store.old) S.number parts.now)) }
+    ensures value { IfOk result (λ u. u ≡ list_text (known_texts (S.state store.old) S.number parts.now)) }
     ensures settled { OnOk result (AllSettled (S.state store.new) S.number parts.now) }
     ensures uses { Uses (S.state store.old) (S.state store.new) (full_fault_of result) 0
         (settle_most (S.state store.old) S.number parts.now) }
@@ -118,7 +121,7 @@ pub fn append_elements<S: Strings>(
 ) -> Result<(), StoreFault>
     requires { AllKnown (S.state store.old) S.number parts.now }
     ensures added { OnOk result
-        (text.new ≡ text.old ++ elements (texts (S.state store.old) S.number parts.now)) }
+        (text.new ≡ text.old ++ elements (known_texts (S.state store.old) S.number parts.now)) }
     ensures settled { OnOk result (AllSettled (S.state store.new) S.number parts.now) }
     ensures uses { Uses (S.state store.old) (S.state store.new) (full_fault_of result) 0
         (settle_most (S.state store.old) S.number parts.now) }
@@ -141,7 +144,7 @@ fn append_rest<S: Strings>(
 ) -> Result<(), StoreFault>
     requires { AllKnown (S.state store.old) S.number rest.now }
     ensures added { OnOk result
-        (text.new ≡ text.old ++ list_rest (texts (S.state store.old) S.number rest.now)) }
+        (text.new ≡ text.old ++ list_rest (known_texts (S.state store.old) S.number rest.now)) }
     ensures settled { OnOk result (AllSettled (S.state store.new) S.number rest.now) }
     ensures uses { Uses (S.state store.old) (S.state store.new) (full_fault_of result) 0
         (settle_most (S.state store.old) S.number rest.now) }

@@ -6,7 +6,7 @@ ghost use Rattle.js_store.specs.Faults.{Uses};
 ghost use Rattle.js_store.specs.Rows.{settle_words};
 ghost use Rattle.js_json.specs.Printing.{line, line_rest};
 ghost use Rattle.js_json.specs.Printing;
-ghost use Rattle.js_texts.specs.Texts.{texts, AllKnown, AllSettled, settle_most, full_fault_of};
+ghost use Rattle.js_texts.specs.Texts.{known_texts, AllKnown, AllSettled, settle_most, full_fault_of};
 
 use js_store::{StoreFault, Strings};
 use js_texts::copied;
@@ -22,7 +22,8 @@ pub fn append_line<S: Strings>(
 ) -> Result<(), StoreFault>
     requires { AllKnown (S.state store.old) S.number parts.now }
     ensures added { OnOk result
-        (line.new.items ≡ line.old.items ++ Printing.line (texts (S.state store.old) S.number parts.now)) }
+        (line.new.items ≡ line.old.items
+        ++ Printing.line (known_texts (S.state store.old) S.number parts.now)) }
     ensures settled { OnOk result (AllSettled (S.state store.new) S.number parts.now) }
     ensures kept { take (length line.old.items) line.new.items ≡ line.old.items }
     ensures uses { Uses (S.state store.old) (S.state store.new) (full_fault_of result) 0
@@ -46,7 +47,7 @@ fn append_rest<S: Strings>(
 ) -> Result<(), StoreFault>
     requires { AllKnown (S.state store.old) S.number rest.now }
     ensures added { OnOk result
-        (line.new.items ≡ line.old.items ++ line_rest (texts (S.state store.old) S.number rest.now)) }
+        (line.new.items ≡ line.old.items ++ line_rest (known_texts (S.state store.old) S.number rest.now)) }
     ensures settled { OnOk result (AllSettled (S.state store.new) S.number rest.now) }
     ensures kept { take (length line.old.items) line.new.items ≡ line.old.items }
     ensures uses { Uses (S.state store.old) (S.state store.new) (full_fault_of result) 0

@@ -10,7 +10,7 @@ use Rattle.js_literal.specs.declared.fault.NumberFault.{NumberFault}
 use Rattle.js_literal.proofs.Places.{one_rest, one_place}
 use Rattle.js_literal.proofs.Laws.{one_literal, never_both, one_fault_of}
 use Rattle.js_literal.proofs.NumberLaws.{one_number, no_number, one_number_fault}
-use Rattle.js_lex.specs.Elements.{is_blank, after_word, after_line, after_block, begins_comment}
+use Rattle.js_lex.specs.Elements.{after_word, after_line, after_block, begins_comment}
 use Rattle.js_lex.specs.MarkReader.{mark_front, one_mark, two_mark, three_mark, one_front, two_front, three_front, or_else}
 use Rattle.js_lex.specs.Reader.{Lookahead, comment, block_ahead, mark_ahead, front}
 use Rattle.js_lex.specs.Reader as ahead
@@ -19,6 +19,7 @@ use Rattle.js_lex.proofs.MarkLaws.{longest_reads, no_mark_reads}
 use Rattle.js_lex.specs.declared.token.Mark.{Mark}
 use Rattle.js_lex.specs.declared.token.TokenKind.TheVariants as kinds
 use Rattle.js_lex.specs.declared.token.LexFault.TheVariants as faults
+use Rattle.js_units.specs.Text.{is_blank}
 
 -- the element that the reader's value stands for
 abbrev pub Fits : List ℕ → ℕ → Lookahead → Element → Type 0

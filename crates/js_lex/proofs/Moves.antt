@@ -11,7 +11,7 @@ use Rattle.js_literal.specs.Literal.{is_quote}
 use Rattle.js_literal.specs.Number.{is_word_start, begins_number}
 use Rattle.js_literal.proofs.Places.{bytes_of}
 use Rattle.js_literal.proofs.Pieces.{EndsIn}
-use Rattle.js_lex.specs.Elements.{is_blank, is_word_part, is_line_end, after_word, after_line, after_block, begins_comment}
+use Rattle.js_lex.specs.Elements.{is_word_part, is_line_end, after_word, after_line, after_block, begins_comment}
 use Rattle.js_lex.specs.MarkReader.{mark_front}
 use Rattle.js_lex.specs.Reader.{Lookahead, comment, block_ahead, mark_ahead, front}
 use Rattle.js_lex.specs.Reader as ahead
@@ -19,6 +19,7 @@ use Rattle.js_lex.specs.Tokens.{IsBad}
 use Rattle.js_lex.specs.Steps.{IsForward}
 use Rattle.js_lex.proofs.Lookaheads.{no_mark}
 use Rattle.js_lex.proofs.LongestMark.{none_stands}
+use Rattle.js_units.specs.Text.{is_blank}
 
 -- what a value of the reader says of the characters
 abbrev pub Means : List ℕ → Lookahead → Type 0

@@ -2,7 +2,7 @@
 use Rattle.std.proofs.Common.{◌≡◌, ℕ, ◌≤◌, List, [], ◌∷◌, subst, arith, ◌⊎◌, inl, inr}
 use Rattle.std.specs.Prelude.{IsUtf8}
 use Rattle.std.specs.Str.{IsCharBoundary}
-use Rattle.js_lex.specs.Tokens.{End, Skip, TokenOf, Fault, ElementAt, Lexes, done, skip, token, Fails, fault, skip_on, token_on, token_at}
+use Rattle.js_lex.specs.Tokens.{End, Skip, TokenOf, Fault, ElementAt, Lexes, done, skip, token, FailsFrom, fault, skip_on, token_on, token_at}
 use Rattle.js_lex.specs.Next.{Separates, nothing, more, IsNextToken, GoesOn}
 use Rattle.js_lex.specs.declared.token.Token.{Token}
 use Rattle.js_lex.specs.declared.token.LexFault.{LexFault}
@@ -15,7 +15,7 @@ module _ (text : List ℕ) (at : ℕ) where
   lexes_behind _ nothing ts h = h
   lexes_behind _ (more mid end s e) ts h = lexes_behind mid s ts (skip mid end ts e h)
 
-  pub fails_behind : (mid : ℕ) → Separates text at mid → (f : LexFault) → Fails text mid f → Fails text at f
+  pub fails_behind : (mid : ℕ) → Separates text at mid → (f : LexFault) → FailsFrom text mid f → FailsFrom text at f
   fails_behind _ nothing f h = h
   fails_behind _ (more mid end s e) f h = fails_behind mid s f (skip_on mid end f e h)
 
@@ -51,6 +51,6 @@ module _ (text : List ℕ) (at : ℕ) where
   pub lexes_none : (mid : ℕ) → Separates text at mid → ElementAt text mid End → Lexes text at []
   lexes_none mid s e = lexes_behind mid s [] (done mid e)
 
-  pub fails_here : (mid : ℕ) (e : LexFault) → Separates text at mid → (e ≡ faults.Memory) ⊎ ElementAt text mid (Fault e) → (e ≡ faults.Memory) ⊎ Fails text at e
+  pub fails_here : (mid : ℕ) (e : LexFault) → Separates text at mid → (e ≡ faults.Memory) ⊎ ElementAt text mid (Fault e) → (e ≡ faults.Memory) ⊎ FailsFrom text at e
   fails_here mid e s (inl m) = inl m
   fails_here mid e s (inr h) = inr (fails_behind mid s e (fault mid e h))

@@ -2,7 +2,7 @@
 use Rattle.std.proofs.Common.{◌≡◌, ℕ, List, [], ◌∷◌, refl, sym, ap, ◌∙◌, subst, ◌⊎◌, inl, inr, Ok, Err}
 use Rattle.std.specs.Prelude.{IsUtf8, Result, IfOk, IfErr}
 use Rattle.std.specs.Str.Lossy.{utf8_valid_len}
-use Rattle.js_lex.specs.Tokens.{Element, End, Skip, TokenOf, Fault, ElementAt, Lexes, done, skip, token, Fails, fault, skip_on, token_on, token_at, TokensOf, LexFaultOf, no_text, in_text}
+use Rattle.js_lex.specs.Tokens.{Element, End, Skip, TokenOf, Fault, ElementAt, Lexes, done, skip, token, FailsFrom, fault, skip_on, token_on, token_at, TokensOf, LexFaultOf, no_text, in_text}
 use Rattle.js_lex.specs.declared.token.Token.{Token}
 use Rattle.js_lex.specs.declared.token.LexFault.{LexFault}
 use Rattle.js_lex.specs.declared.token.LexFault.TheVariants as faults
@@ -22,11 +22,11 @@ begun text _ _ (token at mid k ts h t) = (TokenOf k mid, h, (ts, refl, t))
 
 abbrev Then : List ℕ → ℕ → LexFault → Element → Type 0
 Then text at f End = ⊥
-Then text at f (Skip mid) = Fails text mid f
-Then text at f (TokenOf k mid) = Fails text mid f
+Then text at f (Skip mid) = FailsFrom text mid f
+Then text at f (TokenOf k mid) = FailsFrom text mid f
 Then text at f (Fault g) = f ≡ g
 
-failed : (text : List ℕ) (at : ℕ) (f : LexFault) → Fails text at f → (m : Element) × ElementAt text at m × Then text at f m
+failed : (text : List ℕ) (at : ℕ) (f : LexFault) → FailsFrom text at f → (m : Element) × ElementAt text at m × Then text at f m
 failed text _ _ (fault at f h) = (Fault f, h, refl)
 failed text _ _ (skip_on at mid f h t) = (Skip mid, h, t)
 failed text _ _ (token_on at mid k f h t) = (TokenOf k mid, h, t)
@@ -35,7 +35,7 @@ failed text _ _ (token_on at mid k f h t) = (TokenOf k mid, h, t)
 pub after_same : (text : List ℕ) (at : ℕ) (ts : List Token) (m : Element) → IsUtf8 text → ElementAt text at m → Lexes text at ts → After text at ts m
 after_same text at ts m u h g = let b = begun text at ts g in subst (After text at ts) (one_element text at (b.0) m u (b.1) h) (b.2)
 
-then_same : (text : List ℕ) (at : ℕ) (f : LexFault) (m : Element) → IsUtf8 text → ElementAt text at m → Fails text at f → Then text at f m
+then_same : (text : List ℕ) (at : ℕ) (f : LexFault) (m : Element) → IsUtf8 text → ElementAt text at m → FailsFrom text at f → Then text at f m
 then_same text at f m u h g = let b = failed text at f g in subst (Then text at f) (one_element text at (b.0) m u (b.1) h) (b.2)
 
 pub one_list : (text : List ℕ) (at : ℕ) (ts us : List Token) → IsUtf8 text → Lexes text at ts → Lexes text at us → ts ≡ us
@@ -45,12 +45,12 @@ one_list text _ _ us u (token at mid k ts h t) g =
     let a = after_same text at us (TokenOf k mid) u h g in
     ap (λ r. token_at k at mid ∷ r) (one_list text mid ts (a.0) u t (a.2)) ∙ sym (a.1)
 
-pub not_both : (text : List ℕ) (at : ℕ) (ts : List Token) (f : LexFault) → IsUtf8 text → Lexes text at ts → Fails text at f → ⊥
+pub not_both : (text : List ℕ) (at : ℕ) (ts : List Token) (f : LexFault) → IsUtf8 text → Lexes text at ts → FailsFrom text at f → ⊥
 not_both text _ _ f u (done at h) g = then_same text at f End u h g
 not_both text _ _ f u (skip at mid ts h t) g = not_both text mid ts f u t (then_same text at f (Skip mid) u h g)
 not_both text _ _ f u (token at mid k ts h t) g = not_both text mid ts f u t (then_same text at f (TokenOf k mid) u h g)
 
-pub one_fault : (text : List ℕ) (at : ℕ) (f e : LexFault) → IsUtf8 text → Fails text at f → Fails text at e → f ≡ e
+pub one_fault : (text : List ℕ) (at : ℕ) (f e : LexFault) → IsUtf8 text → FailsFrom text at f → FailsFrom text at e → f ≡ e
 one_fault text _ _ e u (fault at f h) g = sym (then_same text at e (Fault f) u h g)
 one_fault text _ _ e u (skip_on at mid f h t) g = one_fault text mid f e u t (then_same text at e (Skip mid) u h g)
 one_fault text _ _ e u (token_on at mid k f h t) g = one_fault text mid f e u t (then_same text at e (TokenOf k mid) u h g)

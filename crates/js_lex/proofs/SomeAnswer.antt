@@ -12,7 +12,7 @@ use Rattle.js_literal.specs.declared.fault.NumberFault.{NumberFault}
 use Rattle.js_literal.proofs.Places.{cut_stands}
 use Rattle.js_literal.proofs.Laws.{some_literal}
 use Rattle.js_literal.proofs.NumberLaws.{some_number}
-use Rattle.js_lex.specs.Tokens.{Element, End, Skip, TokenOf, Fault, ElementAt, string, string_fault, number, number_fault, Lexes, done, skip, token, Fails, fault, skip_on, token_on, token_at, TokensOf, LexFaultOf, no_text, in_text}
+use Rattle.js_lex.specs.Tokens.{Element, End, Skip, TokenOf, Fault, ElementAt, string, string_fault, number, number_fault, Lexes, done, skip, token, FailsFrom, fault, skip_on, token_on, token_at, TokensOf, LexFaultOf, no_text, in_text}
 use Rattle.js_lex.specs.Reader.{Lookahead, front}
 use Rattle.js_lex.specs.Reader as ahead
 use Rattle.js_lex.specs.declared.token.Token.{Token}
@@ -54,7 +54,7 @@ some_element text at u cut = go (front s) refl
     go (ahead.MarkOf k rest) e = (TokenOf (kinds.Mark k) (length text - left rest), (mark_gone text at s rest k (left rest) u here (sym e) refl).move)
 
 abbrev Answered : List ℕ → ℕ → Type 0
-Answered text at = ((ts : List Token) × Lexes text at ts) ⊎ ((f : LexFault) × Fails text at f)
+Answered text at = ((ts : List Token) × Lexes text at ts) ⊎ ((f : LexFault) × FailsFrom text at f)
 
 -- from each such place on there are tokens or a fault; n bounds what is left
 some_from : (n : ℕ) (text : List ℕ) (at : ℕ) → IsUtf8 text → IsCharBoundary text at → length text < at + n → at ≤ length text → Answered text at

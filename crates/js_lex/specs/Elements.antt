@@ -1,13 +1,8 @@
 -- Blanks, comments and identifiers, on characters (ECMA-262, "White Space", "Line Terminators", "Comments", "Names
 -- and Keywords").
 use Rattle.std.specs.Prelude.{ℕ, List, [], ◌∷◌, Bool, false, Option, Some, None, ◌==◌, ◌&&◌, ◌||◌, if◌then◌else◌}
-use Rattle.js_units.specs.Text
 use Rattle.js_literal.specs.Literal.{is_digit}
 use Rattle.js_literal.specs.Number.{is_word_start}
-
--- WhiteSpace and LineTerminator, the same characters as those that trimming removes
-abbrev pub is_blank : ℕ → Bool
-is_blank c = Text.is_blank c
 
 -- LF, CR, U+2028 and U+2029
 abbrev pub is_line_end : ℕ → Bool

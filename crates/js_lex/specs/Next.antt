@@ -1,7 +1,7 @@
 -- What comes next from a place on: the first token, the end, or a fault.
 use Rattle.std.specs.Prelude.{◌≡◌, ◌⊎◌, ℕ, ◌<◌, ◌≤◌, List, [], ◌∷◌, length, Result, Ok, Err, Option, Some, None}
 use Rattle.std.specs.Str.{IsCharBoundary}
-use Rattle.js_lex.specs.Tokens.{Skip, TokenOf, Fault, ElementAt, Lexes, Fails}
+use Rattle.js_lex.specs.Tokens.{Skip, TokenOf, Fault, ElementAt, Lexes, FailsFrom}
 use Rattle.js_lex.specs.declared.token.Token.{Token}
 use Rattle.js_lex.specs.declared.token.LexFault.{LexFault}
 use Rattle.js_lex.specs.declared.token.LexFault.TheVariants.{Memory}
@@ -36,5 +36,5 @@ pub record GoesOn (text : List ℕ) (at : ℕ) (t : Token) : Type 0 where
   pub start : IsCharBoundary text t.from
   pub cut : IsCharBoundary text t.to
   pub lexes : (ts : List Token) → Lexes text t.to ts → Lexes text at (t ∷ ts)
-  pub fails : (f : LexFault) → Fails text t.to f → Fails text at f
+  pub fails : (f : LexFault) → FailsFrom text t.to f → FailsFrom text at f
   pub only : (u : Token) (ts : List Token) → Lexes text at (u ∷ ts) → (u ≡ t) × Lexes text t.to ts

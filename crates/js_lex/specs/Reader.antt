@@ -4,11 +4,12 @@ use Rattle.std.specs.Prelude.{ℕ, List, [], ◌∷◌, Option, Some, None, ◌=
 use Rattle.std.specs.Str.{chars}
 use Rattle.js_literal.specs.Literal.{is_quote}
 use Rattle.js_literal.specs.Number.{is_word_start, begins_number}
-use Rattle.js_lex.specs.Elements.{is_blank, after_word, after_line, after_block}
+use Rattle.js_lex.specs.Elements.{after_word, after_line, after_block}
 use Rattle.js_lex.specs.MarkReader.{mark_front}
 use Rattle.js_lex.specs.declared.token.Mark.{Mark}
 use Rattle.js_lex.specs.declared.front.Front.{Front}
 use Rattle.js_lex.specs.declared.front.Front.TheVariants as code
+use Rattle.js_units.specs.Text.{is_blank}
 
 -- the end, what separates tokens, or what a token or a fault begins with, with what follows it
 pub data Lookahead : Type 0 where

@@ -7,7 +7,7 @@ use Rattle.js_literal.specs.Literal.{is_quote, LiteralOf, LiteralFaultOf}
 use Rattle.js_literal.specs.Number.{is_word_start, begins_number, NumberOf, NumberFaultOf}
 use Rattle.js_literal.specs.declared.fault.LiteralFault.{LiteralFault}
 use Rattle.js_literal.specs.declared.fault.NumberFault.{NumberFault}
-use Rattle.js_lex.specs.Elements.{is_blank, after_word, after_line, after_block, begins_comment}
+use Rattle.js_lex.specs.Elements.{after_word, after_line, after_block, begins_comment}
 use Rattle.js_lex.specs.Marks.{IsLongest, HasNoMark}
 use Rattle.js_lex.specs.declared.token.Mark.{Mark}
 use Rattle.js_lex.specs.declared.token.Token.{Token}
@@ -15,6 +15,7 @@ use Rattle.js_lex.specs.declared.token.TokenKind.{TokenKind}
 use Rattle.js_lex.specs.declared.token.TokenKind.TheVariants as kinds
 use Rattle.js_lex.specs.declared.token.LexFault.{LexFault}
 use Rattle.js_lex.specs.declared.token.LexFault.TheVariants as faults
+use Rattle.js_units.specs.Text.{is_blank}
 
 -- what is at a place: the end, what separates tokens, a token, or a fault; with the place behind it
 pub data Element : Type 0 where
@@ -67,11 +68,12 @@ pub data Lexes (text : List ℕ) : ℕ → List Token → Type 0 where
       → Lexes text mid ts → Lexes text at (token_at k at mid ∷ ts)
 
 -- from a place on, this is the first fault
-pub data Fails (text : List ℕ) : ℕ → LexFault → Type 0 where
-  fault : (at : ℕ) (f : LexFault) → ElementAt text at (Fault f) → Fails text at f
-  skip_on : (at mid : ℕ) (f : LexFault) → ElementAt text at (Skip mid) → Fails text mid f → Fails text at f
+pub data FailsFrom (text : List ℕ) : ℕ → LexFault → Type 0 where
+  fault : (at : ℕ) (f : LexFault) → ElementAt text at (Fault f) → FailsFrom text at f
+  skip_on : (at mid : ℕ) (f : LexFault) → ElementAt text at (Skip mid) → FailsFrom text mid f
+      → FailsFrom text at f
   token_on : (at mid : ℕ) (k : TokenKind) (f : LexFault) → ElementAt text at (TokenOf k mid)
-      → Fails text mid f → Fails text at f
+      → FailsFrom text mid f → FailsFrom text at f
 
 -- the bytes are a text with these tokens
 pub record TokensOf (bytes : List ℕ) (ts : List Token) : Type 0 where
@@ -81,4 +83,4 @@ pub record TokensOf (bytes : List ℕ) (ts : List Token) : Type 0 where
 -- the bytes are no text, at the first sequence that isn't well formed, or a text whose first fault is this
 pub data LexFaultOf (bytes : List ℕ) : LexFault → Type 0 where
   no_text : (IsUtf8 bytes → ⊥) → LexFaultOf bytes (faults.NotUtf8 (utf8_valid_len bytes))
-  in_text : (f : LexFault) → IsUtf8 bytes → Fails bytes 0 f → LexFaultOf bytes f
+  in_text : (f : LexFault) → IsUtf8 bytes → FailsFrom bytes 0 f → LexFaultOf bytes f

@@ -5,6 +5,7 @@ ghost use Rattle.std.specs.Str.{chars};
 ghost use Rattle.js_lex.specs.Elements;
 ghost use Rattle.js_lex.specs.Reader;
 ghost use Rattle.js_lex.specs.Reader.{lookahead_of};
+ghost use Rattle.js_units.specs.Text;
 
 use crate::mark::mark_front;
 use crate::token::Mark;
@@ -27,7 +28,7 @@ pub enum Front<'a> {
 
 /// Whether the character is WhiteSpace or a LineTerminator.
 fn is_blank(c: char) -> bool
-    ensures { result ≡ Elements.is_blank c }
+    ensures { result ≡ Text.is_blank c }
 {
     if matches!(c, '!'..='~') {
         return false;

@@ -4,7 +4,7 @@ ghost use Rattle.std.specs.List.{All};
 ghost use Rattle.js_literal.specs.Place.{StandsAt};
 ghost use Rattle.js_lex.specs.Spans.{InOrder, IsSpelled, IsWithin, slice};
 ghost use Rattle.std.specs.Str.{IsCharBoundary};
-ghost use Rattle.js_lex.specs.Tokens.{TokensOf, LexFaultOf, Lexes, Fails};
+ghost use Rattle.js_lex.specs.Tokens.{TokensOf, LexFaultOf, Lexes, FailsFrom};
 ghost use Rattle.js_lex.specs.Next.{GivesToken, GoesOn};
 ghost use Rattle.js_lex.specs.declared.token.LexFault.{LexFault};
 ghost use Rattle.js_lex.specs.declared.token.LexFault.TheVariants.{Memory};
@@ -35,7 +35,7 @@ pub fn next_token(alloc: Global, text: &str, at: u32) -> Result<Option<Token>, L
     requires cut { IsCharBoundary text.now at }
     ensures given { GivesToken text.now at result }
     ensures goes_on { IfOk result (λ found. IfSome found (λ t. GoesOn text.now at t)) }
-    ensures fault { IfErr result (λ e. (e ≡ Memory) ⊎ Fails text.now at e) }
+    ensures fault { IfErr result (λ e. (e ≡ Memory) ⊎ FailsFrom text.now at e) }
 {
     let mut from = at;
     'separators: loop {
@@ -52,7 +52,7 @@ pub fn next_token(alloc: Global, text: &str, at: u32) -> Result<Option<Token>, L
 fn scan(alloc: Global, text: &str) -> Result<Vec<Token>, LexFault>
     requires { length text.now ≤ 1048576 }
     ensures ok { IfOk result (λ v. Lexes text.now 0 v.items) }
-    ensures err { IfErr result (λ e. (e ≡ Memory) ⊎ Fails text.now 0 e) }
+    ensures err { IfErr result (λ e. (e ≡ Memory) ⊎ FailsFrom text.now 0 e) }
 {
     let mut tokens = Vec::new(alloc);
     let mut at: u32 = 0;

@@ -3,7 +3,7 @@ use Rattle.std.proofs.Common.{◌≡◌, ℕ, ◌+◌, ◌*◌, List, [], ◌∷
 use Rattle.std.proofs.lemmas.Bool.Decides.{nat_tests}
 use Rattle.std.specs.Prelude.{nat_le, ◌&&◌, ◌||◌}
 use Rattle.js_units.specs.Text.{utf16_of}
-use Rattle.js_literal.specs.Literal.{is_quote, hex_value, hex_number, letter_unit, begins_digit, begins_line_feed, is_plain, is_itself, Piece, plain, letter, null, two, four, braces, both_ends, return, line_end, itself, RawLineEnd, CodePointTooLarge, LegacyOctal}
+use Rattle.js_literal.specs.Literal.{is_quote, hex_value, hex_number, letter_unit, begins_digit, begins_line_feed, is_plain, is_itself, LiteralPiece, plain, letter, null, two, four, braces, both_ends, return, line_end, itself, RawLineEnd, CodePointTooLarge, LegacyOctal}
 use Rattle.js_literal.specs.Reader.{two_front, close_braces, unicode_of, one_unit, after_return, escape_of, reading, Take, Shut, Break}
 use Rattle.js_literal.proofs.Fronts.{front_number, two_reads, four_reads, run_reads}
 
@@ -104,7 +104,7 @@ four_looks a b c d v rest h =
     let e : nat_eq a 123 ≡ false = no_brace a (one.0) (one.1) in
     rw e (ap one_unit (four_reads a b c d v rest h))
 
-pub piece_looks : (q : ℕ) (s us rest : List ℕ) → is_quote q ≡ true → Piece q s us rest → reading q s ≡ Take us rest
+pub piece_looks : (q : ℕ) (s us rest : List ℕ) → is_quote q ≡ true → LiteralPiece q s us rest → reading q s ≡ Take us rest
 piece_looks q _ _ _ hq (plain c rest h) = plain_looks q c rest h
 piece_looks q _ _ _ hq (letter c u rest h) = at_backslash q (c ∷ rest) hq ∙ letter_looks c u rest h
 piece_looks q _ _ _ hq (null rest h) = at_backslash q (48 ∷ rest) hq ∙ null_looks rest false h

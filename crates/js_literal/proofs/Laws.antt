@@ -4,7 +4,7 @@ use Rattle.std.proofs.lemmas.Bool.Decides.{nat_tests}
 use Rattle.std.specs.Prelude.{encode_utf8_all, slice_index, Result, IfOk, IfErr}
 use Rattle.std.specs.Str.{chars, IsUtf8}
 use Rattle.js_literal.specs.Place.{StandsAt}
-use Rattle.js_literal.specs.Literal.{is_quote, Closed, piece, IsBroken, later, Kind, LiteralOf, LiteralFaultOf, fault_at, BeginsString}
+use Rattle.js_literal.specs.Literal.{is_quote, Closed, piece, IsBroken, later, StringFaultKind, LiteralOf, LiteralFaultOf, fault_at, BeginsString}
 use Rattle.js_literal.specs.declared.fault.LiteralFault.{LiteralFault}
 use Rattle.js_literal.specs.declared.fault.LiteralFault.TheVariants.{Memory}
 use Rattle.js_literal.proofs.Unique.{one_closed, not_both, one_fault}
@@ -63,12 +63,12 @@ closed_literal text at q s us rest left u b hq h l = record {
   ends = (closed_ends_at text at q s us rest left u b h l).1;
 }
 
-pub broken_ends_at : (text : List ℕ) (at q : ℕ) (s : List ℕ) (k : Kind) (rest : List ℕ) (left : ℕ) → IsUtf8 text → StandsAt text at (q ∷ s) → IsBroken q s k rest → length (encode_utf8_all rest) ≡ left → (left ≤ length text) × StandsAt text (length text - left) rest
+pub broken_ends_at : (text : List ℕ) (at q : ℕ) (s : List ℕ) (k : StringFaultKind) (rest : List ℕ) (left : ℕ) → IsUtf8 text → StandsAt text at (q ∷ s) → IsBroken q s k rest → length (encode_utf8_all rest) ≡ left → (left ≤ length text) × StandsAt text (length text - left) rest
 broken_ends_at text at q s k rest left u b h l =
     let e = after_quote q s rest (broken_ends q s rest k h) in
     (left_fits text at (q ∷ s) rest left u b e l, left_stands text at (q ∷ s) rest left u b e l)
 
-pub broken_literal : (text : List ℕ) (at q : ℕ) (s : List ℕ) (k : Kind) (rest : List ℕ) (left : ℕ) → IsUtf8 text → StandsAt text at (q ∷ s) → is_quote q ≡ true → IsBroken q s k rest → length (encode_utf8_all rest) ≡ left → LiteralFaultOf text at (fault_at k at (length text - left))
+pub broken_literal : (text : List ℕ) (at q : ℕ) (s : List ℕ) (k : StringFaultKind) (rest : List ℕ) (left : ℕ) → IsUtf8 text → StandsAt text at (q ∷ s) → is_quote q ≡ true → IsBroken q s k rest → length (encode_utf8_all rest) ≡ left → LiteralFaultOf text at (fault_at k at (length text - left))
 broken_literal text at q s k rest left u b hq h l = record {
   q = q;
   s = s;
@@ -105,15 +105,15 @@ only_fault text at (Err e) u ok err f h = go err
     go (inr g) = inl (ap (λ x. Err x) (one_fault_of text at e f u g h))
 
 -- the inside of a literal is closed or broken; n bounds what is left
-some_end : (n q : ℕ) (s : List ℕ) → is_quote q ≡ true → length s < n → ((us : List ℕ) × (rest : List ℕ) × Closed q s us rest) ⊎ ((k : Kind) × (left : List ℕ) × IsBroken q s k left)
+some_end : (n q : ℕ) (s : List ℕ) → is_quote q ≡ true → length s < n → ((us : List ℕ) × (rest : List ℕ) × Closed q s us rest) ⊎ ((k : StringFaultKind) × (left : List ℕ) × IsBroken q s k left)
 some_end zero q s hq l = absurd (omega arith)
 some_end (suc n) q s hq l = go (reading q s) refl (λ t m. some_end n q t hq m)
   where
-    more : (us mid : List ℕ) → Take us mid ≡ reading q s → ((us : List ℕ) × (rest : List ℕ) × Closed q mid us rest) ⊎ ((k : Kind) × (left : List ℕ) × IsBroken q mid k left) → ((us : List ℕ) × (rest : List ℕ) × Closed q s us rest) ⊎ ((k : Kind) × (left : List ℕ) × IsBroken q s k left)
+    more : (us mid : List ℕ) → Take us mid ≡ reading q s → ((us : List ℕ) × (rest : List ℕ) × Closed q mid us rest) ⊎ ((k : StringFaultKind) × (left : List ℕ) × IsBroken q mid k left) → ((us : List ℕ) × (rest : List ℕ) × Closed q s us rest) ⊎ ((k : StringFaultKind) × (left : List ℕ) × IsBroken q s k left)
     more us mid e (inl h) = inl (us ++ h.0, h.1, piece s mid (h.1) us (h.0) (taken q s us mid hq e) (h.2))
     more us mid e (inr h) = inr (h.0, h.1, later s mid us (h.1) (h.0) (taken q s us mid hq e) (h.2))
 
-    go : (r : Reading) → reading q s ≡ r → ((t : List ℕ) → length t < n → ((us : List ℕ) × (rest : List ℕ) × Closed q t us rest) ⊎ ((k : Kind) × (left : List ℕ) × IsBroken q t k left)) → ((us : List ℕ) × (rest : List ℕ) × Closed q s us rest) ⊎ ((k : Kind) × (left : List ℕ) × IsBroken q s k left)
+    go : (r : Reading) → reading q s ≡ r → ((t : List ℕ) → length t < n → ((us : List ℕ) × (rest : List ℕ) × Closed q t us rest) ⊎ ((k : StringFaultKind) × (left : List ℕ) × IsBroken q t k left)) → ((us : List ℕ) × (rest : List ℕ) × Closed q s us rest) ⊎ ((k : StringFaultKind) × (left : List ℕ) × IsBroken q s k left)
     go (Take us mid) e ih = more us mid (sym e) (ih mid (omega (arith, l, shorter q s us mid hq (sym e))))
     go (Shut rest) e ih = inl ([], rest, shut q s rest hq (sym e))
     go (Break k) e ih = inr (k, s, broken q s k hq (sym e))
@@ -128,6 +128,6 @@ some_literal text at u b = go (some_end (length s + 1) q s (b.1) (omega arith))
     s : List ℕ
     s = chars (drop (at + 1) text)
 
-    go : ((us : List ℕ) × (rest : List ℕ) × Closed q s us rest) ⊎ ((k : Kind) × (left : List ℕ) × IsBroken q s k left) → ((us : List ℕ) × (end : ℕ) × LiteralOf text at us end) ⊎ ((f : LiteralFault) × LiteralFaultOf text at f)
+    go : ((us : List ℕ) × (rest : List ℕ) × Closed q s us rest) ⊎ ((k : StringFaultKind) × (left : List ℕ) × IsBroken q s k left) → ((us : List ℕ) × (end : ℕ) × LiteralOf text at us end) ⊎ ((f : LiteralFault) × LiteralFaultOf text at f)
     go (inl h) = inl (h.0, length text - length (encode_utf8_all (h.1)), closed_literal text at q s (h.0) (h.1) (length (encode_utf8_all (h.1))) u (begins text at u b) (b.1) (h.2) refl)
     go (inr h) = inr (fault_at (h.0) at (length text - length (encode_utf8_all (h.1))), broken_literal text at q s (h.0) (h.1) (length (encode_utf8_all (h.1))) u (begins text at u b) (b.1) (h.2) refl)

@@ -3,17 +3,17 @@ use Rattle.std.proofs.Common.{◌≡◌, ℕ, List, [], ◌∷◌, ◌++◌, Opt
 use Rattle.std.proofs.lemmas.Bool.Decides.{nat_tests}
 use Rattle.std.specs.Prelude.{nat_le, ◌&&◌, ◌||◌}
 use Rattle.js_units.specs.Text.{utf16_of}
-use Rattle.js_literal.specs.Literal.{is_quote, hex_number, letter_unit, begins_digit, is_plain, is_itself, Piece, plain, letter, null, two, four, braces, both_ends, return, line_end, itself, Kind, Unclosed, RawLineEnd, BadEscape, CodePointTooLarge, LegacyOctal, IsTooLarge, large, Breaks, ended, ended_escape, raw_line_end, octal, octal_zero, too_large, bad}
+use Rattle.js_literal.specs.Literal.{is_quote, hex_number, letter_unit, begins_digit, is_plain, is_itself, LiteralPiece, plain, letter, null, two, four, braces, both_ends, return, line_end, itself, StringFaultKind, Unclosed, RawLineEnd, BadEscape, CodePointTooLarge, LegacyOctal, IsCodePointTooLarge, large, Breaks, ended, ended_escape, raw_line_end, octal, octal_zero, too_large, bad}
 use Rattle.js_literal.specs.Reader.{hex_front, two_front, four_front, hex_run, run_braces, close_braces, braces_of, unicode_of, one_unit, after_return, other_escape, chosen_escape, escape_of, reading, Reading, Take, Shut, Break}
 use Rattle.js_literal.proofs.Fronts.{front_some, two_some, four_some, run_some}
 use Rattle.js_literal.proofs.Exact.{is, at_backslash, null_looks, x_looks, u_looks, braces_looks, octal_looks, piece_looks}
 
 abbrev pub Means : ℕ → List ℕ → Reading → Type 0
-Means q s (Take us rest) = Piece q s us rest
+Means q s (Take us rest) = LiteralPiece q s us rest
 Means q s (Shut rest) = s ≡ q ∷ rest
 Means q s (Break k) = Breaks q s k
 
-large_looks : (s : List ℕ) → IsTooLarge s → escape_of s ≡ Break CodePointTooLarge
+large_looks : (s : List ℕ) → IsCodePointTooLarge s → escape_of s ≡ Break CodePointTooLarge
 large_looks _ (large d ds v rest h lt) = braces_looks d ds v rest h ∙ (let e : nat_le v 0x10FFFF ≡ false = grind (arith, nat_tests) in rw e refl)
 
 -- x or u, and what follows is refused as bad
@@ -24,10 +24,10 @@ bad_breaks q c rest hq hc h = bad c rest hc
 
 -- what may come of a u
 abbrev UMeans : ℕ → List ℕ → Reading → Type 0
-UMeans q s (Take us rest) = Piece q (92 ∷ 117 ∷ s) us rest
+UMeans q s (Take us rest) = LiteralPiece q (92 ∷ 117 ∷ s) us rest
 UMeans q s (Shut rest) = ⊥
 UMeans q s (Break BadEscape) = Unit {0}
-UMeans q s (Break CodePointTooLarge) = IsTooLarge (117 ∷ s)
+UMeans q s (Break CodePointTooLarge) = IsCodePointTooLarge (117 ∷ s)
 UMeans q s (Break _) = ⊥
 
 shut_means : (q d : ℕ) (ds : List ℕ) (v : ℕ) (r s : List ℕ) → hex_number 0 (d ∷ ds) ≡ Some v → s ≡ 123 ∷ d ∷ (ds ++ r) → UMeans q s (close_braces v r)
@@ -38,8 +38,8 @@ shut_means q d ds v (c ∷ rest) s h e = go (nat_eq c 125) refl
     whole t = subst (λ k. 123 ∷ d ∷ (ds ++ k ∷ rest) ≡ s) (is c 125 t) (sym e)
 
     within : (b : Bool) → nat_eq c 125 ≡ true → nat_le v 0x10FFFF ≡ b → UMeans q s (cond b (Take (utf16_of v) rest) (Break CodePointTooLarge))
-    within true t b = subst (λ r. Piece q (92 ∷ 117 ∷ r) (utf16_of v) rest) (whole t) (braces d ds v rest h (grind (arith, nat_tests)))
-    within false t b = subst (λ r. IsTooLarge (117 ∷ r)) (whole t) (large d ds v rest h (grind (arith, nat_tests)))
+    within true t b = subst (λ r. LiteralPiece q (92 ∷ 117 ∷ r) (utf16_of v) rest) (whole t) (braces d ds v rest h (grind (arith, nat_tests)))
+    within false t b = subst (λ r. IsCodePointTooLarge (117 ∷ r)) (whole t) (large d ds v rest h (grind (arith, nat_tests)))
 
     go : (t : Bool) → nat_eq c 125 ≡ t → UMeans q s (cond t (cond (nat_le v 0x10FFFF) (Take (utf16_of v) rest) (Break CodePointTooLarge)) (Break BadEscape))
     go true t = within (nat_le v 0x10FFFF) t refl
@@ -62,7 +62,7 @@ four_means q s = go (four_front s) refl
     go None e = tt
     go (Some p) e =
         let r = four_some s p e in
-        subst (λ t. Piece q (92 ∷ 117 ∷ t) (p.0 ∷ []) (p.1)) (sym (r.4)) (four (r.0) (r.1) (r.2) (r.3) (p.0) (p.1) (r.5))
+        subst (λ t. LiteralPiece q (92 ∷ 117 ∷ t) (p.0 ∷ []) (p.1)) (sym (r.4)) (four (r.0) (r.1) (r.2) (r.3) (p.0) (p.1) (r.5))
 
 u_means : (q : ℕ) (s : List ℕ) → UMeans q s (unicode_of s)
 u_means q [] = tt
@@ -91,14 +91,14 @@ x_breaks q s hq = go (two_front 0 s) refl
     go None e = bad_breaks q 120 s hq refl (x_looks s ∙ ap one_unit e)
     go (Some p) e =
         let r = two_some 0 s p e in
-        subst (λ t. Piece q (92 ∷ 120 ∷ t) (p.0 ∷ []) (p.1)) (sym (r.2)) (two (r.0) (r.1) (p.0) (p.1) (r.3 []))
+        subst (λ t. LiteralPiece q (92 ∷ 120 ∷ t) (p.0 ∷ []) (p.1)) (sym (r.2)) (two (r.0) (r.1) (p.0) (p.1) (r.3 []))
 
-return_means : (q : ℕ) (s : List ℕ) → Piece q (92 ∷ 13 ∷ s) [] (after_return s)
+return_means : (q : ℕ) (s : List ℕ) → LiteralPiece q (92 ∷ 13 ∷ s) [] (after_return s)
 return_means q [] = return [] refl
 return_means q (c ∷ s) = go (nat_eq c 10) refl
   where
-    go : (t : Bool) → nat_eq c 10 ≡ t → Piece q (92 ∷ 13 ∷ c ∷ s) [] (cond t s (c ∷ s))
-    go true e = subst (λ k. Piece q (92 ∷ 13 ∷ k ∷ s) [] s) (sym (is c 10 e)) (both_ends s)
+    go : (t : Bool) → nat_eq c 10 ≡ t → LiteralPiece q (92 ∷ 13 ∷ c ∷ s) [] (cond t s (c ∷ s))
+    go true e = subst (λ k. LiteralPiece q (92 ∷ 13 ∷ k ∷ s) [] s) (sym (is c 10 e)) (both_ends s)
     go false e = return (c ∷ s) e
 
 zero_means : (q : ℕ) (s : List ℕ) (b : Bool) → begins_digit s ≡ b → Means q (92 ∷ 48 ∷ s) (cond b (Break LegacyOctal) (Take (0 ∷ []) s))
@@ -148,7 +148,7 @@ reading_means q (c ∷ s) hq = go (nat_eq c q) (nat_eq c 92) (nat_eq c 10 || nat
     go false false false h1 h2 h3 = plain c s (none h1 h2 h3)
 
 -- each break is seen
-pub breaks_looks : (q : ℕ) (s : List ℕ) (k : Kind) → is_quote q ≡ true → Breaks q s k → reading q s ≡ Break k
+pub breaks_looks : (q : ℕ) (s : List ℕ) (k : StringFaultKind) → is_quote q ≡ true → Breaks q s k → reading q s ≡ Break k
 unfolding reading escape_of
 breaks_looks q _ _ hq ended = refl
 breaks_looks q _ _ hq ended_escape = at_backslash q [] hq
@@ -165,7 +165,7 @@ breaks_looks q _ _ hq (bad c rest h never not_large) = at_backslash q (c ∷ res
     x_only None never m = refl
     x_only (Some p) never m = absurd (never (p.0 ∷ []) (p.1) m)
 
-    u_only : (g : Reading) → ((us after : List ℕ) → Piece q (92 ∷ 117 ∷ rest) us after → ⊥) → (IsTooLarge (117 ∷ rest) → ⊥) → UMeans q rest g → g ≡ Break BadEscape
+    u_only : (g : Reading) → ((us after : List ℕ) → LiteralPiece q (92 ∷ 117 ∷ rest) us after → ⊥) → (IsCodePointTooLarge (117 ∷ rest) → ⊥) → UMeans q rest g → g ≡ Break BadEscape
     u_only (Take us after) never not_large m = absurd (never us after m)
     u_only (Shut r) never not_large m = absurd m
     u_only (Break Unclosed) never not_large m = absurd m
@@ -177,8 +177,8 @@ breaks_looks q _ _ hq (bad c rest h never not_large) = at_backslash q (c ∷ res
     go : (x u : Bool) → nat_eq c 120 ≡ x → nat_eq c 117 ≡ u → (x || u) ≡ true → escape_of (c ∷ rest) ≡ Break BadEscape
     go true u ex eu t =
         let e = is c 120 ex in
-        subst (λ k. escape_of (k ∷ rest) ≡ Break BadEscape) (sym e) (x_looks rest ∙ x_only (two_front 0 rest) (λ us after m. never us after (subst (λ k. Piece q (92 ∷ k ∷ rest) us after) (sym e) m)) (x_breaks q rest hq))
+        subst (λ k. escape_of (k ∷ rest) ≡ Break BadEscape) (sym e) (x_looks rest ∙ x_only (two_front 0 rest) (λ us after m. never us after (subst (λ k. LiteralPiece q (92 ∷ k ∷ rest) us after) (sym e) m)) (x_breaks q rest hq))
     go false true ex eu t =
         let e = is c 117 eu in
-        subst (λ k. escape_of (k ∷ rest) ≡ Break BadEscape) (sym e) (u_looks rest ∙ u_only (unicode_of rest) (λ us after m. never us after (subst (λ k. Piece q (92 ∷ k ∷ rest) us after) (sym e) m)) (λ l. not_large (subst (λ k. IsTooLarge (k ∷ rest)) (sym e) l)) (u_means q rest))
+        subst (λ k. escape_of (k ∷ rest) ≡ Break BadEscape) (sym e) (u_looks rest ∙ u_only (unicode_of rest) (λ us after m. never us after (subst (λ k. LiteralPiece q (92 ∷ k ∷ rest) us after) (sym e) m)) (λ l. not_large (subst (λ k. IsCodePointTooLarge (k ∷ rest)) (sym e) l)) (u_means q rest))
     go false false ex eu t = absurd cc

@@ -1,7 +1,7 @@
 -- One piece of a literal more.
 use Rattle.std.proofs.Common.{◌≡◌, ℕ, ◌<◌, List, [], ◌∷◌, ◌++◌, length, true, refl, sym, ap, ◌∙◌, subst, arith, append_assoc}
 use Rattle.std.proofs.lemmas.List.{length-append, append-nil}
-use Rattle.js_literal.specs.Literal.{is_quote, Piece, plain, letter, null, two, four, braces, both_ends, return, line_end, itself, Closed, close, piece, Kind, IsBroken, here, later}
+use Rattle.js_literal.specs.Literal.{is_quote, LiteralPiece, plain, letter, null, two, four, braces, both_ends, return, line_end, itself, Closed, close, piece, StringFaultKind, IsBroken, here, later}
 use Rattle.js_literal.specs.Reader.{reading, Take, Shut, Break}
 use Rattle.js_literal.proofs.Means.{reading_means, Means}
 
@@ -9,7 +9,7 @@ use Rattle.js_literal.proofs.Means.{reading_means, Means}
 abbrev pub EndsIn : List ℕ → List ℕ → Type 0
 EndsIn s rest = (front : List ℕ) × (s ≡ front ++ rest)
 
-pub piece_ends : (q : ℕ) (s us rest : List ℕ) → Piece q s us rest → (c : ℕ) × (front : List ℕ) × (s ≡ c ∷ (front ++ rest))
+pub piece_ends : (q : ℕ) (s us rest : List ℕ) → LiteralPiece q s us rest → (c : ℕ) × (front : List ℕ) × (s ≡ c ∷ (front ++ rest))
 piece_ends q _ _ _ (plain c rest h) = (c, [], refl)
 piece_ends q _ _ _ (letter c u rest h) = (92, c ∷ [], refl)
 piece_ends q _ _ _ (null rest h) = (92, 48 ∷ [], refl)
@@ -24,18 +24,18 @@ piece_ends q _ _ _ (itself c rest e h) = (92, c ∷ [], refl)
 pub ends_more : (s mid rest : List ℕ) → EndsIn s mid → EndsIn mid rest → EndsIn s rest
 ends_more s mid rest a b = (a.0 ++ b.0, a.1 ∙ (ap (λ r. a.0 ++ r) (b.1) ∙ sym (append_assoc (a.0) (b.0) rest)))
 
-piece_end : (q : ℕ) (s us rest : List ℕ) → Piece q s us rest → EndsIn s rest
+piece_end : (q : ℕ) (s us rest : List ℕ) → LiteralPiece q s us rest → EndsIn s rest
 piece_end q s us rest p = let e = piece_ends q s us rest p in (e.0 ∷ e.1, e.2)
 
 pub closed_ends : (q : ℕ) (s us rest : List ℕ) → Closed q s us rest → EndsIn s rest
 closed_ends q _ _ _ (close rest) = (q ∷ [], refl)
 closed_ends q _ _ _ (piece s mid rest us vs p h) = ends_more s mid rest (piece_end q s us mid p) (closed_ends q mid vs rest h)
 
-pub broken_ends : (q : ℕ) (s left : List ℕ) (k : Kind) → IsBroken q s k left → EndsIn s left
+pub broken_ends : (q : ℕ) (s left : List ℕ) (k : StringFaultKind) → IsBroken q s k left → EndsIn s left
 broken_ends q _ _ _ (here s k h) = ([], refl)
 broken_ends q _ _ _ (later s mid us left k p h) = ends_more s mid left (piece_end q s us mid p) (broken_ends q mid left k h)
 
-pub taken : (q : ℕ) (s us mid : List ℕ) → is_quote q ≡ true → Take us mid ≡ reading q s → Piece q s us mid
+pub taken : (q : ℕ) (s us mid : List ℕ) → is_quote q ≡ true → Take us mid ≡ reading q s → LiteralPiece q s us mid
 taken q s us mid hq e = subst (Means q s) (sym e) (reading_means q s hq)
 
 pub shorter : (q : ℕ) (s us mid : List ℕ) → is_quote q ≡ true → Take us mid ≡ reading q s → length mid < length s
@@ -48,7 +48,7 @@ shut q s rest hq e =
     let m : s ≡ q ∷ rest = subst (Means q s) (sym e) (reading_means q s hq) in
     subst (λ r. Closed q r [] rest) (sym m) (close rest)
 
-pub broken : (q : ℕ) (s : List ℕ) (k : Kind) → is_quote q ≡ true → Break k ≡ reading q s → IsBroken q s k s
+pub broken : (q : ℕ) (s : List ℕ) (k : StringFaultKind) → is_quote q ≡ true → Break k ≡ reading q s → IsBroken q s k s
 broken q s k hq e = here s k (subst (Means q s) (sym e) (reading_means q s hq))
 
 -- what the rest gives, the whole gives after the units so far
@@ -56,7 +56,7 @@ abbrev pub Closes : ℕ → List ℕ → List ℕ → List ℕ → Type 0
 Closes q whole units s = (us rest : List ℕ) → Closed q s us rest → Closed q whole (units ++ us) rest
 
 abbrev pub Fails : ℕ → List ℕ → List ℕ → Type 0
-Fails q whole s = (k : Kind) (left : List ℕ) → IsBroken q s k left → IsBroken q whole k left
+Fails q whole s = (k : StringFaultKind) (left : List ℕ) → IsBroken q s k left → IsBroken q whole k left
 
 pub closes_more : (q : ℕ) (whole units s us mid : List ℕ) → is_quote q ≡ true → Take us mid ≡ reading q s → Closes q whole units s → Closes q whole (units ++ us) mid
 closes_more q whole units s us mid hq e h = λ vs rest t.

@@ -1,7 +1,7 @@
 -- One reading alone.
 use Rattle.std.proofs.Common.{◌≡◌, ℕ, List, [], ◌∷◌, ◌++◌, true, refl, sym, ap, ◌∙◌, subst, arith, ◌⊎◌, inl, inr, nat_eq}
 use Rattle.std.proofs.lemmas.Bool.Decides.{nat_tests}
-use Rattle.js_literal.specs.Literal.{is_quote, Closed, close, piece, Kind, IsBroken, here, later}
+use Rattle.js_literal.specs.Literal.{is_quote, Closed, close, piece, StringFaultKind, IsBroken, here, later}
 use Rattle.js_literal.specs.Reader.{reading, Take, Shut, Break}
 use Rattle.js_literal.proofs.Exact.{piece_looks}
 use Rattle.js_literal.proofs.Means.{breaks_looks}
@@ -18,10 +18,10 @@ begun : (q : ℕ) (s us rest : List ℕ) → is_quote q ≡ true → Closed q s 
 begun q _ _ _ hq (close rest) = inl (shut_looks q rest, refl)
 begun q _ _ _ hq (piece s mid rest us vs p h) = inr (mid, us, vs, piece_looks q s us mid hq p, h, refl)
 
-abbrev Failed : ℕ → List ℕ → Kind → List ℕ → Type 0
+abbrev Failed : ℕ → List ℕ → StringFaultKind → List ℕ → Type 0
 Failed q s k left = ((reading q s ≡ Break k) × (left ≡ s)) ⊎ ((mid : List ℕ) × (vs : List ℕ) × (reading q s ≡ Take vs mid) × IsBroken q mid k left)
 
-failed : (q : ℕ) (s left : List ℕ) (k : Kind) → is_quote q ≡ true → IsBroken q s k left → Failed q s k left
+failed : (q : ℕ) (s left : List ℕ) (k : StringFaultKind) → is_quote q ≡ true → IsBroken q s k left → Failed q s k left
 failed q _ _ _ hq (here s k h) = inl (breaks_looks q s k hq h, refl)
 failed q _ _ _ hq (later s mid us left k p h) = inr (mid, us, piece_looks q s us mid hq p, h)
 
@@ -45,7 +45,7 @@ one_closed q _ _ _ vs end hq (piece s mid rest us ws p t) h = go (λ r x h. one_
         (ap (λ u. u ++ ws) same_us ∙ (ap (λ w. e.1 ++ w) (rest_same.0) ∙ sym (e.5)), rest_same.1)
 
 -- none is both closed and broken
-pub not_both : (q : ℕ) (s us rest left : List ℕ) (k : Kind) → is_quote q ≡ true → Closed q s us rest → IsBroken q s k left → ⊥
+pub not_both : (q : ℕ) (s us rest left : List ℕ) (k : StringFaultKind) → is_quote q ≡ true → Closed q s us rest → IsBroken q s k left → ⊥
 not_both q _ _ _ left k hq (close rest) h = go (failed q (q ∷ rest) left k hq h)
   where
     go : Failed q (q ∷ rest) k left → ⊥
@@ -62,7 +62,7 @@ not_both q _ _ _ left k hq (piece s mid rest us ws p t) h = go (λ b. not_both q
         ih (subst (λ m. IsBroken q m k left) same_mid (e.3))
 
 -- two faults from one place are one
-pub one_fault : (q : ℕ) (s left : List ℕ) (k : Kind) (other : List ℕ) (l : Kind) → is_quote q ≡ true → IsBroken q s k left → IsBroken q s l other → (k ≡ l) × (left ≡ other)
+pub one_fault : (q : ℕ) (s left : List ℕ) (k : StringFaultKind) (other : List ℕ) (l : StringFaultKind) → is_quote q ≡ true → IsBroken q s k left → IsBroken q s l other → (k ≡ l) × (left ≡ other)
 one_fault q _ _ _ other l hq (here s k b) h = go (failed q s other l hq h)
   where
     go : Failed q s l other → (k ≡ l) × (s ≡ other)

@@ -52,54 +52,57 @@ is_itself c = if is_digit c || c == 120 || c == 117 then false
 
 -- what precedes rest, and its units: a character for itself, or a row of the table of escapes
 -- ("SingleStringCharacter", "EscapeSequence", "LineContinuation", "static semantics: SV")
-pub data Piece (q : ℕ) : List ℕ → List ℕ → List ℕ → Type 0 where
-  plain : (c : ℕ) (rest : List ℕ) → is_plain q c ≡ true → Piece q (c ∷ rest) (utf16_of c) rest
-  letter : (c u : ℕ) (rest : List ℕ) → letter_unit c ≡ Some u → Piece q (92 ∷ c ∷ rest) (u ∷ []) rest
-  null : (rest : List ℕ) → begins_digit rest ≡ false → Piece q (92 ∷ 48 ∷ rest) (0 ∷ []) rest
+pub data LiteralPiece (q : ℕ) : List ℕ → List ℕ → List ℕ → Type 0 where
+  plain : (c : ℕ) (rest : List ℕ) → is_plain q c ≡ true → LiteralPiece q (c ∷ rest) (utf16_of c) rest
+  letter : (c u : ℕ) (rest : List ℕ) → letter_unit c ≡ Some u → LiteralPiece q (92 ∷ c ∷ rest) (u ∷ []) rest
+  null : (rest : List ℕ) → begins_digit rest ≡ false → LiteralPiece q (92 ∷ 48 ∷ rest) (0 ∷ []) rest
   two : (a b v : ℕ) (rest : List ℕ) → hex_number 0 (a ∷ b ∷ []) ≡ Some v
-      → Piece q (92 ∷ 120 ∷ a ∷ b ∷ rest) (v ∷ []) rest
+      → LiteralPiece q (92 ∷ 120 ∷ a ∷ b ∷ rest) (v ∷ []) rest
   four : (a b c d v : ℕ) (rest : List ℕ) → hex_number 0 (a ∷ b ∷ c ∷ d ∷ []) ≡ Some v
-      → Piece q (92 ∷ 117 ∷ a ∷ b ∷ c ∷ d ∷ rest) (v ∷ []) rest
+      → LiteralPiece q (92 ∷ 117 ∷ a ∷ b ∷ c ∷ d ∷ rest) (v ∷ []) rest
   braces : (d : ℕ) (ds : List ℕ) (v : ℕ) (rest : List ℕ) → hex_number 0 (d ∷ ds) ≡ Some v → v ≤ 0x10FFFF
-      → Piece q (92 ∷ 117 ∷ 123 ∷ d ∷ (ds ++ 125 ∷ rest)) (utf16_of v) rest
-  both_ends : (rest : List ℕ) → Piece q (92 ∷ 13 ∷ 10 ∷ rest) [] rest
-  return : (rest : List ℕ) → begins_line_feed rest ≡ false → Piece q (92 ∷ 13 ∷ rest) [] rest
+      → LiteralPiece q (92 ∷ 117 ∷ 123 ∷ d ∷ (ds ++ 125 ∷ rest)) (utf16_of v) rest
+  both_ends : (rest : List ℕ) → LiteralPiece q (92 ∷ 13 ∷ 10 ∷ rest) [] rest
+  return : (rest : List ℕ) → begins_line_feed rest ≡ false → LiteralPiece q (92 ∷ 13 ∷ rest) [] rest
   line_end : (c : ℕ) (rest : List ℕ) → (c == 10 || c == 0x2028 || c == 0x2029) ≡ true
-      → Piece q (92 ∷ c ∷ rest) [] rest
+      → LiteralPiece q (92 ∷ c ∷ rest) [] rest
   itself : (c : ℕ) (rest : List ℕ) → letter_unit c ≡ None → is_itself c ≡ true
-      → Piece q (92 ∷ c ∷ rest) (utf16_of c) rest
+      → LiteralPiece q (92 ∷ c ∷ rest) (utf16_of c) rest
 
 -- pieces up to the closing quote: the characters, their units, and the rest behind the quote
 pub data Closed (q : ℕ) : List ℕ → List ℕ → List ℕ → Type 0 where
   close : (rest : List ℕ) → Closed q (q ∷ rest) [] rest
-  piece : (s mid rest us vs : List ℕ) → Piece q s us mid → Closed q mid vs rest → Closed q s (us ++ vs) rest
+  piece : (s mid rest us vs : List ℕ) → LiteralPiece q s us mid → Closed q mid vs rest
+      → Closed q s (us ++ vs) rest
 
 -- the faults of a string literal
-pub data Kind : Type 0 where
-  Unclosed RawLineEnd BadEscape CodePointTooLarge LegacyOctal : Kind
+pub data StringFaultKind : Type 0 where
+  Unclosed RawLineEnd BadEscape CodePointTooLarge LegacyOctal : StringFaultKind
 
 -- u{, digits with a value over 10FFFF, and }
-pub data IsTooLarge : List ℕ → Type 0 where
+pub data IsCodePointTooLarge : List ℕ → Type 0 where
   large : (d : ℕ) (ds : List ℕ) (v : ℕ) (rest : List ℕ) → hex_number 0 (d ∷ ds) ≡ Some v → 0x10FFFF < v
-      → IsTooLarge (117 ∷ 123 ∷ d ∷ (ds ++ 125 ∷ rest))
+      → IsCodePointTooLarge (117 ∷ 123 ∷ d ∷ (ds ++ 125 ∷ rest))
 
 -- what is refused at the front of what is left
-pub data Breaks (q : ℕ) : List ℕ → Kind → Type 0 where
+pub data Breaks (q : ℕ) : List ℕ → StringFaultKind → Type 0 where
   ended : Breaks q [] Unclosed
   ended_escape : Breaks q (92 ∷ []) Unclosed
   raw_line_end : (c : ℕ) (rest : List ℕ) → (c == 10 || c == 13) ≡ true → Breaks q (c ∷ rest) RawLineEnd
   octal : (c : ℕ) (rest : List ℕ) → (nat_le 49 c && nat_le c 57) ≡ true → Breaks q (92 ∷ c ∷ rest) LegacyOctal
   octal_zero : (rest : List ℕ) → begins_digit rest ≡ true → Breaks q (92 ∷ 48 ∷ rest) LegacyOctal
-  too_large : (s : List ℕ) → IsTooLarge s → Breaks q (92 ∷ s) CodePointTooLarge
+  too_large : (s : List ℕ) → IsCodePointTooLarge s → Breaks q (92 ∷ s) CodePointTooLarge
   -- x or u, and neither a row of the table nor too large
   bad : (c : ℕ) (rest : List ℕ) → (c == 120 || c == 117) ≡ true
-      → ((us after : List ℕ) → Piece q (92 ∷ c ∷ rest) us after → ⊥) → (IsTooLarge (c ∷ rest) → ⊥)
+      → ((us after : List ℕ) → LiteralPiece q (92 ∷ c ∷ rest) us after → ⊥)
+      → (IsCodePointTooLarge (c ∷ rest) → ⊥)
       → Breaks q (92 ∷ c ∷ rest) BadEscape
 
 -- the first fault, and what is left where it shows
-pub data IsBroken (q : ℕ) : List ℕ → Kind → List ℕ → Type 0 where
-  here : (s : List ℕ) (f : Kind) → Breaks q s f → IsBroken q s f s
-  later : (s mid us left : List ℕ) (f : Kind) → Piece q s us mid → IsBroken q mid f left → IsBroken q s f left
+pub data IsBroken (q : ℕ) : List ℕ → StringFaultKind → List ℕ → Type 0 where
+  here : (s : List ℕ) (f : StringFaultKind) → Breaks q s f → IsBroken q s f s
+  later : (s mid us left : List ℕ) (f : StringFaultKind) → LiteralPiece q s us mid → IsBroken q mid f left
+      → IsBroken q s f left
 
 -- a string literal with these units is at byte at and ends before byte end
 pub record LiteralOf (text : List ℕ) (at : ℕ) (units : List ℕ) (end : ℕ) : Type 0 where
@@ -112,7 +115,7 @@ pub record LiteralOf (text : List ℕ) (at : ℕ) (units : List ℕ) (end : ℕ)
   pub ends : StandsAt text end rest
 
 -- Unclosed is at the opening quote, the others are where they show
-abbrev pub fault_at : Kind → ℕ → ℕ → LiteralFault
+abbrev pub fault_at : StringFaultKind → ℕ → ℕ → LiteralFault
 fault_at Unclosed at place = faults.Unclosed at
 fault_at RawLineEnd at place = faults.RawLineEnd place
 fault_at BadEscape at place = faults.BadEscape place
@@ -124,7 +127,7 @@ pub record LiteralFaultOf (text : List ℕ) (at : ℕ) (fault : LiteralFault) : 
   pub q : ℕ
   pub s : List ℕ
   pub left : List ℕ
-  pub kind : Kind
+  pub kind : StringFaultKind
   pub here_at : ℕ
   pub starts : StandsAt text at (q ∷ s)
   pub quote : is_quote q ≡ true

@@ -3,7 +3,7 @@
 use Rattle.std.specs.Prelude.{ℕ, ◌+◌, ◌*◌, List, [], ◌∷◌, Option, Some, None, Bool, nat_le, ◌==◌, not, ◌&&◌, ◌||◌, if◌then◌else◌}
 use Rattle.std.specs.Str.{chars}
 use Rattle.js_units.specs.Text.{utf16_of}
-use Rattle.js_literal.specs.Literal.{hex_value, letter_unit, begins_digit, Kind, Unclosed, RawLineEnd, BadEscape, CodePointTooLarge, LegacyOctal}
+use Rattle.js_literal.specs.Literal.{hex_value, letter_unit, begins_digit, StringFaultKind, Unclosed, RawLineEnd, BadEscape, CodePointTooLarge, LegacyOctal}
 use Rattle.js_literal.specs.declared.front.LiteralFront.{LiteralFront}
 use Rattle.js_literal.specs.declared.front.LiteralFront.TheVariants as code
 use Rattle.js_literal.specs.declared.front.PieceUnits.{PieceUnits}
@@ -15,7 +15,7 @@ use Rattle.js_literal.specs.declared.front.PieceFault.TheVariants as refusal
 pub data Reading : Type 0 where
   Take : List ℕ → List ℕ → Reading
   Shut : List ℕ → Reading
-  Break : Kind → Reading
+  Break : StringFaultKind → Reading
 
 -- a hexadecimal digit after a value: the new value, and what follows
 abbrev pub hex_front : ℕ → List ℕ → Option (ℕ × List ℕ)
@@ -112,7 +112,7 @@ value_units value.Nothing = []
 value_units (value.Char c) = utf16_of c
 value_units (value.Unit u) = u ∷ []
 
-abbrev pub kind_of : PieceFault → Kind
+abbrev pub kind_of : PieceFault → StringFaultKind
 kind_of refusal.Unclosed = Unclosed
 kind_of refusal.RawLineEnd = RawLineEnd
 kind_of refusal.BadEscape = BadEscape

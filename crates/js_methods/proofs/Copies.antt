@@ -4,7 +4,7 @@ use Rattle.std.specs.Prelude.{◌/◌, ◌%◌, ◌^◌, Option, Some, None, Res
 use Rattle.std.specs.List.{repeat}
 use Rattle.std.proofs.lemmas.List.{append_assoc}
 use Rattle.std.proofs.Math.Nat.{suc-mul, two-pow-succ}
-use Rattle.js_store.specs.State.{State, Has, IsKnown, text, Grows}
+use Rattle.js_store.specs.State.{State, NamesUnits, IsKnown, text, Grows}
 use Rattle.js_store.specs.Faults.{Uses}
 use Rattle.js_store.specs.declared.faults.StoreFault.{StoreFault}
 use Rattle.js_store.proofs.Laws.{has_text, text_still}
@@ -47,7 +47,7 @@ odd_lengths : (n : ℕ) (u : List ℕ) → n % 2 ≡ 1 → (length (repeat (n / 
 odd_lengths n u h = omega (arith, length-append (repeat (n / 2) u ++ repeat (n / 2) u) u, length-append (repeat (n / 2) u) (repeat (n / 2) u), ap (λ (v : List ℕ). length v) (odd_copies n u h))
 
 -- the same of the strings of a store: `h` has half of the copies of `s`, `e` twice as many
-module _ {F : Type 0} (a : State F) (s h n : ℕ) (half : Has a h (repeat (n / 2) (text a s))) where
+module _ {F : Type 0} (a : State F) (s h n : ℕ) (half : NamesUnits a h (repeat (n / 2) (text a s))) where
   half_text : text a h ≡ repeat (n / 2) (text a s)
   half_text = has_text a h (repeat (n / 2) (text a s)) half
 
@@ -60,10 +60,10 @@ module _ {F : Type 0} (a : State F) (s h n : ℕ) (half : Has a h (repeat (n / 2
   pub even_room : (limit : ℕ) → length (repeat n (text a s)) ≤ limit → length (text a h) + length (text a h) ≤ limit
   even_room limit k = omega (arith, fits_twice)
 
-  pub even_value : (b : State F) (r : ℕ) → n % 2 ≡ 0 → Has b r (text a h ++ text a h) → Has b r (repeat n (text a s))
+  pub even_value : (b : State F) (r : ℕ) → n % 2 ≡ 0 → NamesUnits b r (text a h ++ text a h) → NamesUnits b r (repeat n (text a s))
   even_value b r p k = k ∙ ap Some (ap (λ (v : List ℕ). v ++ v) half_text ∙ even_copies n (text a s) p)
 
-  module _ (b : State F) (e : ℕ) (known : IsKnown a s) (odd : n % 2 ≡ 1) (double : Has b e (text a h ++ text a h)) (first : Uses a b None 1 3) where
+  module _ (b : State F) (e : ℕ) (known : IsKnown a s) (odd : n % 2 ≡ 1) (double : NamesUnits b e (text a h ++ text a h)) (first : Uses a b None 1 3) where
     kept : text b s ≡ text a s
     kept = text_still first.step.grows s known
 
@@ -80,7 +80,7 @@ module _ {F : Type 0} (a : State F) (s h n : ℕ) (half : Has a h (repeat (n / 2
     pub odd_room : length (repeat n (text a s)) ≤ a.limit → length (text b e) + length (text b s) ≤ b.limit
     odd_room k = omega (arith, lengths, first.step.grows.limit)
 
-    pub odd_value : (c : State F) (r : ℕ) → Has c r (text b e ++ text b s) → Has c r (repeat n (text a s))
+    pub odd_value : (c : State F) (r : ℕ) → NamesUnits c r (text b e ++ text b s) → NamesUnits c r (repeat n (text a s))
     odd_value c r k = k ∙ ap Some both
 
 pub half_lengths : (n : ℕ) (u : List ℕ) → length (repeat (n / 2) u) ≤ length (repeat n u)
@@ -105,11 +105,11 @@ module _ {F : Type 0} (a b : State F) (s n : ℕ) (known : IsKnown a s) (grows :
   same_text : text b s ≡ text a s
   same_text = text_still grows s known
 
-  pub half_value : (h : ℕ) → Has b h (repeat (n / 2) (text a s)) → Has b h (repeat (n / 2) (text b s))
+  pub half_value : (h : ℕ) → NamesUnits b h (repeat (n / 2) (text a s)) → NamesUnits b h (repeat (n / 2) (text b s))
   half_value h k = k ∙ ap (λ (u : List ℕ). Some (repeat (n / 2) u)) (sym same_text)
 
   pub whole_room : length (repeat n (text a s)) ≤ a.limit → length (repeat n (text b s)) ≤ b.limit
   whole_room k = omega (arith, ap (λ (u : List ℕ). length (repeat n u)) same_text, grows.limit)
 
-  pub whole_value : (c : State F) (r : ℕ) → Has c r (repeat n (text b s)) → Has c r (repeat n (text a s))
+  pub whole_value : (c : State F) (r : ℕ) → NamesUnits c r (repeat n (text b s)) → NamesUnits c r (repeat n (text a s))
   whole_value c r k = k ∙ ap (λ (u : List ℕ). Some (repeat n u)) same_text

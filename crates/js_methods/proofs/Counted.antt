@@ -4,12 +4,12 @@ use Rattle.std.specs.Prelude.{◌^◌, Bool, true, false, Option, Some, None}
 use Rattle.std.specs.List.{repeat}
 use Rattle.std.proofs.Math.Nat.{mul-le-mul_left}
 use Rattle.js_number.specs.declared.Num.{Num}
-use Rattle.js_store.specs.State.{State, Has, IsKnown, text}
+use Rattle.js_store.specs.State.{State, NamesUnits, IsKnown, text}
 use Rattle.js_store.specs.Faults.{Uses}
 use Rattle.js_store.specs.declared.faults.StoreFault.{StoreFault}
 use Rattle.js_texts.specs.declared.faults.Cause.TheVariants.{TooLong as Length}
 use Rattle.js_store.proofs.Laws.{has_still, known_has, text_still}
-use Rattle.js_methods.specs.Repeating.{is_count, copies, repeat_of, IsCountFault, repeat_ids, repeat_words}
+use Rattle.js_methods.specs.Repeating.{is_count, copies, repeat_of, IsCountFault, repeat_used_ids, repeat_used_words}
 use Rattle.js_methods.proofs.Copies.{length-copies}
 use Rattle.js_methods.proofs.Uses.{uses_after}
 
@@ -36,10 +36,10 @@ module _ {F : Type 0} (a b : State F) (s n : ℕ) (count : Num) (known : IsKnown
   pub copies_room : (m : ℕ) → m ≡ length (text a s) * n → m ≤ b.limit → length (repeat n (text b s)) ≤ b.limit
   copies_room m e l = omega (arith, e, length-copies n (text b s), ap (λ (u : List ℕ). n * length u) (text_still first.step.grows s known))
 
-  pub itself : length (text a s) ≡ 0 → Has b s (repeat_of (text a s) count)
+  pub itself : length (text a s) ≡ 0 → NamesUnits b s (repeat_of (text a s) count)
   itself h = has_still first.step.grows s (text a s) (known_has a s known) ∙ ap Some (none_repeated (copies count) (text a s) h)
 
-  pub copies_use : (c : State F) (f : Option StoreFault) (m : ℕ) → m ≡ length (text a s) * n → m ≤ b.limit → b.limit ≤ 536870888 → 1 ≤ length (text a s) → ((k : ℕ) → n < 2 ^ (k + 1) → Uses b c f (2 * k) (6 * k)) → Uses a c f repeat_ids repeat_words
+  pub copies_use : (c : State F) (f : Option StoreFault) (m : ℕ) → m ≡ length (text a s) * n → m ≤ b.limit → b.limit ≤ 536870888 → 1 ≤ length (text a s) → ((k : ℕ) → n < 2 ^ (k + 1) → Uses b c f (2 * k) (6 * k)) → Uses a c f repeat_used_ids repeat_used_words
   copies_use c f m e l h some t =
       let few : n * 1 ≤ n * length (text a s) = mul-le-mul_left n some in
       uses_after first (t 28 (omega (arith, few, e, l, h))) (omega arith) (omega arith)

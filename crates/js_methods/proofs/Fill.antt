@@ -5,7 +5,7 @@ use Rattle.std.specs.List.{repeat}
 use Rattle.std.proofs.lemmas.List.{take-append-le, length-take-le}
 use Rattle.std.proofs.Math.Seq.{take-append-add}
 use Rattle.std.proofs.Math.Nat.{div-add-mod, div-le_self, mul-le-mul_left, mod-lt}
-use Rattle.js_store.specs.State.{State, Has, IsKnown, text}
+use Rattle.js_store.specs.State.{State, NamesUnits, IsKnown, text}
 use Rattle.js_store.specs.Faults.{Uses}
 use Rattle.js_store.specs.Rows.{wide_words}
 use Rattle.js_store.specs.declared.faults.StoreFault.{StoreFault}
@@ -47,13 +47,13 @@ module _ {F : Type 0} (a b : State F) (s n size : ℕ) (known : IsKnown a s) (is
   repeats_length : length (repeat (n / size) (text b s)) ≤ n
   repeats_length = omega (arith, lengths, ap (λ (v : List ℕ). length (repeat (n / size) v)) kept)
 
-  pub front_value : (c : State F) (r : ℕ) → n / size ≡ 0 → Has c r (take (n % size) (text b s)) → Has c r (filling (text a s) n)
+  pub front_value : (c : State F) (r : ℕ) → n / size ≡ 0 → NamesUnits c r (take (n % size) (text b s)) → NamesUnits c r (filling (text a s) n)
   front_value c r z k = k ∙ ap Some (ap (λ (v : List ℕ). take (n % size) v) kept ∙ sym (fill ∙ ap (λ q. repeat q (text a s) ++ take (n % size) (text a s)) z))
 
   pub repeats_room : n ≤ a.limit → length (repeat (n / size) (text b s)) ≤ b.limit
   repeats_room h = omega (arith, repeats_length, first.step.grows.limit)
 
-  pub repeats_value : (c : State F) (r : ℕ) → n % size ≡ 0 → Has c r (repeat (n / size) (text b s)) → Has c r (filling (text a s) n)
+  pub repeats_value : (c : State F) (r : ℕ) → n % size ≡ 0 → NamesUnits c r (repeat (n / size) (text b s)) → NamesUnits c r (filling (text a s) n)
   repeats_value c r z k =
       let none : repeat (n / size) (text a s) ++ take (n % size) (text a s) ≡ repeat (n / size) (text a s) = ap (λ i. repeat (n / size) (text a s) ++ take i (text a s)) z ∙ append-nil (repeat (n / size) (text a s)) in
       k ∙ ap Some (ap (λ (v : List ℕ). repeat (n / size) v) kept ∙ sym (fill ∙ none))
@@ -65,7 +65,7 @@ module _ {F : Type 0} (a b : State F) (s n size : ℕ) (known : IsKnown a s) (is
   repeats_within c t used = uses_within used (omega arith) (omega arith)
 
   -- the front of the filler behind the copies
-  module _ (c : State F) (r : ℕ) (copies : Has c r (repeat (n / size) (text b s))) (second : Uses a c None 62 186) where
+  module _ (c : State F) (r : ℕ) (copies : NamesUnits c r (repeat (n / size) (text b s))) (second : Uses a c None 62 186) where
     pub front_known : IsKnown c s
     front_known = known_still second.step.grows s known
 
@@ -81,7 +81,7 @@ module _ {F : Type 0} (a b : State F) (s n size : ℕ) (known : IsKnown a s) (is
     pub front_within_use : (d : State F) (t : Option StoreFault) → Uses a d t 63 (2 * wide_words (length (text a s)) + 189) → Uses a d t 64 (2 * wide_words (length (text a s)) + 256)
     front_within_use d t used = uses_within used (omega arith) (omega arith)
 
-    module _ (d : State F) (p : ℕ) (front : Has d p (take (n % size) (text c s))) (third : Uses c d None 1 (2 * wide_words (length (text c s)) + 3)) where
+    module _ (d : State F) (p : ℕ) (front : NamesUnits d p (take (n % size) (text c s))) (third : Uses c d None 1 (2 * wide_words (length (text c s)) + 3)) where
       both : text d r ++ text d p ≡ filling (text a s) n
       both =
           ap (λ (v : List ℕ). v ++ text d p) (has_text d r (repeat (n / size) (text b s)) (has_still third.step.grows r (repeat (n / size) (text b s)) copies)) ∙
@@ -95,7 +95,7 @@ module _ {F : Type 0} (a b : State F) (s n size : ℕ) (known : IsKnown a s) (is
       pub last_room : n ≤ a.limit → length (text d r) + length (text d p) ≤ d.limit
       last_room h = omega (arith, whole, second.step.grows.limit, third.step.grows.limit)
 
-      pub last_value : (e : State F) (x : ℕ) → Has e x (text d r ++ text d p) → Has e x (filling (text a s) n)
+      pub last_value : (e : State F) (x : ℕ) → NamesUnits e x (text d r ++ text d p) → NamesUnits e x (filling (text a s) n)
       last_value e x k = k ∙ ap Some both
 
       pub last_use : (e : State F) (t : Option StoreFault) → Uses d e t 1 3 → Uses a e t 64 (2 * wide_words (length (text a s)) + 256)

@@ -3,12 +3,12 @@ use Rattle.std.proofs.Common.{◌≡◌, ℕ, ◌+◌, ◌-◌, ◌*◌, ◌%◌
 use Rattle.std.specs.Prelude.{Option, Some, None}
 use Rattle.std.specs.List.{repeat}
 use Rattle.std.proofs.lemmas.List.{length-take}
-use Rattle.js_store.specs.State.{State, Has, IsKnown, text}
+use Rattle.js_store.specs.State.{State, NamesUnits, IsKnown, text}
 use Rattle.js_store.specs.Faults.{Uses}
 use Rattle.js_store.specs.Rows.{wide_words}
 use Rattle.js_store.specs.declared.faults.StoreFault.{StoreFault}
 use Rattle.js_store.proofs.Laws.{has_text, text_still, known_still}
-use Rattle.js_methods.specs.Padding.{CutsFiller, filling, pad_start_of, pad_end_of, pad_ids, pad_words}
+use Rattle.js_methods.specs.Padding.{CutsFiller, filling, pad_start_of, pad_end_of, pad_used_ids, pad_used_words}
 use Rattle.js_methods.proofs.Copies.{length-copies}
 use Rattle.js_methods.proofs.Fill.{length-filling}
 use Rattle.js_methods.proofs.Uses.{uses_after}
@@ -46,20 +46,20 @@ module _ {F : Type 0} (a b : State F) (s t most room : ℕ) (known : IsKnown a s
   same_filling : filling (text b t) room ≡ filling (text a t) (most - length (text a s))
   same_filling = ap (λ (v : List ℕ). filling v room) kept ∙ ap (filling (text a t)) room_is
 
-  module _ (d : State F) (x : ℕ) (fill : Has d x (filling (text b t) room)) (second : Uses b d None 64 (2 * wide_words (length (text b t)) + 256)) where
+  module _ (d : State F) (x : ℕ) (fill : NamesUnits d x (filling (text b t) room)) (second : Uses b d None 64 (2 * wide_words (length (text b t)) + 256)) where
     filled : text d x ≡ filling (text a t) (most - length (text a s))
     filled = has_text d x (filling (text b t) room) fill ∙ same_filling
 
     same : text d s ≡ text a s
     same = text_still second.step.grows s (known_still first.step.grows s known) ∙ text_still first.step.grows s known
 
-    pub start_value : (e : State F) (r : ℕ) → Has e r (text d x ++ text d s) → Has e r (pad_start_of (text a s) most (text a t))
+    pub start_value : (e : State F) (r : ℕ) → NamesUnits e r (text d x ++ text d s) → NamesUnits e r (pad_start_of (text a s) most (text a t))
     start_value e r k = k ∙ ap Some (ap (λ (v : List ℕ). v ++ text d s) filled ∙ ap (λ (v : List ℕ). filling (text a t) (most - length (text a s)) ++ v) same)
 
-    pub end_value : (e : State F) (r : ℕ) → Has e r (text d s ++ text d x) → Has e r (pad_end_of (text a s) most (text a t))
+    pub end_value : (e : State F) (r : ℕ) → NamesUnits e r (text d s ++ text d x) → NamesUnits e r (pad_end_of (text a s) most (text a t))
     end_value e r k = k ∙ ap Some (ap (λ (v : List ℕ). text d s ++ v) filled ∙ ap (λ (v : List ℕ). v ++ filling (text a t) (most - length (text a s))) same)
 
-    pub pad_use : (e : State F) (f : Option StoreFault) → Uses d e f 1 3 → Uses a e f pad_ids (pad_words (length (text a t)))
+    pub pad_use : (e : State F) (f : Option StoreFault) → Uses d e f 1 3 → Uses a e f pad_used_ids (pad_used_words (length (text a t)))
     pad_use e f used =
         let front : Uses a d None 64 (2 * wide_words (length (text a t)) + 256) = uses_after first second (omega arith) (omega (arith, ap (λ (v : List ℕ). length v) kept)) in
         uses_after front used (omega arith) (omega arith)

@@ -4,13 +4,13 @@ use Rattle.js_number.specs.declared.Num.{Num}
 use Rattle.js_number.specs.Places.{clamped, relative}
 
 -- an end that isn't given is that of the string
-abbrev pub end_of : Option Num → ℕ → ℕ
-end_of None n = n
-end_of (Some e) n = relative e n
+abbrev pub end_or_length : Option Num → ℕ → ℕ
+end_or_length None n = n
+end_or_length (Some e) n = relative e n
 
 -- "String.prototype.slice": the part from start to before end, empty where start isn't before end
 abbrev pub slice_of : List ℕ → Num → Option Num → List ℕ
-slice_of u start end = slice_range u (relative start (length u)) (end_of end (length u))
+slice_of u start end = slice_range u (relative start (length u)) (end_or_length end (length u))
 
 -- "String.prototype.substring": both places clamped, the part from the smaller to the larger
 abbrev pub clamped_end : Option Num → ℕ → ℕ

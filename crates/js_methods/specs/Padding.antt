@@ -18,8 +18,8 @@ abbrev pub CutsFiller : ℕ → ℕ → Type 0
 CutsFiller n m = (1 ≤ m) × (1 ≤ n % m)
 
 -- what a pad uses at most, where its filler has m units: it settles the filler alone
-abbrev pub pad_ids : ℕ
-pad_ids = 120
+abbrev pub pad_used_ids : ℕ
+pad_used_ids = 120
 
-abbrev pub pad_words : ℕ → ℕ
-pad_words m = 2 * m + 1000
+abbrev pub pad_used_words : ℕ → ℕ
+pad_used_words m = 2 * m + 1000

@@ -39,8 +39,8 @@ ThrowsCount (Ok r) counts limit n = (counts ≡ true) × (n ≤ limit)
 ThrowsCount (Err f) counts limit n = IsRepeatFault f counts limit n
 
 -- what `repeat` uses at most, whatever its string and its count are: it settles nothing
-abbrev pub repeat_ids : ℕ
-repeat_ids = 96
+abbrev pub repeat_used_ids : ℕ
+repeat_used_ids = 96
 
-abbrev pub repeat_words : ℕ
-repeat_words = 512
+abbrev pub repeat_used_words : ℕ
+repeat_used_words = 512

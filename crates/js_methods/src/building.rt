@@ -2,7 +2,7 @@
 ghost use Rattle.std.specs.Prelude.{◌≡◌, ◌≤◌, ◌+◌, ◌++◌, ◌∷◌, ℕ, List, false, All, map, length, IfOk, OnOk, IsTrue};
 ghost use Rattle.js_units.specs.Text;
 ghost use Rattle.js_units.specs.Text.{well};
-ghost use Rattle.js_store.specs.State.{Has, IsKnown, IsSettled, text};
+ghost use Rattle.js_store.specs.State.{NamesUnits, IsKnown, IsSettled, text};
 ghost use Rattle.js_store.specs.Rows.{flat_words, wide_words};
 ghost use Rattle.js_store.specs.Faults.{Uses};
 ghost use Rattle.js_texts.specs.Answers.{NeverThrows, ThrowsLong, full_of};
@@ -25,7 +25,8 @@ pub fn from_char_code<S: Strings>(
 ) -> Result<S::Ref, MethodFault>
     requires lawful { All IsLawful codes.now }
     requires count { length codes.now ≤ 1048576 }
-    ensures value { IfOk result (λ r. Has (S.state store.new) (S.number r) (map (modulo 65536) codes.now)) }
+    ensures value { IfOk result (λ r. NamesUnits (S.state store.new) (S.number r)
+        (map (modulo 65536) codes.now)) }
     ensures throws { NeverThrows result }
     ensures uses { Uses (S.state store.old) (S.state store.new) (full_of result)
         1 (flat_words (map (modulo 65536) codes.now)) }
@@ -55,7 +56,8 @@ pub fn from_code_point<S: Strings>(
     points: &[Num],
 ) -> Result<S::Ref, MethodFault>
     requires { length points.now ≤ 1048576 }
-    ensures value { IfOk result (λ r. Has (S.state store.new) (S.number r) (code_units_of points.now)) }
+    ensures value { IfOk result (λ r. NamesUnits (S.state store.new) (S.number r)
+        (code_units_of points.now)) }
     ensures throws { ThrowsBadPoint result points.now }
     ensures uses { Uses (S.state store.old) (S.state store.new) (full_of result)
         1 (flat_words (code_units_of points.now)) }
@@ -107,7 +109,7 @@ pub fn to_well_formed<S: Strings>(
 ) -> Result<S::Ref, MethodFault>
     requires { IsKnown (S.state store.old) (S.number s) }
     ensures value { IfOk result
-        (λ r. Has (S.state store.new) (S.number r) (well (text (S.state store.old) (S.number s)))) }
+        (λ r. NamesUnits (S.state store.new) (S.number r) (well (text (S.state store.old) (S.number s)))) }
     ensures settled { OnOk result (IsSettled (S.state store.new) (S.number s)) }
     ensures throws { ThrowsLong result (S.state store.old).limit
         (length (well (text (S.state store.old) (S.number s)))) }

@@ -1,6 +1,6 @@
 // Methods that give a part of a string, or several put together.
 ghost use Rattle.std.specs.Prelude.{◌+◌, ◌*◌, ◌≤◌, ◌++◌, length, slice_range, IfOk, OnOk, IfSome};
-ghost use Rattle.js_store.specs.State.{Has, IsKnown, IsSettled, text};
+ghost use Rattle.js_store.specs.State.{NamesUnits, IsKnown, IsSettled, text};
 ghost use Rattle.js_store.specs.Rows.{wide_words, join_ids, join_words};
 ghost use Rattle.js_store.specs.Faults.{fault_of, Uses};
 ghost use Rattle.js_texts.specs.Answers.{method_fault_of, ThrowsLong};
@@ -26,7 +26,7 @@ pub fn slice<S: Strings>(
     requires first { IsLawful start }
     requires last { IfSome end IsLawful }
     ensures value { IfOk result
-        (λ r. Has (S.state store.new) (S.number r)
+        (λ r. NamesUnits (S.state store.new) (S.number r)
         (slice_of (text (S.state store.old) (S.number s)) start end)) }
     ensures settled { OnOk result (IsSettled (S.state store.new) (S.number s)) }
     ensures throws { ThrowsLong result (S.state store.old).limit
@@ -52,7 +52,7 @@ pub fn substring<S: Strings>(
     requires first { IsLawful start }
     requires last { IfSome end IsLawful }
     ensures value { IfOk result
-        (λ r. Has (S.state store.new) (S.number r)
+        (λ r. NamesUnits (S.state store.new) (S.number r)
         (substring_of (text (S.state store.old) (S.number s)) start end)) }
     ensures settled { OnOk result (IsSettled (S.state store.new) (S.number s)) }
     ensures throws { ThrowsLong result (S.state store.old).limit
@@ -78,7 +78,7 @@ pub fn substr<S: Strings>(
     requires first { IsLawful start }
     requires units { IfSome count IsLawful }
     ensures value { IfOk result
-        (λ r. Has (S.state store.new) (S.number r)
+        (λ r. NamesUnits (S.state store.new) (S.number r)
         (substr_of (text (S.state store.old) (S.number s)) start count)) }
     ensures settled { OnOk result (IsSettled (S.state store.new) (S.number s)) }
     ensures throws { ThrowsLong result (S.state store.old).limit
@@ -98,7 +98,7 @@ fn cut<S: Strings>(store: &mut S, s: S::Ref, from: u32, to: u32) -> Result<S::Re
     requires order { from ≤ to }
     requires within { to ≤ length (text (S.state store.old) (S.number s)) }
     ensures value { IfOk result
-        (λ r. Has (S.state store.new) (S.number r)
+        (λ r. NamesUnits (S.state store.new) (S.number r)
         (slice_range (text (S.state store.old) (S.number s)) from to)) }
     ensures settled { OnOk result (IsSettled (S.state store.new) (S.number s)) }
     ensures throws { ThrowsLong result (S.state store.old).limit
@@ -120,7 +120,7 @@ pub fn concat<S: Strings>(store: &mut S, s: S::Ref, t: S::Ref) -> Result<S::Ref,
     requires left { IsKnown (S.state store.old) (S.number s) }
     requires right { IsKnown (S.state store.old) (S.number t) }
     ensures value { IfOk result
-        (λ r. Has (S.state store.new) (S.number r)
+        (λ r. NamesUnits (S.state store.new) (S.number r)
         (text (S.state store.old) (S.number s) ++ text (S.state store.old) (S.number t))) }
     ensures throws { ThrowsLong result (S.state store.old).limit
         (length (text (S.state store.old) (S.number s)) + length (text (S.state store.old) (S.number t))) }
@@ -140,7 +140,7 @@ pub(crate) fn joined<S: Strings>(store: &mut S, a: S::Ref, b: S::Ref) -> Result<
     requires short { length (text (S.state store.old) (S.number a)) + length
         (text (S.state store.old) (S.number b)) ≤ (S.state store.old).limit }
     ensures value { IfOk result
-        (λ r. Has (S.state store.new) (S.number r)
+        (λ r. NamesUnits (S.state store.new) (S.number r)
         (text (S.state store.old) (S.number a) ++ text (S.state store.old) (S.number b))) }
     ensures uses { Uses (S.state store.old) (S.state store.new) (fault_of result) 1 3 }
 {

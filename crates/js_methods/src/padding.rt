@@ -1,10 +1,10 @@
 // A string made longer by a filler at one side.
 ghost use Rattle.std.specs.Prelude.{◌≡◌, ◌+◌, ◌-◌, ◌*◌, ◌%◌, ◌≤◌, length, take, None, IfOk, OnOk};
-ghost use Rattle.js_store.specs.State.{Has, IsKnown, IsSettled, text};
+ghost use Rattle.js_store.specs.State.{NamesUnits, IsKnown, IsSettled, text};
 ghost use Rattle.js_store.specs.Rows.{wide_words};
 ghost use Rattle.js_store.specs.Faults.{fault_of, Uses};
 ghost use Rattle.js_texts.specs.Answers.{method_fault_of, ThrowsLong};
-ghost use Rattle.js_methods.specs.Padding.{CutsFiller, filling, pad_start_of, pad_end_of, pad_ids, pad_words};
+ghost use Rattle.js_methods.specs.Padding.{CutsFiller, filling, pad_start_of, pad_end_of, pad_used_ids, pad_used_words};
 
 use crate::cuts::joined;
 use crate::repeating::doubled;
@@ -23,7 +23,7 @@ pub fn pad_end<S: Strings>(
     requires known { IsKnown (S.state store.old) (S.number s) }
     requires filler_known { IsKnown (S.state store.old) (S.number filler) }
     ensures value { IfOk result
-        (λ r. Has (S.state store.new) (S.number r)
+        (λ r. NamesUnits (S.state store.new) (S.number r)
         (pad_end_of (text (S.state store.old) (S.number s)) max
         (text (S.state store.old) (S.number filler)))) }
     ensures filler_settled { CutsFiller (max - length (text (S.state store.old) (S.number s)))
@@ -33,7 +33,7 @@ pub fn pad_end<S: Strings>(
         (length (pad_end_of (text (S.state store.old) (S.number s)) max
         (text (S.state store.old) (S.number filler)))) }
     ensures uses { Uses (S.state store.old) (S.state store.new) (method_fault_of result)
-        pad_ids (pad_words (length (text (S.state store.old) (S.number filler)))) }
+        pad_used_ids (pad_used_words (length (text (S.state store.old) (S.number filler)))) }
 {
     let room = missing(store, s, max, filler)?;
     if room == 0 {
@@ -55,7 +55,7 @@ pub fn pad_start<S: Strings>(
     requires known { IsKnown (S.state store.old) (S.number s) }
     requires filler_known { IsKnown (S.state store.old) (S.number filler) }
     ensures value { IfOk result
-        (λ r. Has (S.state store.new) (S.number r)
+        (λ r. NamesUnits (S.state store.new) (S.number r)
         (pad_start_of (text (S.state store.old) (S.number s)) max
         (text (S.state store.old) (S.number filler)))) }
     ensures filler_settled { CutsFiller (max - length (text (S.state store.old) (S.number s)))
@@ -65,7 +65,7 @@ pub fn pad_start<S: Strings>(
         (length (pad_start_of (text (S.state store.old) (S.number s)) max
         (text (S.state store.old) (S.number filler)))) }
     ensures uses { Uses (S.state store.old) (S.state store.new) (method_fault_of result)
-        pad_ids (pad_words (length (text (S.state store.old) (S.number filler)))) }
+        pad_used_ids (pad_used_words (length (text (S.state store.old) (S.number filler)))) }
 {
     let room = missing(store, s, max, filler)?;
     if room == 0 {
@@ -120,7 +120,7 @@ fn filled<S: Strings>(store: &mut S, filler: S::Ref, room: u32) -> Result<S::Ref
     requires some { 1 ≤ room }
     requires short { room ≤ (S.state store.old).limit }
     ensures value { IfOk result
-        (λ r. Has (S.state store.new) (S.number r)
+        (λ r. NamesUnits (S.state store.new) (S.number r)
         (filling (text (S.state store.old) (S.number filler)) room)) }
     ensures settled { 1 ≤ room % length (text (S.state store.old) (S.number filler))
         → OnOk result (IsSettled (S.state store.new) (S.number filler)) }
@@ -146,7 +146,8 @@ fn front<S: Strings>(store: &mut S, s: S::Ref, size: u32) -> Result<S::Ref, Stor
     requires known { IsKnown (S.state store.old) (S.number s) }
     requires within { size ≤ length (text (S.state store.old) (S.number s)) }
     ensures value { IfOk result
-        (λ r. Has (S.state store.new) (S.number r) (take size (text (S.state store.old) (S.number s)))) }
+        (λ r. NamesUnits (S.state store.new) (S.number r)
+        (take size (text (S.state store.old) (S.number s)))) }
     ensures settled { OnOk result (IsSettled (S.state store.new) (S.number s)) }
     ensures uses { Uses (S.state store.old) (S.state store.new) (fault_of result)
         1 (2 * wide_words (length (text (S.state store.old) (S.number s))) + 3) }

@@ -1,6 +1,6 @@
 // Methods that read at one place.
 ghost use Rattle.std.specs.Prelude.{◌≡◌, ◌+◌, length, IfOk, OnOk, IsSome};
-ghost use Rattle.js_store.specs.State.{Has, IsKnown, IsSettled, text};
+ghost use Rattle.js_store.specs.State.{NamesUnits, IsKnown, IsSettled, text};
 ghost use Rattle.js_store.specs.Rows.{wide_words};
 ghost use Rattle.js_store.specs.Faults.{Uses};
 ghost use Rattle.js_texts.specs.Answers.{method_fault_of, MaybeHas, NeverThrows};
@@ -41,7 +41,8 @@ pub fn char_at<S: Strings>(store: &mut S, s: S::Ref, i: Num) -> Result<S::Ref, M
     requires known { IsKnown (S.state store.old) (S.number s) }
     requires lawful { IsLawful i }
     ensures value { IfOk result
-        (λ r. Has (S.state store.new) (S.number r) (char_at_of (text (S.state store.old) (S.number s)) i)) }
+        (λ r. NamesUnits (S.state store.new) (S.number r)
+        (char_at_of (text (S.state store.old) (S.number s)) i)) }
     ensures settled { IsSome (exact_place i (length (text (S.state store.old) (S.number s))))
         → OnOk result (IsSettled (S.state store.new) (S.number s)) }
     ensures throws { NeverThrows result }

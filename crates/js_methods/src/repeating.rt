@@ -1,10 +1,10 @@
 // A string repeated.
 ghost use Rattle.std.specs.Prelude.{◌≡◌, ℕ, ◌+◌, ◌-◌, ◌*◌, ◌/◌, ◌<◌, ◌≤◌, ◌^◌, length, IfOk, MatchOption, true, false};
 ghost use Rattle.std.specs.List.{repeat as repeated};
-ghost use Rattle.js_store.specs.State.{Has, IsKnown, text};
+ghost use Rattle.js_store.specs.State.{NamesUnits, IsKnown, text};
 ghost use Rattle.js_store.specs.Faults.{fault_of, Uses};
 ghost use Rattle.js_texts.specs.Answers.{method_fault_of};
-ghost use Rattle.js_methods.specs.Repeating.{is_count, copies, repeat_of, ThrowsCount, repeat_ids, repeat_words};
+ghost use Rattle.js_methods.specs.Repeating.{is_count, copies, repeat_of, ThrowsCount, repeat_used_ids, repeat_used_words};
 
 use crate::cuts::joined;
 use js_number::Num;
@@ -16,12 +16,12 @@ use js_texts::{Cause, MethodFault};
 pub fn repeat<S: Strings>(store: &mut S, s: S::Ref, count: Num) -> Result<S::Ref, MethodFault>
     requires { IsKnown (S.state store.old) (S.number s) }
     ensures value { IfOk result
-        (λ r. Has (S.state store.new) (S.number r)
+        (λ r. NamesUnits (S.state store.new) (S.number r)
         (repeat_of (text (S.state store.old) (S.number s)) count)) }
     ensures throws { ThrowsCount result (is_count count) (S.state store.old).limit
         (length (repeat_of (text (S.state store.old) (S.number s)) count)) }
     ensures uses { Uses (S.state store.old) (S.state store.new) (method_fault_of result)
-        repeat_ids repeat_words }
+        repeat_used_ids repeat_used_words }
 {
     let Some(count) = whole_count(count) else {
         return Err(MethodFault::RangeError(Cause::BadCount));
@@ -63,7 +63,8 @@ pub(crate) fn doubled<S: Strings>(
     requires short { length (repeated count (text (S.state store.old) (S.number s)))
         ≤ (S.state store.old).limit }
     ensures value { IfOk result
-        (λ r. Has (S.state store.new) (S.number r) (repeated count (text (S.state store.old) (S.number s)))) }
+        (λ r. NamesUnits (S.state store.new) (S.number r)
+        (repeated count (text (S.state store.old) (S.number s)))) }
     ensures uses { (k : ℕ) → count < 2 ^ (k + 1)
         → Uses (S.state store.old) (S.state store.new) (fault_of result) (2 * k) (6 * k) }
 {
@@ -82,12 +83,13 @@ fn twice<S: Strings>(
     count: u32,
 ) -> Result<S::Ref, StoreFault>
     requires known { IsKnown (S.state store.old) (S.number s) }
-    requires half { Has (S.state store.old) (S.number half)
+    requires half { NamesUnits (S.state store.old) (S.number half)
         (repeated (count / 2) (text (S.state store.old) (S.number s))) }
     requires short { length (repeated count (text (S.state store.old) (S.number s)))
         ≤ (S.state store.old).limit }
     ensures value { IfOk result
-        (λ r. Has (S.state store.new) (S.number r) (repeated count (text (S.state store.old) (S.number s)))) }
+        (λ r. NamesUnits (S.state store.new) (S.number r)
+        (repeated count (text (S.state store.old) (S.number s)))) }
     ensures uses { Uses (S.state store.old) (S.state store.new) (fault_of result) 2 6 }
 {
     let even = joined(store, half, half)?;

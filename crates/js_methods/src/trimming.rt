@@ -1,6 +1,6 @@
 // Methods that trim white space.
 ghost use Rattle.std.specs.Prelude.{◌≡◌, ◌+◌, ◌*◌, ◌≤◌, ℕ, ◌-◌, length, drop, reverse, slice_range, IfOk, OnOk};
-ghost use Rattle.js_store.specs.State.{Has, IsKnown, IsSettled, text};
+ghost use Rattle.js_store.specs.State.{NamesUnits, IsKnown, IsSettled, text};
 ghost use Rattle.js_store.specs.Rows.{wide_words, cut_ids, cut_words};
 ghost use Rattle.js_store.specs.Faults.{Uses};
 ghost use Rattle.js_texts.specs.Answers.{method_fault_of, ThrowsLong};
@@ -14,7 +14,7 @@ use js_units::is_trimmed;
 pub fn trim<S: Strings>(store: &mut S, s: S::Ref) -> Result<S::Ref, MethodFault>
     requires known { IsKnown (S.state store.old) (S.number s) }
     ensures value { IfOk result
-        (λ r. Has (S.state store.new) (S.number r) (trimmed (text (S.state store.old) (S.number s)))) }
+        (λ r. NamesUnits (S.state store.new) (S.number r) (trimmed (text (S.state store.old) (S.number s)))) }
     ensures settled { OnOk result (IsSettled (S.state store.new) (S.number s)) }
     ensures result_settled { IfOk result (λ r. IsSettled (S.state store.new) (S.number r)) }
     ensures throws { ThrowsLong result (S.state store.old).limit
@@ -32,7 +32,8 @@ pub fn trim<S: Strings>(store: &mut S, s: S::Ref) -> Result<S::Ref, MethodFault>
 pub fn trim_end<S: Strings>(store: &mut S, s: S::Ref) -> Result<S::Ref, MethodFault>
     requires known { IsKnown (S.state store.old) (S.number s) }
     ensures value { IfOk result
-        (λ r. Has (S.state store.new) (S.number r) (trimmed_end (text (S.state store.old) (S.number s)))) }
+        (λ r. NamesUnits (S.state store.new) (S.number r)
+        (trimmed_end (text (S.state store.old) (S.number s)))) }
     ensures settled { OnOk result (IsSettled (S.state store.new) (S.number s)) }
     ensures result_settled { IfOk result (λ r. IsSettled (S.state store.new) (S.number r)) }
     ensures throws { ThrowsLong result (S.state store.old).limit
@@ -49,7 +50,8 @@ pub fn trim_end<S: Strings>(store: &mut S, s: S::Ref) -> Result<S::Ref, MethodFa
 pub fn trim_start<S: Strings>(store: &mut S, s: S::Ref) -> Result<S::Ref, MethodFault>
     requires known { IsKnown (S.state store.old) (S.number s) }
     ensures value { IfOk result
-        (λ r. Has (S.state store.new) (S.number r) (trimmed_start (text (S.state store.old) (S.number s)))) }
+        (λ r. NamesUnits (S.state store.new) (S.number r)
+        (trimmed_start (text (S.state store.old) (S.number s)))) }
     ensures settled { OnOk result (IsSettled (S.state store.new) (S.number s)) }
     ensures result_settled { IfOk result (λ r. IsSettled (S.state store.new) (S.number r)) }
     ensures throws { ThrowsLong result (S.state store.old).limit
@@ -106,7 +108,7 @@ fn part<S: Strings>(store: &mut S, s: S::Ref, from: u32, to: u32) -> Result<S::R
     requires order { from ≤ to }
     requires within { to ≤ length (text (S.state store.old) (S.number s)) }
     ensures value { IfOk result
-        (λ r. Has (S.state store.new) (S.number r)
+        (λ r. NamesUnits (S.state store.new) (S.number r)
         (slice_range (text (S.state store.old) (S.number s)) from to)) }
     ensures settled { IfOk result (λ r. IsSettled (S.state store.new) (S.number r)) }
     ensures throws { ThrowsLong result (S.state store.old).limit (to - from) }

@@ -12,10 +12,10 @@ use Rattle.js_texts.proofs.Lists.{drop_at}
 use Rattle.js_json.specs.Quoting.{quoted}
 use Rattle.js_item.specs.Contents.{Content, Fields, no_fields, field, count, count_in}
 use Rattle.js_item.specs.declared.item.Member.{Member}
-use Rattle.js_item.specs.Views.{content}
+use Rattle.js_item.specs.Views.{content_of}
 use Rattle.js_item.specs.Fine.{strings_of}
 use Rattle.js_object.specs.Readable.{ReadableFields}
-use Rattle.js_object.specs.Keys.{index_of, index_in, entered, put_off, indexes, others, ordered, entries, lent_entry}
+use Rattle.js_object.specs.Keys.{index_of_key, index_in, index_entered, put_off, indexes, others, ordered, key_values, lent_entry}
 use Rattle.js_object.specs.Json.{is_shown, text_json, json_of, braced}
 use Rattle.js_item.specs.Seen.{says}
 use Rattle.js_object.proofs.Texts.{lent_shown, json_ordered, json_still, lent_fine, EntryFine, drop_all}
@@ -47,7 +47,7 @@ module _ {X : Type 0} (f : X → ℕ) where
   insert_most [] n x = omega arith
   insert_most (e ∷ es) n x = match_most (nat_cmp n e.0) ((n, x) ∷ e ∷ es) ((e.0, x) ∷ es) (e ∷ insert_entry nat_cmp es n x) (f x + pairs_total (e ∷ es)) (omega arith) (omega arith) (omega (arith, insert_most es n x))
 
-  enter_most : (o : Option ℕ) (x : X) (es : List (ℕ × X)) → pairs_total (entered o x es) + total (put_off o x []) ≤ f x + pairs_total es
+  enter_most : (o : Option ℕ) (x : X) (es : List (ℕ × X)) → pairs_total (index_entered o x es) + total (put_off o x []) ≤ f x + pairs_total es
   enter_most (Some n) x es = omega (arith, insert_most es n x)
   enter_most None x es = omega arith
 
@@ -57,7 +57,7 @@ module _ {X : Type 0} (f : X → ℕ) where
 
   both_most : (index : X → Option ℕ) (xs : List X) (es : List (ℕ × X)) → pairs_total (indexes index xs es) + total (others index xs) ≤ pairs_total es + total xs
   both_most index [] es = omega arith
-  both_most index (x ∷ xs) es = omega (arith, both_most index xs (entered (index x) x es), put_total (index x) x (others index xs), enter_most (index x) x es)
+  both_most index (x ∷ xs) es = omega (arith, both_most index xs (index_entered (index x) x es), put_total (index x) x (others index xs), enter_most (index x) x es)
 
   pub ordered_most : (index : X → Option ℕ) (xs : List X) → total (ordered index xs) ≤ total xs
   ordered_most index xs = omega (arith, total_both (values_of (indexes index xs [])) (others index xs), total_values (indexes index xs []), both_most index xs [])
@@ -67,18 +67,18 @@ abbrev pub weight : {R : Type 0} → R × Content R → ℕ
 weight e = count_in e.1 + 1
 
 module _ {R : Type 0} where
-  entries_weigh : (fs : Fields R) → total weight (entries fs) ≡ count fs
+  entries_weigh : (fs : Fields R) → total weight (key_values fs) ≡ count fs
   entries_weigh no_fields = refl
   entries_weigh (field key value rest) = omega (arith, entries_weigh rest)
 
   unfoldable pub lent_weight : List (Bor (Member R)) → ℕ
   lent_weight ms = total weight (map lent_entry ms)
 
-  pub lent_weighs : (index : R × Content R → Option ℕ) (fs : Fields R) (ms : List (Bor (Member R))) → map lent_entry ms ≡ ordered index (entries fs) → lent_weight ms ≤ count fs
+  pub lent_weighs : (index : R × Content R → Option ℕ) (fs : Fields R) (ms : List (Bor (Member R))) → map lent_entry ms ≡ ordered index (key_values fs) → lent_weight ms ≤ count fs
   unfolding lent_weight
-  lent_weighs index fs ms e = omega (arith, ap (total weight) e, ordered_most weight index (entries fs), entries_weigh fs)
+  lent_weighs index fs ms e = omega (arith, ap (total weight) e, ordered_most weight index (key_values fs), entries_weigh fs)
 
-  pub weight_turn : (ms : List (Bor (Member R))) (i : ℕ) (m : Bor (Member R)) → i < length ms → m ≡ get_or ms i m → lent_weight (drop i ms) ≡ count_in (content m.now.value) + 1 + lent_weight (drop (i + 1) ms)
+  pub weight_turn : (ms : List (Bor (Member R))) (i : ℕ) (m : Bor (Member R)) → i < length ms → m ≡ get_or ms i m → lent_weight (drop i ms) ≡ count_in (content_of m.now.value) + 1 + lent_weight (drop (i + 1) ms)
   unfolding lent_weight
   weight_turn ms i m h e = rw (drop_at ms i m h e) refl
 
@@ -101,37 +101,37 @@ brace_none (u ∷ us) h = absurd (omega arith)
 
 -- a turn of the loop over the members of the object fs, in their order, at the state a when it began and b within it
 module _ {F R : Type 0} (a b d : State F) (name : R → ℕ) (g : Grows a b) (h : Grows a d) (fs : Fields R) (fine : ReadableFields (strings_of a) name fs) (ms : List (Bor (Member R)))
-    (order : map lent_entry ms ≡ ordered (index_in a name) (entries fs)) (i : ℕ) (m : Bor (Member R)) (within : i < length ms) (there : m ≡ get_or ms i m) where
+    (order : map lent_entry ms ≡ ordered (index_in a name) (key_values fs)) (i : ℕ) (m : Bor (Member R)) (within : i < length ms) (there : m ≡ get_or ms i m) where
   here : EntryFine (strings_of a) name (count fs) (lent_entry m)
   here = lent_fine (strings_of a) name (index_in a name) fs ms i m fine order within there
 
-  pub len_shown : (n l key value : ℕ) → is_shown (content m.now.value) ≡ true → key ≡ length (quoted (text_of b (name m.now.key))) → value ≡ length (text_json (says d name) (content m.now.value)) → l ≡ n + (2 + key + value)
+  pub len_shown : (n l key value : ℕ) → is_shown (content_of m.now.value) ≡ true → key ≡ length (quoted (text_of b (name m.now.key))) → value ≡ length (text_json (says d name) (content_of m.now.value)) → l ≡ n + (2 + key + value)
       → l + units_of (lent_shown (says a name) (drop (i + 1) ms)) ≡ n + units_of (lent_shown (says a name) (drop i ms))
   len_shown n l key value o k v e =
       let q = quoted (text_of a (name m.now.key)) in
-      let u = text_json (says a name) (content m.now.value) in
+      let u = text_json (says a name) (content_of m.now.value) in
       let split : lent_shown (says a name) (drop i ms) ≡ (q ++ 0x3A ∷ u) ∷ lent_shown (says a name) (drop (i + 1) ms) = rw (drop_at ms i m within there, o) refl in
       let k' : key ≡ length q = k ∙ ap (λ w. length (quoted w)) (text_still g (name m.now.key) here.0.known) in
-      let v' : value ≡ length u = v ∙ ap length (json_still a d name h (content m.now.value) here.1) in
+      let v' : value ≡ length u = v ∙ ap length (json_still a d name h (content_of m.now.value) here.1) in
       omega (arith, ap units_of split, length-append q (0x3A ∷ u), k', v', e)
 
-  pub len_skipped : is_shown (content m.now.value) ≡ false → units_of (lent_shown (says a name) (drop (i + 1) ms)) ≡ units_of (lent_shown (says a name) (drop i ms))
+  pub len_skipped : is_shown (content_of m.now.value) ≡ false → units_of (lent_shown (says a name) (drop (i + 1) ms)) ≡ units_of (lent_shown (says a name) (drop i ms))
   len_skipped o = rw (drop_at ms i m within there, o) refl
 
   -- what was counted is at most what the members before weigh
   module _ (n : ℕ) (before : n + 158456325028528675187087900672 * lent_weight (drop i ms) ≤ 1 + 158456325028528675187087900672 * lent_weight ms) where
-    pub most_shown : (l key value : ℕ) → key ≤ 3221225330 → value + 8589934592 ≤ 158456325028528675187087900672 * (count_in (content m.now.value) + 1) → l ≡ n + (2 + key + value)
+    pub most_shown : (l key value : ℕ) → key ≤ 3221225330 → value + 8589934592 ≤ 158456325028528675187087900672 * (count_in (content_of m.now.value) + 1) → l ≡ n + (2 + key + value)
         → l + 158456325028528675187087900672 * lent_weight (drop (i + 1) ms) ≤ 1 + 158456325028528675187087900672 * lent_weight ms
     most_shown l key value k v e = omega (arith, weight_turn ms i m within there, before, k, v, e)
 
     pub most_skipped : n + 158456325028528675187087900672 * lent_weight (drop (i + 1) ms) ≤ 1 + 158456325028528675187087900672 * lent_weight ms
     most_skipped = omega (arith, weight_turn ms i m within there, before)
 
-    pub len_fits : (key value : ℕ) → count fs ≤ 65536 → key ≤ 3221225330 → value + 8589934592 ≤ 158456325028528675187087900672 * (count_in (content m.now.value) + 1) → n + (2 + key + value) < 340282366920938463463374607431768211456
+    pub len_fits : (key value : ℕ) → count fs ≤ 65536 → key ≤ 3221225330 → value + 8589934592 ≤ 158456325028528675187087900672 * (count_in (content_of m.now.value) + 1) → n + (2 + key + value) < 340282366920938463463374607431768211456
     len_fits key value many k v = omega (arith, weight_turn ms i m within there, before, lent_weighs (index_in a name) fs ms order, many, k, v)
 
 -- all members were seen
-module _ {R : Type 0} (say : R → List ℕ) (fs : Fields R) (ms : List (Bor (Member R))) (i n : ℕ) (order : map lent_entry ms ≡ ordered (λ e. index_of (say e.0)) (entries fs)) (all : length ms ≤ i)
+module _ {R : Type 0} (say : R → List ℕ) (fs : Fields R) (ms : List (Bor (Member R))) (i n : ℕ) (order : map lent_entry ms ≡ ordered (λ e. index_of_key (say e.0)) (key_values fs)) (all : length ms ≤ i)
     (counted : n + units_of (lent_shown say (drop i ms)) ≡ 1 + units_of (lent_shown say ms)) where
   whole : n ≡ 1 + units_of (lent_shown say ms)
   whole = omega (arith, counted, ap (λ (q : List (Bor (Member R))). units_of (lent_shown say q)) (drop_all ms i all))

@@ -13,12 +13,12 @@ use Rattle.js_item.specs.Contents.{Content, Fields}
 use Rattle.js_item.specs.declared.item.Member.{Member}
 use Rattle.js_item.specs.Views.{fields_of}
 use Rattle.js_item.specs.Fine.{strings_of, KeyFine}
-use Rattle.js_object.specs.Keys.{index_of, index_in, entered, put_off, indexes, others, ordered, entries, member_entry}
+use Rattle.js_object.specs.Keys.{index_of_key, index_in, index_entered, put_off, indexes, others, ordered, key_values, member_entry}
 
 module _ {Y : Type 0} (index : Y → Option ℕ) where
-  indexes_push : (ys : List Y) (y : Y) (es : List (ℕ × Y)) → indexes index (ys ++ y ∷ []) es ≡ entered (index y) y (indexes index ys es)
+  indexes_push : (ys : List Y) (y : Y) (es : List (ℕ × Y)) → indexes index (ys ++ y ∷ []) es ≡ index_entered (index y) y (indexes index ys es)
   indexes_push [] y es = refl
-  indexes_push (x ∷ ys) y es = indexes_push ys y (entered (index x) x es)
+  indexes_push (x ∷ ys) y es = indexes_push ys y (index_entered (index x) x es)
 
   put_behind : (o : Option ℕ) (y : Y) (xs ys : List Y) → put_off o y (xs ++ ys) ≡ put_off o y xs ++ ys
   put_behind (Some n) y xs ys = refl
@@ -43,7 +43,7 @@ module _ {X Y : Type 0} (see : X → Y) where
       see_match (nat_cmp n e.0) ((n, x) ∷ e ∷ es) ((e.0, x) ∷ es) (e ∷ insert_entry nat_cmp es n x)
       ∙ ap (λ r. match_ordering (nat_cmp n e.0) ((n, see x) ∷ (e.0, see e.1) ∷ seen_pairs es) ((e.0, see x) ∷ seen_pairs es) ((e.0, see e.1) ∷ r)) (see_insert es n x)
 
-  see_entered : (o : Option ℕ) (x : X) (es : List (ℕ × X)) → seen_pairs (entered o x es) ≡ entered o (see x) (seen_pairs es)
+  see_entered : (o : Option ℕ) (x : X) (es : List (ℕ × X)) → seen_pairs (index_entered o x es) ≡ index_entered o (see x) (seen_pairs es)
   see_entered (Some n) x es = see_insert es n x
   see_entered None x es = refl
 
@@ -60,7 +60,7 @@ module _ {X Y : Type 0} (see : X → Y) where
   see_values (e ∷ es) = ap (λ r. see e.1 ∷ r) (see_values es)
 
   -- one more element
-  pub indexes_turn : (index : Y → Option ℕ) (x : X) (y : Y) (o : Option ℕ) (es fs : List (ℕ × X)) (ys zs : List Y) → see x ≡ y → o ≡ index y → seen_pairs es ≡ indexes index ys [] → fs ≡ entered o x es → zs ≡ ys ++ y ∷ [] → seen_pairs fs ≡ indexes index zs []
+  pub indexes_turn : (index : Y → Option ℕ) (x : X) (y : Y) (o : Option ℕ) (es fs : List (ℕ × X)) (ys zs : List Y) → see x ≡ y → o ≡ index y → seen_pairs es ≡ indexes index ys [] → fs ≡ index_entered o x es → zs ≡ ys ++ y ∷ [] → seen_pairs fs ≡ indexes index zs []
   indexes_turn index x y o es fs ys zs s i e f z = cc (ap seen_pairs f, see_entered o x es, indexes_push index ys y [], ap (λ q. indexes index q []) z)
 
   pub others_turn : (index : Y → Option ℕ) (x : X) (y : Y) (o : Option ℕ) (ks ls : List X) (ys zs : List Y) → see x ≡ y → o ≡ index y → map see ks ≡ others index ys → ls ≡ ks ++ put_off o x [] → zs ≡ ys ++ y ∷ [] → map see ls ≡ others index zs
@@ -73,7 +73,7 @@ module _ {X Y : Type 0} (see : X → Y) where
   -- the order is that of what is seen
   indexes_seen : (index : Y → Option ℕ) (xs : List X) (es : List (ℕ × X)) → seen_pairs (indexes (λ x. index (see x)) xs es) ≡ indexes index (map see xs) (seen_pairs es)
   indexes_seen index [] es = refl
-  indexes_seen index (x ∷ xs) es = indexes_seen index xs (entered (index (see x)) x es) ∙ ap (λ q. indexes index (map see xs) q) (see_entered (index (see x)) x es)
+  indexes_seen index (x ∷ xs) es = indexes_seen index xs (index_entered (index (see x)) x es) ∙ ap (λ q. indexes index (map see xs) q) (see_entered (index (see x)) x es)
 
   others_seen : (index : Y → Option ℕ) (xs : List X) → map see (others (λ x. index (see x)) xs) ≡ others index (map see xs)
   others_seen index [] = refl
@@ -97,13 +97,13 @@ module _ {X : Type 0} (P : X → Type 0) where
   every_insert [] n x p h = (p, tt)
   every_insert (e ∷ es) n x p h = every_match (nat_cmp n e.0) ((n, x) ∷ e ∷ es) ((e.0, x) ∷ es) (e ∷ insert_entry nat_cmp es n x) (p, h) (p, h.1) (h.0, every_insert es n x p h.1)
 
-  every_entered : (o : Option ℕ) (x : X) (es : List (ℕ × X)) → P x → Every (λ e. P e.1) es → Every (λ e. P e.1) (entered o x es)
+  every_entered : (o : Option ℕ) (x : X) (es : List (ℕ × X)) → P x → Every (λ e. P e.1) es → Every (λ e. P e.1) (index_entered o x es)
   every_entered (Some n) x es p h = every_insert es n x p h
   every_entered None x es p h = h
 
   every_indexes : (index : X → Option ℕ) (xs : List X) (es : List (ℕ × X)) → Every P xs → Every (λ e. P e.1) es → Every (λ e. P e.1) (indexes index xs es)
   every_indexes index [] es h k = k
-  every_indexes index (x ∷ xs) es h k = every_indexes index xs (entered (index x) x es) h.1 (every_entered (index x) x es h.0 k)
+  every_indexes index (x ∷ xs) es h k = every_indexes index xs (index_entered (index x) x es) h.1 (every_entered (index x) x es h.0 k)
 
   every_values : (es : List (ℕ × X)) → Every (λ e. P e.1) es → Every P (values_of es)
   every_values [] h = tt
@@ -122,7 +122,7 @@ module _ {X : Type 0} (P : X → Type 0) where
 
 -- the entries of members
 module _ {R : Type 0} where
-  pub entries_are : (ms : List (Member R)) → entries (fields_of ms) ≡ map member_entry ms
+  pub entries_are : (ms : List (Member R)) → key_values (fields_of ms) ≡ map member_entry ms
   entries_are [] = refl
   entries_are (m ∷ ms) = ap (λ es. member_entry m ∷ es) (entries_are ms)
 
@@ -135,12 +135,12 @@ module _ {R : Type 0} where
   entries_take ms i m h e = rw add-one (entries_to ms i m h e)
 
   -- all of them, at the end of a loop
-  pub entries_all : (ms : List (Member R)) (fs : Fields R) (i : ℕ) → fields_of ms ≡ fs → length ms ≤ i → i ≤ length ms → map member_entry (take i ms) ≡ entries fs
+  pub entries_all : (ms : List (Member R)) (fs : Fields R) (i : ℕ) → fields_of ms ≡ fs → length ms ≤ i → i ≤ length ms → map member_entry (take i ms) ≡ key_values fs
   entries_all ms fs i are l m =
       let all : i ≡ length ms = omega arith in
       let whole : take i ms ≡ ms = ap (λ n. take n ms) all ∙ take-length ms in
-      ap (map member_entry) whole ∙ sym (entries_are ms) ∙ ap entries are
+      ap (map member_entry) whole ∙ sym (entries_are ms) ∙ ap key_values are
 
 -- the index of a key in a store that has grown
 pub index_still : {F R : Type 0} (a b : State F) (name : R → ℕ) (g : Grows a b) (e : R × Content R) → KeyFine (strings_of a) (name e.0) → index_in b name e ≡ index_in a name e
-index_still a b name g e k = ap index_of (text_still g (name e.0) k.known)
+index_still a b name g e k = ap index_of_key (text_still g (name e.0) k.known)

@@ -11,7 +11,7 @@ use Rattle.std.specs.BTreeMap.{insert_entry}
 use Rattle.std.specs.Map.{values_of}
 use Rattle.std.proofs.lemmas.Slice.Eq.{bytes_eq-Decides}
 use Rattle.std.proofs.lemmas.List.{map-id}
-use Rattle.js_object.specs.Keys.{index_of, key_index, index_in, entered, put_off, indexes, others, ordered, entries, keys_of, own_keys, unit_keys}
+use Rattle.js_object.specs.Keys.{index_of_key, key_index, index_in, index_entered, put_off, indexes, others, ordered, key_values, keys_of, own_keys, unit_keys}
 use Rattle.js_store.specs.State.{State, text}
 use Rattle.js_texts.specs.Texts.{Every}
 use Rattle.js_item.specs.Contents.{Content, Fields, no_fields, field}
@@ -153,7 +153,7 @@ module _ {X : Type 0} (index : X → Option ℕ) where
   fresh_none [] = tt
   fresh_none (x ∷ xs) = (λ n e. tt, fresh_none xs)
 
-  fresh_after : (xs : List X) (o : Option ℕ) (x : X) (es : List (ℕ × X)) → Others o xs → AllFresh xs es → AllFresh xs (entered o x es)
+  fresh_after : (xs : List X) (o : Option ℕ) (x : X) (es : List (ℕ × X)) → Others o xs → AllFresh xs es → AllFresh xs (index_entered o x es)
   fresh_after [] o x es d h = tt
   fresh_after (y ∷ ys) None x es d h = h
   fresh_after (y ∷ ys) (Some n) x es d h = (λ m e. fresh_insert es m n x (λ f. d.0 n refl (e ∙ ap Some (sym f))) (h.0 m e), fresh_after ys (Some n) x es d.1 h.1)
@@ -172,7 +172,7 @@ module _ {X : Type 0} (index : X → Option ℕ) where
   IsSome-not (Some m) e h = cc
   IsSome-not None e h = cc
 
-  enter : (o : Option ℕ) (x : X) (es : List (ℕ × X)) → index x ≡ o → ((n : ℕ) → index x ≡ Some n → Fresh n es) → EntriesFrom 0 es → Entered x es (entered o x es)
+  enter : (o : Option ℕ) (x : X) (es : List (ℕ × X)) → index x ≡ o → ((n : ℕ) → index x ≡ Some n → Fresh n es) → EntriesFrom 0 es → Entered x es (index_entered o x es)
   enter None x es i f h = record {
     from = h;
     into = λ y k. elim k [ inl p ↦ absurd (IsSome-not (index y) (ap index (sym p.0) ∙ i) p.1) | inr p ↦ p ];
@@ -194,7 +194,7 @@ module _ {X : Type 0} (index : X → Option ℕ) where
   sorted [] es d f h = record { from = h; into = λ y k. elim k [ inl p ↦ absurd p.0 | inr p ↦ p ]; out = λ y k. inr k }
   sorted (x ∷ xs) es d f h =
       let one = enter (index x) x es refl f.0 h in
-      let rest = sorted xs (entered (index x) x es) d.1 (fresh_after xs (index x) x es d.0 f.1) one.from in
+      let rest = sorted xs (index_entered (index x) x es) d.1 (fresh_after xs (index x) x es d.0 f.1) one.from in
       record {
         from = rest.from;
         into = λ y k. rest.into y (elim k [ inl p ↦ elim p.0 [ inl e ↦ inr (one.into y (inl (e, p.1))) | inr i ↦ inl (i, p.1) ] | inr p ↦ inr (one.into y (inr p)) ]);
@@ -231,7 +231,7 @@ module _ {X : Type 0} (index : X → Option ℕ) where
   the_order xs d = record { in_order = in_order xs d; alone = λ zs o. one_order xs (ordered index xs) zs (in_order xs d) o }
 
 -- units of keys that differ are different indexes
-index_apart : (u v : List ℕ) → (v ≡ u → ⊥) → (n : ℕ) → index_of u ≡ Some n → index_of v ≡ Some n → ⊥
+index_apart : (u v : List ℕ) → (v ≡ u → ⊥) → (n : ℕ) → index_of_key u ≡ Some n → index_of_key v ≡ Some n → ⊥
 index_apart u v h n e f =
     let l : n ≤ 4294967294 = index_most u n e in
     h ((index_means v n l).0 f ∙ sym ((index_means u n l).0 e))
@@ -239,7 +239,7 @@ index_apart u v h n e f =
 -- where keys are told by their units
 module _ {X : Type 0} (units : X → List ℕ) where
   abbrev unit_index : X → Option ℕ
-  unit_index x = index_of (units x)
+  unit_index x = index_of_key (units x)
 
   apart_distinct : (x : X) (xs : List X) → AllByRecursion (λ y. bytes_eq (units x) y ≡ false) (map units xs) → Others unit_index (unit_index x) xs
   apart_distinct x [] h = tt
@@ -254,40 +254,40 @@ module _ {X : Type 0} (units : X → List ℕ) where
 pub keys_in_order : KeysInOrder
 keys_in_order fs h =
     let us = standing_keys fs in
-    let same : unit_keys fs ≡ ordered index_of us = ordered_seen (λ e. e.0) index_of (entries fs) in
-    let d : IndexesDiffer index_of us = distinct_differ (λ u. u) us (subst (IsDistinct bytes_eq) (sym (map-id us)) h) in
-    subst (IsTheOrder index_of us) (sym same) (the_order index_of us d)
+    let same : unit_keys fs ≡ ordered index_of_key us = ordered_seen (λ e. e.0) index_of_key (key_values fs) in
+    let d : IndexesDiffer index_of_key us = distinct_differ (λ u. u) us (subst (IsDistinct bytes_eq) (sym (map-id us)) h) in
+    subst (IsTheOrder index_of_key us) (sym same) (the_order index_of_key us d)
 
 pub parts_in_order : PartsInOrder
 parts_in_order ps h = the_order part_index ps (distinct_differ (λ p. p.0) ps h)
 
 -- the keys and the members of an object in a store
 module _ {F R : Type 0} (s : State F) (name : R → ℕ) where
-  no_key_others : (u : List ℕ) (fs : Fields R) → NoKey (strings_of s) name u fs → Others (key_index s name) (index_of u) (keys_of (entries fs))
+  no_key_others : (u : List ℕ) (fs : Fields R) → NoKey (strings_of s) name u fs → Others (key_index s name) (index_of_key u) (keys_of (key_values fs))
   no_key_others u no_fields h = tt
   no_key_others u (field k v rest) h = (index_apart u (text s (name k)) h.0, no_key_others u rest h.1)
 
-  keys_differ : (fs : Fields R) → KeysDiffer (strings_of s) name fs → IndexesDiffer (key_index s name) (keys_of (entries fs))
+  keys_differ : (fs : Fields R) → KeysDiffer (strings_of s) name fs → IndexesDiffer (key_index s name) (keys_of (key_values fs))
   keys_differ no_fields h = tt
   keys_differ (field k v rest) h = (no_key_others (text s (name k)) rest h.0, keys_differ rest h.1)
 
-  no_member_others : (u : List ℕ) (fs : Fields R) → NoKey (strings_of s) name u fs → Others (index_in s name) (index_of u) (entries fs)
+  no_member_others : (u : List ℕ) (fs : Fields R) → NoKey (strings_of s) name u fs → Others (index_in s name) (index_of_key u) (key_values fs)
   no_member_others u no_fields h = tt
   no_member_others u (field k v rest) h = (index_apart u (text s (name k)) h.0, no_member_others u rest h.1)
 
-  members_differ : (fs : Fields R) → KeysDiffer (strings_of s) name fs → IndexesDiffer (index_in s name) (entries fs)
+  members_differ : (fs : Fields R) → KeysDiffer (strings_of s) name fs → IndexesDiffer (index_in s name) (key_values fs)
   members_differ no_fields h = tt
   members_differ (field k v rest) h = (no_member_others (text s (name k)) rest h.0, members_differ rest h.1)
 
-  pub own_keys_order : (fs : Fields R) (ks : List R) → ks ≡ own_keys s name fs → KeysDiffer (strings_of s) name fs → IsTheOrder (key_index s name) (keys_of (entries fs)) ks
+  pub own_keys_order : (fs : Fields R) (ks : List R) → ks ≡ own_keys s name fs → KeysDiffer (strings_of s) name fs → IsTheOrder (key_index s name) (keys_of (key_values fs)) ks
   own_keys_order fs ks e d =
-      let same : ks ≡ ordered (key_index s name) (keys_of (entries fs)) = e ∙ ordered_seen (λ m. m.0) (key_index s name) (entries fs) in
-      subst (IsTheOrder (key_index s name) (keys_of (entries fs))) (sym same) (the_order (key_index s name) (keys_of (entries fs)) (keys_differ fs d))
+      let same : ks ≡ ordered (key_index s name) (keys_of (key_values fs)) = e ∙ ordered_seen (λ m. m.0) (key_index s name) (key_values fs) in
+      subst (IsTheOrder (key_index s name) (keys_of (key_values fs))) (sym same) (the_order (key_index s name) (keys_of (key_values fs)) (keys_differ fs d))
 
-  pub members_order : (fs : Fields R) (ms : List (R × Content R)) → ms ≡ ordered (index_in s name) (entries fs) → KeysDiffer (strings_of s) name fs → IsTheOrder (index_in s name) (entries fs) ms
-  members_order fs ms e d = subst (IsTheOrder (index_in s name) (entries fs)) (sym e) (the_order (index_in s name) (entries fs) (members_differ fs d))
+  pub members_order : (fs : Fields R) (ms : List (R × Content R)) → ms ≡ ordered (index_in s name) (key_values fs) → KeysDiffer (strings_of s) name fs → IsTheOrder (index_in s name) (key_values fs) ms
+  members_order fs ms e d = subst (IsTheOrder (index_in s name) (key_values fs)) (sym e) (the_order (index_in s name) (key_values fs) (members_differ fs d))
 
-  pub members_in_order : (fs : Fields R) (ms : List (R × Content R)) → ms ≡ ordered (index_in s name) (entries fs) → KeysDiffer (strings_of s) name fs → IsInOrder (index_in s name) (entries fs) ms
+  pub members_in_order : (fs : Fields R) (ms : List (R × Content R)) → ms ≡ ordered (index_in s name) (key_values fs) → KeysDiffer (strings_of s) name fs → IsInOrder (index_in s name) (key_values fs) ms
   members_in_order fs ms e d = (members_order fs ms e d).in_order
 
 -- what holds of each element in the order holds of each one

@@ -4,7 +4,7 @@ use Rattle.js_store.specs.State.{State, Grows}
 use Rattle.js_store.proofs.Laws.{known_still}
 use Rattle.js_texts.proofs.Lists.{every_map}
 use Rattle.js_item.specs.Contents.{Content, undefined, null, bool, number, text, symbol, list, object, Fields, no_fields, field}
-use Rattle.js_item.specs.Fine.{Strings, strings_of, KeysFine, FineOf, FineFields}
+use Rattle.js_item.specs.Fine.{KnownStrings, strings_of, KeysFine, FineOf, FineFields}
 use Rattle.js_item.proofs.Still.{key_still}
 use Rattle.js_object.specs.Readable.{Readable, ReadableFields}
 
@@ -24,7 +24,7 @@ module _ {F R : Type 0} (a b : State F) (g : Grows a b) (name : R → ℕ) where
     fields_still no_fields h = tt
     fields_still (field key value rest) h = (key_still a b g (name key) h.0, readable_still value h.1, fields_still rest h.2)
 
-module _ {R : Type 0} (s : Strings) (name : R → ℕ) where
+module _ {R : Type 0} (s : KnownStrings) (name : R → ℕ) where
   pub readable_keys : (fs : Fields R) → ReadableFields s name fs → KeysFine s name fs
   readable_keys no_fields h = tt
   readable_keys (field key value rest) h = (h.0, readable_keys rest h.2)

@@ -6,7 +6,7 @@ use Rattle.js_number.specs.declared.Num.TheVariants.{Int, NaN, PosInf, NegInf}
 use Rattle.js_texts.specs.Delimited.{delimited}
 use Rattle.js_json.specs.Quoting.{quoted, list_text}
 use Rattle.js_item.specs.Contents.{Content, undefined, null, bool, number, text, symbol, list, object, Fields, no_fields, field}
-use Rattle.js_object.specs.Keys.{index_of, ordered}
+use Rattle.js_object.specs.Keys.{index_of_key, ordered}
 
 -- the digits of a whole number, and null for each other one
 abbrev pub number_json : Num → List ℕ
@@ -31,23 +31,23 @@ is_shown (list rs) = true
 is_shown (object fs) = true
 
 -- what a member gives: the units of its key, and the JSON text of its value, where it has one
-abbrev pub Part : Type 0
-Part = List ℕ × Option (List ℕ)
+abbrev pub JsonMember : Type 0
+JsonMember = List ℕ × Option (List ℕ)
 
-abbrev pub part_index : Part → Option ℕ
-part_index p = index_of p.0
+abbrev pub part_index : JsonMember → Option ℕ
+part_index p = index_of_key p.0
 
 -- the quoted key, a colon and the value's JSON text
 abbrev pub more_shown : List ℕ → Option (List ℕ) → List (List ℕ) → List (List ℕ)
 more_shown key (Some u) us = (quoted key ++ 0x3A ∷ u) ∷ us
 more_shown key None us = us
 
-abbrev pub shown : List Part → List (List ℕ)
+abbrev pub shown : List JsonMember → List (List ℕ)
 shown [] = []
 shown (p ∷ ps) = more_shown p.0 p.1 (shown ps)
 
 -- braces around the members in their order, with a comma between two
-abbrev pub object_json : List Part → List ℕ
+abbrev pub object_json : List JsonMember → List ℕ
 object_json ps = 0x7B ∷ delimited (λ u. u) 0x2C 0x7D (shown (ordered part_index ps))
 
 abbrev mutual
@@ -60,16 +60,17 @@ abbrev mutual
   text_json say (text r) = quoted (say r)
   text_json say (symbol r) = []
   text_json say (list rs) = list_text (map say rs)
-  text_json say (object fs) = object_json (parts say fs)
+  text_json say (object fs) = object_json (json_members say fs)
 
   -- one part for each member, in the order of the members
-  pub parts : {R : Type 0} → (R → List ℕ) → Fields R → List Part
-  parts say no_fields = []
-  parts say (field key value rest) = (say key, if is_shown value then Some (text_json say value) else None) ∷ parts say rest
+  pub json_members : {R : Type 0} → (R → List ℕ) → Fields R → List JsonMember
+  json_members say no_fields = []
+  json_members say (field key value rest) =
+      (say key, if is_shown value then Some (text_json say value) else None) ∷ json_members say rest
 
 -- the JSON text of an object
 abbrev pub json_of : {R : Type 0} → (R → List ℕ) → Fields R → List ℕ
-json_of say fs = object_json (parts say fs)
+json_of say fs = object_json (json_members say fs)
 
 -- JSON texts with a unit before each, a brace or else a comma, and the last brace
 abbrev pub closed : ℕ → List ℕ

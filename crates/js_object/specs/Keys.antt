@@ -9,7 +9,7 @@ use Rattle.js_store.specs.State.{State, text}
 use Rattle.std.specs.Borrow.{Bor}
 use Rattle.js_item.specs.Contents.{Content, Fields, no_fields, field}
 use Rattle.js_item.specs.declared.item.Member.{Member}
-use Rattle.js_item.specs.Views.{content}
+use Rattle.js_item.specs.Views.{content_of}
 
 -- the number that digits denote, behind one that was read
 abbrev pub read_on : ℕ → List ℕ → ℕ
@@ -22,13 +22,13 @@ has_form [] = false
 has_form (u ∷ us) = (not (u == 48) || nat_eq (length us) 0) && nat_le (length us) 9 && all_ascii_digits (u ∷ us)
 
 -- the number of an array index: decimal digits of a number in 0..4294967294
-abbrev pub index_of : List ℕ → Option ℕ
-index_of us = if has_form us && nat_le (read_on 0 us) 4294967294 then Some (read_on 0 us) else None
+abbrev pub index_of_key : List ℕ → Option ℕ
+index_of_key us = if has_form us && nat_le (read_on 0 us) 4294967294 then Some (read_on 0 us) else None
 
 -- an element goes to the place of its index among those with one, or else to the end of the others
-abbrev pub entered : {X : Type 0} → Option ℕ → X → List (ℕ × X) → List (ℕ × X)
-entered (Some n) x es = insert_entry nat_cmp es n x
-entered None x es = es
+abbrev pub index_entered : {X : Type 0} → Option ℕ → X → List (ℕ × X) → List (ℕ × X)
+index_entered (Some n) x es = insert_entry nat_cmp es n x
+index_entered None x es = es
 
 abbrev pub put_off : {X : Type 0} → Option ℕ → X → List X → List X
 put_off (Some n) x xs = xs
@@ -36,7 +36,7 @@ put_off None x xs = x ∷ xs
 
 abbrev pub indexes : {X : Type 0} → (X → Option ℕ) → List X → List (ℕ × X) → List (ℕ × X)
 indexes index [] es = es
-indexes index (x ∷ xs) es = indexes index xs (entered (index x) x es)
+indexes index (x ∷ xs) es = indexes index xs (index_entered (index x) x es)
 
 abbrev pub others : {X : Type 0} → (X → Option ℕ) → List X → List X
 others index [] = []
@@ -48,19 +48,19 @@ abbrev pub ordered : {X : Type 0} → (X → Option ℕ) → List X → List X
 ordered index xs = values_of (indexes index xs []) ++ others index xs
 
 -- the members as keys and values
-abbrev pub entries : {R : Type 0} → Fields R → List (R × Content R)
-entries no_fields = []
-entries (field key value rest) = (key, value) ∷ entries rest
+abbrev pub key_values : {R : Type 0} → Fields R → List (R × Content R)
+key_values no_fields = []
+key_values (field key value rest) = (key, value) ∷ key_values rest
 
 abbrev pub member_entry : {R : Type 0} → Member R → R × Content R
-member_entry m = (m.key, content m.value)
+member_entry m = (m.key, content_of m.value)
 
 abbrev pub lent_entry : {R : Type 0} → Bor (Member R) → R × Content R
 lent_entry b = member_entry b.now
 
 -- the array index that the units of a key are
 abbrev pub key_index : {F R : Type 0} → State F → (R → ℕ) → R → Option ℕ
-key_index s name r = index_of (text s (name r))
+key_index s name r = index_of_key (text s (name r))
 
 abbrev pub index_in : {F R : Type 0} → State F → (R → ℕ) → R × Content R → Option ℕ
 index_in s name e = key_index s name e.0
@@ -70,8 +70,8 @@ keys_of es = map (λ e. e.0) es
 
 -- the keys of an object in their order
 abbrev pub own_keys : {F R : Type 0} → State F → (R → ℕ) → Fields R → List R
-own_keys s name fs = keys_of (ordered (index_in s name) (entries fs))
+own_keys s name fs = keys_of (ordered (index_in s name) (key_values fs))
 
 -- the keys of an object of units
 abbrev pub unit_keys : Fields (List ℕ) → List (List ℕ)
-unit_keys fs = keys_of (ordered (λ e. index_of e.0) (entries fs))
+unit_keys fs = keys_of (ordered (λ e. index_of_key e.0) (key_values fs))

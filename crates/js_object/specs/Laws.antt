@@ -2,25 +2,26 @@
 use Rattle.std.specs.Prelude.{List, ℕ, map, bytes_eq}
 use Rattle.std.specs.List.{IsDistinct}
 use Rattle.js_item.specs.Contents.{Fields}
-use Rattle.js_object.specs.Keys.{index_of, ordered, entries, keys_of, unit_keys}
+use Rattle.js_object.specs.Keys.{index_of_key, ordered, key_values, keys_of, unit_keys}
 use Rattle.js_object.specs.Order.{IsTheOrder}
-use Rattle.js_object.specs.Json.{Part, part_index}
+use Rattle.js_object.specs.Json.{JsonMember, part_index}
 
 -- the keys of the members, as they are
 abbrev pub standing_keys : Fields (List ℕ) → List (List ℕ)
-standing_keys fs = keys_of (entries fs)
+standing_keys fs = keys_of (key_values fs)
 
 -- an object's keys are in the one order that they have
 abbrev pub KeysInOrder : Type 0
 KeysInOrder =
     (fs : Fields (List ℕ)) → IsDistinct bytes_eq (standing_keys fs)
-    → IsTheOrder index_of (standing_keys fs) (unit_keys fs)
+    → IsTheOrder index_of_key (standing_keys fs) (unit_keys fs)
 
 -- the keys of the parts of a JSON text, as they are
-abbrev pub part_keys : List Part → List (List ℕ)
+abbrev pub part_keys : List JsonMember → List (List ℕ)
 part_keys ps = map (λ p. p.0) ps
 
 -- so do the parts of its JSON text
 abbrev pub PartsInOrder : Type 0
 PartsInOrder =
-    (ps : List Part) → IsDistinct bytes_eq (part_keys ps) → IsTheOrder part_index ps (ordered part_index ps)
+    (ps : List JsonMember) → IsDistinct bytes_eq (part_keys ps)
+    → IsTheOrder part_index ps (ordered part_index ps)

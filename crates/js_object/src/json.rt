@@ -2,7 +2,7 @@
 ghost use Rattle.std.specs.Prelude.{◌≡◌, ◌++◌, ◌∷◌, [], ◌≤◌, length, OnOk, IfErr};
 ghost use Rattle.js_number.specs.Places.{IsLawful};
 ghost use Rattle.js_store.specs.State.{text as text_of};
-ghost use Rattle.js_texts.specs.Texts.{AllKnown, AllSettled, texts, settle_most, full_fault_of};
+ghost use Rattle.js_texts.specs.Texts.{AllKnown, AllSettled, known_texts, settle_most, full_fault_of};
 ghost use Rattle.js_store.specs.Faults.{Uses};
 ghost use Rattle.js_store.specs.declared.faults.StoreFault.TheVariants.{Memory};
 ghost use Rattle.js_object.specs.Use.{settle_in, settle_fields};
@@ -13,7 +13,7 @@ ghost use Rattle.js_object.specs.Readable.{Readable, ReadableFields};
 ghost use Rattle.js_object.specs.Json.{text_json, json_of, number_json, closed};
 ghost use Rattle.js_item.specs.Seen.{says};
 ghost use Rattle.js_object.specs.Json;
-ghost use Rattle.js_item.specs.Views.{content};
+ghost use Rattle.js_item.specs.Views.{content_of};
 
 use crate::keys::in_order;
 use js_item::{Item, Object};
@@ -31,13 +31,13 @@ pub(crate) fn append_item<S: Strings>(
     item: &Item<S::Ref>,
     text: &mut Units,
 ) -> Result<(), StoreFault>
-    requires { Readable (strings_of (S.state store.old)) S.number (content item.now) }
+    requires { Readable (strings_of (S.state store.old)) S.number (content_of item.now) }
     ensures added { OnOk result
-        (text.new ≡ text.old ++ text_json (says (S.state store.old) S.number) (content item.now)) }
-    ensures settled { OnOk result (FineOf (strings_of (S.state store.old)) S.number (content item.now)
-        → SettledIn (S.state store.new) S.number (content item.now)) }
+        (text.new ≡ text.old ++ text_json (says (S.state store.old) S.number) (content_of item.now)) }
+    ensures settled { OnOk result (FineOf (strings_of (S.state store.old)) S.number (content_of item.now)
+        → SettledIn (S.state store.new) S.number (content_of item.now)) }
     ensures uses { Uses (S.state store.old) (S.state store.new) (full_fault_of result) 0
-        (settle_in (S.state store.old) S.number (content item.now)) }
+        (settle_in (S.state store.old) S.number (content_of item.now)) }
 {
     match item {
         Item::Undefined | Item::Symbol(_) => Ok(()),
@@ -81,7 +81,7 @@ pub(crate) fn append_object<S: Strings>(
 }
 
 pub(crate) fn is_shown<R>(item: &Item<R>) -> bool
-    ensures { result ≡ Json.is_shown (content item.now) }
+    ensures { result ≡ Json.is_shown (content_of item.now) }
 {
     match item {
         Item::Undefined | Item::Symbol(_) => false,
@@ -135,7 +135,7 @@ fn append_list<S: Strings>(
 ) -> Result<(), StoreFault>
     requires { AllKnown (S.state store.old) S.number list.now }
     ensures added { OnOk result
-        (text.new ≡ text.old ++ list_text (texts (S.state store.old) S.number list.now)) }
+        (text.new ≡ text.old ++ list_text (known_texts (S.state store.old) S.number list.now)) }
     ensures settled { OnOk result (AllSettled (S.state store.new) S.number list.now) }
     ensures uses { Uses (S.state store.old) (S.state store.new) (full_fault_of result) 0
         (settle_most (S.state store.old) S.number list.now) }

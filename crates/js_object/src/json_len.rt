@@ -13,7 +13,7 @@ ghost use Rattle.js_item.specs.Fine.{strings_of, KeyFine};
 ghost use Rattle.js_object.specs.Readable.{Readable, ReadableFields};
 ghost use Rattle.js_object.specs.Json.{text_json, json_of, number_json};
 ghost use Rattle.js_item.specs.Seen.{says};
-ghost use Rattle.js_item.specs.Views.{content};
+ghost use Rattle.js_item.specs.Views.{content_of};
 
 use crate::json::{append_number, is_shown};
 use crate::keys::in_order;
@@ -31,14 +31,14 @@ pub(crate) fn item_len<S: Strings>(
     store: &mut S,
     item: &Item<S::Ref>,
 ) -> Result<u128, StoreFault>
-    requires readable { Readable (strings_of (S.state store.old)) S.number (content item.now) }
-    requires many { count_in (content item.now) ≤ 65536 }
+    requires readable { Readable (strings_of (S.state store.old)) S.number (content_of item.now) }
+    requires many { count_in (content_of item.now) ≤ 65536 }
     ensures value { IfOk result
-        (λ n. n ≡ length (text_json (says (S.state store.old) S.number) (content item.now))) }
+        (λ n. n ≡ length (text_json (says (S.state store.old) S.number) (content_of item.now))) }
     ensures most { IfOk result
-        (λ n. n + 8589934592 ≤ 158456325028528675187087900672 * (count_in (content item.now) + 1)) }
+        (λ n. n + 8589934592 ≤ 158456325028528675187087900672 * (count_in (content_of item.now) + 1)) }
     ensures uses { Uses (S.state store.old) (S.state store.new) (full_fault_of result) 0
-        (settle_in (S.state store.old) S.number (content item.now)) }
+        (settle_in (S.state store.old) S.number (content_of item.now)) }
 {
     match item {
         Item::Undefined | Item::Symbol(_) => Ok(0),

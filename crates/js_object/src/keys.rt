@@ -7,7 +7,7 @@ ghost use Rattle.js_store.specs.Faults.{Uses};
 ghost use Rattle.js_store.specs.declared.faults.StoreFault.TheVariants.{Memory};
 ghost use Rattle.js_item.specs.Fine.{strings_of, KeyFine, KeysFine, KeysDiffer};
 ghost use Rattle.js_object.specs.Order.{IsTheOrder};
-ghost use Rattle.js_object.specs.Keys.{index_of, has_form, read_on, entered, put_off, ordered, entries, lent_entry, key_index, index_in};
+ghost use Rattle.js_object.specs.Keys.{index_of_key, has_form, read_on, index_entered, put_off, ordered, key_values, lent_entry, key_index, index_in};
 ghost use Rattle.js_object.specs.Keys.{unit_keys};
 ghost use Rattle.js_object.specs.Keys;
 ghost use Rattle.js_item.specs.Seen.{says, fields_mapped};
@@ -34,7 +34,7 @@ pub fn own_keys<S: Strings>(
         (λ keys. map (says (S.state store.old) S.number) keys.items
         ≡ unit_keys (fields_mapped (says (S.state store.old) S.number) of.now)) }
     ensures order { IfOk result (λ keys. KeysDiffer (strings_of (S.state store.old)) S.number of.now
-        → IsTheOrder (key_index (S.state store.old) S.number) (Keys.keys_of (entries of.now)) keys.items) }
+        → IsTheOrder (key_index (S.state store.old) S.number) (Keys.keys_of (key_values of.now)) keys.items) }
     ensures fault { IfErr result (λ f. f ≡ Memory) }
     ensures uses { Uses (S.state store.old) (S.state store.new) None 0 0 }
 {
@@ -76,9 +76,10 @@ pub fn in_order<'a, S: Strings>(
     requires { KeysFine (strings_of (S.state store.old)) S.number of.now }
     ensures value { IfOk result
         (λ members. map lent_entry members.items
-        ≡ ordered (index_in (S.state store.old) S.number) (entries of.now)) }
+        ≡ ordered (index_in (S.state store.old) S.number) (key_values of.now)) }
     ensures order { IfOk result (λ members. KeysDiffer (strings_of (S.state store.old)) S.number of.now
-        → IsTheOrder (index_in (S.state store.old) S.number) (entries of.now) (map lent_entry members.items)) }
+        → IsTheOrder (index_in (S.state store.old) S.number) (key_values of.now)
+        (map lent_entry members.items)) }
     ensures uses { Uses (S.state store.old) (S.state store.new) None 0 0 }
 {
     let mut indexes = BTreeMap::new(alloc);
@@ -93,7 +94,7 @@ pub fn in_order<'a, S: Strings>(
 // The array index that a key is.
 fn key_index<S: Strings>(alloc: Global, store: &mut S, key: S::Ref) -> Result<Option<u32>, NoMemory>
     requires { KeyFine (strings_of (S.state store.old)) (S.number key) }
-    ensures value { IfOk result (λ index. index ≡ index_of (text (S.state store.old) (S.number key))) }
+    ensures value { IfOk result (λ index. index ≡ index_of_key (text (S.state store.old) (S.number key))) }
     ensures uses { Uses (S.state store.old) (S.state store.new) None 0 0 }
 {
     if store.len(key) > 10 {
@@ -105,14 +106,14 @@ fn key_index<S: Strings>(alloc: Global, store: &mut S, key: S::Ref) -> Result<Op
 
 // The number whose decimal digits the units are, where it is an array index.
 pub fn array_index(units: &[u16]) -> Option<u32>
-    ensures value { result ≡ index_of units.now }
+    ensures value { result ≡ index_of_key units.now }
     ensures means { (n : ℕ) → n ≤ 4294967294 → (result ≡ Some n) ↔ (units.now ≡ decimal n) }
 {
     parsed(units)
 }
 
 fn parsed(units: &[u16]) -> Option<u32>
-    ensures { result ≡ index_of units.now }
+    ensures { result ≡ index_of_key units.now }
 {
     if !is_numeral(units) {
         return None;
@@ -161,7 +162,7 @@ fn enter<R: Copy>(
     indexes: &mut BTreeMap<u32, R>,
     others: &mut Vec<R>,
 ) -> Result<(), NoMemory>
-    ensures indexes { OnOk result (indexes.new.entries ≡ entered index key indexes.old.entries) }
+    ensures indexes { OnOk result (indexes.new.entries ≡ index_entered index key indexes.old.entries) }
     ensures others { OnOk result (others.new.items ≡ others.old.items ++ put_off index key []) }
 {
     match index {

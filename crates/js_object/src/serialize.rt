@@ -1,6 +1,6 @@
 // Objects as strings of JSON text.
 ghost use Rattle.std.specs.Prelude.{◌+◌, ◌*◌, length, IfOk, OnOk};
-ghost use Rattle.js_store.specs.State.{Has};
+ghost use Rattle.js_store.specs.State.{NamesUnits};
 ghost use Rattle.js_store.specs.Faults.{Uses};
 ghost use Rattle.js_texts.specs.Answers.{ThrowsLong, full_of};
 ghost use Rattle.js_texts.specs.Use.{made_ids, made_words};
@@ -31,7 +31,8 @@ pub fn stringify<S: Strings>(
     requires readable { ReadableFields (strings_of (S.state store.old)) S.number of.now }
     requires bounded { Bounded of.now }
     ensures value { IfOk result
-        (λ r. Has (S.state store.new) (S.number r) (json_of (says (S.state store.old) S.number) of.now)) }
+        (λ r. NamesUnits (S.state store.new) (S.number r)
+        (json_of (says (S.state store.old) S.number) of.now)) }
     ensures settled { OnOk result (FineFields (strings_of (S.state store.old)) S.number of.now
         → SettledFields (S.state store.new) S.number of.now) }
     ensures throws { ThrowsLong result (S.state store.old).limit

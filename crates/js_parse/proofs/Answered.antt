@@ -5,17 +5,17 @@ use Rattle.js_lex.specs.declared.token.Token.{Token as Lexed}
 use Rattle.js_lex.specs.Tokens.{LexFaultOf, TokensOf}
 use Rattle.js_lex.proofs.OneList as lexer
 use Rattle.js_lex.proofs.SomeAnswer as lexed
-use Rattle.parse_syntax.specs.Reader.{Answer, Got, Bad, Kind, read_whole}
+use Rattle.parse_syntax.specs.Reader.{Answer, Got, Bad, SyntaxFaultKind, read_whole}
 use Rattle.parse_syntax.specs.Refused.{IsRefused}
 use Rattle.parse_syntax.proofs.One as grammar
 use Rattle.parse_syntax.specs.declared.token.GrammarToken.{GrammarToken}
 use Rattle.eval_tree.specs.Tree.{Tree, StmtTree, Stmts, stmts}
-use Rattle.parse_syntax.specs.Tables.{Tables}
+use Rattle.parse_syntax.specs.Tables.{TokenTables}
 use Rattle.parse_syntax.specs.Grammar.{Statements, own_names, most}
 use Rattle.parse_syntax.specs.Reading.{read_statements}
 use Rattle.js_parse.specs.Names.{NameFault}
 use Rattle.parse_syntax.proofs.Scripts.{one_list, all_read, refuses}
-use Rattle.parse_tokens.specs.Tokens.{Reads, nothing, tokens_from, after_all}
+use Rattle.parse_tokens.specs.Tokens.{HasTokens, nothing, tokens_from, after_all}
 use Rattle.parse_tokens.proofs.OneSource.{same_source}
 use Rattle.js_parse.specs.declared.fault.Role.{Role}
 use Rattle.js_parse.specs.declared.fault.ParseFault.{ParseFault}
@@ -30,18 +30,18 @@ module _ (r : Role) (bytes : List ℕ) where
       let make : List (List ℕ) → Stmts → List (List ℕ) → Tree = λ l b t. record { literals = l; body = b; top = t } in
       ap (λ l. make l x.body x.top) a ∙ (ap (λ s. make y.literals s x.top) b ∙ ap (λ t. make y.literals y.body t) c)
 
-  same_tables : (x y : Tables) → x.names ≡ y.names → x.keys ≡ y.keys → x ≡ y
+  same_tables : (x y : TokenTables) → x.names ≡ y.names → x.keys ≡ y.keys → x ≡ y
   same_tables x y a b =
-      let make : List (List ℕ) → List (List ℕ) → Tables = λ n k. record { names = n; keys = k } in
+      let make : List (List ℕ) → List (List ℕ) → TokenTables = λ n k. record { names = n; keys = k } in
       ap (λ n. make n x.keys) a ∙ ap (λ k. make y.names k) b
 
   -- what the same bytes are read as is the same
-  record Same (ts us : List GrammarToken) (xs ys : List (List ℕ)) (a b : Tables) : Type 0 where
+  record Same (ts us : List GrammarToken) (xs ys : List (List ℕ)) (a b : TokenTables) : Type 0 where
     tokens : ts ≡ us
     literals : xs ≡ ys
     tables : a ≡ b
 
-  one_source : (ts us : List GrammarToken) (xs ys : List (List ℕ)) (a b : Tables) → Reads bytes ts xs a.names a.keys → Reads bytes us ys b.names b.keys → Same ts us xs ys a b
+  one_source : (ts us : List GrammarToken) (xs ys : List (List ℕ)) (a b : TokenTables) → HasTokens bytes ts xs a.names a.keys → HasTokens bytes us ys b.names b.keys → Same ts us xs ys a b
   one_source ts us xs ys a b p q =
       let same = same_source bytes ts us xs ys a.names b.names a.keys b.keys p q in
       record { tokens = same.0; literals = same.1; tables = same_tables a b same.2 same.3 }
@@ -55,21 +55,21 @@ module _ (r : Role) (bytes : List ℕ) where
       same_tree x y same.literals (p.body ∙ (ap stmts lines ∙ sym q.body)) (p.top ∙ (ap own_names lines ∙ sym q.top))
 
   -- what holds of one parse holds of the other
-  carried : (P : Tables → List GrammarToken → Tree → Type 0) (x y : Tree) (p : Parses r bytes x) (q : Parses r bytes y) → P q.tables q.tokens y → P p.tables p.tokens x
+  carried : (P : TokenTables → List GrammarToken → Tree → Type 0) (x y : Tree) (p : Parses r bytes x) (q : Parses r bytes y) → P q.tables q.tokens y → P p.tables p.tokens x
   carried P x y p q h =
       let same = one_source p.tokens q.tokens x.literals y.literals p.tables q.tables p.reads q.reads in
       subst (λ a. P a p.tokens x) (sym same.tables) (subst (λ t. P q.tables t x) (sym same.tokens) (subst (λ z. P q.tables q.tokens z) (sym (one_parse x y p q)) h))
 
   -- the same tokens and tables
-  same_refusal : (ts us : List GrammarToken) (xs ys : List (List ℕ)) (a b : Tables) (k : Kind) (rest : List GrammarToken) → Reads bytes ts xs a.names a.keys → Reads bytes us ys b.names b.keys → IsRefused (Statements b (prints r)) most us k rest → IsRefused (Statements a (prints r)) most ts k rest
+  same_refusal : (ts us : List GrammarToken) (xs ys : List (List ℕ)) (a b : TokenTables) (k : SyntaxFaultKind) (rest : List GrammarToken) → HasTokens bytes ts xs a.names a.keys → HasTokens bytes us ys b.names b.keys → IsRefused (Statements b (prints r)) most us k rest → IsRefused (Statements a (prints r)) most ts k rest
   same_refusal ts us xs ys a b k rest p q h =
       let same = one_source ts us xs ys a b p q in
       subst (λ n. IsRefused (Statements n (prints r)) most ts k rest) (sym same.tables) (subst (λ t. IsRefused (Statements b (prints r)) most t k rest) (sym same.tokens) h)
 
-  not_parsed : (x : Tree) (ts : List GrammarToken) (xs : List (List ℕ)) (a : Tables) (k : Kind) (rest : List GrammarToken) → Parses r bytes x → Reads bytes ts xs a.names a.keys → IsRefused (Statements a (prints r)) most ts k rest → ⊥
+  not_parsed : (x : Tree) (ts : List GrammarToken) (xs : List (List ℕ)) (a : TokenTables) (k : SyntaxFaultKind) (rest : List GrammarToken) → Parses r bytes x → HasTokens bytes ts xs a.names a.keys → IsRefused (Statements a (prints r)) most ts k rest → ⊥
   not_parsed x ts xs a k rest p q h = grammar.not_both (Statements p.tables (prints r)) most p.tokens p.statements k rest p.parsed (same_refusal p.tokens ts x.literals xs p.tables a k rest p.reads q h)
 
-  no_fault : (ts : List GrammarToken) (xs ns ks : List (List ℕ)) (f : LexFault) → Reads bytes ts xs ns ks → LexFaultOf bytes f → ⊥
+  no_fault : (ts : List GrammarToken) (xs ns ks : List (List ℕ)) (f : LexFault) → HasTokens bytes ts xs ns ks → LexFaultOf bytes f → ⊥
   no_fault ts xs ns ks f a h = lexer.apart bytes a.lexed f a.lexes h
 
 module _ (r : Role) (outer : List (List ℕ)) (bytes : List ℕ) where
@@ -101,7 +101,7 @@ module _ (r : Role) (outer : List (List ℕ)) (bytes : List ℕ) where
   of_tree x p (inl none) = inl (x, record { parses = p; innocent = none })
   of_tree x p (inr h) = inr (misnamed h.0, of_names x h.0 p h.1)
 
-  of_tokens : (ts : List GrammarToken) (xs : List (List ℕ)) (a : Tables) → Reads bytes ts xs a.names a.keys → (q : Answer GrammarToken (List StmtTree)) → read_whole (read_statements a (prints r) most) ts ≡ q → ((y : Tree) × Spells r outer bytes y) ⊎ ((e : ParseFault) × Refused r outer bytes e)
+  of_tokens : (ts : List GrammarToken) (xs : List (List ℕ)) (a : TokenTables) → HasTokens bytes ts xs a.names a.keys → (q : Answer GrammarToken (List StmtTree)) → read_whole (read_statements a (prints r) most) ts ≡ q → ((y : Tree) × Spells r outer bytes y) ⊎ ((e : ParseFault) × Refused r outer bytes e)
   of_tokens ts xs a p (Got lines rest) e =
       let x : Tree = record { literals = xs; body = stmts lines; top = own_names lines } in
       of_tree x (record { tokens = ts; tables = a; statements = lines; reads = p; parsed = all_read a (prints r) most ts lines rest e; body = refl; top = refl }) (right_or_first outer a ts x)

@@ -7,7 +7,7 @@ use Rattle.eval_tree.specs.Tree as tree
 use Rattle.eval_tree.specs.Tree.{StmtTree, BlockTree, block_of, Stmts, Arms}
 use Rattle.parse_syntax.specs.Grammar.{own_name}
 use Rattle.js_parse.specs.Names as names
-use Rattle.js_parse.specs.Names.{Scope, Declaring, Looping, NameFault, Duplicate, LoopName, IsAmong, IsLoopName, FaultIn, FaultInBlock, FaultInArms, FaultAmong}
+use Rattle.js_parse.specs.Names.{NameScope, Declaring, Looping, NameFault, Duplicate, LoopName, IsAmong, IsLoopName, FaultIn, FaultInBlock, FaultInArms, FaultAmong}
 use Rattle.js_parse.specs.NameFaults.{NameTest, nobody, is_in, marked, all_marked, assigned_at, again_at, declared_again, with_own, faults_in, faults_inside, faults_in_arms, faults_among}
 
 -- members of lists
@@ -73,12 +73,12 @@ not_in x ys never = go (is_in ys x) refl
     go false e = e
 
 -- the names that mean those of a `for` within these scopes
-abbrev pub looped : List Scope → NameTest
+abbrev pub looped : List NameScope → NameTest
 looped [] = nobody
 looped (Declaring ys ∷ rest) = all_marked false ys (looped rest)
 looped (Looping y ∷ rest) = marked true y (looped rest)
 
-loop_of : (x : List ℕ) (scopes : List Scope) → looped scopes x ≡ true → IsLoopName x scopes
+loop_of : (x : List ℕ) (scopes : List NameScope) → looped scopes x ≡ true → IsLoopName x scopes
 loop_of x [] h = let q : false ≡ true = h in absurd (cc)
 loop_of x (Declaring ys ∷ rest) h = go (loop_of x rest) (is_in ys x) refl h
   where
@@ -94,7 +94,7 @@ loop_of x (Looping y ∷ rest) h = go (loop_of x rest) (bytes_eq x y) refl h
     go ih true e h = subst (λ (z : List ℕ). IsLoopName x (Looping z ∷ rest)) (same_name x y e) (names.here rest)
     go ih false e h = names.around y rest (differs e) (ih h)
 
-of_loop : (x : List ℕ) (scopes : List Scope) → IsLoopName x scopes → looped scopes x ≡ true
+of_loop : (x : List ℕ) (scopes : List NameScope) → IsLoopName x scopes → looped scopes x ≡ true
 of_loop x _ (names.here rest) = rw (its_own x) refl
 of_loop x _ (names.outside ys rest never h) = rw (not_in x ys never) (of_loop x rest h)
 of_loop x _ (names.around y rest never h) = go (bytes_eq x y) (of_loop x rest h)
@@ -130,7 +130,7 @@ again_of false at f h = absurd h
 
 -- what is in the list is a fault
 
-again_sound : (s : StmtTree) (scopes : List Scope) (before : List (List ℕ)) (rest : Stmts) (f : NameFault) → In f (declared_again s (is_in before)) → FaultAmong scopes before (tree.stmt s rest) f
+again_sound : (s : StmtTree) (scopes : List NameScope) (before : List (List ℕ)) (rest : Stmts) (f : NameFault) → In f (declared_again s (is_in before)) → FaultAmong scopes before (tree.stmt s rest) f
 again_sound (tree.let_line at x init) scopes before rest f h = let a = again_of (is_in before x) at f h in subst (FaultAmong scopes before (tree.stmt (tree.let_line at x init) rest)) (sym a.1) (names.let_again scopes before at x init rest (among_of x before a.0))
 again_sound (tree.const_line at x init) scopes before rest f h = let a = again_of (is_in before x) at f h in subst (FaultAmong scopes before (tree.stmt (tree.const_line at x init) rest)) (sym a.1) (names.const_again scopes before at x init rest (among_of x before a.0))
 again_sound (tree.block b) scopes before rest f h = absurd h
@@ -141,11 +141,11 @@ again_sound (tree.if_line arms other) scopes before rest f h = absurd h
 again_sound (tree.for_line x bound body) scopes before rest f h = absurd h
 
 -- those behind a statement
-abbrev behind : StmtTree → Stmts → List Scope → List (List ℕ) → List NameFault
+abbrev behind : StmtTree → Stmts → List NameScope → List (List ℕ) → List NameFault
 behind s rest scopes before = faults_among rest (looped scopes) (with_own s (is_in before))
 
 mutual
-  sound_in : (s : StmtTree) (scopes : List Scope) (f : NameFault) → In f (faults_in s (looped scopes)) → FaultIn scopes s f
+  sound_in : (s : StmtTree) (scopes : List NameScope) (f : NameFault) → In f (faults_in s (looped scopes)) → FaultIn scopes s f
   sound_in (tree.block b) scopes f h = names.inside scopes b f (sound_inside b scopes f h)
   sound_in (tree.let_line at x init) scopes f h = absurd h
   sound_in (tree.const_line at x init) scopes f h = absurd h
@@ -156,15 +156,15 @@ mutual
       either (apart f (faults_in_arms arms (looped scopes)) (faults_inside rest (looped scopes)) h) (λ a. names.in_arms scopes arms rest f (sound_arms arms scopes f a)) (λ b. names.in_rest scopes arms rest f (sound_inside rest scopes f b))
   sound_in (tree.for_line x bound body) scopes f h = names.in_loop scopes x bound body f (sound_inside body (Looping x ∷ scopes) f h)
 
-  sound_inside : (b : BlockTree) (scopes : List Scope) (f : NameFault) → In f (faults_inside b (looped scopes)) → FaultInBlock scopes b f
+  sound_inside : (b : BlockTree) (scopes : List NameScope) (f : NameFault) → In f (faults_inside b (looped scopes)) → FaultInBlock scopes b f
   sound_inside (block_of ys body) scopes f h = names.among scopes ys body f (sound_among body (Declaring ys ∷ scopes) [] f h)
 
-  sound_arms : (arms : Arms) (scopes : List Scope) (f : NameFault) → In f (faults_in_arms arms (looped scopes)) → FaultInArms scopes arms f
+  sound_arms : (arms : Arms) (scopes : List NameScope) (f : NameFault) → In f (faults_in_arms arms (looped scopes)) → FaultInArms scopes arms f
   sound_arms tree.no_arms scopes f h = absurd h
   sound_arms (tree.arm test body rest) scopes f h =
       either (apart f (faults_inside body (looped scopes)) (faults_in_arms rest (looped scopes)) h) (λ a. names.in_first scopes test body rest f (sound_inside body scopes f a)) (λ b. names.in_others scopes test body rest f (sound_arms rest scopes f b))
 
-  pub sound_among : (ss : Stmts) (scopes : List Scope) (before : List (List ℕ)) (f : NameFault) → In f (faults_among ss (looped scopes) (is_in before)) → FaultAmong scopes before ss f
+  pub sound_among : (ss : Stmts) (scopes : List NameScope) (before : List (List ℕ)) (f : NameFault) → In f (faults_among ss (looped scopes) (is_in before)) → FaultAmong scopes before ss f
   sound_among tree.no_stmts scopes before f h = absurd h
   sound_among (tree.stmt s rest) scopes before f h =
       either (apart f (declared_again s (is_in before)) (faults_in s (looped scopes) ++ behind s rest scopes before) h) (again_sound s scopes before rest f)
@@ -174,7 +174,7 @@ mutual
 -- every fault is in the list
 
 mutual
-  complete_in : (s : StmtTree) (scopes : List Scope) (f : NameFault) → FaultIn scopes s f → In f (faults_in s (looped scopes))
+  complete_in : (s : StmtTree) (scopes : List NameScope) (f : NameFault) → FaultIn scopes s f → In f (faults_in s (looped scopes))
   complete_in _ _ _ (names.inside scopes b f h) = complete_inside b scopes f h
   complete_in _ _ _ (names.assigned scopes at x e h) = rw (of_loop x scopes h) (inl refl)
   complete_in _ _ _ (names.appended scopes at name_at x e h) = rw (of_loop x scopes h) (inl refl)
@@ -182,14 +182,14 @@ mutual
   complete_in _ _ _ (names.in_rest scopes arms rest f h) = in_right f (faults_in_arms arms (looped scopes)) (faults_inside rest (looped scopes)) (complete_inside rest scopes f h)
   complete_in _ _ _ (names.in_loop scopes x bound body f h) = complete_inside body (Looping x ∷ scopes) f h
 
-  complete_inside : (b : BlockTree) (scopes : List Scope) (f : NameFault) → FaultInBlock scopes b f → In f (faults_inside b (looped scopes))
+  complete_inside : (b : BlockTree) (scopes : List NameScope) (f : NameFault) → FaultInBlock scopes b f → In f (faults_inside b (looped scopes))
   complete_inside _ _ _ (names.among scopes ys body f h) = complete_among body (Declaring ys ∷ scopes) [] f h
 
-  complete_arms : (arms : Arms) (scopes : List Scope) (f : NameFault) → FaultInArms scopes arms f → In f (faults_in_arms arms (looped scopes))
+  complete_arms : (arms : Arms) (scopes : List NameScope) (f : NameFault) → FaultInArms scopes arms f → In f (faults_in_arms arms (looped scopes))
   complete_arms _ _ _ (names.in_first scopes test body rest f h) = in_left f (faults_inside body (looped scopes)) (faults_in_arms rest (looped scopes)) (complete_inside body scopes f h)
   complete_arms _ _ _ (names.in_others scopes test body rest f h) = in_right f (faults_inside body (looped scopes)) (faults_in_arms rest (looped scopes)) (complete_arms rest scopes f h)
 
-  pub complete_among : (ss : Stmts) (scopes : List Scope) (before : List (List ℕ)) (f : NameFault) → FaultAmong scopes before ss f → In f (faults_among ss (looped scopes) (is_in before))
+  pub complete_among : (ss : Stmts) (scopes : List NameScope) (before : List (List ℕ)) (f : NameFault) → FaultAmong scopes before ss f → In f (faults_among ss (looped scopes) (is_in before))
   complete_among _ _ _ _ (names.let_again scopes before at x init rest h) = in_left (Duplicate at) (again_at (is_in before x) at) _ (rw (in_of x before h) (inl refl))
   complete_among _ _ _ _ (names.const_again scopes before at x init rest h) = in_left (Duplicate at) (again_at (is_in before x) at) _ (rw (in_of x before h) (inl refl))
   complete_among _ _ _ _ (names.in_it scopes before s rest f h) =

@@ -5,21 +5,21 @@ use Rattle.std.proofs.lemmas.Bool.{ltb-true, ltb-false}
 use Rattle.eval_tree.specs.Tree.{Tree}
 use Rattle.parse_syntax.specs.Reader.{is_some}
 use Rattle.parse_syntax.specs.declared.token.GrammarToken.{GrammarToken}
-use Rattle.parse_syntax.specs.Tables.{Tables}
+use Rattle.parse_syntax.specs.Tables.{TokenTables}
 use Rattle.parse_syntax.specs.Terminals.{colon, place}
 use Rattle.js_parse.specs.Names.{Declaring, NameFault, Duplicate, LoopName, ProtoKey}
 use Rattle.js_parse.specs.ProtoKeys.{HasProtoKey, here, later, opens_entry, is_proto}
 use Rattle.js_parse.specs.declared.name_fault.NameFault.{NameFault as Told}
-use Rattle.js_parse.specs.FirstFault.{rank, HasNameFault, of_name, of_key, IsFirstFault, fault_of, TellsFirst}
+use Rattle.js_parse.specs.FirstFault.{fault_rank, HasNameFault, of_name, of_key, IsFirstFault, fault_of, TellsFirst}
 use Rattle.js_parse.specs.NameFaults.{faults_of, key_first, proto_fault, proto_behind, proto_faults, earlier, least, offers}
 use Rattle.js_parse.proofs.Faults.{In, in_left, in_right, apart, either, sound_among, complete_among}
 
-earlier_is : (f g : NameFault) → ((earlier f g ≡ f) ⊎ (earlier f g ≡ g)) × (rank (earlier f g) ≤ rank f) × (rank (earlier f g) ≤ rank g)
-earlier_is f g = go (nat_lt (rank g) (rank f)) refl
+earlier_is : (f g : NameFault) → ((earlier f g ≡ f) ⊎ (earlier f g ≡ g)) × (fault_rank (earlier f g) ≤ fault_rank f) × (fault_rank (earlier f g) ≤ fault_rank g)
+earlier_is f g = go (nat_lt (fault_rank g) (fault_rank f)) refl
   where
-    go : (b : Bool) → nat_lt (rank g) (rank f) ≡ b → ((earlier f g ≡ f) ⊎ (earlier f g ≡ g)) × (rank (earlier f g) ≤ rank f) × (rank (earlier f g) ≤ rank g)
-    go true e = let l : rank g < rank f = ltb-true (rank g) (rank f) e in let s : earlier f g ≡ g = rw e refl in (inr s, subst (λ h. rank h ≤ rank f) (sym s) (omega arith), subst (λ h. rank h ≤ rank g) (sym s) (omega arith))
-    go false e = let l : rank f ≤ rank g = ltb-false (rank g) (rank f) e in let s : earlier f g ≡ f = rw e refl in (inl s, subst (λ h. rank h ≤ rank f) (sym s) (omega arith), subst (λ h. rank h ≤ rank g) (sym s) (omega arith))
+    go : (b : Bool) → nat_lt (fault_rank g) (fault_rank f) ≡ b → ((earlier f g ≡ f) ⊎ (earlier f g ≡ g)) × (fault_rank (earlier f g) ≤ fault_rank f) × (fault_rank (earlier f g) ≤ fault_rank g)
+    go true e = let l : fault_rank g < fault_rank f = ltb-true (fault_rank g) (fault_rank f) e in let s : earlier f g ≡ g = rw e refl in (inr s, subst (λ h. fault_rank h ≤ fault_rank f) (sym s) (omega arith), subst (λ h. fault_rank h ≤ fault_rank g) (sym s) (omega arith))
+    go false e = let l : fault_rank f ≤ fault_rank g = ltb-false (fault_rank g) (fault_rank f) e in let s : earlier f g ≡ f = rw e refl in (inl s, subst (λ h. fault_rank h ≤ fault_rank f) (sym s) (omega arith), subst (λ h. fault_rank h ≤ fault_rank g) (sym s) (omega arith))
 
 least_in : (f : NameFault) (gs : List NameFault) → (least f gs ≡ f) ⊎ In (least f gs) gs
 least_in f [] = inl refl
@@ -30,13 +30,13 @@ least_in f (g ∷ gs) = go (least_in (earlier f g) gs) (earlier_is f g).0
     go (inl a) (inr b) = inr (inl (a ∙ b))
     go (inr h) b = inr (inr h)
 
-least_head : (f : NameFault) (gs : List NameFault) → rank (least f gs) ≤ rank f
+least_head : (f : NameFault) (gs : List NameFault) → fault_rank (least f gs) ≤ fault_rank f
 least_head f [] = omega arith
-least_head f (g ∷ gs) = let a : rank (least (earlier f g) gs) ≤ rank (earlier f g) = least_head (earlier f g) gs in let b : rank (earlier f g) ≤ rank f = (earlier_is f g).1 in omega arith
+least_head f (g ∷ gs) = let a : fault_rank (least (earlier f g) gs) ≤ fault_rank (earlier f g) = least_head (earlier f g) gs in let b : fault_rank (earlier f g) ≤ fault_rank f = (earlier_is f g).1 in omega arith
 
-least_first : (f : NameFault) (gs : List NameFault) (h : NameFault) → In h gs → rank (least f gs) ≤ rank h
+least_first : (f : NameFault) (gs : List NameFault) (h : NameFault) → In h gs → fault_rank (least f gs) ≤ fault_rank h
 least_first f [] h i = absurd i
-least_first f (g ∷ gs) h (inl e) = let a : rank (least (earlier f g) gs) ≤ rank (earlier f g) = least_head (earlier f g) gs in let b : rank (earlier f g) ≤ rank g = (earlier_is f g).2 in let c : rank h ≡ rank g = ap rank e in omega arith
+least_first f (g ∷ gs) h (inl e) = let a : fault_rank (least (earlier f g) gs) ≤ fault_rank (earlier f g) = least_head (earlier f g) gs in let b : fault_rank (earlier f g) ≤ fault_rank g = (earlier_is f g).2 in let c : fault_rank h ≡ fault_rank g = ap fault_rank e in omega arith
 least_first f (g ∷ gs) h (inr i) = least_first (earlier f g) gs h i
 
 -- keys that are __proto__
@@ -49,7 +49,7 @@ only : (f g : NameFault) → In f (g ∷ []) → f ≡ g
 only f g (inl e) = e
 only f g (inr i) = absurd i
 
-module _ (tables : Tables) where
+module _ (tables : TokenTables) where
   key_of : (b : GrammarToken) (ts : List GrammarToken) (f : NameFault) → opens_entry b ≡ true → In f (key_first tables ts) → (at : ℕ) × (f ≡ ProtoKey at) × HasProtoKey tables (b ∷ ts) at
   key_of b [] f o i = absurd i
   key_of b (k ∷ []) f o i = absurd i
@@ -68,7 +68,7 @@ module _ (tables : Tables) where
   key_complete _ _ (here b k c ts o p q) = in_left (ProtoKey (place k)) (proto_behind tables b (k ∷ c ∷ ts)) (proto_faults tables (k ∷ c ∷ ts)) (rw (o, q, p) (inl refl))
   key_complete _ _ (later t ts at h) = in_right (ProtoKey at) (proto_behind tables t ts) (proto_faults tables ts) (key_complete ts at h)
 
-module _ (outer : List (List ℕ)) (tables : Tables) (tokens : List GrammarToken) (t : Tree) where
+module _ (outer : List (List ℕ)) (tables : TokenTables) (tokens : List GrammarToken) (t : Tree) where
   abbrev pub all_faults : List NameFault
   all_faults = proto_faults tables tokens ++ faults_of outer t
 
@@ -84,7 +84,7 @@ module _ (outer : List (List ℕ)) (tables : Tables) (tokens : List GrammarToken
   first_is : (g : NameFault) (gs : List NameFault) → ((f : NameFault) → HasNameFault outer tables tokens t f → In f (g ∷ gs)) → ((f : NameFault) → In f (g ∷ gs) → HasNameFault outer tables tokens t f) → IsFirstFault outer tables tokens t (least g gs)
   first_is g gs complete sound = record {
     has = sound (least g gs) (least_in g gs);
-    first = λ h has. either (complete h has) (λ e. let a : rank (least g gs) ≤ rank g = least_head g gs in let b : rank h ≡ rank g = ap rank e in omega arith) (λ i. least_first g gs h i);
+    first = λ h has. either (complete h has) (λ e. let a : fault_rank (least g gs) ≤ fault_rank g = least_head g gs in let b : fault_rank h ≡ fault_rank g = ap fault_rank e in omega arith) (λ i. least_first g gs h i);
   }
 
   -- a script's names are right, or one of their faults is the first
@@ -114,7 +114,7 @@ module _ (outer : List (List ℕ)) (tables : Tables) (tokens : List GrammarToken
 
 -- and no other is
 
-same_rank : (f g : NameFault) → rank f ≡ rank g → f ≡ g
+same_rank : (f g : NameFault) → fault_rank f ≡ fault_rank g → f ≡ g
 same_rank (Duplicate a) (Duplicate b) e = let s : a ≡ b = omega arith in ap Duplicate s
 same_rank (LoopName a) (LoopName b) e = let s : a ≡ b = omega arith in ap LoopName s
 same_rank (ProtoKey a) (ProtoKey b) e = let s : a ≡ b = omega arith in ap ProtoKey s
@@ -125,5 +125,5 @@ same_rank (LoopName a) (ProtoKey b) e = absurd (omega arith)
 same_rank (ProtoKey a) (Duplicate b) e = absurd (omega arith)
 same_rank (ProtoKey a) (LoopName b) e = absurd (omega arith)
 
-pub one_first : (outer : List (List ℕ)) (tables : Tables) (tokens : List GrammarToken) (t : Tree) (f g : NameFault) → IsFirstFault outer tables tokens t f → IsFirstFault outer tables tokens t g → f ≡ g
-one_first outer tables tokens t f g a b = let l : rank f ≤ rank g = a.first g b.has in let m : rank g ≤ rank f = b.first f a.has in same_rank f g (omega arith)
+pub one_first : (outer : List (List ℕ)) (tables : TokenTables) (tokens : List GrammarToken) (t : Tree) (f g : NameFault) → IsFirstFault outer tables tokens t f → IsFirstFault outer tables tokens t g → f ≡ g
+one_first outer tables tokens t f g a b = let l : fault_rank f ≤ fault_rank g = a.first g b.has in let m : fault_rank g ≤ fault_rank f = b.first f a.has in same_rank f g (omega arith)

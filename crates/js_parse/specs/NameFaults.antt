@@ -6,11 +6,11 @@ use Rattle.eval_tree.specs.Tree as tree
 use Rattle.eval_tree.specs.Tree.{Tree, StmtTree, BlockTree, block_of, Stmts, Arms}
 use Rattle.parse_syntax.specs.Reader.{is_some}
 use Rattle.parse_syntax.specs.declared.token.GrammarToken.{GrammarToken}
-use Rattle.parse_syntax.specs.Tables.{Tables}
+use Rattle.parse_syntax.specs.Tables.{TokenTables}
 use Rattle.parse_syntax.specs.Terminals.{colon, place}
 use Rattle.js_parse.specs.Names.{NameFault, Duplicate, LoopName, ProtoKey}
 use Rattle.js_parse.specs.ProtoKeys.{opens_entry, is_proto}
-use Rattle.js_parse.specs.FirstFault.{rank}
+use Rattle.js_parse.specs.FirstFault.{fault_rank}
 
 -- a set of names, as the test for its members
 abbrev pub NameTest : Type 0
@@ -79,24 +79,24 @@ abbrev pub faults_of : List (List ℕ) → Tree → List NameFault
 faults_of outer t = faults_among t.body (all_marked false t.top nobody) (is_in outer)
 
 -- a key that is __proto__
-abbrev pub proto_fault : Tables → GrammarToken → List NameFault
+abbrev pub proto_fault : TokenTables → GrammarToken → List NameFault
 proto_fault tables k = if is_proto tables k then ProtoKey (place k) ∷ [] else []
 
 -- that of the first token, where a colon follows it
-abbrev pub key_first : Tables → List GrammarToken → List NameFault
+abbrev pub key_first : TokenTables → List GrammarToken → List NameFault
 key_first tables (k ∷ c ∷ ts) = if is_some (colon c) then proto_fault tables k else []
 key_first tables _ = []
 
 -- that behind a token
-abbrev pub proto_behind : Tables → GrammarToken → List GrammarToken → List NameFault
+abbrev pub proto_behind : TokenTables → GrammarToken → List GrammarToken → List NameFault
 proto_behind tables b ts = if opens_entry b then key_first tables ts else []
 
-abbrev pub proto_faults : Tables → List GrammarToken → List NameFault
+abbrev pub proto_faults : TokenTables → List GrammarToken → List NameFault
 proto_faults tables [] = []
 proto_faults tables (b ∷ ts) = proto_behind tables b ts ++ proto_faults tables ts
 
 abbrev pub earlier : NameFault → NameFault → NameFault
-earlier f g = if nat_lt (rank g) (rank f) then g else f
+earlier f g = if nat_lt (fault_rank g) (fault_rank f) then g else f
 
 -- the first of a fault and further ones
 abbrev pub least : NameFault → List NameFault → NameFault

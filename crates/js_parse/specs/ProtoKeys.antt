@@ -5,7 +5,7 @@ use Rattle.js_lex.specs.declared.token.Mark.TheVariants as mark
 use Rattle.parse_syntax.specs.Reader.{is_some}
 use Rattle.parse_syntax.specs.declared.token.GrammarToken.{GrammarToken}
 use Rattle.parse_syntax.specs.declared.token.GrammarToken.TheVariants as token
-use Rattle.parse_syntax.specs.Tables.{Tables}
+use Rattle.parse_syntax.specs.Tables.{TokenTables}
 use Rattle.parse_syntax.specs.Terminals.{colon, place}
 
 -- { or a comma, behind which there is a key where a colon follows it
@@ -15,14 +15,14 @@ opens_entry (token.Mark at mark.Comma l) = true
 opens_entry _ = false
 
 -- whether the key is __proto__; that of a number has digits alone
-abbrev pub is_proto : Tables → GrammarToken → Bool
+abbrev pub is_proto : TokenTables → GrammarToken → Bool
 is_proto tables (token.Text at n k) = bytes_eq (get_or tables.keys n []) (codes "__proto__")
 is_proto tables (token.Name at n p) = bytes_eq (get_or tables.names n []) (codes "__proto__")
 is_proto tables (token.Word at w n) = bytes_eq (get_or tables.names n []) (codes "__proto__")
 is_proto tables _ = false
 
 -- among the tokens such a key is at this place
-pub data HasProtoKey (tables : Tables) : List GrammarToken → ℕ → Type 0 where
+pub data HasProtoKey (tables : TokenTables) : List GrammarToken → ℕ → Type 0 where
   here : (b k c : GrammarToken) (ts : List GrammarToken) → opens_entry b ≡ true → is_proto tables k ≡ true
       → is_some (colon c) ≡ true → HasProtoKey tables (b ∷ k ∷ c ∷ ts) (place k)
   later : (t : GrammarToken) (ts : List GrammarToken) (at : ℕ) → HasProtoKey tables ts at

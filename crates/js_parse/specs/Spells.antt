@@ -2,15 +2,15 @@
 use Rattle.std.specs.Prelude.{◌≡◌, ℕ, ◌-◌, List, [], ◌∷◌, length, take, drop, Bool, true, false, if◌then◌else◌, Option, Some, None, Result, Ok, Err}
 use Rattle.js_lex.specs.declared.token.LexFault.{LexFault}
 use Rattle.js_lex.specs.Tokens.{LexFaultOf}
-use Rattle.parse_syntax.specs.Reader.{Kind, Wrong, TooDeep, is_some}
+use Rattle.parse_syntax.specs.Reader.{SyntaxFaultKind, Wrong, TooDeep, is_some}
 use Rattle.parse_syntax.specs.Refused.{IsRefused}
 use Rattle.parse_syntax.specs.declared.token.GrammarToken.{GrammarToken}
-use Rattle.parse_syntax.specs.Tables.{Tables}
-use Rattle.parse_syntax.specs.Terminals.{is_word, place, point, opening}
+use Rattle.parse_syntax.specs.Tables.{TokenTables}
+use Rattle.parse_syntax.specs.Terminals.{is_word_token, place, point, opening}
 use Rattle.eval_tree.specs.Tree.{Tree, StmtTree, stmts}
 use Rattle.parse_syntax.specs.Grammar.{Statements, own_names, most}
 use Rattle.js_parse.specs.Names.{NameFault, Duplicate, LoopName, ProtoKey}
-use Rattle.parse_tokens.specs.Tokens.{Reads}
+use Rattle.parse_tokens.specs.Tokens.{HasTokens}
 use Rattle.js_parse.specs.declared.fault.Role.{Role}
 use Rattle.js_parse.specs.declared.fault.Role.TheVariants as role
 use Rattle.js_parse.specs.declared.fault.ParseFault.{ParseFault}
@@ -25,9 +25,9 @@ prints role.Main = true
 -- the bytes are of the grammar, and give this tree
 pub record Parses (r : Role) (bytes : List ℕ) (script : Tree) : Type 0 where
   pub tokens : List GrammarToken
-  pub tables : Tables
+  pub tables : TokenTables
   pub statements : List StmtTree
-  pub reads : Reads bytes tokens script.literals tables.names tables.keys
+  pub reads : HasTokens bytes tokens script.literals tables.names tables.keys
   pub parsed : Statements tables (prints r) most tokens statements
   pub body : script.body ≡ stmts statements
   pub top : script.top ≡ own_names statements
@@ -43,22 +43,22 @@ front_of tokens rest = take (length tokens - length rest) tokens
 
 -- of a point and an identifier the place of the identifier
 abbrev pub pointed : List GrammarToken → Option ℕ
-pointed (p ∷ t ∷ []) = if is_some (point p) then (if is_word t then Some (place t) else None) else None
+pointed (p ∷ t ∷ []) = if is_some (point p) then (if is_word_token t then Some (place t) else None) else None
 pointed _ = None
 
 -- the identifier behind a point that ends the front, where ( follows. Where it is a method, ( is never wrong
-abbrev pub called : List GrammarToken → GrammarToken → Option ℕ
-called front t = if is_some (opening t) then pointed (drop (length front - 2) front) else None
+abbrev pub called_word : List GrammarToken → GrammarToken → Option ℕ
+called_word front t = if is_some (opening t) then pointed (drop (length front - 2) front) else None
 
 -- a token isn't allowed there: an identifier that is called so is at fault in its place
 abbrev pub misplaced_at : Option ℕ → GrammarToken → ParseFault
 misplaced_at (Some at) t = fault.NotInProfile at
-misplaced_at None t = if is_word t then fault.NotInProfile (place t) else fault.Unexpected (place t)
+misplaced_at None t = if is_word_token t then fault.NotInProfile (place t) else fault.Unexpected (place t)
 
 -- the fault at the first token of the rest behind the front, or at the end of the text
-abbrev pub misplaced : Kind → List GrammarToken → List GrammarToken → ℕ → ParseFault
+abbrev pub misplaced : SyntaxFaultKind → List GrammarToken → List GrammarToken → ℕ → ParseFault
 misplaced Wrong front [] end = fault.Unexpected end
-misplaced Wrong front (t ∷ rest) end = misplaced_at (called front t) t
+misplaced Wrong front (t ∷ rest) end = misplaced_at (called_word front t) t
 misplaced TooDeep front [] end = fault.TooDeep end
 misplaced TooDeep front (t ∷ rest) end = fault.TooDeep (place t)
 
@@ -72,8 +72,9 @@ misnamed (ProtoKey at) = fault.NotInProfile at
 -- which on the tokens begin no script; where they are one, the first fault of its names and keys
 pub data Refused (r : Role) (outer : List (List ℕ)) (bytes : List ℕ) : ParseFault → Type 0 where
   lexical : (f : LexFault) → LexFaultOf bytes f → Refused r outer bytes (fault.Lex f)
-  grammatical : (tokens : List GrammarToken) (literals : List (List ℕ)) (tables : Tables) (kind : Kind)
-      (rest : List GrammarToken) → Reads bytes tokens literals tables.names tables.keys
+  grammatical : (tokens : List GrammarToken) (literals : List (List ℕ)) (tables : TokenTables)
+      (kind : SyntaxFaultKind)
+      (rest : List GrammarToken) → HasTokens bytes tokens literals tables.names tables.keys
       → IsRefused (Statements tables (prints r)) most tokens kind rest
       → Refused r outer bytes (misplaced kind (front_of tokens rest) rest (length bytes))
   of_names : (script : Tree) (f : NameFault) (p : Parses r bytes script)

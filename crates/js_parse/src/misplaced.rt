@@ -28,7 +28,7 @@ pub(crate) fn place(token: &GrammarToken) -> u32
 
 // Whether a token that isn't allowed at its place is an identifier.
 fn is_word(token: &GrammarToken) -> bool
-    ensures { result ≡ terminals.is_word token.now }
+    ensures { result ≡ terminals.is_word_token token.now }
 {
     match token {
         GrammarToken::Name { .. } => true,
@@ -93,7 +93,7 @@ fn pointed(two: &[GrammarToken]) -> Option<u32>
 
 // The identifier behind a point that ends the front, where `(` follows.
 fn called(front: &[GrammarToken], token: &GrammarToken) -> Option<u32>
-    ensures { result ≡ definition.called front.now token.now }
+    ensures { result ≡ definition.called_word front.now token.now }
 {
     if !is_opening(token) {
         return None;

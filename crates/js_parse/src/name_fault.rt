@@ -17,7 +17,7 @@ pub enum NameFault {
 }
 
 fn rank(fault: NameFault) -> u64
-    ensures { result ≡ definition.rank (fault_of fault) }
+    ensures { result ≡ definition.fault_rank (fault_of fault) }
 {
     match fault {
         NameFault::Duplicate { at } => 3 * at as u64,

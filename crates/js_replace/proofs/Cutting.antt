@@ -3,17 +3,17 @@ use Rattle.std.proofs.Common.{arith, ◌≡◌, ℕ, zero, suc, ◌+◌, ◌-◌
 use Rattle.std.specs.Prelude.{Option, Some, None, slice_range, nat_lt, if◌then◌else◌}
 use Rattle.std.proofs.lemmas.List.{get_or_default, map-append, length-map, length-take, length-drop, take_all}
 use Rattle.std.proofs.lemmas.Bool.Decides.{leb_tells}
-use Rattle.js_store.specs.State.{State, Grows, Has, IsKnown, text}
+use Rattle.js_store.specs.State.{State, Grows, NamesUnits, IsKnown, text}
 use Rattle.js_store.specs.Rows.{copy_words, cut_words, is_whole, wide_words}
-use Rattle.js_store.specs.Faults.{Step}
+use Rattle.js_store.specs.Faults.{StoreStep}
 use Rattle.js_store.specs.declared.faults.StoreFault.{StoreFault}
 use Rattle.js_store.proofs.Laws.{step_after, has_text, has_known}
 use Rattle.js_search.specs.Places.{first}
-use Rattle.js_texts.specs.Texts.{texts, AllKnown}
+use Rattle.js_texts.specs.Texts.{known_texts, AllKnown}
 use Rattle.js_texts.proofs.Lists.{drop_at, texts_still, all_known_still}
 use Rattle.js_replace.specs.Matches.{first_matches, and_on, matches, InOrder}
 use Rattle.js_replace.specs.Parts.{pieces, singles, all_parts, parts}
-use Rattle.js_replace.specs.Use.{copies}
+use Rattle.js_replace.specs.Use.{copies_words}
 use Rattle.js_search.proofs.Bounds.{first_is}
 
 -- A part behind others.
@@ -30,29 +30,29 @@ pub cut_copy : (from to n : ℕ) → cut_words from to n ≤ copy_words (to - fr
 cut_copy from to n = by_bool (is_whole from to n) 0 (if nat_lt (to - from) 13 then 3 else 0) (copy_words (to - from)) (omega arith) (short_copy (nat_lt (to - from) 13) (wide_words (to - from)))
 
 module _ {F R : Type 0} (name : R → ℕ) where
-  pub texts_push : (a b : State F) (rs qs : List R) (r : R) (u : List ℕ) → Grows a b → AllKnown a name rs → Has b (name r) u → qs ≡ rs ++ r ∷ [] → texts b name qs ≡ texts a name rs ++ u ∷ []
+  pub texts_push : (a b : State F) (rs qs : List R) (r : R) (u : List ℕ) → Grows a b → AllKnown a name rs → NamesUnits b (name r) u → qs ≡ rs ++ r ∷ [] → known_texts b name qs ≡ known_texts a name rs ++ u ∷ []
   texts_push a b rs qs r u g k h e =
-      ap (texts b name) e ∙ map-append (λ q. text b (name q)) rs (r ∷ [])
+      ap (known_texts b name) e ∙ map-append (λ q. text b (name q)) rs (r ∷ [])
       ∙ ap (λ t. t ++ text b (name r) ∷ []) (texts_still name a b rs g k)
-      ∙ ap (λ t. texts a name rs ++ t ∷ []) (has_text b (name r) u h)
+      ∙ ap (λ t. known_texts a name rs ++ t ∷ []) (has_text b (name r) u h)
 
   known_behind : (b : State F) (rs : List R) (r : R) → AllKnown b name rs → IsKnown b (name r) → AllKnown b name (rs ++ r ∷ [])
   known_behind b [] r k h = (h, tt)
   known_behind b (q ∷ rs) r k h = (k.0, known_behind b rs r k.1 h)
 
-  pub known_push : (a b : State F) (rs qs : List R) (r : R) (u : List ℕ) → Grows a b → AllKnown a name rs → Has b (name r) u → qs ≡ rs ++ r ∷ [] → AllKnown b name qs
+  pub known_push : (a b : State F) (rs qs : List R) (r : R) (u : List ℕ) → Grows a b → AllKnown a name rs → NamesUnits b (name r) u → qs ≡ rs ++ r ∷ [] → AllKnown b name qs
   known_push a b rs qs r u g k h e = rw e (known_behind b rs r (all_known_still name a b rs g k) (has_known b (name r) u h))
 
 -- What is used for the parts so far, and for one more.
 
-copies_append : (us vs : List (List ℕ)) → copies (us ++ vs) ≡ copies us + copies vs
+copies_append : (us vs : List (List ℕ)) → copies_words (us ++ vs) ≡ copies_words us + copies_words vs
 copies_append [] vs = omega arith
 copies_append (u ∷ us) vs = omega (arith, copies_append us vs)
 
-pub turn_step : {F : Type 0} {a b c : State F} {f : Option StoreFault} (n : ℕ) (done : List (List ℕ)) (part : List ℕ) (left whole : List (List ℕ)) → n ≡ length part → done ++ part ∷ left ≡ whole → Step a b None (length done) (copies done) → Step b c f 1 (copy_words n) → Step a c f (length whole) (copies whole)
+pub turn_step : {F : Type 0} {a b c : State F} {f : Option StoreFault} (n : ℕ) (done : List (List ℕ)) (part : List ℕ) (left whole : List (List ℕ)) → n ≡ length part → done ++ part ∷ left ≡ whole → StoreStep a b None (length done) (copies_words done) → StoreStep b c f 1 (copy_words n) → StoreStep a c f (length whole) (copies_words whole)
 turn_step n done part left whole h e s t =
     let count = ap length (sym e) ∙ length-append done (part ∷ left) in
-    let words = ap copies (sym e) ∙ copies_append done (part ∷ left) in
+    let words = ap copies_words (sym e) ∙ copies_append done (part ∷ left) in
     let same = ap copy_words h in
     step_after s t (omega (arith, count)) (omega (arith, words, same))
 
@@ -94,10 +94,10 @@ no_more done left whole h k = sym (append-nil done) ∙ ap (λ t. done ++ t) (sy
 
 -- a turn of a loop over parts: what it used whether it ends or is refused, and what it leaves
 module _ {F : Type 0} {a b c : State F} {f : Option StoreFault} (size n m : ℕ) (done left rest whole : List (List ℕ)) (p : List ℕ) where
-  pub refused : size ≡ length p → 0 < n → m ≡ n - 1 → left ≡ p ∷ rest → done ++ take n left ≡ whole → Step a b None (length done) (copies done) → Step b c f 1 (copy_words size) → Step a c f (length whole) (copies whole)
+  pub refused : size ≡ length p → 0 < n → m ≡ n - 1 → left ≡ p ∷ rest → done ++ take n left ≡ whole → StoreStep a b None (length done) (copies_words done) → StoreStep b c f 1 (copy_words size) → StoreStep a c f (length whole) (copies_words whole)
   refused h l e g k s t = turn_step size done p (take m rest) whole h (one_part n m done left rest whole p l e g k) s t
 
-  pub answered : (more : List (List ℕ)) → size ≡ length p → more ≡ done ++ p ∷ [] → Step a b None (length done) (copies done) → Step b c f 1 (copy_words size) → Step a c f (length more) (copies more)
+  pub answered : (more : List (List ℕ)) → size ≡ length p → more ≡ done ++ p ∷ [] → StoreStep a b None (length done) (copies_words done) → StoreStep b c f 1 (copy_words size) → StoreStep a c f (length more) (copies_words more)
   answered more h g s t = turn_step size done p [] more h (sym g) s t
 
 -- Pieces between places.

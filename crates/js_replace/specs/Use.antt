@@ -6,9 +6,9 @@ use Rattle.js_replace.specs.Parts.{parts}
 use Rattle.js_texts.specs.Use.{settling}
 
 -- copies of several lists
-abbrev pub copies : List (List ℕ) → ℕ
-copies [] = 0
-copies (u ∷ us) = copy_words (length u) + copies us
+abbrev pub copies_words : List (List ℕ) → ℕ
+copies_words [] = 0
+copies_words (u ∷ us) = copy_words (length u) + copies_words us
 
 -- splitting: without a separator nothing, since the string itself is the one part; else both are settled and each part is a copy
 abbrev pub split_ids : {F R : Type 0} → State F → (R → ℕ) → R → Option R → ℕ → ℕ
@@ -17,4 +17,5 @@ split_ids s name r (Some sep) limit = length (parts (text s (name r)) (Some (tex
 
 abbrev pub split_words : {F R : Type 0} → State F → (R → ℕ) → R → Option R → ℕ → ℕ
 split_words s name r None limit = 0
-split_words s name r (Some sep) limit = settling s (name r) + settling s (name sep) + copies (parts (text s (name r)) (Some (text s (name sep))) limit)
+split_words s name r (Some sep) limit = settling s (name r) + settling s (name sep) + copies_words
+    (parts (text s (name r)) (Some (text s (name sep))) limit)

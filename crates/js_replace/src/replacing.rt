@@ -1,6 +1,6 @@
 // Matches in a string replaced.
 ghost use Rattle.std.specs.Prelude.{◌≡◌, ◌+◌, ◌≤◌, ◌++◌, ℕ, List, length, IfOk, OnOk};
-ghost use Rattle.js_store.specs.State.{Has, IsKnown, IsSettled, text};
+ghost use Rattle.js_store.specs.State.{NamesUnits, IsKnown, IsSettled, text};
 ghost use Rattle.js_store.specs.Faults.{fault_of, Uses};
 ghost use Rattle.js_texts.specs.Answers.{ThrowsLong, full_of};
 ghost use Rattle.js_replace.specs.Matches.{AreMatches, first_matches, matches, InOrder};
@@ -27,7 +27,7 @@ pub fn replace<S: Strings>(
     requires needle_known { IsKnown (S.state store.old) (S.number w) }
     requires template_known { IsKnown (S.state store.old) (S.number template) }
     ensures value { IfOk result
-        (λ r. Has (S.state store.new) (S.number r)
+        (λ r. NamesUnits (S.state store.new) (S.number r)
         (replaced_first (text (S.state store.old) (S.number s)) (text (S.state store.old) (S.number w))
         (text (S.state store.old) (S.number template)))) }
     ensures settled { OnOk result (IsSettled (S.state store.new) (S.number s)) }
@@ -63,7 +63,7 @@ pub fn replace_all<S: Strings>(
     requires needle_known { IsKnown (S.state store.old) (S.number w) }
     requires template_known { IsKnown (S.state store.old) (S.number template) }
     ensures value { IfOk result
-        (λ r. Has (S.state store.new) (S.number r)
+        (λ r. NamesUnits (S.state store.new) (S.number r)
         (replaced_all (text (S.state store.old) (S.number s)) (text (S.state store.old) (S.number w))
         (text (S.state store.old) (S.number template)))) }
     ensures settled { OnOk result (IsSettled (S.state store.new) (S.number s)) }
@@ -127,7 +127,7 @@ fn replaced<S: Strings>(
     requires template_known { IsKnown (S.state store.old) (S.number template) }
     requires template_settled { IsSettled (S.state store.old) (S.number template) }
     ensures value { IfOk result
-        (λ r. Has (S.state store.new) (S.number r)
+        (λ r. NamesUnits (S.state store.new) (S.number r)
         (replaced_at (text (S.state store.old) (S.number s)) (text (S.state store.old) (S.number w))
         (text (S.state store.old) (S.number template)) 0
         (first_matches most (text (S.state store.old) (S.number s))
@@ -167,7 +167,7 @@ fn with_places<S: Strings>(
     requires order { InOrder (length (text (S.state store.old) (S.number s)))
         (length (text (S.state store.old) (S.number w))) 0 places.now }
     ensures value { IfOk result
-        (λ r. Has (S.state store.new) (S.number r)
+        (λ r. NamesUnits (S.state store.new) (S.number r)
         (replaced_at (text (S.state store.old) (S.number s))
         (text (S.state store.old) (S.number w)) template.now 0 places.now)) }
     ensures result_settled { IfOk result (λ r. IsSettled (S.state store.new) (S.number r)) }

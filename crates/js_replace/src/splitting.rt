@@ -5,12 +5,12 @@ ghost use Rattle.js_store.specs.State.{IsKnown, IsSettled, text};
 ghost use Rattle.js_store.specs.Faults.{Uses};
 ghost use Rattle.js_store.specs.Rows.{copy_words};
 ghost use Rattle.js_texts.specs.Answers.{NeverThrows, full_of};
-ghost use Rattle.js_texts.specs.Texts.{texts, AllKnown, full_fault_of};
+ghost use Rattle.js_texts.specs.Texts.{known_texts, AllKnown, full_fault_of};
 ghost use Rattle.js_replace.specs.Matches.{InOrder};
 ghost use Rattle.js_replace.specs.Parts;
 ghost use Rattle.js_replace.specs.Parts.{pieces};
 ghost use Rattle.js_texts.specs.Use.{settling};
-ghost use Rattle.js_replace.specs.Use.{copies, split_ids, split_words};
+ghost use Rattle.js_replace.specs.Use.{copies_words, split_ids, split_words};
 
 use crate::matching::places;
 use js_store::{StoreFault, Strings};
@@ -30,7 +30,7 @@ pub fn split<S: Strings>(
     requires known { IsKnown (S.state store.old) (S.number s) }
     requires separator_known { IfSome sep (λ r. IsKnown (S.state store.old) (S.number r)) }
     ensures value { IfOk result
-        (λ v. texts (S.state store.new) S.number v.items
+        (λ v. known_texts (S.state store.new) S.number v.items
         ≡ Parts.parts (text (S.state store.old) (S.number s))
         (option_map (λ r. text (S.state store.old) (S.number r)) sep) limit) }
     ensures known { IfOk result (λ v. AllKnown (S.state store.new) S.number v.items) }
@@ -57,7 +57,7 @@ fn whole<S: Strings>(
 ) -> Result<Vec<S::Ref>, StoreFault>
     requires { IsKnown (S.state store.now) (S.number s) }
     ensures value { IfOk result
-        (λ v. texts (S.state store.now) S.number v.items
+        (λ v. known_texts (S.state store.now) S.number v.items
         ≡ take limit (text (S.state store.now) (S.number s) ∷ [])) }
     ensures known { IfOk result (λ v. AllKnown (S.state store.now) S.number v.items) }
     ensures fault { IfErr result (λ f. f ≡ StoreFault.Memory) }
@@ -80,7 +80,7 @@ fn split_by<S: Strings>(
     requires known { IsKnown (S.state store.old) (S.number s) }
     requires separator_known { IsKnown (S.state store.old) (S.number sep) }
     ensures value { IfOk result
-        (λ v. texts (S.state store.new) S.number v.items
+        (λ v. known_texts (S.state store.new) S.number v.items
         ≡ Parts.parts (text (S.state store.old) (S.number s))
         (Some (text (S.state store.old) (S.number sep))) limit) }
     ensures known { IfOk result (λ v. AllKnown (S.state store.new) S.number v.items) }
@@ -90,7 +90,7 @@ fn split_by<S: Strings>(
         (length (Parts.parts (text (S.state store.old) (S.number s))
         (Some (text (S.state store.old) (S.number sep))) limit))
         (settling (S.state store.old) (S.number s) + settling (S.state store.old) (S.number sep)
-        + copies (Parts.parts (text (S.state store.old) (S.number s))
+        + copies_words (Parts.parts (text (S.state store.old) (S.number s))
         (Some (text (S.state store.old) (S.number sep))) limit)) }
 {
     store.settle(s)?;
@@ -111,14 +111,14 @@ fn split_settled<S: Strings>(
     requires separator_known { IsKnown (S.state store.old) (S.number sep) }
     requires separator_settled { IsSettled (S.state store.old) (S.number sep) }
     ensures value { IfOk result
-        (λ v. texts (S.state store.new) S.number v.items
+        (λ v. known_texts (S.state store.new) S.number v.items
         ≡ Parts.parts (text (S.state store.old) (S.number s))
         (Some (text (S.state store.old) (S.number sep))) limit) }
     ensures known { IfOk result (λ v. AllKnown (S.state store.new) S.number v.items) }
     ensures uses { Uses (S.state store.old) (S.state store.new) (full_fault_of result)
         (length (Parts.parts (text (S.state store.old) (S.number s))
         (Some (text (S.state store.old) (S.number sep))) limit))
-        (copies (Parts.parts (text (S.state store.old) (S.number s))
+        (copies_words (Parts.parts (text (S.state store.old) (S.number s))
         (Some (text (S.state store.old) (S.number sep))) limit)) }
 {
     let len = store.len(s);
@@ -140,12 +140,12 @@ fn single_units<S: Strings>(
     requires known { IsKnown (S.state store.old) (S.number s) }
     requires settled { IsSettled (S.state store.old) (S.number s) }
     ensures value { IfOk result
-        (λ v. texts (S.state store.new) S.number v.items
+        (λ v. known_texts (S.state store.new) S.number v.items
         ≡ take limit (Parts.singles (text (S.state store.old) (S.number s)))) }
     ensures known { IfOk result (λ v. AllKnown (S.state store.new) S.number v.items) }
     ensures uses { Uses (S.state store.old) (S.state store.new) (full_fault_of result)
         (length (take limit (Parts.singles (text (S.state store.old) (S.number s)))))
-        (copies (take limit (Parts.singles (text (S.state store.old) (S.number s))))) }
+        (copies_words (take limit (Parts.singles (text (S.state store.old) (S.number s))))) }
 {
     let most = store.len(s).min(limit);
     let mut parts = Vec::new(alloc);
@@ -170,12 +170,12 @@ fn cut_at<S: Strings>(
     requires order { InOrder (length (text (S.state store.old) (S.number s))) size 0 places.now }
     requires count { length places.now ≤ limit }
     ensures value { IfOk result
-        (λ v. texts (S.state store.new) S.number v.items
+        (λ v. known_texts (S.state store.new) S.number v.items
         ≡ take limit (pieces (text (S.state store.old) (S.number s)) size 0 places.now)) }
     ensures known { IfOk result (λ v. AllKnown (S.state store.new) S.number v.items) }
     ensures uses { Uses (S.state store.old) (S.state store.new) (full_fault_of result)
         (length (take limit (pieces (text (S.state store.old) (S.number s)) size 0 places.now)))
-        (copies (take limit (pieces (text (S.state store.old) (S.number s)) size 0 places.now))) }
+        (copies_words (take limit (pieces (text (S.state store.old) (S.number s)) size 0 places.now))) }
 {
     let len = store.len(s);
     let mut parts = Vec::new(alloc);
@@ -206,8 +206,8 @@ fn push_part<S: Strings>(
     requires within { to ≤ length (text (S.state store.old) (S.number s)) }
     requires parts_known { AllKnown (S.state store.old) S.number parts.old.items }
     ensures added { OnOk result
-        (texts (S.state store.new) S.number parts.new.items
-        ≡ texts (S.state store.old) S.number parts.old.items ++ slice_range
+        (known_texts (S.state store.new) S.number parts.new.items
+        ≡ known_texts (S.state store.old) S.number parts.old.items ++ slice_range
         (text (S.state store.old) (S.number s)) from to ∷ []) }
     ensures known { OnOk result (AllKnown (S.state store.new) S.number parts.new.items) }
     ensures uses { Uses (S.state store.old) (S.state store.new) (full_fault_of result) 1

@@ -1,6 +1,6 @@
 // What a template expands to at a match.
 ghost use Rattle.std.specs.Prelude.{◌≡◌, ◌+◌, ◌≤◌, length, IfOk, OnOk};
-ghost use Rattle.js_store.specs.State.{Has, IsKnown, IsSettled, text};
+ghost use Rattle.js_store.specs.State.{NamesUnits, IsKnown, IsSettled, text};
 ghost use Rattle.js_store.specs.Faults.{Uses};
 ghost use Rattle.js_texts.specs.Answers.{ThrowsLong, full_of};
 ghost use Rattle.js_texts.specs.Texts.{full_fault_of};
@@ -31,7 +31,7 @@ pub fn substitution<S: Strings>(
     requires stands { Stands (text (S.state store.old) (S.number s))
         (text (S.state store.old) (S.number w)) at }
     ensures value { IfOk result
-        (λ r. Has (S.state store.new) (S.number r)
+        (λ r. NamesUnits (S.state store.new) (S.number r)
         (substituted (text (S.state store.old) (S.number template)) (text (S.state store.old) (S.number s)) at
         (text (S.state store.old) (S.number w)))) }
     ensures template_settled { OnOk result (IsSettled (S.state store.new) (S.number template)) }

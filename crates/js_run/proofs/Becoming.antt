@@ -1,9 +1,9 @@
 -- What the stages of a call leave, one behind the other.
 use Rattle.std.proofs.Common.{◌≡◌, ◌≤◌, ℕ, zero, suc, List, [], ◌∷◌, length, option_map, Option, None, Some, refl, sym, ap, subst, arith}
 use Rattle.std.proofs.lemmas.List.{length-append, length-map}
-use Rattle.heap_rule.specs.Layout.{IsLawful}
+use Rattle.heap_rule.specs.Layout.{IsLawfulSize}
 use Rattle.heap_table.specs.MayMake.{MayMake}
-use Rattle.run_sources.specs.Draws.{listed}
+use Rattle.run_sources.specs.Draws.{list_up_to}
 use Rattle.run_sources.specs.Texts.{Named, generated, named_script}
 use Rattle.js_io.specs.FilesState.{FilesState}
 use Rattle.js_eval.specs.declared.ending.End.{End}
@@ -16,13 +16,13 @@ use Rattle.std.specs.Borrow.{Bor}
 use Rattle.std.specs.Option.{option_copied}
 use Rattle.eval_tree.specs.declared.tree.Script.{Script}
 use Rattle.eval_tree.specs.Tree.{Tree, tree_of}
-use Rattle.run_command.specs.Words.{Asked, IsInRange, Request, files, made_from, request_of}
+use Rattle.run_command.specs.Words.{Asked, IsRequestInRange, Request, files, made_from, request_of}
 use Rattle.run_sources.specs.declared.sources.SourceText.{SourceText}
 use Rattle.run_sources.specs.declared.sources.Sources.{Sources}
 use Rattle.run_sources.specs.declared.stop.ScriptsFault.{ScriptsFault}
 use Rattle.run_sources.specs.declared.stop.ScriptsFault.TheVariants as stop
 use Rattle.run_sources.specs.Answers.{RefusesFile, RefusesScript, source_for, sources_for}
-use Rattle.run_sources.specs.Program.{Name, Program, in_order, program_from}
+use Rattle.run_sources.specs.Program.{FileName, Program, in_order, program_from}
 use Rattle.run_sources.specs.Reading as reading
 use Rattle.run_sources.specs.Reading.{AreRead, IsQuiet, KeepsFiles, Read}
 use Rattle.run_sources.specs.Spelling as spelling
@@ -34,9 +34,9 @@ use Rattle.run_program.specs.Ran.{HasOutcome, IsRan, all_outcomes, prelude_by, s
 use Rattle.js_run.specs.Answer.{Becomes, HasNames, SamePrelude, stop_report}
 use Rattle.js_run.specs.Asked.{AreTexts, setup_of}
 use Rattle.js_run.specs.Cause.{HasCauseBy, HasCauseIn, HasCauseOf, names_in}
-use Rattle.js_run.specs.Ending.{IsEnd}
-use Rattle.js_run.specs.Moment.{Ended, Moment, Sinks}
-use Rattle.js_run.specs.Outcome.{Outcome as OutcomeOf}
+use Rattle.js_io.specs.Report.{IsEnd, Sinks}
+use Rattle.js_run.specs.Moment.{Ended, Moment}
+use Rattle.js_run.specs.Outcome.{CallOutcome as OutcomeOf}
 use Rattle.js_run.proofs.Told.{counts_kept}
 use Rattle.js_run.specs.Verdict.{BadWords, NoMemory, NotRead, Refused, TooLarge, Verdict, WasRun, kept_of, report_of}
 
@@ -66,7 +66,7 @@ module _ (setup : Setup) (sources : Program Named) (ended : Ended) (old new : Si
 
 module _ (request : Request) (before after : FilesState) (ended : Ended) (old new : Sinks) where
   -- a file wasn't read, or memory was wanting
-  pub file_stopped : (prelude : Option Name) (scripts : List Name) (s : ScriptsFault) → request.asked ≡ files prelude scripts → RefusesFile before after (in_order (record { prelude = prelude; scripts = scripts })) s
+  pub file_stopped : (prelude : Option FileName) (scripts : List FileName) (s : ScriptsFault) → request.asked ≡ files prelude scripts → RefusesFile before after (in_order (record { prelude = prelude; scripts = scripts })) s
       → ended.kept ≡ None → IsEnd (stop_report s) ended.code old new → Becomes (HasCauseIn before after request) ended old new
   file_stopped prelude scripts (stop.NotRead name) asked why none end = record { verdict = NotRead name.now; cause = rw (asked) why; ending = end; kept = none }
   file_stopped prelude scripts (stop.TooLarge name) asked why none end = record { verdict = TooLarge name.now; cause = rw (asked) why; ending = end; kept = none }
@@ -85,7 +85,7 @@ module _ (request : Request) (before after : FilesState) (ended : Ended) (old ne
       → Becomes (HasCauseIn before after request) ended old new
   texts_became sources texts quiet b = record { verdict = b.verdict; cause = of_texts sources texts quiet b.verdict b.cause; ending = b.ending; kept = b.kept }
 
-  pub files_became : (prelude : Option Name) (scripts : List Name) (sources : Program Named) (setup : Setup) → request.asked ≡ files prelude scripts → setup ≡ setup_of request
+  pub files_became : (prelude : Option FileName) (scripts : List FileName) (sources : Program Named) (setup : Setup) → request.asked ≡ files prelude scripts → setup ≡ setup_of request
       → AreRead before.held (record { prelude = prelude; scripts = scripts }) sources → IsQuiet before after → Becomes (HasCauseOf setup sources) ended old new
       → Becomes (HasCauseIn before after request) ended old new
   files_became prelude scripts sources setup asked is read quiet b =
@@ -101,10 +101,10 @@ module _ (request : Request) (before after : FilesState) (ended : Ended) (old ne
 
 -- ---- how many texts there are
 
-listed_length : {T : Type 0} (f : ℕ → T) (k : ℕ) → length (listed f k) ≡ k
-unfolding listed
+listed_length : {T : Type 0} (f : ℕ → T) (k : ℕ) → length (list_up_to f k) ≡ k
+unfolding list_up_to
 listed_length f zero = refl
-listed_length f (suc k) = let more = length-append (listed f k) (f k ∷ []) in omega (arith, more, listed_length f k)
+listed_length f (suc k) = let more = length-append (list_up_to f k) (f k ∷ []) in omega (arith, more, listed_length f k)
 
 pub made_length : (number : ℕ) → length (generated number) ≡ 33
 made_length number = omega (arith, listed_length (named_script number) 32)
@@ -112,7 +112,7 @@ made_length number = omega (arith, listed_length (named_script number) 32)
 pub made_scripts : (number : ℕ) → length (program_from (generated number)).scripts ≡ 32
 made_scripts number = listed_length (named_script number) 32
 
-pub read_length : (held : Name → Option (List ℕ)) (names : List Name) (sources : List Named) → Read held names sources → length sources ≡ length names
+pub read_length : (held : FileName → Option (List ℕ)) (names : List FileName) (sources : List Named) → Read held names sources → length sources ≡ length names
 read_length held _ _ reading.Read.none = refl
 read_length held _ _ (reading.Read.next name names source sources is rest) = ap suc (read_length held names sources rest)
 
@@ -177,9 +177,9 @@ named setup sources trees ran spell p = record {
 
 -- ---- the words
 
-pub may_make : (request : Request) → IsInRange request → MayMake (setup_of request).size (setup_of request).jobs
+pub may_make : (request : Request) → IsRequestInRange request → MayMake (setup_of request).size (setup_of request).jobs
 may_make request r =
-    let lawful : IsLawful (setup_of request).size = (r.ids.0, omega (arith, r.ids.1), r.heap_words.0, omega (arith, r.heap_words.1), r.slots.0, omega (arith, r.slots.1), r.together) in
+    let lawful : IsLawfulSize (setup_of request).size = (r.ids.0, omega (arith, r.ids.1), r.heap_words.0, omega (arith, r.heap_words.1), r.slots.0, omega (arith, r.slots.1), r.together) in
     (lawful, r.jobs.0, r.jobs.1)
 
 pub program_length : (sources : Program Named) (trees : Program Tree) → Spell sources trees → length trees.scripts ≡ length sources.scripts

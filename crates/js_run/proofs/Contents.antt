@@ -1,7 +1,7 @@
 -- What is told of files against what was read of them, and the scripts that texts spell.
 use Rattle.std.proofs.Common.{◌≡◌, ℕ, ◌≤◌, List, [], ◌∷◌, ◌++◌, length, Option, None, Some, refl, sym, ap, ap₂, ◌∙◌, subst, arith}
 use Rattle.run_sources.specs.Texts.{Named}
-use Rattle.js_io.specs.FilesState.{Tells, IsTooLarge}
+use Rattle.js_io.specs.FilesState.{IsToldAs, IsTooLarge}
 use Rattle.js_io.specs.declared.files.TheConstants.{FILE_MAX}
 use Rattle.js_parse.specs.declared.fault.Role.{Role}
 use Rattle.js_parse.specs.declared.fault.Role.TheVariants as role
@@ -9,7 +9,7 @@ use Rattle.js_parse.specs.declared.fault.ParseFault.{ParseFault}
 use Rattle.js_parse.specs.Spells.{Spells, Refused}
 use Rattle.eval_tree.specs.Tree.{Tree}
 use Rattle.run_command.specs.Words.{Asked, files, made_from}
-use Rattle.run_sources.specs.Program.{Name, Program, in_order, outer_of}
+use Rattle.run_sources.specs.Program.{FileName, Program, in_order, outer_of}
 use Rattle.run_sources.specs.Reading as reading
 use Rattle.run_sources.specs.Reading.{AreRead, IsPreludeRead, IsRead, Read}
 use Rattle.run_sources.specs.Spelling as spelling
@@ -17,35 +17,35 @@ use Rattle.run_sources.specs.Spelling.{AllSpell, FirstAmong, FirstRefused, Spell
 use Rattle.js_run.specs.Asked.{AreTexts, names_of}
 use Rattle.js_run.specs.Rows.{AreTold}
 
-too_large : (o : Option (List ℕ)) (bytes text : List ℕ) (oversize later : ℕ) → o ≡ Some bytes → Tells o text → length text ≤ FILE_MAX → IsTooLarge o oversize later → ⊥
+too_large : (o : Option (List ℕ)) (bytes text : List ℕ) (oversize later : ℕ) → o ≡ Some bytes → IsToldAs o text → length text ≤ FILE_MAX → IsTooLarge o oversize later → ⊥
 too_large o bytes text oversize later is tells small larger =
-    let same : text ≡ bytes = subst (λ (x : Option (List ℕ)). Tells x text) is tells in
+    let same : text ≡ bytes = subst (λ (x : Option (List ℕ)). IsToldAs x text) is tells in
     let longer : IsTooLarge (Some bytes) oversize later = subst (λ (x : Option (List ℕ)). IsTooLarge x oversize later) is larger in
     omega (arith, longer.0, small, ap length same)
 
-same_text : (o : Option (List ℕ)) (bytes x y : List ℕ) → o ≡ Some bytes → Tells o x → Tells o y → x ≡ y
+same_text : (o : Option (List ℕ)) (bytes x y : List ℕ) → o ≡ Some bytes → IsToldAs o x → IsToldAs o y → x ≡ y
 same_text o bytes x y is p q =
-    let one : x ≡ bytes = subst (λ (z : Option (List ℕ)). Tells z x) is p in
-    let other : y ≡ bytes = subst (λ (z : Option (List ℕ)). Tells z y) is q in
+    let one : x ≡ bytes = subst (λ (z : Option (List ℕ)). IsToldAs z x) is p in
+    let other : y ≡ bytes = subst (λ (z : Option (List ℕ)). IsToldAs z y) is q in
     one ∙ sym other
 
 abbrev named_text : List ℕ → List ℕ → Named
 named_text name text = record { name = name; text = text }
 
-module _ (held : Name → Option (List ℕ)) where
+module _ (held : FileName → Option (List ℕ)) where
   -- a file among those that were read
-  read_at : (before after : List Name) (name : Name) (names : List Name) (sources : List Named) → Read held names sources → names ≡ before ++ name ∷ after
+  read_at : (before after : List FileName) (name : FileName) (names : List FileName) (sources : List Named) → Read held names sources → names ≡ before ++ name ∷ after
       → (source : Named) × IsRead held name source
   read_at [] after name _ _ reading.Read.none split = absurd (cc split)
   read_at [] after name _ _ (reading.Read.next n names source sources is rest) split =
       let same : n ≡ name = cc split in
-      (source, subst (λ (m : Name). IsRead held m source) same is)
+      (source, subst (λ (m : FileName). IsRead held m source) same is)
   read_at (b ∷ before) after name _ _ reading.Read.none split = absurd (cc split)
   read_at (b ∷ before) after name _ _ (reading.Read.next n names source sources is rest) split =
       let same : names ≡ before ++ name ∷ after = cc split in
       read_at before after name names sources rest same
 
-  told_at : (before after : List Name) (name : Name) (names : List Name) → AreTold held names → names ≡ before ++ name ∷ after → (bytes : List ℕ) × (held name ≡ Some bytes)
+  told_at : (before after : List FileName) (name : FileName) (names : List FileName) → AreTold held names → names ≡ before ++ name ∷ after → (bytes : List ℕ) × (held name ≡ Some bytes)
   told_at [] after name [] told split = absurd (cc split)
   told_at [] after name (n ∷ names) told split =
       let same : n ≡ name = cc split in
@@ -56,7 +56,7 @@ module _ (held : Name → Option (List ℕ)) where
       told_at before after name names told.1 same
 
   -- none of those that are told and were read is too large
-  pub not_large : (before after : List Name) (name : Name) (names : List Name) (sources : List Named) (oversize later : ℕ) → Read held names sources → AreTold held names
+  pub not_large : (before after : List FileName) (name : FileName) (names : List FileName) (sources : List Named) (oversize later : ℕ) → Read held names sources → AreTold held names
       → names ≡ before ++ name ∷ after → IsTooLarge (held name) oversize later → ⊥
   not_large before after name names sources oversize later read told split larger =
       let (source, is) = read_at before after name names sources read split in
@@ -64,23 +64,23 @@ module _ (held : Name → Option (List ℕ)) where
       too_large (held name) bytes source.text oversize later held_is is.tells is.small larger
 
   -- a told file that was read isn't too large
-  pub read_small : (before after : List Name) (name : Name) (bytes : List ℕ) (names : List Name) (sources : List Named) → held name ≡ Some bytes
+  pub read_small : (before after : List FileName) (name : FileName) (bytes : List ℕ) (names : List FileName) (sources : List Named) → held name ≡ Some bytes
       → Read held names sources → names ≡ before ++ name ∷ after → length bytes ≤ FILE_MAX
   read_small before after name bytes names sources held_is read split =
       let (source, is) = read_at before after name names sources read split in
-      let same : source.text ≡ bytes = subst (λ (x : Option (List ℕ)). Tells x source.text) held_is is.tells in
+      let same : source.text ≡ bytes = subst (λ (x : Option (List ℕ)). IsToldAs x source.text) held_is is.tells in
       omega (arith, is.small, ap length same)
 
-  same_source : (name : Name) (bytes : List ℕ) (x y : Named) → held name ≡ Some bytes → IsRead held name x → IsRead held name y → x ≡ y
+  same_source : (name : FileName) (bytes : List ℕ) (x y : Named) → held name ≡ Some bytes → IsRead held name x → IsRead held name y → x ≡ y
   same_source name bytes x y is p q = ap₂ named_text (p.named ∙ sym q.named) (same_text (held name) bytes x.text y.text is p.tells q.tells)
 
   -- what was read is what is told
-  read_same : (names : List Name) (xs ys : List Named) → AreTold held names → Read held names xs → Read held names ys → xs ≡ ys
+  read_same : (names : List FileName) (xs ys : List Named) → AreTold held names → Read held names xs → Read held names ys → xs ≡ ys
   read_same _ _ _ told reading.Read.none reading.Read.none = refl
   read_same _ _ _ told (reading.Read.next name names x xs p rest) (reading.Read.next _ _ y ys q more) =
       ap₂ (λ z zs. z ∷ zs) (same_source name told.0.0 x y told.0.1 p q) (read_same names xs ys told.1 rest more)
 
-  prelude_same : (names : List Name) (name : Option Name) (x y : Option Named) → AreTold held (in_order (record { prelude = name; scripts = names }))
+  prelude_same : (names : List FileName) (name : Option FileName) (x y : Option Named) → AreTold held (in_order (record { prelude = name; scripts = names }))
       → IsPreludeRead held name x → IsPreludeRead held name y → x ≡ y
   prelude_same names None None None told p q = refl
   prelude_same names None (Some x) y told p q = absurd p
@@ -89,11 +89,11 @@ module _ (held : Name → Option (List ℕ)) where
   prelude_same names (Some name) (Some x) None told p q = absurd q
   prelude_same names (Some name) (Some x) (Some y) told p q = ap (λ z. Some z) (same_source name told.0.0 x y told.0.1 p q)
 
-  scripts_told : (names : List Name) (name : Option Name) → AreTold held (in_order (record { prelude = name; scripts = names })) → AreTold held names
+  scripts_told : (names : List FileName) (name : Option FileName) → AreTold held (in_order (record { prelude = name; scripts = names })) → AreTold held names
   scripts_told names None told = told
   scripts_told names (Some name) told = told.1
 
-  all_same : (names : Program Name) (x y : Program Named) → AreTold held (in_order names) → AreRead held names x → AreRead held names y → x ≡ y
+  all_same : (names : Program FileName) (x y : Program Named) → AreTold held (in_order names) → AreRead held names x → AreRead held names y → x ≡ y
   all_same names x y told p q = ap₂ program
       (prelude_same names.scripts names.prelude x.prelude y.prelude told p.prelude q.prelude)
       (read_same names.scripts x.scripts y.scripts (scripts_told names.scripts names.prelude told) p.scripts q.scripts)
@@ -106,7 +106,7 @@ module _ (held : Name → Option (List ℕ)) where
   texts_same (files prelude scripts) x y told p q = all_same (record { prelude = prelude; scripts = scripts }) x y told p q
   texts_same (made_from number) x y told p q = p ∙ sym q
 
-  reads_in_order : (names : List Name) (sources : List Named) (name : Option Name) (source : Option Named) → IsPreludeRead held name source → Read held names sources
+  reads_in_order : (names : List FileName) (sources : List Named) (name : Option FileName) (source : Option Named) → IsPreludeRead held name source → Read held names sources
       → Read held (in_order (record { prelude = name; scripts = names })) (in_order (record { prelude = source; scripts = sources }))
   reads_in_order names sources None None p read = read
   reads_in_order names sources None (Some source) p read = absurd p
@@ -126,7 +126,7 @@ OneScript = (role : Role) (outer : List (List ℕ)) (bytes : List ℕ) (x y : Tr
 abbrev pub NoneRefused : Type 0
 NoneRefused = (role : Role) (outer : List (List ℕ)) (bytes : List ℕ) (x : Tree) (fault : ParseFault) → Spells role outer bytes x → Refused role outer bytes fault → ⊥
 
-none_among : NoneRefused → (outer : List (List ℕ)) (sources : List Named) (trees : List Tree) (name : Name) (fault : ParseFault) → AllSpell outer sources trees → FirstAmong outer name fault sources → ⊥
+none_among : NoneRefused → (outer : List (List ℕ)) (sources : List Named) (trees : List Tree) (name : FileName) (fault : ParseFault) → AllSpell outer sources trees → FirstAmong outer name fault sources → ⊥
 none_among law outer _ _ name fault (spelling.AllSpell.next source sources tree trees spells rest) (spelling.FirstAmong.here _ _ named refused) = law role.Main outer source.text tree fault spells refused
 none_among law outer _ _ name fault (spelling.AllSpell.next source sources tree trees spells rest) (spelling.FirstAmong.later _ _ tree' spells' first) =
     none_among law outer sources trees name fault rest first
@@ -148,7 +148,7 @@ prelude_refused law (Some s) source (Some tree) fault p is refused =
     law role.Prelude [] source.text tree fault (subst (λ (x : Named). Spells role.Prelude [] x.text tree) same p) refused
 
 -- where all spell scripts, none is refused
-pub none_refused : OneScript → NoneRefused → (sources : Program Named) (trees : Program Tree) (name : Name) (fault : ParseFault) → Spell sources trees → FirstRefused sources name fault → ⊥
+pub none_refused : OneScript → NoneRefused → (sources : Program Named) (trees : Program Tree) (name : FileName) (fault : ParseFault) → Spell sources trees → FirstRefused sources name fault → ⊥
 none_refused one law sources trees name fault spell (spelling.FirstRefused.of_prelude source is named refused) =
     prelude_refused law sources.prelude source trees.prelude fault spell.prelude is refused
 none_refused one law sources trees name fault spell (spelling.FirstRefused.of_script prelude spells first) =

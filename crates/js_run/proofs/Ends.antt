@@ -1,12 +1,12 @@
 -- How files ended that were run, and what is meant.
 use Rattle.std.proofs.Common.{◌≡◌, ◌⊎◌, inl, inr, ⊎_elim, ℕ, List, [], ◌∷◌, ◌++◌, map, Option, None, Some, refl, sym, ap, ap₂, ◌∙◌, append-nil, arith, subst}
 use Rattle.std.specs.List.{concat}
-use Rattle.js_store.specs.State.{State, Sizes}
+use Rattle.js_store.specs.State.{State, StoreSizes}
 use Rattle.eval_tree.specs.Tree.{Tree}
 use Rattle.js_texts.specs.Texts.{Every}
 use Rattle.js_eval.specs.declared.ending.End.{End}
 use Rattle.js_eval.specs.declared.ending.End.TheVariants.{Done, Threw, Unsupported, Full, Memory}
-use Rattle.js_eval.specs.Evaluates.{end_of}
+use Rattle.js_eval.specs.Evaluates.{script_end}
 use Rattle.js_eval.specs.Script.{Flow}
 use Rattle.run_program.specs.declared.job.Outcome.{Outcome}
 use Rattle.run_program.specs.Files.{RunFile, IsAsMeant, means_of}
@@ -14,13 +14,14 @@ use Rattle.run_program.specs.Fits.{Fits, all_meant}
 use Rattle.run_program.specs.Tells.{EndTells, FileTells, IsMeantOrMemory}
 use Rattle.run_program.proofs.First.{AreFirst, are_first}
 use Rattle.run_command.specs.Words.{Request}
-use Rattle.run_sources.specs.Program.{Name, Program, in_order}
+use Rattle.run_sources.specs.Program.{FileName, Program, in_order}
 use Rattle.run_program.specs.declared.ran.Ran.{Ran}
-use Rattle.run_program.specs.Ran.{HasOutcome, IsRan, all_outcomes, prelude_by, scripts_by, sizes_by, state_kept}
+use Rattle.run_program.specs.Ran.{HasOutcome, IsRan, all_outcomes, prelude_by, scripts_by, setup_sizes, state_kept}
 use Rattle.js_run.specs.Asked.{setup_of}
 use Rattle.js_run.specs.Meant.{all_flows, ends_meant, printed_meant, report_meant, run_after, script_flows, status_meant, out_meant}
 use Rattle.js_run.specs.Rows.{FirstFull}
-use Rattle.js_run.specs.Verdict.{Printed, WasRun, count_line, end_line, end_lines, ends_of, err_of, out_of, printed_by, report_of, status_of, status_or}
+use Rattle.js_run.specs.Verdict.{WasRun, count_line, end_line, end_lines, ends_of, err_of, out_of, printed_by, report_of, status_of, status_or}
+use Rattle.js_io.specs.Report.{Printed}
 
 -- ---- the statuses of files that were run
 
@@ -47,7 +48,7 @@ done_one (Unsupported at) later is = absurd (omega (arith, is))
 done_one (Full report) later is = absurd (omega (arith, is))
 done_one Memory later is = absurd (omega (arith, is))
 
-pub quiet : (names : List Name) (es : List End) → status_of es ≡ 0 → end_lines names es ≡ []
+pub quiet : (names : List FileName) (es : List End) → status_of es ≡ 0 → end_lines names es ≡ []
 quiet [] es is = refl
 quiet (name ∷ names) [] is = refl
 quiet (name ∷ names) (e ∷ es) is =
@@ -59,16 +60,16 @@ file_ends files = map (λ f. f.end) files
 
 -- ---- what files tell that were run
 
-module _ {F : Type 0} (z : Sizes) (s : State F) (means : List Flow) where
+module _ {F : Type 0} (z : StoreSizes) (s : State F) (means : List Flow) where
   -- where all ended Done, all ended as they are meant
   done_meant : (files : List RunFile) → Every (FileTells z s means) files → status_of (file_ends files) ≡ 0 → Every IsAsMeant files
   done_meant [] tells is = tt
   done_meant (f ∷ files) tells is =
       let one = done_one f.end (status_of (file_ends files)) is in
-      let meant : Done ≡ end_of f.mean.out = subst (λ (e : End). EndTells z s means f.mean f.part e) one.0 tells.0.end in
+      let meant : Done ≡ script_end f.mean.out = subst (λ (e : End). EndTells z s means f.mean f.part e) one.0 tells.0.end in
       (one.0 ∙ meant, done_meant files tells.1 one.1)
 
-  early_one : (e : End) (f : RunFile) (later other : ℕ) → EndTells z s means f.mean f.part e → status_or e later ≡ 1 → (later ≡ 1 → other ≡ 1) → status_or (end_of f.mean.out) other ≡ 1
+  early_one : (e : End) (f : RunFile) (later other : ℕ) → EndTells z s means f.mean f.part e → status_or e later ≡ 1 → (later ≡ 1 → other ≡ 1) → status_or (script_end f.mean.out) other ≡ 1
   early_one Done f later other tells is more = subst (λ (e : End). status_or e other ≡ 1) tells (more is)
   early_one (Threw k) f later other tells is more = subst (λ (e : End). status_or e other ≡ 1) tells refl
   early_one (Unsupported at) f later other tells is more = subst (λ (e : End). status_or e other ≡ 1) tells refl
@@ -184,7 +185,7 @@ module _ (request : Request) (trees : Program Tree) (ran : Ran) (p : IsRan (setu
   lines_same : Every IsAsMeant p.files → printed_by ran.scripts.items ≡ printed_meant (script_flows request trees)
   lines_same all =
       let means : map (λ m. concat m.lines) (means_of p.files) ≡ map (λ m. concat m.lines) (all_flows request trees) = ap (map (λ m. concat m.lines)) (sym (means_same all)) in
-      let printed = meant_lines (sizes_by (setup_of request)) (state_kept (setup_of request) ran.kept) (all_flows request trees) p.files p.tells.each all in
+      let printed = meant_lines (setup_sizes (setup_of request)) (state_kept (setup_of request) ran.kept) (all_flows request trees) p.files p.tells.each all in
       scripts_lines trees.prelude ran.prelude ran.scripts.items (prelude_by (setup_of request) trees.prelude) (scripts_by (setup_of request) trees.prelude trees.scripts) p.has_prelude
       (has_flow trees.prelude) (no_flow trees.prelude) (sym p.lines ∙ printed ∙ means)
 
@@ -192,14 +193,14 @@ module _ (request : Request) (trees : Program Tree) (ran : Ran) (p : IsRan (setu
   out_same all = ap (λ l. l ++ count_line ran.interned) (lines_same all)
 
   -- what is reported is what is meant
-  report_same : (names : Program Name) → Every IsAsMeant p.files → report_of (WasRun names ran) ≡ report_meant request names trees ran.interned
+  report_same : (names : Program FileName) → Every IsAsMeant p.files → report_of (WasRun names ran) ≡ report_meant request names trees ran.interned
   report_same names all =
       let ends = ends_same all in
       ap (λ es. Printed (status_of es) (out_of ran) (end_lines (in_order names) es)) ends
       ∙ ap (λ l. Printed (status_meant request trees) l (end_lines (in_order names) (ends_meant (all_flows request trees)))) (out_same all)
 
   pub all_done : status_of (ends_of ran) ≡ 0 → Every IsAsMeant p.files
-  all_done is = done_meant (sizes_by (setup_of request)) (state_kept (setup_of request) ran.kept) (all_flows request trees) p.files p.tells.each (sym status_same ∙ is)
+  all_done is = done_meant (setup_sizes (setup_of request)) (state_kept (setup_of request) ran.kept) (all_flows request trees) p.files p.tells.each (sym status_same ∙ is)
 
   pub done_status : status_of (ends_of ran) ≡ 0 → status_meant request trees ≡ 0
   done_status is = ap status_of (sym (ends_same (all_done is))) ∙ is
@@ -207,16 +208,16 @@ module _ (request : Request) (trees : Program Tree) (ran : Ran) (p : IsRan (setu
   pub done_out : status_of (ends_of ran) ≡ 0 → out_of ran ≡ out_meant request trees ran.interned
   done_out is = out_same (all_done is)
 
-  pub done_err : (names : Program Name) → status_of (ends_of ran) ≡ 0 → err_of names ran ≡ []
+  pub done_err : (names : Program FileName) → status_of (ends_of ran) ≡ 0 → err_of names ran ≡ []
   done_err names is = quiet (in_order names) (ends_of ran) is
 
   pub early_status : status_of (ends_of ran) ≡ 1 → status_meant request trees ≡ 1
   early_status is = ap (λ ms. status_of (ends_meant ms)) first.split
-      ∙ early_meant (sizes_by (setup_of request)) (state_kept (setup_of request) ran.kept) (all_flows request trees) p.files first.rest p.tells.each (sym status_same ∙ is)
+      ∙ early_meant (setup_sizes (setup_of request)) (state_kept (setup_of request) ran.kept) (all_flows request trees) p.files first.rest p.tells.each (sym status_same ∙ is)
 
-  pub full_first : status_of (ends_of ran) ≡ 5 → FirstFull (sizes_by (setup_of request)) (state_kept (setup_of request) ran.kept) (all_flows request trees) p.files
-  full_first is = first_full (sizes_by (setup_of request)) (state_kept (setup_of request) ran.kept) (all_flows request trees) p.files p.tells.each (sym status_same ∙ is)
+  pub full_first : status_of (ends_of ran) ≡ 5 → FirstFull (setup_sizes (setup_of request)) (state_kept (setup_of request) ran.kept) (all_flows request trees) p.files
+  full_first is = first_full (setup_sizes (setup_of request)) (state_kept (setup_of request) ran.kept) (all_flows request trees) p.files p.tells.each (sym status_same ∙ is)
 
-  pub complete : (names : Program Name) → Fits (sizes_by (setup_of request)) (all_flows request trees) → Every (λ e. e ≡ Memory → ⊥) (ends_of ran)
+  pub complete : (names : Program FileName) → Fits (setup_sizes (setup_of request)) (all_flows request trees) → Every (λ e. e ≡ Memory → ⊥) (ends_of ran)
       → report_of (WasRun names ran) ≡ report_meant request names trees ran.interned
   complete names fits none = report_same names (without_memory p.files (p.tells.fits fits) (subst (Every (λ e. e ≡ Memory → ⊥)) (sym p.ends) none))

@@ -5,19 +5,19 @@ use Rattle.js_io.specs.Counts.{next_count}
 use Rattle.js_io.specs.FilesState.{FilesState}
 use Rattle.eval_tree.specs.Tree.{Tree}
 use Rattle.run_command.specs.Words.{Request, request_of}
-use Rattle.run_sources.specs.Program.{Name, Program, in_order}
+use Rattle.run_sources.specs.Program.{FileName, Program, in_order}
 use Rattle.run_sources.specs.Reading.{IsQuiet, IsUnread, IsLarge}
 use Rattle.run_sources.specs.Spelling.{Spell, FirstRefused}
 use Rattle.run_program.specs.declared.ran.Ran.{Ran}
 use Rattle.run_program.specs.Ran.{IsRan}
 use Rattle.js_run.specs.Asked.{AreTexts, names_of, setup_of}
-use Rattle.js_run.specs.Verdict.{Verdict, BadWords, NotRead, TooLarge, Refused, NoMemory, WasRun, Report, Refusal, Printed, report_of, kept_of, status_of, ends_of, unread_line, large_line}
-use Rattle.js_run.specs.Moment.{Moment, Sinks, Ended}
+use Rattle.js_run.specs.Verdict.{Verdict, BadWords, NotRead, TooLarge, Refused, NoMemory, WasRun, report_of, kept_of, status_of, ends_of, unread_line, large_line}
+use Rattle.js_run.specs.Moment.{Moment, Ended}
 use Rattle.js_run.specs.Cause.{HasCauseBy, HasCauseIn, OfTexts, names_in}
-use Rattle.js_run.specs.Ending.{TakesAll, IsEnd}
-use Rattle.js_run.specs.Outcome.{Outcome}
+use Rattle.js_io.specs.Report.{TakesAll, IsEnd, Report, Refusal, Printed, Sinks}
+use Rattle.js_run.specs.Outcome.{CallOutcome}
 use Rattle.js_run.specs.Rows as row
-use Rattle.js_run.specs.Rows.{NoFault, IsWant, OrWant, Exactly, IsFileFault, IsToldLarge, IsNoScript, IsToldRefused, IsRefusal, IsRefusalTold, IsMemory, AreRun, Prints, PrintsAll, PrintsEarly, PrintsFull, IsCut, IsHonest, IsRanTo, IsDone}
+use Rattle.js_run.specs.Rows.{NoFault, IsWant, OrWant, Exactly, IsFileFault, IsToldLarge, IsNoScript, IsToldRefused, HasRefusalStatus, IsRefusalTold, IsMemory, HasProgram, Prints, PrintsAll, PrintsEarly, PrintsFull, IsCutShort, IsHonest, IsRanTo, IsDone}
 use Rattle.js_run.proofs.Contents.{OneScript, NoneRefused, not_large, read_small, none_refused, same_trees, texts_read, texts_same}
 use Rattle.js_run.proofs.Ends.{IsRunStatus, status_is, done_status, done_out, done_err, early_status, full_first, complete}
 
@@ -73,12 +73,12 @@ file_fault : (words : List (List ℕ)) (request : Option Request) (old new : Fil
 file_fault words (Some request) old new (NotRead name) lawful why is = record {
   request = request;
   lawful = lawful;
-  why = inl (subst (λ (n : Name). IsUnread old new (in_order (names_of request.asked)) n) (sym why.blames) why);
+  why = inl (subst (λ (n : FileName). IsUnread old new (in_order (names_of request.asked)) n) (sym why.blames) why);
 }
 file_fault words (Some request) old new (TooLarge name) lawful why is = record {
   request = request;
   lawful = lawful;
-  why = inr (subst (λ (n : Name). IsLarge old new (in_order (names_of request.asked)) n) (sym why.blames) why);
+  why = inr (subst (λ (n : FileName). IsLarge old new (in_order (names_of request.asked)) n) (sym why.blames) why);
 }
 file_fault words request old new BadWords lawful why is = absurd (omega (arith, is))
 file_fault words request old new (Refused name fault) lawful why is = absurd (omega (arith, is))
@@ -135,7 +135,7 @@ no_script words request old new NoMemory lawful why is = absurd (omega (arith, i
 no_script words request old new (WasRun names ran) lawful why is = absurd (not_ran _ 4 (status_is (ends_of ran)) is (omega arith) (omega arith))
 
 -- a told file among those that were read isn't too large
-told_not_large : (request : Request) (old new : FilesState) (sources : Program Named) (name : Name) → row.AreTold old.held (in_order (names_of request.asked))
+told_not_large : (request : Request) (old new : FilesState) (sources : Program Named) (name : FileName) → row.AreTold old.held (in_order (names_of request.asked))
     → AreTexts request.asked old.held sources → IsLarge old new (in_order (names_of request.asked)) name → ⊥
 told_not_large request old new sources name told texts why =
     let (all, read) = texts_read old.held request.asked sources texts in
@@ -158,18 +158,18 @@ not_code : (code status wanted : ℕ) → IsRunStatus status → (code ≡ statu
 not_code code status wanted ran (inl is) w low high = not_ran status wanted ran (sym is ∙ w) low high
 not_code code status wanted ran (inr is) w low high = omega (arith, is, w, high)
 
-not_refusal : (ended : Ended) (status : ℕ) → IsRunStatus status → (ended.code ≡ status) ⊎ (ended.code ≡ 7) → IsRefusal ended → ⊥
+not_refusal : (ended : Ended) (status : ℕ) → IsRunStatus status → (ended.code ≡ status) ⊎ (ended.code ≡ 7) → HasRefusalStatus ended → ⊥
 not_refusal ended status ran is (inl two) = not_code ended.code status 2 ran is two (omega arith) (omega arith)
 not_refusal ended status ran is (inr (inl three)) = not_code ended.code status 3 ran is three (omega arith) (omega arith)
 not_refusal ended status ran is (inr (inr four)) = not_code ended.code status 4 ran is four (omega arith) (omega arith)
 
-no_six : (ended : Ended) → ended.code ≡ 6 → IsRefusal ended → ⊥
+no_six : (ended : Ended) → ended.code ≡ 6 → HasRefusalStatus ended → ⊥
 no_six ended six (inl two) = omega (arith, six, two)
 no_six ended six (inr (inl three)) = omega (arith, six, three)
 no_six ended six (inr (inr four)) = omega (arith, six, four)
 
 refusal_told : (words : List (List ℕ)) (request : Option Request) (ended : Ended) (old new : Moment) (v : Verdict) → request_of words ≡ request → HasCauseBy request old.files new.files v
-    → IsEnd (report_of v) ended.code old.sinks new.sinks → ended.kept ≡ kept_of v → IsRefusal ended → IsRefusalTold words ended old new
+    → IsEnd (report_of v) ended.code old.sinks new.sinks → ended.kept ≡ kept_of v → HasRefusalStatus ended → IsRefusalTold words ended old new
 refusal_told words request ended old new BadWords lawful why end kept is = record {
   line = _;
   is = row.IsLine.bad_words end.status;
@@ -179,16 +179,16 @@ refusal_told words request ended old new BadWords lawful why end kept is = recor
 refusal_told words None ended old new (NotRead name) lawful why end kept is = absurd why
 refusal_told words (Some request) ended old new (NotRead name) lawful why end kept is = record {
   line = _;
-  is = subst (λ (n : Name). row.IsLine words ended.code old.files new.files (unread_line n)) why.blames
-      (row.IsLine.unread end.status request lawful (subst (λ (n : Name). IsUnread old.files new.files (in_order (names_of request.asked)) n) (sym why.blames) why));
+  is = subst (λ (n : FileName). row.IsLine words ended.code old.files new.files (unread_line n)) why.blames
+      (row.IsLine.unread end.status request lawful (subst (λ (n : FileName). IsUnread old.files new.files (in_order (names_of request.asked)) n) (sym why.blames) why));
   told = record { status = refl; silent = end.silent; told = end.told };
   kept = kept;
 }
 refusal_told words None ended old new (TooLarge name) lawful why end kept is = absurd why
 refusal_told words (Some request) ended old new (TooLarge name) lawful why end kept is = record {
   line = _;
-  is = subst (λ (n : Name). row.IsLine words ended.code old.files new.files (large_line n)) why.blames
-      (row.IsLine.large end.status request lawful (subst (λ (n : Name). IsLarge old.files new.files (in_order (names_of request.asked)) n) (sym why.blames) why));
+  is = subst (λ (n : FileName). row.IsLine words ended.code old.files new.files (large_line n)) why.blames
+      (row.IsLine.large end.status request lawful (subst (λ (n : FileName). IsLarge old.files new.files (in_order (names_of request.asked)) n) (sym why.blames) why));
   told = record { status = refl; silent = end.silent; told = end.told };
   kept = kept;
 }
@@ -206,19 +206,19 @@ refusal_told words request ended old new (WasRun names ran) lawful why end kept 
 -- 0, 1, 5, 6 and 7
 
 record RanTo (words : List (List ℕ)) (ended : Ended) (old new : Moment) : Type 0 where
-  run : AreRun words old.files new.files
+  run : HasProgram words old.files new.files
   ran : Ran
   program : IsRan (setup_of run.request) run.trees.prelude run.trees.scripts ran
   end : IsEnd (report_of (WasRun (names_in run.sources) ran)) ended.code old.sinks new.sinks
   kept : ended.kept ≡ Some ran.kept
 
-ran_to_end : (words : List (List ℕ)) (request : Request) (ended : Ended) (old new : Moment) (names : Program Name) (ran : Ran) → request_of words ≡ Some request → OfTexts request old.files new.files (WasRun names ran)
+ran_to_end : (words : List (List ℕ)) (request : Request) (ended : Ended) (old new : Moment) (names : Program FileName) (ran : Ran) → request_of words ≡ Some request → OfTexts request old.files new.files (WasRun names ran)
     → IsEnd (report_of (WasRun names ran)) ended.code old.sinks new.sinks → ended.kept ≡ Some ran.kept → RanTo words ended old new
 ran_to_end words request ended old new names ran lawful why end kept = record {
   run = record { request = request; lawful = lawful; sources = why.sources; texts = why.texts; quiet = why.quiet; trees = why.cause.trees; spell = why.cause.spell };
   ran = ran;
   program = why.cause.program;
-  end = subst (λ (ns : Program Name). IsEnd (report_of (WasRun ns ran)) ended.code old.sinks new.sinks) why.cause.named end;
+  end = subst (λ (ns : Program FileName). IsEnd (report_of (WasRun ns ran)) ended.code old.sinks new.sinks) why.cause.named end;
   kept = kept;
 }
 
@@ -273,10 +273,10 @@ memory_end words None ended old new (WasRun names ran) lawful why end kept is = 
 memory_end words (Some request) ended old new (WasRun names ran) lawful why end kept is =
     inr (prints words 6 ended old new (omega arith) is (ran_to_end words request ended old new names ran lawful why end kept))
 
-cut_short : (words : List (List ℕ)) (ended : Ended) (old new : Moment) → ended.code ≡ 7 → RanTo words ended old new → IsCut words ended old new
+cut_short : (words : List (List ℕ)) (ended : Ended) (old new : Moment) → ended.code ≡ 7 → RanTo words ended old new → IsCutShort words ended old new
 cut_short words ended old new is r = by r.end
   where
-    by : IsEnd (report_of (WasRun (names_in r.run.sources) r.ran)) ended.code old.sinks new.sinks → IsCut words ended old new
+    by : IsEnd (report_of (WasRun (names_in r.run.sources) r.ran)) ended.code old.sinks new.sinks → IsCutShort words ended old new
     by (inl whole) = absurd (not_seven (status_of (ends_of r.ran)) (status_is (ends_of r.ran)) (sym whole.status ∙ is))
     by (inr cut) = record { run = r.run; ran = r.ran; program = r.program; cut = cut; kept = r.kept }
 
@@ -296,12 +296,12 @@ honest_end one none words ended old new honest (WasRun names ran) why end kept =
     inl (record {
       ran = ran;
       program = program;
-      end = subst (λ (ns : Program Name). IsEnd (report_of (WasRun ns ran)) ended.code old.sinks new.sinks) (why.cause.named ∙ ap names_in same) end;
+      end = subst (λ (ns : Program FileName). IsEnd (report_of (WasRun ns ran)) ended.code old.sinks new.sinks) (why.cause.named ∙ ap names_in same) end;
       kept = kept;
       complete = complete honest.request honest.trees ran program (names_in honest.sources);
     })
 
-module _ (words : List (List ℕ)) (ended : Ended) (old new : Moment) (one : OneScript) (none : NoneRefused) (o : Outcome words ended old new) where
+module _ (words : List (List ℕ)) (ended : Ended) (old new : Moment) (one : OneScript) (none : NoneRefused) (o : CallOutcome words ended old new) where
   ends : (ended.code ≡ status_in (report_of o.verdict)) ⊎ (ended.code ≡ 7)
   ends = code_of (report_of o.verdict) ended.code old.sinks new.sinks o.ending
 
@@ -329,7 +329,7 @@ module _ (words : List (List ℕ)) (ended : Ended) (old new : Moment) (one : One
   pub refused_row : IsToldRefused words old.files new.files → OrWant 4 ended old new
   refused_row told = refused_end one none words ended old new told o.verdict (because (Some told.request) told.lawful) o.ending o.kept
 
-  pub told_row : IsRefusal ended → IsRefusalTold words ended old new
+  pub told_row : HasRefusalStatus ended → IsRefusalTold words ended old new
   told_row is = refusal_told words (request_of words) ended old new o.verdict refl o.cause o.ending o.kept is
 
   ran_to : (ended.code < 2) ⊎ ((ended.code ≡ 5) ⊎ (ended.code ≡ 7)) → RanTo words ended old new
@@ -347,7 +347,7 @@ module _ (words : List (List ℕ)) (ended : Ended) (old new : Moment) (one : One
   pub full_row : ended.code ≡ 5 → PrintsFull words ended old new
   full_row is = prints_full words ended old new (prints words 5 ended old new (omega arith) is (ran_to (inr (inl is))))
 
-  pub write_row : ended.code ≡ 7 → IsCut words ended old new
+  pub write_row : ended.code ≡ 7 → IsCutShort words ended old new
   write_row is = cut_short words ended old new is (ran_to (inr (inr is)))
 
   pub honest_row : (honest : IsHonest words old.files new.files) → IsDone words ended old new honest

@@ -2,9 +2,7 @@
 use Rattle.std.proofs.Common.{◌≤◌, inl, inr, ⊎_elim, ℕ, List, [], Result, Ok, Err, refl, arith}
 use Rattle.js_io.specs.SinkState.{SinkState, WritesAll}
 use Rattle.js_io.proofs.Prefixes.{Appends-nil}
-use Rattle.js_run.specs.Moment.{Sinks}
-use Rattle.js_run.specs.Verdict.{Report, Refusal, Printed}
-use Rattle.js_run.specs.Ending.{TakesAll, TakesUntil, IsTold, IsEnd}
+use Rattle.js_io.specs.Report.{TakesAll, TakesUntil, IsTold, IsEnd, Sinks, Report, Refusal, Printed}
 
 pub takes_nothing : (a : SinkState) → TakesAll a a []
 takes_nothing a = record { took = Appends-nil a.taken; calm = refl }

@@ -7,10 +7,10 @@ use Rattle.run_sources.specs.declared.sources.SourceText.{SourceText}
 use Rattle.run_sources.specs.declared.sources.Sources.{Sources}
 use Rattle.run_sources.specs.declared.stop.ScriptsFault.{ScriptsFault}
 use Rattle.run_sources.specs.declared.stop.ScriptsFault.TheVariants as stop
-use Rattle.run_sources.specs.Program.{Name}
-use Rattle.js_run.specs.Moment.{Sinks, Ended}
-use Rattle.js_run.specs.Verdict.{Verdict, Report, Refusal, report_of, kept_of, unread_line, large_line, refused_line, memory_line}
-use Rattle.js_run.specs.Ending.{IsEnd}
+use Rattle.run_sources.specs.Program.{FileName}
+use Rattle.js_run.specs.Moment.{Ended}
+use Rattle.js_run.specs.Verdict.{Verdict, report_of, kept_of, unread_line, large_line, refused_line, memory_line}
+use Rattle.js_io.specs.Report.{IsEnd, Sinks, Report, Refusal}
 
 abbrev pub stop_report : ScriptsFault → Report
 stop_report (stop.NotRead name) = Refusal 3 (unread_line name.now)
@@ -18,7 +18,7 @@ stop_report (stop.TooLarge name) = Refusal 3 (large_line name.now)
 stop_report (stop.Refused name fault) = Refusal 4 (refused_line name.now fault)
 stop_report stop.NoMemory = Refusal 6 memory_line
 
-abbrev pub source_names : List SourceText → List Name
+abbrev pub source_names : List SourceText → List FileName
 source_names sources = map (λ s. s.name.now) sources
 
 abbrev pub outcome_ends : List Outcome → List End

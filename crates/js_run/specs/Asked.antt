@@ -4,18 +4,18 @@ use Rattle.heap_rule.specs.declared.size.HeapSize.{HeapSize}
 use Rattle.run_sources.specs.Texts.{Named, generated}
 use Rattle.run_command.specs.declared.plan.Sizes.{Sizes}
 use Rattle.run_command.specs.Words.{Asked, Request, files, made_from}
-use Rattle.run_sources.specs.Program.{Name, Program, program_from}
+use Rattle.run_sources.specs.Program.{FileName, Program, program_from}
 use Rattle.run_sources.specs.Reading.{AreRead}
 use Rattle.run_program.specs.declared.ran.Setup.{Setup}
 
 -- the names of the files that are to be read: none where sources are generated from a number
-abbrev pub names_of : Asked → Program Name
+abbrev pub names_of : Asked → Program FileName
 names_of (files prelude scripts) = record { prelude = prelude; scripts = scripts }
 names_of (made_from number) = record { prelude = None; scripts = [] }
 
 -- The sources are those of the files, as far as files are reported, and none is too large; or those that are generated
 -- from the number.
-abbrev pub AreTexts : Asked → (Name → Option (List ℕ)) → Program Named → Type 0
+abbrev pub AreTexts : Asked → (FileName → Option (List ℕ)) → Program Named → Type 0
 AreTexts (files prelude scripts) held sources =
     AreRead held (record { prelude = prelude; scripts = scripts }) sources
 AreTexts (made_from number) held sources = sources ≡ program_from (generated number)

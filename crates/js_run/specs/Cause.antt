@@ -5,7 +5,7 @@ use Rattle.js_io.specs.FilesState.{FilesState}
 use Rattle.run_sources.specs.Texts.{Named}
 use Rattle.eval_tree.specs.Tree.{Tree}
 use Rattle.run_command.specs.Words.{Request, request_of}
-use Rattle.run_sources.specs.Program.{Name, Program, in_order}
+use Rattle.run_sources.specs.Program.{FileName, Program, in_order}
 use Rattle.run_sources.specs.Reading.{IsQuiet, IsUnread, IsLarge}
 use Rattle.run_sources.specs.Spelling.{Spell, FirstRefused}
 use Rattle.run_program.specs.declared.ran.Ran.{Ran}
@@ -15,12 +15,13 @@ use Rattle.js_run.specs.Asked.{AreTexts, names_of, setup_of}
 use Rattle.js_run.specs.Verdict.{Verdict, BadWords, NotRead, TooLarge, Refused, NoMemory, WasRun}
 
 -- the names of these sources
-abbrev pub names_in : Program Named → Program Name
+abbrev pub names_in : Program Named → Program FileName
 names_in sources =
     record { prelude = option_map (λ s. s.name) sources.prelude; scripts = map (λ s. s.name) sources.scripts }
 
 -- files of these names are what the sources spell, and were run so
-pub record IsRun (setup : Setup) (sources : Program Named) (names : Program Name) (ran : Ran) : Type 0 where
+pub record IsRun (setup : Setup) (sources : Program Named) (names : Program FileName) (ran : Ran) : Type
+    0 where
   pub named : names ≡ names_in sources
   pub trees : Program Tree
   pub spell : Spell sources trees

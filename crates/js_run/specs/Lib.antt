@@ -3,7 +3,6 @@ pub mod Meant
 pub mod Verdict
 pub mod Moment
 pub mod Cause
-pub mod Ending
 pub mod Outcome
 pub mod Rows
 pub mod Answer

@@ -2,16 +2,9 @@
 use Rattle.std.specs.Prelude.{ℕ, Option}
 use Rattle.js_io.specs.FilesState.{FilesState}
 use Rattle.js_io.specs.SinkState.{SinkState}
+use Rattle.js_io.specs.Report.{Sinks, sinks}
 use Rattle.run_program.specs.declared.ran.Kept.{Kept}
 use Rattle.js_run.specs.declared.status.Status.{Status}
-
--- what both sinks have received, and how many of their writes failed
-pub record Sinks : Type 0 where
-  pub out : SinkState
-  pub err : SinkState
-
-abbrev pub sinks : SinkState → SinkState → Sinks
-sinks out err = record { out = out; err = err }
 
 -- the files and the sinks before a call, or after it
 pub record Moment : Type 0 where

@@ -4,19 +4,19 @@ use Rattle.run_sources.specs.Reading.{KeepsFiles}
 use Rattle.js_run.specs.Verdict.{Verdict, report_of, kept_of}
 use Rattle.js_run.specs.Moment.{Moment, Ended}
 use Rattle.js_run.specs.Cause.{HasCause}
-use Rattle.js_run.specs.Ending.{IsEnd}
+use Rattle.js_io.specs.Report.{IsEnd}
 
 -- what every call keeps: the files as they are reported, and no count falls
-pub record Keeps (old new : Moment) : Type 0 where
+pub record KeepsMoment (old new : Moment) : Type 0 where
   pub files : KeepsFiles old.files new.files
   pub out : old.sinks.out.faults ≤ new.sinks.out.faults
   pub err : old.sinks.err.faults ≤ new.sinks.err.faults
 
 -- a call came to one verdict, which has its cause; what the sinks received, the status and what is kept are the
 -- verdict's
-pub record Outcome (words : List (List ℕ)) (ended : Ended) (old new : Moment) : Type 0 where
+pub record CallOutcome (words : List (List ℕ)) (ended : Ended) (old new : Moment) : Type 0 where
   pub verdict : Verdict
   pub cause : HasCause words old.files new.files verdict
   pub ending : IsEnd (report_of verdict) ended.code old.sinks new.sinks
   pub kept : ended.kept ≡ kept_of verdict
-  pub keeps : Keeps old new
+  pub keeps : KeepsMoment old new

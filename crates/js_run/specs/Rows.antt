@@ -7,7 +7,7 @@ use Rattle.js_io.specs.declared.files.TheConstants.{FILE_MAX}
 use Rattle.js_parse.specs.declared.fault.ParseFault.{ParseFault}
 use Rattle.eval_tree.specs.Tree.{Tree}
 use Rattle.js_texts.specs.Texts.{Every}
-use Rattle.js_store.specs.State.{Sizes, State}
+use Rattle.js_store.specs.State.{StoreSizes, State}
 use Rattle.js_store.specs.declared.faults.FullReport.{FullReport}
 use Rattle.js_eval.specs.declared.ending.End.TheVariants.{Done, Full, Memory}
 use Rattle.js_eval.specs.Script.{Flow}
@@ -15,17 +15,17 @@ use Rattle.run_program.specs.Files.{RunFile}
 use Rattle.run_program.specs.Fits.{Fits}
 use Rattle.run_program.specs.Tells.{RanOut}
 use Rattle.run_command.specs.Words.{Request, request_of}
-use Rattle.run_sources.specs.Program.{Name, Program, in_order}
+use Rattle.run_sources.specs.Program.{FileName, Program, in_order}
 use Rattle.run_sources.specs.Reading.{Read, IsQuiet, IsUnread, IsLarge}
 use Rattle.run_sources.specs.Spelling.{Spell, FirstRefused}
 use Rattle.run_program.specs.declared.ran.Ran.{Ran}
-use Rattle.run_program.specs.Ran.{IsRan, sizes_by, state_kept}
+use Rattle.run_program.specs.Ran.{IsRan, setup_sizes, state_kept}
 use Rattle.js_run.specs.Asked.{AreTexts, names_of, setup_of}
 use Rattle.js_run.specs.Meant.{all_flows, status_meant, out_meant, report_meant}
 use Rattle.js_run.specs.Verdict.{WasRun, Refused, report_of, status_of, ends_of, out_of, err_of, words_line, unread_line, large_line, refused_line, memory_line}
 use Rattle.js_run.specs.Moment.{Moment, Ended}
 use Rattle.js_run.specs.Cause.{OfTexts, names_in}
-use Rattle.js_run.specs.Ending.{TakesAll, IsTold, IsCutAtOut, IsCutAtErr, IsEnd}
+use Rattle.js_io.specs.Report.{TakesAll, IsTold, IsCutAtOut, IsCutAtErr, IsEnd}
 
 -- no fault was counted, and the count isn't the last value of its counter
 abbrev pub NoFault : ℕ → ℕ → Type 0
@@ -47,7 +47,7 @@ Exactly status ended old new P = (ended.code ≡ status → P) × (P → OrWant 
 -- ---- 3
 
 -- the contents of the files of these names are reported
-abbrev pub AreTold : (Name → Option (List ℕ)) → List Name → Type 0
+abbrev pub AreTold : (FileName → Option (List ℕ)) → List FileName → Type 0
 AreTold held names = Every (λ name. (bytes : List ℕ) × (held name ≡ Some bytes)) names
 
 -- a file wasn't read, the one that is blamed: its read failed, or it is too large. All before it were read.
@@ -61,9 +61,9 @@ pub record IsFileFault (words : List (List ℕ)) (old new : FilesState) : Type 0
 pub record IsToldLarge (words : List (List ℕ)) (old new : FilesState) : Type 0 where
   pub request : Request
   pub lawful : request_of words ≡ Some request
-  pub before : List Name
-  pub name : Name
-  pub after : List Name
+  pub before : List FileName
+  pub name : FileName
+  pub after : List FileName
   pub split : in_order (names_of request.asked) ≡ before ++ name ∷ after
   pub sources : List Named
   pub read : Read old.held before sources
@@ -79,7 +79,7 @@ pub record IsToldLarge (words : List (List ℕ)) (old new : FilesState) : Type 0
 pub record IsNoScript (words : List (List ℕ)) (old new : FilesState) : Type 0 where
   pub request : Request
   pub lawful : request_of words ≡ Some request
-  pub name : Name
+  pub name : FileName
   pub fault : ParseFault
   pub refused : OfTexts request old new (Refused name fault)
 
@@ -91,7 +91,7 @@ pub record IsToldRefused (words : List (List ℕ)) (old new : FilesState) : Type
   pub sources : Program Named
   pub texts : AreTexts request.asked old.held sources
   pub told : AreTold old.held (in_order (names_of request.asked))
-  pub name : Name
+  pub name : FileName
   pub fault : ParseFault
   pub first : FirstRefused sources name fault
   pub calm : NoFault old.faults new.faults
@@ -108,12 +108,12 @@ pub data IsLine (words : List (List ℕ)) (code : ℕ) (old new : FilesState) : 
       → IsLarge old new (in_order (names_of request.asked)) new.blamed
       → IsLine words code old new (large_line new.blamed)
   refused : code ≡ 4 → (request : Request) → request_of words ≡ Some request
-      → (name : Name) (fault : ParseFault) → OfTexts request old new (Refused name fault)
+      → (name : FileName) (fault : ParseFault) → OfTexts request old new (Refused name fault)
       → IsLine words code old new (refused_line name fault)
 
 -- the statuses of what isn't run, unless memory runs out
-abbrev pub IsRefusal : Ended → Type 0
-IsRefusal ended = (ended.code ≡ 2) ⊎ ((ended.code ≡ 3) ⊎ (ended.code ≡ 4))
+abbrev pub HasRefusalStatus : Ended → Type 0
+HasRefusalStatus ended = (ended.code ≡ 2) ⊎ ((ended.code ≡ 3) ⊎ (ended.code ≡ 4))
 
 -- out received nothing, and err the line; or, where a write to err failed, a prefix of it. Nothing is kept.
 pub record IsRefusalTold (words : List (List ℕ)) (ended : Ended) (old new : Moment) : Type 0 where
@@ -125,7 +125,7 @@ pub record IsRefusalTold (words : List (List ℕ)) (ended : Ended) (old new : Mo
 -- ---- 0, 1, 5, 6 and 7
 
 -- a program was run: all files were read or the sources were generated, and they spell it
-pub record AreRun (words : List (List ℕ)) (old new : FilesState) : Type 0 where
+pub record HasProgram (words : List (List ℕ)) (old new : FilesState) : Type 0 where
   pub request : Request
   pub lawful : request_of words ≡ Some request
   pub sources : Program Named
@@ -139,7 +139,7 @@ pub record AreRun (words : List (List ℕ)) (old new : FilesState) : Type 0 wher
 -- asked for, and err the lines of the files that didn't end Done.
 -- What each file's end and lines are by its meaning, and what the heap holds, is in `program`.
 pub record Prints (words : List (List ℕ)) (status : ℕ) (ended : Ended) (old new : Moment) : Type 0 where
-  pub run : AreRun words old.files new.files
+  pub run : HasProgram words old.files new.files
   pub ran : Ran
   pub program : IsRan (setup_of run.request) run.trees.prelude run.trees.scripts ran
   pub ends : status_of (ends_of ran) ≡ status
@@ -162,7 +162,7 @@ pub record PrintsEarly (words : List (List ℕ)) (ended : Ended) (old new : Mome
   pub meant : status_meant prints.run.request prints.run.trees ≡ 1
 
 -- the first of some files that didn't end Done ended Full, where what it reports had run out
-pub record FirstFull {F : Type 0} (z : Sizes) (s : State F) (means : List Flow)
+pub record FirstFull {F : Type 0} (z : StoreSizes) (s : State F) (means : List Flow)
     (files : List RunFile) : Type 0 where
   pub before : List RunFile
   pub file : RunFile
@@ -177,7 +177,7 @@ pub record FirstFull {F : Type 0} (z : Sizes) (s : State F) (means : List Flow)
 -- didn't fit
 pub record PrintsFull (words : List (List ℕ)) (ended : Ended) (old new : Moment) : Type 0 where
   pub prints : Prints words 5 ended old new
-  pub full : FirstFull (sizes_by (setup_of prints.run.request))
+  pub full : FirstFull (setup_sizes (setup_of prints.run.request))
       (state_kept (setup_of prints.run.request) prints.ran.kept)
       (all_flows prints.run.request prints.run.trees) prints.program.files
 
@@ -187,8 +187,8 @@ IsMemory words ended old new = IsWant ended old new ⊎ Prints words 6 ended old
 
 -- the program was run, and a write failed: one to out after a prefix of what it prints, and err received nothing;
 -- or one to err
-pub record IsCut (words : List (List ℕ)) (ended : Ended) (old new : Moment) : Type 0 where
-  pub run : AreRun words old.files new.files
+pub record IsCutShort (words : List (List ℕ)) (ended : Ended) (old new : Moment) : Type 0 where
+  pub run : HasProgram words old.files new.files
   pub ran : Ran
   pub program : IsRan (setup_of run.request) run.trees.prelude run.trees.scripts ran
   pub cut : IsCutAtOut (out_of ran) ended.code old.sinks new.sinks
@@ -210,13 +210,13 @@ pub record IsHonest (words : List (List ℕ)) (old new : FilesState) : Type 0 wh
 
 -- The program was run, and all was written, or a write failed. Where the stated needs fit the heap and memory
 -- ran out for no file, what is reported is what is meant.
-pub record IsRanTo (request : Request) (names : Program Name) (trees : Program Tree) (ended : Ended)
+pub record IsRanTo (request : Request) (names : Program FileName) (trees : Program Tree) (ended : Ended)
     (old new : Moment) : Type 0 where
   pub ran : Ran
   pub program : IsRan (setup_of request) trees.prelude trees.scripts ran
   pub end : IsEnd (report_of (WasRun names ran)) ended.code old.sinks new.sinks
   pub kept : ended.kept ≡ Some ran.kept
-  pub complete : Fits (sizes_by (setup_of request)) (all_flows request trees)
+  pub complete : Fits (setup_sizes (setup_of request)) (all_flows request trees)
       → Every (λ e. e ≡ Memory → ⊥) (ends_of ran)
       → report_of (WasRun names ran) ≡ report_meant request names trees ran.interned
 

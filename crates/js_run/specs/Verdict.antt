@@ -1,5 +1,6 @@
 -- What becomes of a call, and what is reported of it: the status and the bytes for each sink.
 use Rattle.std.specs.Prelude.{ℕ, List, [], ◌∷◌, ◌++◌, codes, decimal, map, Option, None, Some}
+use Rattle.js_io.specs.Report.{Report, Refusal, Printed}
 use Rattle.js_parse.specs.declared.fault.ParseFault.{ParseFault}
 use Rattle.js_store.specs.declared.faults.FullReport.{FullReport}
 use Rattle.js_store.specs.declared.faults.FullReport.TheVariants.{Ids, Words, Slots}
@@ -8,7 +9,7 @@ use Rattle.eval_values.specs.declared.value.Kind.TheVariants.{RangeError, TypeEr
 use Rattle.js_eval.specs.declared.ending.End.{End}
 use Rattle.js_eval.specs.declared.ending.End.TheVariants.{Done, Threw, Unsupported, Full, Memory}
 use Rattle.run_program.specs.declared.job.Outcome.{Outcome}
-use Rattle.run_sources.specs.Program.{Name, Program, in_order}
+use Rattle.run_sources.specs.Program.{FileName, Program, in_order}
 use Rattle.run_program.specs.declared.ran.Kept.{Kept}
 use Rattle.run_program.specs.declared.ran.Ran.{Ran}
 use Rattle.run_program.specs.Ran.{outcomes_in}
@@ -18,12 +19,12 @@ use Rattle.js_parse.specs.Faults.{fault_offset, fault_words}
 -- memory runs out, or files were run
 pub data Verdict : Type 0 where
   BadWords : Verdict
-  NotRead : Name → Verdict
-  TooLarge : Name → Verdict
-  Refused : Name → ParseFault → Verdict
+  NotRead : FileName → Verdict
+  TooLarge : FileName → Verdict
+  Refused : FileName → ParseFault → Verdict
   NoMemory : Verdict
   -- files of these names were run
-  WasRun : Program Name → Ran → Verdict
+  WasRun : Program FileName → Ran → Verdict
 
 -- ---- what was run
 
@@ -61,7 +62,7 @@ full_text (Words at want end) = codes ": heap full: words\n"
 full_text (Slots slots) = codes ": heap full: slots\n"
 
 -- the line of a file that ended so; none where it ended Done
-abbrev pub end_line : Name → End → List ℕ
+abbrev pub end_line : FileName → End → List ℕ
 end_line name Done = []
 end_line name (Threw kind) = name ++ kind_text kind
 end_line name (Unsupported at) = name ++ (codes ": unsupported at " ++ (decimal at ++ 10 ∷ []))
@@ -69,13 +70,13 @@ end_line name (Full report) = name ++ full_text report
 end_line name Memory = name ++ codes ": out of memory\n"
 
 -- the lines of files of these names with these ends, in order
-abbrev pub end_lines : List Name → List End → List ℕ
+abbrev pub end_lines : List FileName → List End → List ℕ
 end_lines [] ends = []
 end_lines (name ∷ names) [] = []
 end_lines (name ∷ names) (e ∷ es) = end_line name e ++ end_lines names es
 
 -- the bytes for err: a line for each file that didn't end Done
-abbrev pub err_of : Program Name → Ran → List ℕ
+abbrev pub err_of : Program FileName → Ran → List ℕ
 err_of names ran = end_lines (in_order names) (ends_of ran)
 
 -- ---- the status of the first file that didn't end Done, or 0
@@ -100,15 +101,15 @@ abbrev pub words_line : List ℕ
 words_line = codes "jsstr: the words are refused\n"
 
 -- the line of a file that can't be read
-abbrev pub unread_line : Name → List ℕ
+abbrev pub unread_line : FileName → List ℕ
 unread_line name = name ++ codes ": cannot be read\n"
 
 -- the line of a file that is too large
-abbrev pub large_line : Name → List ℕ
+abbrev pub large_line : FileName → List ℕ
 large_line name = name ++ codes ": larger than 1048576 bytes\n"
 
 -- the byte offset of the fault, and its message
-abbrev pub refused_line : Name → ParseFault → List ℕ
+abbrev pub refused_line : FileName → ParseFault → List ℕ
 refused_line name fault = (name ++ (58 ∷ [] ++ (decimal (fault_offset fault) ++ codes ": refused: ")))
     ++ (fault_words fault ++ 10 ∷ [])
 
@@ -117,13 +118,6 @@ abbrev pub memory_line : List ℕ
 memory_line = codes "jsstr: out of memory\n"
 
 -- ---- what is reported, and what is kept
-
--- what is reported of a call
-pub data Report : Type 0 where
-  -- nothing was run: a status, and a line for err
-  Refusal : (status : ℕ) (line : List ℕ) → Report
-  -- a status, the bytes for out and those for err
-  Printed : (status : ℕ) (written : List ℕ) (told : List ℕ) → Report
 
 -- what is reported of a verdict
 abbrev pub report_of : Verdict → Report

@@ -4,8 +4,8 @@ ghost use Rattle.std.specs.String.{string_bytes};
 ghost use Rattle.run_command.specs.Words.{request_of};
 ghost use Rattle.run_sources.specs.Reading.{IsQuiet};
 ghost use Rattle.js_run.specs.Moment.{moment, ended};
-ghost use Rattle.js_run.specs.Outcome.{Outcome, Keeps};
-ghost use Rattle.js_run.specs.Rows.{Exactly, OrWant, IsFileFault, IsToldLarge, IsNoScript, IsToldRefused, IsRefusal, IsRefusalTold, IsMemory, PrintsAll, PrintsEarly, PrintsFull, IsCut, IsHonest, IsDone};
+ghost use Rattle.js_run.specs.Outcome.{CallOutcome, KeepsMoment};
+ghost use Rattle.js_run.specs.Rows.{Exactly, OrWant, IsFileFault, IsToldLarge, IsNoScript, IsToldRefused, HasRefusalStatus, IsRefusalTold, IsMemory, PrintsAll, PrintsEarly, PrintsFull, IsCutShort, IsHonest, IsDone};
 
 use crate::stages::{run_plan, stopped};
 use crate::status::Status;
@@ -26,7 +26,7 @@ fn run<R: Threads + Sync, F: Files, O: Sink, E: Sink, G: Gate + Sync>(
     err: &mut E,
     gate: &G,
 ) -> Status
-    ensures { Outcome (map string_bytes words.now) (ended result)
+    ensures { CallOutcome (map string_bytes words.now) (ended result)
         (moment (F.state files.old) (O.state out.old) (E.state err.old))
         (moment (F.state files.new) (O.state out.new) (E.state err.new)) }
 {
@@ -69,7 +69,7 @@ pub fn run_words<R: Threads + Sync, F: Files, O: Sink, E: Sink, G: Gate + Sync>(
     err: &mut E,
     gate: &G,
 ) -> Status
-    ensures outcome { Outcome (map string_bytes words.now) (ended result)
+    ensures outcome { CallOutcome (map string_bytes words.now) (ended result)
         (moment (F.state files.old) (O.state out.old) (E.state err.old))
         (moment (F.state files.new) (O.state out.new) (E.state err.new)) }
 
@@ -93,7 +93,7 @@ pub fn run_words<R: Threads + Sync, F: Files, O: Sink, E: Sink, G: Gate + Sync>(
         (moment (F.state files.old) (O.state out.old) (E.state err.old))
         (moment (F.state files.new) (O.state out.new) (E.state err.new)) }
 
-    ensures told { IsRefusal (ended result) → IsRefusalTold (map string_bytes words.now) (ended result)
+    ensures told { HasRefusalStatus (ended result) → IsRefusalTold (map string_bytes words.now) (ended result)
         (moment (F.state files.old) (O.state out.old) (E.state err.old))
         (moment (F.state files.new) (O.state out.new) (E.state err.new)) }
 
@@ -110,7 +110,7 @@ pub fn run_words<R: Threads + Sync, F: Files, O: Sink, E: Sink, G: Gate + Sync>(
     ensures full { result.code ≡ 5 → PrintsFull (map string_bytes words.now) (ended result)
         (moment (F.state files.old) (O.state out.old) (E.state err.old))
         (moment (F.state files.new) (O.state out.new) (E.state err.new)) }
-    ensures write { result.code ≡ 7 → IsCut (map string_bytes words.now) (ended result)
+    ensures write { result.code ≡ 7 → IsCutShort (map string_bytes words.now) (ended result)
         (moment (F.state files.old) (O.state out.old) (E.state err.old))
         (moment (F.state files.new) (O.state out.new) (E.state err.new)) }
 
@@ -119,7 +119,7 @@ pub fn run_words<R: Threads + Sync, F: Files, O: Sink, E: Sink, G: Gate + Sync>(
         (moment (F.state files.old) (O.state out.old) (E.state err.old))
         (moment (F.state files.new) (O.state out.new) (E.state err.new)) honest }
 
-    ensures keeps { Keeps
+    ensures keeps { KeepsMoment
         (moment (F.state files.old) (O.state out.old) (E.state err.old))
         (moment (F.state files.new) (O.state out.new) (E.state err.new)) }
 {

@@ -3,7 +3,7 @@ ghost use Rattle.std.specs.Prelude.{◌≡◌, ◌≤◌, None, length, map};
 ghost use Rattle.heap_table.specs.MayMake.{MayMake};
 ghost use Rattle.run_sources.specs.Texts.{generated};
 ghost use Rattle.js_io.specs.SinkState.{SinkState};
-ghost use Rattle.run_command.specs.Words.{IsInRange, Request, made_from, request_for, files as named_files};
+ghost use Rattle.run_command.specs.Words.{IsRequestInRange, Request, made_from, request_for, files as named_files};
 ghost use Rattle.run_sources.specs.Answers.{AreShort, names_for, sources_for, trees_for};
 ghost use Rattle.run_sources.specs.Program.{program_from};
 ghost use Rattle.run_sources.specs.Reading.{KeepsFiles};
@@ -11,8 +11,8 @@ ghost use Rattle.run_sources.specs.Spelling.{Spell};
 ghost use Rattle.js_run.specs.Answer.{Becomes, stop_report};
 ghost use Rattle.js_run.specs.Asked.{names_of, setup_of};
 ghost use Rattle.js_run.specs.Cause.{HasCauseIn, HasCauseOf};
-ghost use Rattle.js_run.specs.Ending.{IsEnd};
-ghost use Rattle.js_run.specs.Moment.{ended, sinks};
+ghost use Rattle.js_io.specs.Report.{IsEnd, sinks};
+ghost use Rattle.js_run.specs.Moment.{ended};
 
 use crate::status::Status;
 use crate::telling::{tell_ran, tell_stop};
@@ -183,7 +183,7 @@ pub(crate) fn run_plan<R: Threads + Sync, F: Files, O: Sink, E: Sink, G: Gate + 
     err: &mut E,
     gate: &G,
 ) -> Status
-    requires { IsInRange (request_for plan.now) }
+    requires { IsRequestInRange (request_for plan.now) }
     ensures keeps { KeepsFiles (F.state files.old) (F.state files.new) }
     ensures becomes { Becomes (HasCauseIn (F.state files.old) (F.state files.new) (request_for plan.now))
         (ended result) (sinks (O.state out.old) (E.state err.old)) (sinks (O.state out.new) (E.state err.new)) }

@@ -6,8 +6,7 @@ ghost use Rattle.run_program.specs.Ran.{outcomes_in};
 ghost use Rattle.js_run.specs.Answer.{HasNames, outcome_ends, source_names, stop_report};
 ghost use Rattle.js_run.specs.Cause.{names_in};
 ghost use Rattle.js_run.specs.Verdict.{BadWords, WasRun, count_line, end_line, end_lines, ends_of, err_of, full_text, kind_text, refused_line, out_of, printed_by, report_of, status_of, status_or};
-ghost use Rattle.js_run.specs.Moment.{sinks};
-ghost use Rattle.js_run.specs.Ending.{IsEnd};
+ghost use Rattle.js_io.specs.Report.{IsEnd, sinks};
 
 use itoa::Buffer;
 use js_eval::{End, Kind};

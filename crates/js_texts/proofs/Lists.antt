@@ -8,7 +8,7 @@ use Rattle.js_store.specs.State.{State, Grows, IsSettled, text}
 use Rattle.js_store.specs.Rows.{settle_words}
 use Rattle.js_store.specs.declared.faults.StoreFault.{StoreFault}
 use Rattle.js_store.proofs.Laws.{known_still, text_still}
-use Rattle.js_texts.specs.Texts.{Every, AllKnown, AllSettled, texts, settle_most}
+use Rattle.js_texts.specs.Texts.{Every, AllKnown, AllSettled, known_texts, settle_most}
 
 pub drop_at : {X : Type 0} (xs : List X) (i : ℕ) (x : X) → i < length xs → x ≡ get_or xs i x → drop i xs ≡ x ∷ drop (i + 1) xs
 drop_at xs i x h e = rw (add-one, drop-cons xs i x) (cc (sym e))
@@ -73,7 +73,7 @@ module _ {F R : Type 0} (name : R → ℕ) where
       rw (drop_at rs i r l p) (omega (arith, still))
 
   -- the same texts, known ones, in a store that has grown
-  pub texts_still : (a b : State F) (rs : List R) → Grows a b → AllKnown a name rs → texts b name rs ≡ texts a name rs
+  pub texts_still : (a b : State F) (rs : List R) → Grows a b → AllKnown a name rs → known_texts b name rs ≡ known_texts a name rs
   texts_still a b rs g h = map_same (λ r k. text_still g (name r) k) rs h
 
   pub all_known_still : (a b : State F) (rs : List R) → Grows a b → AllKnown a name rs → AllKnown b name rs

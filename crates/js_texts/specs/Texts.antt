@@ -5,8 +5,8 @@ use Rattle.js_store.specs.Rows.{settle_words}
 use Rattle.js_store.specs.declared.faults.StoreFault.{StoreFault}
 use Rattle.js_store.specs.declared.faults.StoreFault.TheVariants.{Full, Memory}
 
-abbrev pub texts : {F R : Type 0} → State F → (R → ℕ) → List R → List (List ℕ)
-texts s name rs = map (λ r. text s (name r)) rs
+abbrev pub known_texts : {F R : Type 0} → State F → (R → ℕ) → List R → List (List ℕ)
+known_texts s name rs = map (λ r. text s (name r)) rs
 
 -- every element is so
 abbrev pub Every : {A : Type 0} → (A → Type 0) → List A → Type 0

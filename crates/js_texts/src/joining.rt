@@ -1,9 +1,9 @@
 // Lists of strings joined.
 ghost use Rattle.std.specs.Prelude.{◌≡◌, ◌+◌, ◌++◌, length, IfOk, IfErr, OnOk};
-ghost use Rattle.js_store.specs.State.{Has, IsKnown, IsSettled, text as text_of};
+ghost use Rattle.js_store.specs.State.{NamesUnits, IsKnown, IsSettled, text as text_of};
 ghost use Rattle.js_store.specs.Faults.{Uses};
 ghost use Rattle.js_texts.specs.Answers.{ThrowsLong, full_of};
-ghost use Rattle.js_texts.specs.Texts.{texts, AllKnown, AllSettled, settle_most, full_fault_of};
+ghost use Rattle.js_texts.specs.Texts.{known_texts, AllKnown, AllSettled, settle_most, full_fault_of};
 ghost use Rattle.js_texts.specs.Joined.{joined, with_each};
 ghost use Rattle.js_texts.specs.Use.{settling, made_words};
 
@@ -25,20 +25,20 @@ pub fn join<S: Strings>(
     requires known { AllKnown (S.state store.old) S.number parts.now }
     requires separator_known { IsKnown (S.state store.old) (S.number sep) }
     ensures value { IfOk result
-        (λ r. Has (S.state store.new) (S.number r)
+        (λ r. NamesUnits (S.state store.new) (S.number r)
         (joined (text_of (S.state store.old) (S.number sep))
-        (texts (S.state store.old) S.number parts.now))) }
+        (known_texts (S.state store.old) S.number parts.now))) }
     ensures parts_settled { OnOk result (AllSettled (S.state store.new) S.number parts.now) }
     ensures separator_settled { OnOk result (IsSettled (S.state store.new) (S.number sep)) }
     ensures result_settled { IfOk result (λ r. IsSettled (S.state store.new) (S.number r)) }
     ensures throws { ThrowsLong result (S.state store.old).limit
         (length (joined (text_of (S.state store.old) (S.number sep))
-        (texts (S.state store.old) S.number parts.now))) }
+        (known_texts (S.state store.old) S.number parts.now))) }
     ensures uses { Uses (S.state store.old) (S.state store.new) (full_of result)
         1 (settle_most (S.state store.old) S.number parts.now + settling (S.state store.old) (S.number sep)
         + made_words (S.state store.old).limit
         (joined (text_of (S.state store.old) (S.number sep))
-        (texts (S.state store.old) S.number parts.now))) }
+        (known_texts (S.state store.old) S.number parts.now))) }
 {
     let length = joined_len(store, parts, sep);
     if length > u128::from(store.limit()) {
@@ -54,7 +54,8 @@ fn joined_len<S: Strings>(store: &mut S, parts: &[S::Ref], sep: S::Ref) -> u128
     requires known { AllKnown (S.state store.old) S.number parts.now }
     requires separator_known { IsKnown (S.state store.old) (S.number sep) }
     ensures value { result ≡ length
-        (joined (text_of (S.state store.old) (S.number sep)) (texts (S.state store.old) S.number parts.now)) }
+        (joined (text_of (S.state store.old) (S.number sep))
+        (known_texts (S.state store.old) S.number parts.now)) }
     ensures uses { Uses (S.state store.old) (S.state store.new) None 0 0 }
 {
     let size = u128::from(store.len(sep));
@@ -77,7 +78,7 @@ fn joined_units<S: Strings>(
     requires separator_known { IsKnown (S.state store.old) (S.number sep) }
     ensures value { IfOk result
         (λ u. u ≡ joined (text_of (S.state store.old) (S.number sep))
-        (texts (S.state store.old) S.number parts.now)) }
+        (known_texts (S.state store.old) S.number parts.now)) }
     ensures parts_settled { OnOk result (AllSettled (S.state store.new) S.number parts.now) }
     ensures separator_settled { OnOk result (IsSettled (S.state store.new) (S.number sep)) }
     ensures uses { Uses (S.state store.old) (S.state store.new) (full_fault_of result) 0
@@ -99,7 +100,7 @@ fn append_joined<S: Strings>(
 ) -> Result<(), StoreFault>
     requires { AllKnown (S.state store.old) S.number parts.now }
     ensures added { OnOk result
-        (text.new ≡ text.old ++ joined sep.now (texts (S.state store.old) S.number parts.now)) }
+        (text.new ≡ text.old ++ joined sep.now (known_texts (S.state store.old) S.number parts.now)) }
     ensures settled { OnOk result (AllSettled (S.state store.new) S.number parts.now) }
     ensures uses { Uses (S.state store.old) (S.state store.new) (full_fault_of result) 0
         (settle_most (S.state store.old) S.number parts.now) }
@@ -123,7 +124,7 @@ fn append_rest<S: Strings>(
 ) -> Result<(), StoreFault>
     requires { AllKnown (S.state store.old) S.number rest.now }
     ensures added { OnOk result
-        (text.new ≡ text.old ++ with_each sep.now (texts (S.state store.old) S.number rest.now)) }
+        (text.new ≡ text.old ++ with_each sep.now (known_texts (S.state store.old) S.number rest.now)) }
     ensures settled { OnOk result (AllSettled (S.state store.new) S.number rest.now) }
     ensures uses { Uses (S.state store.old) (S.state store.new) (full_fault_of result) 0
         (settle_most (S.state store.old) S.number rest.now) }

@@ -6,10 +6,10 @@ use Rattle.std.proofs.lemmas.Bool.{cases_eq, cases_lt, cases_Bool, and_parts, an
 use Rattle.std.proofs.lemmas.Str.{encode_ascii}
 use lib.Pointwise.{bytes_decides}
 use Rattle.js_units.specs.Text.{is_lead, is_trail, pair_value, points, utf16_of}
-use Rattle.js_uri.specs.Outcome.{Outcome, after, after_some, and_then}
+use Rattle.js_uri.specs.Outcome.{UriOutcome, uri_after, after_some, uri_and_then}
 use Rattle.js_uri.specs.Sets.{no_hold}
-use Rattle.js_uri.specs.Encoding.{hex, escape, escapes, encoded_point, encoded_points}
-use Rattle.js_uri.specs.Decoding.{Part, digit, byte_of, escaped_byte, cons_bytes, escaped_bytes, sequence_len, bits, is_scalar, spelled_by, utf8_point, ascii_part, point_part, escaped_part, after_part, decoded_behind, decoded}
+use Rattle.js_uri.specs.Encoding.{upper_hex, escape, escapes, encoded_point, encoded_points}
+use Rattle.js_uri.specs.Decoding.{DecodedPart, digit, byte_of, escaped_byte, cons_bytes, escaped_bytes, sequence_len, bits, is_scalar, spelled_by, utf8_point, ascii_part, point_part, escaped_part, after_part, decoded_behind, decoded}
 use Rattle.js_uri.specs.Decoding.{first_part}
 use Rattle.js_uri.specs.Laws.{Undoes}
 use Rattle.js_uri.proofs.Escapes.{length-escapes}
@@ -22,19 +22,19 @@ is_digit_of (Some x) d = nat_eq x d
 
 abbrev digits_back : ℕ → Bool
 digits_back zero = true
-digits_back (suc d) = is_digit_of (digit (hex d)) d && digits_back d
+digits_back (suc d) = is_digit_of (digit (upper_hex d)) d && digits_back d
 
 digit_is : (o : Option ℕ) (d : ℕ) → is_digit_of o d ≡ true → o ≡ Some d
 digit_is None d h = cc
 digit_is (Some x) d h = ap Some (eqb-true x d h)
 
-digits_at : (n : ℕ) → digits_back n ≡ true → (d : ℕ) → d < n → digit (hex d) ≡ Some d
+digits_at : (n : ℕ) → digits_back n ≡ true → (d : ℕ) → d < n → digit (upper_hex d) ≡ Some d
 digits_at zero e d h = absurd (omega arith)
 digits_at (suc n) e d h =
     let p = and_parts _ _ e in
-    elim (cases_eq d n) [ inl same ↦ rw same (digit_is (digit (hex n)) n p.0) | inr other ↦ digits_at n p.1 d (omega arith) ]
+    elim (cases_eq d n) [ inl same ↦ rw same (digit_is (digit (upper_hex n)) n p.0) | inr other ↦ digits_at n p.1 d (omega arith) ]
 
-digit_back : (d : ℕ) → d < 16 → digit (hex d) ≡ Some d
+digit_back : (d : ℕ) → d < 16 → digit (upper_hex d) ≡ Some d
 digit_back d h = digits_at 16 refl d h
 
 -- a byte, and bytes
@@ -43,7 +43,7 @@ byte_back b w h =
     let high : b / 16 < 16 = omega arith in
     let low : b % 16 < 16 = omega arith in
     let whole : b / 16 * 16 + b % 16 ≡ b = omega arith in
-    ap (λ o. byte_of o (digit (hex (b % 16)))) (digit_back (b / 16) high) ∙ ap (λ o. byte_of (Some (b / 16)) o) (digit_back (b % 16) low) ∙ ap Some whole
+    ap (λ o. byte_of o (digit (upper_hex (b % 16)))) (digit_back (b / 16) high) ∙ ap (λ o. byte_of (Some (b / 16)) o) (digit_back (b % 16) low) ∙ ap Some whole
 
 abbrev pub AreBytes : List ℕ → Type 0
 AreBytes [] = Unit {0}
@@ -129,7 +129,7 @@ dropped (x ∷ xs) ys = dropped xs ys
 sequence_back : (c a : ℕ) (bs w x : List ℕ) → is_scalar c ≡ true → IsSequence c a bs → decoded w no_hold ≡ Ok x → decoded (escapes c ++ w) no_hold ≡ Ok (utf16_of c ++ x)
 sequence_back c a bs w x s q h =
     let n : ℕ = 3 * length (a ∷ bs) in
-    let p : Part = record { units = utf16_of c; taken = n } in
+    let p : DecodedPart = record { units = utf16_of c; taken = n } in
     let front : List ℕ = flat_map escape (a ∷ bs) in
     let some : 1 ≤ n = omega arith in
     let left : drop n (front ++ w) ≡ w = ap (λ k. drop k (front ++ w)) (sym (length-escapes (a ∷ bs))) ∙ dropped front w in
@@ -147,7 +147,7 @@ ascii_back c w x h e =
     let us : List ℕ = escape c ++ w in
     let small : c < 256 = omega arith in
     let narrow : c < 0x10000 = omega arith in
-    let p : Part = record { units = c ∷ []; taken = 3 } in
+    let p : DecodedPart = record { units = c ∷ []; taken = 3 } in
     let part : first_part no_hold us ≡ Some p = ap (escaped_part no_hold us) (byte_back c w small) ∙ cond-true (nat_lt c 0x80) (Some p) (point_part (sequence_len c) (utf8_point (escaped_bytes (sequence_len c) us))) (lt-ltb c 0x80 h) in
     ap (λ l. decoded (flat_map escape l ++ w) no_hold) (encode_ascii c h)
     ∙ decoded_turn no_hold us p part (omega arith)
@@ -158,7 +158,7 @@ ascii_back c w x h e =
 stands : (u : ℕ) (w x : List ℕ) → (u ≡ 0x25 → ⊥) → decoded w no_hold ≡ Ok x → decoded (u ∷ w) no_hold ≡ Ok (u ∷ x)
 stands u w x n e =
     ap (λ o. after_part o (λ k. decoded_behind no_hold k w)) (cond-false (u == 0x25) (escaped_part no_hold (u ∷ w) (escaped_byte (u ∷ w))) (Some (record { units = u ∷ []; taken = 1 })) (ne_eqb u 0x25 n))
-    ∙ ap (after 1 (u ∷ [])) e
+    ∙ ap (uri_after 1 (u ∷ [])) e
 
 kept_back : (c : ℕ) (w x : List ℕ) → c < 0x110000 → (c ≡ 0x25 → ⊥) → decoded w no_hold ≡ Ok x → decoded (utf16_of c ++ w) no_hold ≡ Ok (utf16_of c ++ x)
 kept_back c w x h n e = elim (cases_lt c 0x10000) [
@@ -185,10 +185,10 @@ escaped_back c w x s h e = elim (cases_lt c 128) [
 ]
 
 -- code point by code point
-abbrev back : List ℕ → Outcome
+abbrev back : List ℕ → UriOutcome
 back vs = decoded vs no_hold
 
-turn_back : (keep : ℕ → Bool) (n c : ℕ) (r : Outcome) (x : List ℕ) → keep 0x25 ≡ false → is_scalar c ≡ true → and_then r back ≡ Ok x → and_then (after_some n (encoded_point keep c) r) back ≡ Ok (utf16_of c ++ x)
+turn_back : (keep : ℕ → Bool) (n c : ℕ) (r : UriOutcome) (x : List ℕ) → keep 0x25 ≡ false → is_scalar c ≡ true → uri_and_then r back ≡ Ok x → uri_and_then (after_some n (encoded_point keep c) r) back ≡ Ok (utf16_of c ++ x)
 turn_back keep n c (Err k) x f s h = cc
 turn_back keep n c (Ok w) x f s h =
     let parts = and_parts _ _ s in
@@ -198,13 +198,13 @@ turn_back keep n c (Ok w) x f s h =
       | inl kept ↦
           let other : c ≡ 0x25 → ⊥ = λ e. let same : keep c ≡ keep 0x25 = ap keep e in cc in
           let is : encoded_point keep c ≡ Some (utf16_of c) = cond-false (is_lead c || is_trail c) _ _ alone ∙ cond-true (keep c) _ _ kept in
-          ap (λ o. and_then (after_some n o (Ok w)) back) is ∙ kept_back c w x low other h
+          ap (λ o. uri_and_then (after_some n o (Ok w)) back) is ∙ kept_back c w x low other h
       | inr escaped ↦
           let is : encoded_point keep c ≡ Some (escapes c) = cond-false (is_lead c || is_trail c) _ _ alone ∙ cond-false (keep c) _ _ escaped in
-          ap (λ o. and_then (after_some n o (Ok w)) back) is ∙ escaped_back c w x s low h
+          ap (λ o. uri_and_then (after_some n o (Ok w)) back) is ∙ escaped_back c w x s low h
     ]
 
-points_back : (keep : ℕ → Bool) (cs : List ℕ) → keep 0x25 ≡ false → list_all is_scalar cs ≡ true → and_then (encoded_points keep cs) back ≡ Ok (flat_map utf16_of cs)
+points_back : (keep : ℕ → Bool) (cs : List ℕ) → keep 0x25 ≡ false → list_all is_scalar cs ≡ true → uri_and_then (encoded_points keep cs) back ≡ Ok (flat_map utf16_of cs)
 points_back keep [] f s = refl
 points_back keep (c ∷ cs) f s =
     let parts = and_parts _ _ s in

@@ -4,7 +4,7 @@ use Rattle.std.specs.Prelude.{◌&&◌, ◌||◌, ◌==◌, not, nat_lt, if◌th
 use Rattle.std.specs.List.{list_all}
 use Rattle.std.proofs.lemmas.Bool.{and_parts, and_left, or_from, not-true, ltb-true, lt-ltb, lt-leb, cond-true, cond-false}
 use Rattle.js_units.specs.Text.{is_lead, is_trail, points, pair_value, utf16_of}
-use Rattle.js_uri.specs.Outcome.{after_some, after}
+use Rattle.js_uri.specs.Outcome.{after_some, uri_after}
 use Rattle.js_uri.specs.Encoding.{encoded_point, encoded_points, encoded}
 use Rattle.js_uri.specs.Decoding.{escaped_part, escaped_byte, after_part, decoded_behind, decoded}
 
@@ -49,4 +49,4 @@ decoded_same hold [] h = refl
 decoded_same hold (u ∷ us) h =
     let p = and_parts _ _ h in
     ap (λ o. after_part o (λ n. decoded_behind hold n us)) (cond-false (u == 0x25) (escaped_part hold (u ∷ us) (escaped_byte (u ∷ us))) (Some (record { units = u ∷ []; taken = 1 })) (not-true _ p.0))
-    ∙ ap (after 1 (u ∷ [])) (decoded_same hold us p.1)
+    ∙ ap (uri_after 1 (u ∷ [])) (decoded_same hold us p.1)

@@ -4,7 +4,7 @@ use Rattle.js_uri.specs.declared.sets.UriPart.{UriPart}
 use Rattle.js_uri.specs.declared.sets.UriPart.TheVariants.{Whole, Component}
 use Rattle.js_uri.specs.declared.answering.UriCall.{UriCall}
 use Rattle.js_uri.specs.declared.answering.UriCall.TheVariants.{Encode, Decode}
-use Rattle.js_uri.specs.Outcome.{Outcome}
+use Rattle.js_uri.specs.Outcome.{UriOutcome}
 use Rattle.js_uri.specs.Sets.{component_keep, uri_keep, no_hold, uri_hold}
 use Rattle.js_uri.specs.Encoding.{encoded}
 use Rattle.js_uri.specs.Decoding.{decoded}
@@ -18,6 +18,6 @@ hold_of Whole b = uri_hold b
 hold_of Component b = no_hold b
 
 -- what a call makes of units
-abbrev pub outcome : UriCall → List ℕ → Outcome
+abbrev pub outcome : UriCall → List ℕ → UriOutcome
 outcome (Encode part) us = encoded us (keep_of part)
 outcome (Decode part) us = decoded us (hold_of part)

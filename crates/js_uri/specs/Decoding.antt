@@ -1,7 +1,7 @@
 -- Units with each escape as what it denotes (ECMA-262, "Decode").
 use Rattle.std.specs.Prelude.{ℕ, zero, suc, ◌+◌, ◌-◌, ◌*◌, ◌%◌, Bool, nat_lt, nat_le, not, ◌&&◌, ◌||◌, ◌==◌, if◌then◌else◌, List, [], ◌∷◌, take, drop, length, Option, Some, None, Ok, Err, encode_utf8, bytes_eq}
 use Rattle.js_units.specs.Text.{is_lead, is_trail, utf16_of}
-use Rattle.js_uri.specs.Outcome.{Outcome, after}
+use Rattle.js_uri.specs.Outcome.{UriOutcome, uri_after}
 
 -- the value of a hexadecimal digit, of either case
 abbrev pub digit : ℕ → Option ℕ
@@ -63,42 +63,42 @@ utf8_point None = None
 utf8_point (Some bs) = spelled_by bs (bits bs)
 
 -- units that denote others: the others, and how many units these are
-pub record Part : Type 0 where
+pub record DecodedPart : Type 0 where
   pub units : List ℕ
   pub taken : ℕ
 
 -- the escape of a byte below 80
-abbrev pub ascii_part : (ℕ → Bool) → List ℕ → ℕ → Part
+abbrev pub ascii_part : (ℕ → Bool) → List ℕ → ℕ → DecodedPart
 ascii_part hold us b = record { units = if hold b then take 3 us else b ∷ []; taken = 3 }
 
 -- n escapes
-abbrev pub point_part : ℕ → Option ℕ → Option Part
+abbrev pub point_part : ℕ → Option ℕ → Option DecodedPart
 point_part n None = None
 point_part n (Some c) = Some (record { units = utf16_of c; taken = 3 * n })
 
-abbrev pub escaped_part : (ℕ → Bool) → List ℕ → Option ℕ → Option Part
+abbrev pub escaped_part : (ℕ → Bool) → List ℕ → Option ℕ → Option DecodedPart
 escaped_part hold us None = None
 escaped_part hold us (Some b) =
     if nat_lt b 0x80 then Some (ascii_part hold us b) else point_part (sequence_len b) (utf8_point (escaped_bytes (sequence_len b) us))
 
 -- the first part of units; nothing where it is malformed
-abbrev pub first_part : (ℕ → Bool) → List ℕ → Option Part
+abbrev pub first_part : (ℕ → Bool) → List ℕ → Option DecodedPart
 first_part hold [] = None
 first_part hold (u ∷ us) =
     if u == 0x25 then escaped_part hold (u ∷ us) (escaped_byte (u ∷ us)) else Some (record { units = u ∷ []; taken = 1 })
 
 -- a part, and what the units behind its first come to where so many of them are passed over
-abbrev pub after_part : Option Part → (ℕ → Outcome) → Outcome
+abbrev pub after_part : Option DecodedPart → (ℕ → UriOutcome) → UriOutcome
 after_part None rest = Err 0
-after_part (Some p) rest = after p.taken p.units (rest (p.taken - 1))
+after_part (Some p) rest = uri_after p.taken p.units (rest (p.taken - 1))
 
 -- the units from the front, the first n passed over
-abbrev pub decoded_behind : (ℕ → Bool) → ℕ → List ℕ → Outcome
+abbrev pub decoded_behind : (ℕ → Bool) → ℕ → List ℕ → UriOutcome
 decoded_behind hold n [] = Ok []
 decoded_behind hold zero (u ∷ us) = after_part (first_part hold (u ∷ us)) (λ n. decoded_behind hold n us)
 decoded_behind hold (suc n) (u ∷ us) = decoded_behind hold n us
 
 -- the units decoded; malformed at the % of the first escape that isn't whole, or of the first
 -- sequence that isn't well-formed UTF-8
-abbrev pub decoded : List ℕ → (ℕ → Bool) → Outcome
+abbrev pub decoded : List ℕ → (ℕ → Bool) → UriOutcome
 decoded us hold = decoded_behind hold 0 us

@@ -1,15 +1,15 @@
 -- Units with each code point outside a set as escapes (ECMA-262, "Encode").
 use Rattle.std.specs.Prelude.{ℕ, ◌+◌, ◌/◌, ◌%◌, Bool, nat_lt, ◌||◌, if◌then◌else◌, List, [], ◌∷◌, length, Option, Some, None, Ok, encode_utf8, flat_map}
 use Rattle.js_units.specs.Text.{is_lead, is_trail, points, utf16_of}
-use Rattle.js_uri.specs.Outcome.{Outcome, after_some}
+use Rattle.js_uri.specs.Outcome.{UriOutcome, after_some}
 
 -- a hexadecimal digit, in upper case
-abbrev pub hex : ℕ → ℕ
-hex d = if nat_lt d 10 then 0x30 + d else 0x37 + d
+abbrev pub upper_hex : ℕ → ℕ
+upper_hex d = if nat_lt d 10 then 0x30 + d else 0x37 + d
 
 -- % and the two digits of a byte
 abbrev pub escape : ℕ → List ℕ
-escape b = 0x25 ∷ hex (b / 16) ∷ hex (b % 16) ∷ []
+escape b = 0x25 ∷ upper_hex (b / 16) ∷ upper_hex (b % 16) ∷ []
 
 -- the bytes of the code point in UTF-8, each as an escape
 abbrev pub escapes : ℕ → List ℕ
@@ -20,10 +20,10 @@ abbrev pub encoded_point : (ℕ → Bool) → ℕ → Option (List ℕ)
 encoded_point keep c = if is_lead c || is_trail c then None else if keep c then Some (utf16_of c) else Some (escapes c)
 
 -- the code points from the front
-abbrev pub encoded_points : (ℕ → Bool) → List ℕ → Outcome
+abbrev pub encoded_points : (ℕ → Bool) → List ℕ → UriOutcome
 encoded_points keep [] = Ok []
 encoded_points keep (c ∷ cs) = after_some (length (utf16_of c)) (encoded_point keep c) (encoded_points keep cs)
 
 -- the units encoded; malformed at the first unpaired surrogate
-abbrev pub encoded : List ℕ → (ℕ → Bool) → Outcome
+abbrev pub encoded : List ℕ → (ℕ → Bool) → UriOutcome
 encoded us keep = encoded_points keep (points us)

@@ -1,30 +1,30 @@
 -- What encoding or decoding a list of units comes to: a list, or the place of the unit that is malformed.
 use Rattle.std.specs.Prelude.{ℕ, ◌+◌, List, [], ◌++◌, length, Option, Some, None, Result, Ok, Err}
 
-abbrev pub Outcome : Type 0
-Outcome = Result (List ℕ) ℕ
+abbrev pub UriOutcome : Type 0
+UriOutcome = Result (List ℕ) ℕ
 
 -- n units that denote others, before units that come to an outcome: its list goes behind the others, its place counts on
-abbrev pub after : ℕ → List ℕ → Outcome → Outcome
-after n us (Ok vs) = Ok (us ++ vs)
-after n us (Err at) = Err (n + at)
+abbrev pub uri_after : ℕ → List ℕ → UriOutcome → UriOutcome
+uri_after n us (Ok vs) = Ok (us ++ vs)
+uri_after n us (Err at) = Err (n + at)
 
 -- the same where the n units denote others only perhaps, and are malformed at the first of them if not
-abbrev pub after_some : ℕ → Option (List ℕ) → Outcome → Outcome
+abbrev pub after_some : ℕ → Option (List ℕ) → UriOutcome → UriOutcome
 after_some n None r = Err 0
-after_some n (Some us) r = after n us r
+after_some n (Some us) r = uri_after n us r
 
 -- how many units the list has
-abbrev pub measure : Outcome → Result ℕ ℕ
+abbrev pub measure : UriOutcome → Result ℕ ℕ
 measure (Ok us) = Ok (length us)
 measure (Err at) = Err at
 
 -- the list, where there is one
-abbrev pub units : Outcome → List ℕ
+abbrev pub units : UriOutcome → List ℕ
 units (Ok us) = us
 units (Err at) = []
 
 -- one after the other
-abbrev pub and_then : Outcome → (List ℕ → Outcome) → Outcome
-and_then (Ok us) f = f us
-and_then (Err at) f = Err at
+abbrev pub uri_and_then : UriOutcome → (List ℕ → UriOutcome) → UriOutcome
+uri_and_then (Ok us) f = f us
+uri_and_then (Err at) f = Err at

@@ -3,7 +3,7 @@ use Rattle.std.specs.Prelude.{ℕ, List, take, length}
 use Rattle.js_units.specs.Text.{utf16_of}
 use Rattle.js_uri.specs.declared.decoding.Piece.{Piece}
 use Rattle.js_uri.specs.declared.decoding.Piece.TheVariants.{Same, Char}
-use Rattle.js_uri.specs.Decoding.{Part}
+use Rattle.js_uri.specs.Decoding.{DecodedPart}
 
 abbrev pub taken_by : Piece → ℕ
 taken_by (Same n) = n
@@ -18,5 +18,5 @@ abbrev pub units_given : Piece → List ℕ → List ℕ
 units_given (Same n) us = take n us
 units_given (Char c taken) us = utf16_of c
 
-abbrev pub seen : Piece → List ℕ → Part
+abbrev pub seen : Piece → List ℕ → DecodedPart
 seen p us = record { units = units_given p us; taken = taken_by p }

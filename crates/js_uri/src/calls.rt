@@ -3,7 +3,7 @@ ghost use Rattle.std.specs.Prelude.{◌+◌, IfOk, OnOk};
 ghost use Rattle.js_store.specs.State.{IsKnown, IsSettled, text};
 ghost use Rattle.js_store.specs.Faults.{Uses};
 ghost use Rattle.js_texts.specs.Use.{settling};
-ghost use Rattle.js_uri.specs.Answers.{HasOutcome, Throws, full_of, outcome_words};
+ghost use Rattle.js_uri.specs.Answers.{HasUriOutcome, Throws, uri_full_of, outcome_words};
 ghost use Rattle.js_uri.specs.Sets.{component_keep, uri_keep, no_hold, uri_hold};
 ghost use Rattle.js_uri.specs.Encoding.{encoded};
 ghost use Rattle.js_uri.specs.Decoding.{decoded};
@@ -20,14 +20,14 @@ use std::alloc::Global;
 pub fn encode_uri<S: Strings>(alloc: Global, store: &mut S, s: S::Ref) -> Result<S::Ref, UriFault>
     requires { IsKnown (S.state store.old) (S.number s) }
     ensures value { IfOk result
-        (λ r. HasOutcome (S.state store.new) (S.number r)
+        (λ r. HasUriOutcome (S.state store.new) (S.number r)
         (encoded (text (S.state store.old) (S.number s)) uri_keep)) }
     ensures known { IfOk result (λ r. IsKnown (S.state store.new) (S.number r)) }
     ensures settled { OnOk result (IsSettled (S.state store.new) (S.number s)) }
     ensures result_settled { IfOk result (λ r. IsSettled (S.state store.new) (S.number r)) }
     ensures throws { Throws result (S.state store.old).limit
         (encoded (text (S.state store.old) (S.number s)) uri_keep) }
-    ensures uses { Uses (S.state store.old) (S.state store.new) (full_of result) 1
+    ensures uses { Uses (S.state store.old) (S.state store.new) (uri_full_of result) 1
         (settling (S.state store.old) (S.number s) + outcome_words (S.state store.old).limit
         (encoded (text (S.state store.old) (S.number s)) uri_keep)) }
 {
@@ -43,14 +43,14 @@ pub fn encode_uri_component<S: Strings>(
 ) -> Result<S::Ref, UriFault>
     requires { IsKnown (S.state store.old) (S.number s) }
     ensures value { IfOk result
-        (λ r. HasOutcome (S.state store.new) (S.number r)
+        (λ r. HasUriOutcome (S.state store.new) (S.number r)
         (encoded (text (S.state store.old) (S.number s)) component_keep)) }
     ensures known { IfOk result (λ r. IsKnown (S.state store.new) (S.number r)) }
     ensures settled { OnOk result (IsSettled (S.state store.new) (S.number s)) }
     ensures result_settled { IfOk result (λ r. IsSettled (S.state store.new) (S.number r)) }
     ensures throws { Throws result (S.state store.old).limit
         (encoded (text (S.state store.old) (S.number s)) component_keep) }
-    ensures uses { Uses (S.state store.old) (S.state store.new) (full_of result) 1
+    ensures uses { Uses (S.state store.old) (S.state store.new) (uri_full_of result) 1
         (settling (S.state store.old) (S.number s) + outcome_words (S.state store.old).limit
         (encoded (text (S.state store.old) (S.number s)) component_keep)) }
 {
@@ -64,14 +64,14 @@ pub fn encode_uri_component<S: Strings>(
 pub fn decode_uri<S: Strings>(alloc: Global, store: &mut S, s: S::Ref) -> Result<S::Ref, UriFault>
     requires { IsKnown (S.state store.old) (S.number s) }
     ensures value { IfOk result
-        (λ r. HasOutcome (S.state store.new) (S.number r)
+        (λ r. HasUriOutcome (S.state store.new) (S.number r)
         (decoded (text (S.state store.old) (S.number s)) uri_hold)) }
     ensures known { IfOk result (λ r. IsKnown (S.state store.new) (S.number r)) }
     ensures settled { OnOk result (IsSettled (S.state store.new) (S.number s)) }
     ensures result_settled { IfOk result (λ r. IsSettled (S.state store.new) (S.number r)) }
     ensures throws { Throws result (S.state store.old).limit
         (decoded (text (S.state store.old) (S.number s)) uri_hold) }
-    ensures uses { Uses (S.state store.old) (S.state store.new) (full_of result) 1
+    ensures uses { Uses (S.state store.old) (S.state store.new) (uri_full_of result) 1
         (settling (S.state store.old) (S.number s) + outcome_words (S.state store.old).limit
         (decoded (text (S.state store.old) (S.number s)) uri_hold)) }
 {
@@ -87,14 +87,14 @@ pub fn decode_uri_component<S: Strings>(
 ) -> Result<S::Ref, UriFault>
     requires { IsKnown (S.state store.old) (S.number s) }
     ensures value { IfOk result
-        (λ r. HasOutcome (S.state store.new) (S.number r)
+        (λ r. HasUriOutcome (S.state store.new) (S.number r)
         (decoded (text (S.state store.old) (S.number s)) no_hold)) }
     ensures known { IfOk result (λ r. IsKnown (S.state store.new) (S.number r)) }
     ensures settled { OnOk result (IsSettled (S.state store.new) (S.number s)) }
     ensures result_settled { IfOk result (λ r. IsSettled (S.state store.new) (S.number r)) }
     ensures throws { Throws result (S.state store.old).limit
         (decoded (text (S.state store.old) (S.number s)) no_hold) }
-    ensures uses { Uses (S.state store.old) (S.state store.new) (full_of result) 1
+    ensures uses { Uses (S.state store.old) (S.state store.new) (uri_full_of result) 1
         (settling (S.state store.old) (S.number s) + outcome_words (S.state store.old).limit
         (decoded (text (S.state store.old) (S.number s)) no_hold)) }
 {

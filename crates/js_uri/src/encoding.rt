@@ -30,7 +30,7 @@ fn split_point(units: &[u16]) -> Option<(u32, &[u16])>
 // A hexadecimal digit, in upper case.
 fn hex(digit: u8) -> u8
     requires { digit < 16 }
-    ensures { result ≡ Encoding.hex digit }
+    ensures { result ≡ Encoding.upper_hex digit }
 {
     if digit < 10 {
         0x30 + digit

@@ -5,7 +5,7 @@ ghost use Rattle.js_uri.specs.Calls.{keep_of, hold_of};
 
 // Whether a code point is one of ; / ? : @ & = + $ , #
 fn is_reserved(point: u32) -> bool
-    ensures { result ≡ Sets.is_reserved point }
+    ensures { result ≡ Sets.is_uri_reserved point }
 {
     match point {
         0x3B | 0x2F | 0x3F | 0x3A | 0x40 | 0x26 | 0x3D | 0x2B | 0x24 | 0x2C | 0x23 => true,

@@ -12,9 +12,9 @@ use Rattle.heap_table.specs.Known.{KeepsKnown}
 use Rattle.heap_agents.specs.Interned.{KeepsCalls}
 use Rattle.heap_agents.specs.Searched.{KeepsStrings}
 use Rattle.heap_agents.proofs.Interned.{continued}
-use Rattle.heap_agents.specs.Ready.{Goes, Searches, IsReady, Knows, view_in}
+use Rattle.heap_agents.specs.Ready.{HandleLeaves, Searches, IsReady, HandleKnows, handle_view}
 use Rattle.jsstr_c.specs.declared.answer.JsAnswer.{JsAnswer}
-use Rattle.jsstr_c.specs.Checked.{Follows, IsRefused, IsUnsettled, Reaches}
+use Rattle.jsstr_c.specs.Checked.{Follows, IsPairRefused, IsUnsettled, Reaches}
 
 marks_trans : (x y z : Held) → KeepsMarks x y → KeepsMarks y z → KeepsMarks x z
 marks_trans x y z a b = record { known = λ i h. b.known i (a.known i h); interned = λ i h. b.interned i (a.interned i h); number = b.number ∙ a.number; giver = b.giver ∙ a.giver }
@@ -27,61 +27,61 @@ leaves_trans x y z a b = record {
   marks = marks_trans x y z a.marks b.marks;
 }
 
-pub goes_trans : (o p q : Option Held) → Goes o p → Goes p q → Goes o q
+pub goes_trans : (o p q : Option Held) → HandleLeaves o p → HandleLeaves p q → HandleLeaves o q
 goes_trans None p q a b = absurd a
 goes_trans (Some x) None q a b = absurd a
 goes_trans (Some x) (Some y) None a b = absurd b
 goes_trans (Some x) (Some y) (Some z) a b = leaves_trans x y z a b
 
-pub goes_continues : (o p : Option Held) → Goes o p → Continues (view_in o) (view_in p)
+pub goes_continues : (o p : Option Held) → HandleLeaves o p → Continues (handle_view o) (handle_view p)
 goes_continues None p a = absurd a
 goes_continues (Some x) None a = absurd a
 goes_continues (Some x) (Some y) a = a.continues
 
-pub goes_ready : (o p : Option Held) → Goes o p → IsReady p
+pub goes_ready : (o p : Option Held) → HandleLeaves o p → IsReady p
 goes_ready None p a = absurd a
 goes_ready (Some x) None a = absurd a
 goes_ready (Some x) (Some y) a = a.held
 
-pub goes_knows : (o p : Option Held) (i : ℕ) → Goes o p → Knows o i → Knows p i
+pub goes_knows : (o p : Option Held) (i : ℕ) → HandleLeaves o p → HandleKnows o i → HandleKnows p i
 goes_knows None p i a k = absurd a
 goes_knows (Some x) None i a k = absurd a
 goes_knows (Some x) (Some y) i a k = a.marks.known i k
 
-pub goes_units : (o p : Option Held) → Goes o p → (i : ℕ) (us : List ℕ) → Has (view_in o).units i us → Has (view_in p).units i us
+pub goes_units : (o p : Option Held) → HandleLeaves o p → (i : ℕ) (us : List ℕ) → Has (handle_view o).units i us → Has (handle_view p).units i us
 goes_units o p a = (goes_continues o p a).known.units
 
-pub goes_key : (o p : Option Held) → Goes o p → (i : ℕ) → HasKey (view_in o).units i → HasKey (view_in p).units i
-goes_key o p a i k = let u = has_key (view_in o).units i k in key_of (view_in p).units i u.0 (goes_units o p a i u.0 u.1)
+pub goes_key : (o p : Option Held) → HandleLeaves o p → (i : ℕ) → HasKey (handle_view o).units i → HasKey (handle_view p).units i
+goes_key o p a i k = let u = has_key (handle_view o).units i k in key_of (handle_view p).units i u.0 (goes_units o p a i u.0 u.1)
 
-pub ready_key : (o : Option Held) (i : ℕ) → IsReady o → Knows o i → HasKey (view_in o).units i
+pub ready_key : (o : Option Held) (i : ℕ) → IsReady o → HandleKnows o i → HasKey (handle_view o).units i
 ready_key None i r k = absurd r
 ready_key (Some x) i r k = r.marked.known i k
 
 -- the length of a known string is told by one call
-module _ (o p : Option Held) (s all n : ℕ) (ready : IsReady o) (known : Knows o s) (long : (us : List ℕ) → Has (view_in o).units s us → all ≡ length us) where
+module _ (o p : Option Held) (s all n : ℕ) (ready : IsReady o) (known : HandleKnows o s) (long : (us : List ℕ) → Has (handle_view o).units s us → all ≡ length us) where
   pub reaching : n ≤ all → Reaches o s n
   reaching le = (known, λ us h. subst (λ (m : ℕ). n ≤ m) (long us h) le)
 
   pub reached : Reaches o s n → n ≤ all
-  reached r = let u = has_key (view_in o).units s (ready_key o s ready known) in subst (λ (m : ℕ). n ≤ m) (sym (long u.0 u.1)) (r.1 u.0 u.1)
+  reached r = let u = has_key (handle_view o).units s (ready_key o s ready known) in subst (λ (m : ℕ). n ≤ m) (sym (long u.0 u.1)) (r.1 u.0 u.1)
 
-  pub still_long : Goes o p → n ≤ all → (us : List ℕ) → Has (view_in p).units s us → n ≤ length us
-  still_long g le us h = let u = has_key (view_in o).units s (ready_key o s ready known) in let k = goes_units o p g s u.0 u.1 in
+  pub still_long : HandleLeaves o p → n ≤ all → (us : List ℕ) → Has (handle_view p).units s us → n ≤ length us
+  still_long g le us h = let u = has_key (handle_view o).units s (ready_key o s ready known) in let k = goes_units o p g s u.0 u.1 in
       let same : Some us ≡ Some u.0 = sym h ∙ k in let e : us ≡ u.0 = cc in
       subst (λ (vs : List ℕ). n ≤ length vs) (sym e) (subst (λ (m : ℕ). n ≤ m) (long u.0 u.1) le)
 
 pub leb_of : (m n : ℕ) → m ≤ n → leb m n ≡ true
 leb_of m n h = grind (arith, nat_tests, h)
 
-follows_on : (o m n : Option Held) → Goes o m → Follows m n → Goes o n
-follows_on o m n g f = ⊎_elim (λ (e : n ≡ m). subst (λ (x : Option Held). Goes o x) (sym e) g) (λ (h : Goes m n). goes_trans o m n g h) f
+follows_on : (o m n : Option Held) → HandleLeaves o m → Follows m n → HandleLeaves o n
+follows_on o m n g f = ⊎_elim (λ (e : n ≡ m). subst (λ (x : Option Held). HandleLeaves o x) (sym e) g) (λ (h : HandleLeaves m n). goes_trans o m n g h) f
 
-unsettled_on : (o m p : Option Held) (s : ℕ) (r : JsAnswer) → Goes o m → IsUnsettled m p s r → IsUnsettled o p s r
+unsettled_on : (o m p : Option Held) (s : ℕ) (r : JsAnswer) → HandleLeaves o m → IsUnsettled m p s r → IsUnsettled o p s r
 unsettled_on o m p s r g u = (u.0, inr (follows_on o m u.0 g u.1), u.2)
 
 -- what is refused after other calls
-pub refused_on : (o m p : Option Held) (a b status : ℕ) → Goes o m → IsRefused m p a b status → IsRefused o p a b status
+pub refused_on : (o m p : Option Held) (a b status : ℕ) → HandleLeaves o m → IsPairRefused m p a b status → IsPairRefused o p a b status
 refused_on o m p a b status g r = (
   r.0,
   r.1,
@@ -89,14 +89,14 @@ refused_on o m p a b status g r = (
   ⊎_elim (λ (u : IsUnsettled m p a r.0). inl (unsettled_on o m p a r.0 g u)) (λ (u : IsUnsettled m p b r.0). inr (unsettled_on o m p b r.0 g u)) r.3,
 )
 
-pub goes_known : (o p : Option Held) → Goes o p → KeepsKnown (view_in o) (view_in p)
+pub goes_known : (o p : Option Held) → HandleLeaves o p → KeepsKnown (handle_view o) (handle_view p)
 goes_known o p g = (goes_continues o p g).known
 
-pub goes_calls : (o p : Option Held) → Goes o p → KeepsCalls (view_in o) (view_in p)
-goes_calls o p g = continued (view_in o) (view_in p) (goes_continues o p g)
+pub goes_calls : (o p : Option Held) → HandleLeaves o p → KeepsCalls (handle_view o) (handle_view p)
+goes_calls o p g = continued (handle_view o) (handle_view p) (goes_continues o p g)
 
 -- what a search leaves of a handle's strings
-pub searches_strings : (o p : Option Held) → Searches o p → KeepsStrings (view_in o) (view_in p)
+pub searches_strings : (o p : Option Held) → Searches o p → KeepsStrings (handle_view o) (handle_view p)
 searches_strings None p g = absurd g
 searches_strings (Some x) None g = absurd g
 searches_strings (Some x) (Some y) g = g.strings

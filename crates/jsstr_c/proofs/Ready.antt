@@ -5,7 +5,7 @@ use Rattle.heap_table.specs.declared.agent.Agent.{Agent}
 use Rattle.heap_table.specs.declared.heap.Heap.{Heap}
 use Rattle.heap_agents.specs.declared.held.Held.{Held}
 use Rattle.heap_agents.specs.Members.{IsAgentOf, heap_of, view_if}
-use Rattle.heap_agents.specs.Ready.{IsReady, view_in}
+use Rattle.heap_agents.specs.Ready.{IsReady, handle_view}
 
 pub something : (o : Option Held) → IsReady o → (x : Held) × (o ≡ Some x)
 something None r = absurd r
@@ -15,6 +15,6 @@ may_be : (h : Heap) (a : Option Agent) → IsAgentOf h a → IsPossible (view_if
 may_be h None r = absurd r
 may_be h (Some a) r = r.5
 
-pub possible : (o : Option Held) → IsReady o → IsPossible (view_in o)
+pub possible : (o : Option Held) → IsReady o → IsPossible (handle_view o)
 possible None r = absurd r
 possible (Some x) r = may_be (heap_of x.member) x.member.agent r.whole.0

@@ -11,8 +11,8 @@ utf16 [] = []
 utf16 (c ∷ cs) = utf16_of c ++ utf16 cs
 
 -- the units of the characters that the bytes spell
-abbrev pub decoded : List ℕ → List ℕ
-decoded bytes = utf16 (chars bytes)
+abbrev pub utf8_decoded : List ℕ → List ℕ
+utf8_decoded bytes = utf16 (chars bytes)
 
 -- Why bytes gave no units: they are no UTF-8, which is reported wherever it is so; or memory runs out.
 abbrev pub IsUndecoded : List ℕ → JsAnswer → Type 0

@@ -92,13 +92,13 @@ table_answer (Ok i) = done i
 table_answer (Err f) = table_report f
 
 -- no string of the table has these units, and nothing else is reported
-abbrev pub none : JsAnswer
-none = record { status = NONE; id = 0; at = 0; want = 0; end = 0 }
+abbrev pub not_interned : JsAnswer
+not_interned = record { status = NONE; id = 0; at = 0; want = 0; end = 0 }
 
 -- the interned string, or that there is none
 abbrev pub found_answer : Option ℕ → JsAnswer
 found_answer (Some i) = done i
-found_answer None = none
+found_answer None = not_interned
 
 -- memory runs out, and nothing else is reported
 abbrev pub no_memory : JsAnswer

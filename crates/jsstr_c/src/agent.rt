@@ -2,7 +2,7 @@
 ghost use Rattle.std.specs.Prelude.{◌≡◌, ◌↔◌, IsTrue, None, Some};
 ghost use Rattle.heap_rule.specs.Maps.{HasKey};
 ghost use Rattle.heap_agents.specs.Held.{IsHeld};
-ghost use Rattle.heap_agents.specs.Ready.{HasInterned, HasWhole, IsReady, Knows, giver_in, number_in, view_in};
+ghost use Rattle.heap_agents.specs.Ready.{HasInterned, HasWhole, IsReady, HandleKnows, giver_in, handle_number, handle_view};
 ghost use Rattle.jsstr_c.specs.Handles.{IsHandle};
 
 use crate::handle::Boxed;
@@ -88,7 +88,7 @@ impl JsAgent {
         requires { IsHandle self.old }
         ensures handle { IsHandle self.new }
         ensures same { self.new.at.value ≡ self.old.at.value }
-        ensures number { result ≡ number_in self.old.at.value }
+        ensures number { result ≡ handle_number self.old.at.value }
     {
         if self.is_empty() {
             return 0;
@@ -120,9 +120,9 @@ impl JsAgent {
         requires { IsHandle self.old }
         ensures handle { IsHandle self.new }
         ensures same { self.new.at.value ≡ self.old.at.value }
-        ensures known { IsTrue result ↔ Knows self.old.at.value id }
+        ensures known { IsTrue result ↔ HandleKnows self.old.at.value id }
         ensures ready { IsTrue result → IsReady self.new.at.value }
-        ensures key { IsTrue result → HasKey (view_in self.new.at.value).units id }
+        ensures key { IsTrue result → HasKey (handle_view self.new.at.value).units id }
     {
         if self.is_empty() {
             return false;

@@ -2,7 +2,7 @@
 ghost use Rattle.std.specs.Prelude.{◌≡◌, ◌≤◌, length, IfOk, IfErr};
 ghost use Rattle.std.specs.Str.{IsUtf8};
 ghost use Rattle.heap_rule.specs.Layout.{MAX};
-ghost use Rattle.jsstr_c.specs.Decoded.{IsUndecoded, decoded};
+ghost use Rattle.jsstr_c.specs.Decoded.{IsUndecoded, utf8_decoded};
 ghost use Rattle.jsstr_c.specs.Reports as reports;
 
 use crate::answer::{JsAnswer, no_memory, not_utf8};
@@ -25,7 +25,7 @@ pub(crate) fn latin1_units(alloc: Global, bytes: &[u8]) -> Result<Units, JsAnswe
 pub(crate) fn utf8_units(alloc: Global, bytes: &[u8]) -> Result<Units, JsAnswer>
     requires short { length bytes.now ≤ MAX }
     ensures utf8 { IfOk result (λ units. IsUtf8 bytes.now) }
-    ensures units { IfOk result (λ units. units ≡ decoded bytes.now) }
+    ensures units { IfOk result (λ units. units ≡ utf8_decoded bytes.now) }
     ensures most { IfOk result (λ units. length units ≤ length bytes.now) }
     ensures refused { IfErr result (λ r. IsUndecoded bytes.now r) }
 {
@@ -40,7 +40,7 @@ pub(crate) fn utf8_units(alloc: Global, bytes: &[u8]) -> Result<Units, JsAnswer>
 
 // The units of a `str`, which are no more than its bytes.
 fn units_of(alloc: Global, text: &str) -> Result<Units, NoMemory>
-    ensures units { IfOk result (λ units. units ≡ decoded text.now) }
+    ensures units { IfOk result (λ units. units ≡ utf8_decoded text.now) }
     ensures most { IfOk result (λ units. length units ≤ length text.now) }
 {
     let mut units = Units::new(alloc);

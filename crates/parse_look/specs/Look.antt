@@ -1,7 +1,7 @@
 -- What the parser looks for at the next token.
 use Rattle.std.specs.Prelude.{ℕ, List, [], ◌∷◌, Option, Some, None}
-use Rattle.parse_syntax.specs.Lang.{second_of}
-use Rattle.parse_syntax.specs.Reader.{Reader, and_then, one_of, choose, heads, succeed}
+use Rattle.parse_syntax.specs.Lang.{keep_second}
+use Rattle.parse_syntax.specs.Reader.{TokenReader, and_then, one_of, choose, heads, succeed}
 use Rattle.parse_syntax.specs.declared.token.GrammarToken.{GrammarToken}
 use Rattle.parse_syntax.specs.declared.token.GrammarToken.TheVariants as token
 use Rattle.js_lex.specs.declared.token.Mark.TheVariants as mark
@@ -9,7 +9,7 @@ use Rattle.parse_syntax.specs.declared.token.Word.TheVariants as word
 use Rattle.eval_tree.specs.declared.tree.Op.{Op}
 use Rattle.eval_tree.specs.declared.tree.Builtin.{Builtin}
 use Rattle.eval_tree.specs.declared.tree.Builtin.TheVariants as builtin
-use Rattle.parse_syntax.specs.Terminals.{Ident, or_op, and_op, equal_op, compare_op, sum_op, else_word, if_word, string_word, symbol_word, json_word, object_word, uri_function, point, from_word, symbol_function, stringify_word, keys_word, directive, let_word, const_word, print_word, for_word, opening, closing, close_bracket, open_brace, close_brace, comma, semicolon, colon, question, less, assign_mark, increment, nought}
+use Rattle.parse_syntax.specs.Terminals.{Identifier, or_op, and_op, equal_op, compare_op, sum_op, else_word, if_word, string_word, symbol_word, json_word, object_word, uri_function, point, from_word, symbol_function, stringify_word, keys_word, directive, let_word, const_word, print_word, for_word, opening, closing, close_bracket, open_brace, close_brace, comma, semicolon, colon, question, less, assign_mark, increment, nought}
 use Rattle.parse_syntax.specs.Grammar.{pair_of}
 use Rattle.parse_look.specs.declared.look.Level.{Level}
 use Rattle.parse_look.specs.declared.look.Level.TheVariants as level
@@ -50,7 +50,7 @@ operators level.Equal = equal_op
 operators level.Compare = compare_op
 operators level.Sum = sum_op
 
-abbrev pub ident : ℕ → ℕ → Ident
+abbrev pub ident : ℕ → ℕ → Identifier
 ident at n = record { at = at; number = n }
 
 -- what a primary of several tokens begins with
@@ -73,20 +73,20 @@ openers (t ∷ s) = opener_of t
 
 -- the function that is called
 
-abbrev pub read_string_called : Reader GrammarToken Builtin
+abbrev pub read_string_called : TokenReader GrammarToken Builtin
 read_string_called =
-    choose (heads point) (and_then second_of (one_of point) (one_of from_word)) (succeed builtin.String)
+    choose (heads point) (and_then keep_second (one_of point) (one_of from_word)) (succeed builtin.String)
 
-abbrev pub read_symbol_called : Reader GrammarToken Builtin
-read_symbol_called = and_then second_of (one_of point) (one_of symbol_function)
+abbrev pub read_symbol_called : TokenReader GrammarToken Builtin
+read_symbol_called = and_then keep_second (one_of point) (one_of symbol_function)
 
-abbrev pub read_json_called : Reader GrammarToken Builtin
-read_json_called = and_then second_of (one_of point) (one_of stringify_word)
+abbrev pub read_json_called : TokenReader GrammarToken Builtin
+read_json_called = and_then keep_second (one_of point) (one_of stringify_word)
 
-abbrev pub read_object_called : Reader GrammarToken Builtin
-read_object_called = and_then second_of (one_of point) (one_of keys_word)
+abbrev pub read_object_called : TokenReader GrammarToken Builtin
+read_object_called = and_then keep_second (one_of point) (one_of keys_word)
 
-abbrev pub read_called : Reader GrammarToken (ℕ × Builtin)
+abbrev pub read_called : TokenReader GrammarToken (ℕ × Builtin)
 read_called = choose (heads string_word) (and_then pair_of (one_of string_word) read_string_called)
     (choose (heads symbol_word) (and_then pair_of (one_of symbol_word) read_symbol_called)
     (choose (heads json_word) (and_then pair_of (one_of json_word) read_json_called)

@@ -1,7 +1,7 @@
 // Faults of the grammar.
 ghost use Rattle.std.specs.Prelude.{◌≡◌, ℕ};
 ghost use Rattle.parse_syntax.specs.Reader.{wrong, too_deep};
-ghost use Rattle.parse_look.specs.Gives.{Fails};
+ghost use Rattle.parse_look.specs.Gives.{FailsWith};
 ghost use Rattle.parse_look.specs.declared.fault.Fault.TheVariants.{Memory};
 
 use js_units::NoMemory;
@@ -20,13 +20,13 @@ pub enum Fault<'a> {
 }
 
 pub fn refused(tokens: &[GrammarToken]) -> Fault<'_>
-    ensures { Fails result (wrong {A = ℕ} tokens.now) }
+    ensures { FailsWith result (wrong {A = ℕ} tokens.now) }
 {
     Fault::Wrong { rest: tokens }
 }
 
 pub fn too_deep(tokens: &[GrammarToken]) -> Fault<'_>
-    ensures { Fails result (too_deep {A = ℕ} tokens.now) }
+    ensures { FailsWith result (too_deep {A = ℕ} tokens.now) }
 {
     Fault::TooDeep { rest: tokens }
 }

@@ -4,11 +4,11 @@ ghost use Rattle.parse_syntax.specs.Reader.{Got, one_of, heads, heads_two};
 ghost use Rattle.eval_tree.specs.Tree.{expr_tree, step_tree};
 ghost use Rattle.parse_syntax.specs.Tables.{tables_of};
 ghost use Rattle.parse_syntax.specs.Terminals as terminals;
-ghost use Rattle.parse_syntax.specs.Terminals.{Ident, when};
+ghost use Rattle.parse_syntax.specs.Terminals.{Identifier, when};
 ghost use Rattle.parse_syntax.specs.declared.token.GrammarToken.TheVariants as token;
 ghost use Rattle.parse_syntax.specs.Reading.{step_mark, goes_on, read_header};
 ghost use Rattle.parse_look.specs.Look.{terminal, operators, openers, read_string_called, read_symbol_called, read_json_called, read_object_called, read_called, ident};
-ghost use Rattle.parse_look.specs.Gives.{Gives};
+ghost use Rattle.parse_look.specs.Gives.{GivesAnswer};
 
 use crate::fault::{Fault, refused};
 use crate::object::letters;
@@ -118,7 +118,7 @@ fn is(fixed: Fixed, token: GrammarToken) -> bool
 
 /// The rest behind this token, which has to come next.
 pub fn take(tokens: &[GrammarToken], fixed: Fixed) -> Result<&[GrammarToken], Fault<'_>>
-    ensures { Gives (λ _. tt) (λ rest. rest.now) result (one_of (terminal fixed) tokens.now) }
+    ensures { GivesAnswer (λ _. tt) (λ rest. rest.now) result (one_of (terminal fixed) tokens.now) }
 {
     let Some((token, rest)) = next(tokens) else {
         return Err(refused(tokens));
@@ -361,7 +361,8 @@ pub fn member(tokens: &[GrammarToken]) -> Option<(PostStep, &[GrammarToken])>
 }
 
 fn string_function(tokens: &[GrammarToken]) -> Result<(Builtin, &[GrammarToken]), Fault<'_>>
-    ensures { Gives (λ found. found.0) (λ found. found.1.now) result (one_of terminals.from_word tokens.now) }
+    ensures { GivesAnswer (λ found. found.0) (λ found. found.1.now) result
+        (one_of terminals.from_word tokens.now) }
 {
     match next(tokens) {
         Some(
@@ -387,7 +388,7 @@ fn string_function(tokens: &[GrammarToken]) -> Result<(Builtin, &[GrammarToken])
 }
 
 fn symbol_function(tokens: &[GrammarToken]) -> Result<(Builtin, &[GrammarToken]), Fault<'_>>
-    ensures { Gives (λ found. found.0) (λ found. found.1.now) result
+    ensures { GivesAnswer (λ found. found.0) (λ found. found.1.now) result
         (one_of terminals.symbol_function tokens.now) }
 {
     match next(tokens) {
@@ -414,7 +415,7 @@ fn symbol_function(tokens: &[GrammarToken]) -> Result<(Builtin, &[GrammarToken])
 }
 
 fn json_function(tokens: &[GrammarToken]) -> Result<(Builtin, &[GrammarToken]), Fault<'_>>
-    ensures { Gives (λ found. found.0) (λ found. found.1.now) result
+    ensures { GivesAnswer (λ found. found.0) (λ found. found.1.now) result
         (one_of terminals.stringify_word tokens.now) }
 {
     match next(tokens) {
@@ -432,7 +433,8 @@ fn json_function(tokens: &[GrammarToken]) -> Result<(Builtin, &[GrammarToken]), 
 }
 
 fn object_function(tokens: &[GrammarToken]) -> Result<(Builtin, &[GrammarToken]), Fault<'_>>
-    ensures { Gives (λ found. found.0) (λ found. found.1.now) result (one_of terminals.keys_word tokens.now) }
+    ensures { GivesAnswer (λ found. found.0) (λ found. found.1.now) result
+        (one_of terminals.keys_word tokens.now) }
 {
     match next(tokens) {
         Some(
@@ -450,7 +452,7 @@ fn object_function(tokens: &[GrammarToken]) -> Result<(Builtin, &[GrammarToken])
 
 // String, and perhaps a point and a function of it.
 fn string_called(tokens: &[GrammarToken]) -> Result<(Builtin, &[GrammarToken]), Fault<'_>>
-    ensures { Gives (λ found. found.0) (λ found. found.1.now) result (read_string_called tokens.now) }
+    ensures { GivesAnswer (λ found. found.0) (λ found. found.1.now) result (read_string_called tokens.now) }
 {
     match behind(tokens, Fixed::Point) {
         Some(rest) => string_function(rest),
@@ -459,21 +461,21 @@ fn string_called(tokens: &[GrammarToken]) -> Result<(Builtin, &[GrammarToken]), 
 }
 
 fn symbol_called(tokens: &[GrammarToken]) -> Result<(Builtin, &[GrammarToken]), Fault<'_>>
-    ensures { Gives (λ found. found.0) (λ found. found.1.now) result (read_symbol_called tokens.now) }
+    ensures { GivesAnswer (λ found. found.0) (λ found. found.1.now) result (read_symbol_called tokens.now) }
 {
     let rest = take(tokens, Fixed::Point)?;
     symbol_function(rest)
 }
 
 fn json_called(tokens: &[GrammarToken]) -> Result<(Builtin, &[GrammarToken]), Fault<'_>>
-    ensures { Gives (λ found. found.0) (λ found. found.1.now) result (read_json_called tokens.now) }
+    ensures { GivesAnswer (λ found. found.0) (λ found. found.1.now) result (read_json_called tokens.now) }
 {
     let rest = take(tokens, Fixed::Point)?;
     json_function(rest)
 }
 
 fn object_called(tokens: &[GrammarToken]) -> Result<(Builtin, &[GrammarToken]), Fault<'_>>
-    ensures { Gives (λ found. found.0) (λ found. found.1.now) result (read_object_called tokens.now) }
+    ensures { GivesAnswer (λ found. found.0) (λ found. found.1.now) result (read_object_called tokens.now) }
 {
     let rest = take(tokens, Fixed::Point)?;
     object_function(rest)
@@ -481,7 +483,7 @@ fn object_called(tokens: &[GrammarToken]) -> Result<(Builtin, &[GrammarToken]), 
 
 // A URI handling function.
 fn uri_function(tokens: &[GrammarToken]) -> Result<((u32, Builtin), &[GrammarToken]), Fault<'_>>
-    ensures { Gives (λ found. (found.0.0, found.0.1)) (λ found. found.1.now) result
+    ensures { GivesAnswer (λ found. (found.0.0, found.0.1)) (λ found. found.1.now) result
         (one_of terminals.uri_function tokens.now) }
 {
     let Some((GrammarToken::Word { at, word, .. }, rest)) = next(tokens) else {
@@ -500,7 +502,8 @@ fn uri_function(tokens: &[GrammarToken]) -> Result<((u32, Builtin), &[GrammarTok
 /// `String . fromCharCode`, `String . fromCodePoint`, `Symbol . for`, `Symbol . keyFor`, `JSON . stringify`,
 /// `Object . keys`, or a URI handling function.
 pub fn called(tokens: &[GrammarToken]) -> Result<((u32, Builtin), &[GrammarToken]), Fault<'_>>
-    ensures { Gives (λ found. (found.0.0, found.0.1)) (λ found. found.1.now) result (read_called tokens.now) }
+    ensures { GivesAnswer (λ found. (found.0.0, found.0.1)) (λ found. found.1.now) result
+        (read_called tokens.now) }
 {
     match next(tokens) {
         Some(
@@ -568,7 +571,7 @@ pub struct Ident {
 
 /// A name, which has to come next.
 pub fn name(tokens: &[GrammarToken]) -> Result<(Ident, &[GrammarToken]), Fault<'_>>
-    ensures { Gives (λ found. ident found.0.at found.0.number) (λ found. found.1.now) result
+    ensures { GivesAnswer (λ found. ident found.0.at found.0.number) (λ found. found.1.now) result
         (one_of terminals.name tokens.now) }
 {
     match next(tokens) {
@@ -578,7 +581,8 @@ pub fn name(tokens: &[GrammarToken]) -> Result<(Ident, &[GrammarToken]), Fault<'
 }
 
 fn same_name(tokens: &[GrammarToken], name: Ident) -> Result<&[GrammarToken], Fault<'_>>
-    ensures { Gives (λ _. tt) (λ rest. rest.now) result (one_of (terminals.the_name name.number) tokens.now) }
+    ensures { GivesAnswer (λ _. tt) (λ rest. rest.now) result
+        (one_of (terminals.the_name name.number) tokens.now) }
 {
     match next(tokens) {
         Some((GrammarToken::Name { number, .. }, rest)) if number == name.number => Ok(rest),
@@ -587,7 +591,7 @@ fn same_name(tokens: &[GrammarToken], name: Ident) -> Result<&[GrammarToken], Fa
 }
 
 fn bound(tokens: &[GrammarToken]) -> Result<(u32, &[GrammarToken]), Fault<'_>>
-    ensures { Gives (λ found. found.0) (λ found. found.1.now) result
+    ensures { GivesAnswer (λ found. found.0) (λ found. found.1.now) result
         (one_of terminals.bound_number tokens.now) }
 {
     match next(tokens) {
@@ -600,7 +604,8 @@ fn bound(tokens: &[GrammarToken]) -> Result<(u32, &[GrammarToken]), Fault<'_>>
 
 /// `for ( let Name = 0 ; Name < Bound ; Name ++ )`
 pub fn header(tokens: &[GrammarToken]) -> Result<((Ident, u32), &[GrammarToken]), Fault<'_>>
-    ensures { Gives (λ found. (ident found.0.0.at found.0.0.number, found.0.1)) (λ found. found.1.now) result
+    ensures { GivesAnswer (λ found. (ident found.0.0.at found.0.0.number, found.0.1)) (λ found. found.1.now)
+        result
         (read_header tokens.now) }
 {
     let rest = take(tokens, Fixed::For)?;
@@ -622,7 +627,8 @@ pub fn header(tokens: &[GrammarToken]) -> Result<((Ident, u32), &[GrammarToken])
 
 /// `=`, or the offset of a `+=`.
 pub fn assign_op(tokens: &[GrammarToken]) -> Result<(Option<u32>, &[GrammarToken]), Fault<'_>>
-    ensures { Gives (λ found. found.0) (λ found. found.1.now) result (one_of terminals.assign_op tokens.now) }
+    ensures { GivesAnswer (λ found. found.0) (λ found. found.1.now) result
+        (one_of terminals.assign_op tokens.now) }
 {
     match next(tokens) {
         Some(

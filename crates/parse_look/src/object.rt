@@ -4,7 +4,7 @@ ghost use Rattle.parse_syntax.specs.Reader.{Got, one_of, heads};
 ghost use Rattle.eval_tree.specs.Tree.{step_tree, of_property};
 ghost use Rattle.parse_syntax.specs.Tables.{tables_of};
 ghost use Rattle.parse_syntax.specs.Terminals as terminals;
-ghost use Rattle.parse_look.specs.Gives.{Gives};
+ghost use Rattle.parse_look.specs.Gives.{GivesAnswer};
 
 use crate::fault::{Fault, refused};
 use crate::look::next;
@@ -70,7 +70,7 @@ pub fn key<'a>(
     tables: &Tables,
     tokens: &'a [GrammarToken],
 ) -> Result<(Units, &'a [GrammarToken]), Fault<'a>>
-    ensures { Gives (λ found. found.0) (λ found. found.1.now) result
+    ensures { GivesAnswer (λ found. found.0) (λ found. found.1.now) result
         (one_of (terminals.key (tables_of tables.now)) tokens.now) }
 {
     let Some((token, rest)) = next(tokens) else {

@@ -1,13 +1,13 @@
 -- What the parser's loops read is something.
 use Rattle.std.proofs.Common.{ℕ, zero, suc}
-use Rattle.parse_syntax.specs.Lang.{Lang, Never, second_of}
-use Rattle.parse_syntax.specs.Reader.{Answer, Kind, wrong, and_then, one_of}
+use Rattle.parse_syntax.specs.Lang.{Lang, Never, keep_second}
+use Rattle.parse_syntax.specs.Reader.{Answer, SyntaxFaultKind, wrong, and_then, one_of}
 use Rattle.parse_syntax.proofs.Local.{IsEating}
 use Rattle.parse_syntax.proofs.Part.{Rooms, same_room, same_end, eats_by}
 use Rattle.parse_syntax.proofs.Heads.{begins_length}
 use Rattle.parse_syntax.proofs.Loops.{then_eats}
 use Rattle.parse_syntax.specs.declared.token.GrammarToken.{GrammarToken}
-use Rattle.parse_syntax.specs.Tables.{Tables}
+use Rattle.parse_syntax.specs.Tables.{TokenTables}
 use Rattle.eval_tree.specs.Tree.{ExprTree}
 use Rattle.parse_syntax.specs.Terminals.{comma}
 use Rattle.parse_syntax.specs.Grammar.{Which, Whole, Operand, link_of, within_room}
@@ -19,16 +19,16 @@ use Rattle.parse_look.specs.declared.look.Level.TheVariants as level
 use Rattle.parse_look.specs.Look.{operators}
 use Rattle.parse_statements.specs.At.{has_room, inner, step_at, operand_at}
 
-abbrev pub Any : Kind → Type 0
+abbrev pub Any : SyntaxFaultKind → Type 0
 Any k = Unit {0}
 
-module _ (tables : Tables) where
+module _ (tables : TokenTables) where
   pub inner_eats : (n : ℕ) → IsEating (inner tables n Whole)
   inner_eats zero = record { less = λ s x rest e. let q : Answer GrammarToken ExprTree = wrong s in cc }
   inner_eats (suc n) = let l = same_expressions tables Any n in eats_by l.whole.lawful (λ ts x h. begins_length begins_unary ts (l.starts.by ts x h))
 
-  pub item_eats : (n : ℕ) → IsEating (and_then second_of (one_of comma) (inner tables n Whole))
-  item_eats n = then_eats second_of comma (inner tables n Whole) (inner_eats n)
+  pub item_eats : (n : ℕ) → IsEating (and_then keep_second (one_of comma) (inner tables n Whole))
+  item_eats n = then_eats keep_second comma (inner tables n Whole) (inner_eats n)
 
   -- what an expression and an operand are where one more is open
   abbrev below : ℕ → Which → Lang GrammarToken ExprTree

@@ -1,15 +1,15 @@
 -- The readers of statements at their first tokens, over those that the parser's functions call.
 use Rattle.std.proofs.Common.{◌≡◌, ℕ, zero, suc, ◌-◌, ◌<◌, Bool, true, false, List, [], ◌∷◌, Option, Some, None, refl, sym, ap, ◌∙◌, subst, arith}
 use Rattle.js_lex.specs.declared.token.Mark.TheVariants as mark
-use Rattle.parse_syntax.specs.Lang.{first_of, second_of}
-use Rattle.parse_syntax.specs.Reader.{Answer, Got, Bad, Reader, ◌>>=◌, wrong, too_deep, and_then, map_by, one_of, all_of, heads, at_end, read_whole}
+use Rattle.parse_syntax.specs.Lang.{keep_first, keep_second}
+use Rattle.parse_syntax.specs.Reader.{Answer, Got, Bad, TokenReader, ◌>>=◌, wrong, too_deep, and_then, map_by, one_of, all_of, heads, at_end, read_whole}
 use Rattle.parse_syntax.specs.declared.token.GrammarToken.{GrammarToken}
-use Rattle.parse_syntax.specs.Tables.{Tables}
+use Rattle.parse_syntax.specs.Tables.{TokenTables}
 use Rattle.parse_syntax.specs.declared.token.GrammarToken.TheVariants as token
 use Rattle.parse_syntax.specs.declared.token.Word.TheVariants as word
 use Rattle.parse_syntax.specs.declared.token.Property.{Property}
 use Rattle.eval_tree.specs.Tree.{StmtTree, ArmTree, block}
-use Rattle.parse_syntax.specs.Terminals.{Ident, directive, name, semicolon, assign_mark, assign_op, let_word, const_word, print_word, open_brace, close_brace, else_word, if_word}
+use Rattle.parse_syntax.specs.Terminals.{Identifier, directive, name, semicolon, assign_mark, assign_op, let_word, const_word, print_word, open_brace, close_brace, else_word, if_word}
 use Rattle.parse_syntax.specs.Grammar.{pair_of, arm_of, more_of, if_of, inside_of, no_inside, print_of, let_of, const_of, assign_of, for_of}
 use Rattle.parse_syntax.specs.Reading.{goes_on, read_at, read_header, read_strict, read_statements}
 use Rattle.parse_statements.specs.At.{inner_statement, expression_at, args_at, parens_at, init_at, let_at, const_at, assign_at, print_at, statement_at, statements_at, block_at, arm_at, others_at, rest_at, if_at, for_at}
@@ -20,10 +20,10 @@ closed_by f v (Got y r) = refl
 closed_by f v (Bad k r) = refl
 
 -- what a token ends, as another value
-ended_by : {A B : Type 0} (v : GrammarToken → Option (Unit {0})) (f : A → B) (q : Reader GrammarToken A) (r : List GrammarToken) → (and_then first_of q (one_of v) r >>= λ x r. Got (f x) r) ≡ (q r >>= λ x r. one_of v r >>= λ _ r. Got (f x) r)
+ended_by : {A B : Type 0} (v : GrammarToken → Option (Unit {0})) (f : A → B) (q : TokenReader GrammarToken A) (r : List GrammarToken) → (and_then keep_first q (one_of v) r >>= λ x r. Got (f x) r) ≡ (q r >>= λ x r. one_of v r >>= λ _ r. Got (f x) r)
 ended_by v f q r = bind_bind (q r) (λ x r. one_of v r >>= λ _ r. Got x r) (λ x r. Got (f x) r) ∙ ap (λ g. q r >>= g) (λ i x r. closed_by f x (one_of v r) i)
 
-module _ (tables : Tables) where
+module _ (tables : TokenTables) where
   pub init_none : (n : ℕ) (s : List GrammarToken) → heads assign_mark s ≡ false → init_at tables n s ≡ Got None s
   unfolding init_at
   init_none n s h = rw h refl
@@ -34,28 +34,28 @@ module _ (tables : Tables) where
 
   pub let_is : (n : ℕ) (s : List GrammarToken) → let_at tables n s ≡ (one_of let_word s >>= λ _ r. one_of name r >>= λ x r. init_at tables n r >>= λ v r. one_of semicolon r >>= λ _ r. Got (let_of tables x v) r)
   unfolding let_at init_at
-  let_is n s = word_then let_word (and_then first_of (and_then (let_of tables) (one_of name) (init_at tables n)) (one_of semicolon)) s ∙ ap (λ f. one_of let_word s >>= f) (λ i _ r. flat r i)
+  let_is n s = word_then let_word (and_then keep_first (and_then (let_of tables) (one_of name) (init_at tables n)) (one_of semicolon)) s ∙ ap (λ f. one_of let_word s >>= f) (λ i _ r. flat r i)
     where
       flat : (r : List GrammarToken) → ((one_of name r >>= λ x r. init_at tables n r >>= λ v r. Got (let_of tables x v) r) >>= λ t r. one_of semicolon r >>= λ _ r. Got t r) ≡ (one_of name r >>= λ x r. init_at tables n r >>= λ v r. one_of semicolon r >>= λ _ r. Got (let_of tables x v) r)
       flat r = bind_bind (one_of name r) (λ x r. init_at tables n r >>= λ v r. Got (let_of tables x v) r) (λ t r. one_of semicolon r >>= λ _ r. Got t r) ∙ ap (λ f. one_of name r >>= f) (λ i x r. bind_bind (init_at tables n r) (λ v r. Got (let_of tables x v) r) (λ t r. one_of semicolon r >>= λ _ r. Got t r) i)
 
   pub print_is : (n : ℕ) (s : List GrammarToken) → print_at tables n s ≡ (one_of print_word s >>= λ _ r. args_at tables n r >>= λ ts r. one_of semicolon r >>= λ _ r. Got (print_of ts) r)
   unfolding print_at args_at
-  print_is n s = word_then print_word (map_by print_of (and_then first_of (args_at tables n) (one_of semicolon))) s ∙ ap (λ f. one_of print_word s >>= f) (λ i _ r. ended_by semicolon print_of (args_at tables n) r i)
+  print_is n s = word_then print_word (map_by print_of (and_then keep_first (args_at tables n) (one_of semicolon))) s ∙ ap (λ f. one_of print_word s >>= f) (λ i _ r. ended_by semicolon print_of (args_at tables n) r i)
 
   pub assign_is : (n : ℕ) (s : List GrammarToken) → assign_at tables n s ≡ (one_of name s >>= λ x r. one_of assign_op r >>= λ b r. expression_at tables n r >>= λ v r. one_of semicolon r >>= λ _ r. Got (assign_of tables x (b, v)) r)
   unfolding assign_at
   assign_is n s = ap (λ f. one_of name s >>= f) (λ i x r. after x r i)
     where
-      after : (x : Ident) (r : List GrammarToken) → ((one_of assign_op r >>= λ b r. and_then first_of (expression_at tables n) (one_of semicolon) r >>= λ v r. Got (pair_of b v) r) >>= λ p r. Got (assign_of tables x p) r) ≡ (one_of assign_op r >>= λ b r. expression_at tables n r >>= λ v r. one_of semicolon r >>= λ _ r. Got (assign_of tables x (b, v)) r)
-      after x r = bind_bind (one_of assign_op r) (λ b r. and_then first_of (expression_at tables n) (one_of semicolon) r >>= λ v r. Got (pair_of b v) r) (λ p r. Got (assign_of tables x p) r) ∙ ap (λ f. one_of assign_op r >>= f) (λ i b r. (bind_bind (and_then first_of (expression_at tables n) (one_of semicolon) r) (λ v r. Got (pair_of b v) r) (λ p r. Got (assign_of tables x p) r) ∙ ended_by semicolon (λ v. assign_of tables x (b, v)) (expression_at tables n) r) i)
+      after : (x : Identifier) (r : List GrammarToken) → ((one_of assign_op r >>= λ b r. and_then keep_first (expression_at tables n) (one_of semicolon) r >>= λ v r. Got (pair_of b v) r) >>= λ p r. Got (assign_of tables x p) r) ≡ (one_of assign_op r >>= λ b r. expression_at tables n r >>= λ v r. one_of semicolon r >>= λ _ r. Got (assign_of tables x (b, v)) r)
+      after x r = bind_bind (one_of assign_op r) (λ b r. and_then keep_first (expression_at tables n) (one_of semicolon) r >>= λ v r. Got (pair_of b v) r) (λ p r. Got (assign_of tables x p) r) ∙ ap (λ f. one_of assign_op r >>= f) (λ i b r. (bind_bind (and_then keep_first (expression_at tables n) (one_of semicolon) r) (λ v r. Got (pair_of b v) r) (λ p r. Got (assign_of tables x p) r) ∙ ended_by semicolon (λ v. assign_of tables x (b, v)) (expression_at tables n) r) i)
 
   pub const_is : (n : ℕ) (s : List GrammarToken) → const_at tables n s ≡ (one_of const_word s >>= λ _ r. one_of name r >>= λ x r. one_of assign_mark r >>= λ _ r. expression_at tables n r >>= λ v r. one_of semicolon r >>= λ _ r. Got (const_of tables x v) r)
   unfolding const_at
-  const_is n s = word_then const_word (and_then (const_of tables) (one_of name) (and_then second_of (one_of assign_mark) (and_then first_of (expression_at tables n) (one_of semicolon)))) s ∙ ap (λ f. one_of const_word s >>= λ _ r. one_of name r >>= f) (λ i x r. valued x r i)
+  const_is n s = word_then const_word (and_then (const_of tables) (one_of name) (and_then keep_second (one_of assign_mark) (and_then keep_first (expression_at tables n) (one_of semicolon)))) s ∙ ap (λ f. one_of const_word s >>= λ _ r. one_of name r >>= f) (λ i x r. valued x r i)
     where
-      valued : (x : Ident) (r : List GrammarToken) → (and_then second_of (one_of assign_mark) (and_then first_of (expression_at tables n) (one_of semicolon)) r >>= λ v r. Got (const_of tables x v) r) ≡ (one_of assign_mark r >>= λ _ r. expression_at tables n r >>= λ v r. one_of semicolon r >>= λ _ r. Got (const_of tables x v) r)
-      valued x r = ap (λ a. a >>= λ v r. Got (const_of tables x v) r) (word_then assign_mark (and_then first_of (expression_at tables n) (one_of semicolon)) r) ∙ bind_bind (one_of assign_mark r) (λ _ r. and_then first_of (expression_at tables n) (one_of semicolon) r) (λ v r. Got (const_of tables x v) r) ∙ ap (λ f. one_of assign_mark r >>= f) (λ i _ r. ended_by semicolon (const_of tables x) (expression_at tables n) r i)
+      valued : (x : Identifier) (r : List GrammarToken) → (and_then keep_second (one_of assign_mark) (and_then keep_first (expression_at tables n) (one_of semicolon)) r >>= λ v r. Got (const_of tables x v) r) ≡ (one_of assign_mark r >>= λ _ r. expression_at tables n r >>= λ v r. one_of semicolon r >>= λ _ r. Got (const_of tables x v) r)
+      valued x r = ap (λ a. a >>= λ v r. Got (const_of tables x v) r) (word_then assign_mark (and_then keep_first (expression_at tables n) (one_of semicolon)) r) ∙ bind_bind (one_of assign_mark r) (λ _ r. and_then keep_first (expression_at tables n) (one_of semicolon) r) (λ v r. Got (const_of tables x v) r) ∙ ap (λ f. one_of assign_mark r >>= f) (λ i _ r. ended_by semicolon (const_of tables x) (expression_at tables n) r i)
 
   module _ (prints : Bool) where
     pub statement_is : (n : ℕ) → read_at tables prints n ≡ statement_at tables prints n
@@ -71,8 +71,8 @@ module _ (tables : Tables) where
     unfolding block_at statements_at
     block_is n s h = go (inner_statement tables prints n) (inner_is n h)
       where
-        go : (q : Reader GrammarToken StmtTree) → q ≡ statement_at tables prints (n - 1) → and_then second_of (one_of open_brace) (map_by inside_of (and_then first_of (all_of goes_on q) (one_of close_brace))) s ≡ (one_of open_brace s >>= λ _ r. all_of goes_on (statement_at tables prints (n - 1)) r >>= λ ts r'. one_of close_brace r' >>= λ _ r''. Got (inside_of ts) r'')
-        go q e = rw e (word_then open_brace (map_by inside_of (and_then first_of (all_of goes_on (statement_at tables prints (n - 1))) (one_of close_brace))) s ∙ ap (λ f. one_of open_brace s >>= f) (λ i _ r. ended_by close_brace inside_of (all_of goes_on (statement_at tables prints (n - 1))) r i))
+        go : (q : TokenReader GrammarToken StmtTree) → q ≡ statement_at tables prints (n - 1) → and_then keep_second (one_of open_brace) (map_by inside_of (and_then keep_first (all_of goes_on q) (one_of close_brace))) s ≡ (one_of open_brace s >>= λ _ r. all_of goes_on (statement_at tables prints (n - 1)) r >>= λ ts r'. one_of close_brace r' >>= λ _ r''. Got (inside_of ts) r'')
+        go q e = rw e (word_then open_brace (map_by inside_of (and_then keep_first (all_of goes_on (statement_at tables prints (n - 1))) (one_of close_brace))) s ∙ ap (λ f. one_of open_brace s >>= f) (λ i _ r. ended_by close_brace inside_of (all_of goes_on (statement_at tables prints (n - 1))) r i))
 
     pub arm_is : (n : ℕ) (s : List GrammarToken) → arm_at tables prints n s ≡ (one_of if_word s >>= λ _ r. parens_at tables n r >>= λ e r'. block_at tables prints n r' >>= λ b r''. Got (arm_of e b) r'')
     unfolding arm_at block_at parens_at
@@ -173,7 +173,7 @@ begins_none (token.Word at word.If number) = false
 begins_none (token.Word at word.For number) = false
 begins_none _ = true
 
-pub other_here : (tables : Tables) (prints : Bool) (n : ℕ) (t : GrammarToken) (r : List GrammarToken) → begins_none t ≡ true → statement_at tables prints n (t ∷ r) ≡ wrong (t ∷ r)
+pub other_here : (tables : TokenTables) (prints : Bool) (n : ℕ) (t : GrammarToken) (r : List GrammarToken) → begins_none t ≡ true → statement_at tables prints n (t ∷ r) ≡ wrong (t ∷ r)
 unfolding statement_at
 other_here tables prints n (token.Mark at mark.OpenBrace l) r e = let z : ⊥ = cc in absurd z
 other_here tables prints n (token.Word at word.Let number) r e = let z : ⊥ = cc in absurd z
@@ -193,7 +193,7 @@ strict_none s h = rw h refl
 pub strict_some : (s r : List GrammarToken) → one_of directive s ≡ Got tt r → read_strict s ≡ one_of semicolon r
 strict_some s r o = rw (head_of directive s tt r o, o) (bind_got (one_of semicolon r))
 
-pub whole_is : (tables : Tables) (prints : Bool) (n : ℕ) (s : List GrammarToken) → read_whole (read_statements tables prints n) s ≡ (read_strict s >>= λ _ r. statements_at tables prints n r >>= λ ts r'. at_end r' >>= λ _ r''. Got ts r'')
+pub whole_is : (tables : TokenTables) (prints : Bool) (n : ℕ) (s : List GrammarToken) → read_whole (read_statements tables prints n) s ≡ (read_strict s >>= λ _ r. statements_at tables prints n r >>= λ ts r'. at_end r' >>= λ _ r''. Got ts r'')
 unfolding statements_at
 whole_is tables prints n s = flat (read_strict s)
   where

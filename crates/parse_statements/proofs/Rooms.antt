@@ -1,11 +1,11 @@
 -- The readers of expressions at their first tokens, over those that the parser's functions call.
 use Rattle.std.proofs.Common.{◌≡◌, ℕ, zero, suc, ◌-◌, ◌<◌, Bool, true, false, List, [], ◌∷◌, Option, Some, None, refl, sym, ap, ◌∙◌, subst, arith}
 use Rattle.js_lex.specs.declared.token.Mark.TheVariants as mark
-use Rattle.parse_syntax.specs.Lang.{first_of, second_of}
-use Rattle.parse_syntax.specs.Reader.{Answer, Got, Bad, Wrong, Reader, ◌>>=◌, wrong, too_deep, and_then, map_by, take_or, one_of, choose, opens, heads, is_some}
+use Rattle.parse_syntax.specs.Lang.{keep_first, keep_second}
+use Rattle.parse_syntax.specs.Reader.{Answer, Got, Bad, Wrong, TokenReader, ◌>>=◌, wrong, too_deep, and_then, map_by, take_or, one_of, choose, opens, heads, is_some}
 use Rattle.parse_syntax.proofs.Part.{then_strict}
 use Rattle.parse_syntax.specs.declared.token.GrammarToken.{GrammarToken}
-use Rattle.parse_syntax.specs.Tables.{Tables}
+use Rattle.parse_syntax.specs.Tables.{TokenTables}
 use Rattle.parse_syntax.specs.declared.token.GrammarToken.TheVariants as token
 use Rattle.parse_syntax.specs.declared.token.Word.TheVariants as word
 use Rattle.parse_syntax.specs.declared.token.Property.TheVariants as property
@@ -15,7 +15,7 @@ use Rattle.eval_tree.specs.declared.tree.Builtin.TheVariants as builtin
 use Rattle.eval_tree.specs.Tree as tree
 use Rattle.eval_tree.specs.Tree.{ExprTree, StepTree}
 use Rattle.parse_syntax.specs.Terminals.{member_word, property_word, method, key, opening, closing, open_bracket, close_bracket, open_literal, point, question, colon, sign, simple, string_word, symbol_word, json_word, object_word, uri_function, from_word, symbol_function, stringify_word, keys_word}
-use Rattle.parse_syntax.specs.Grammar.{Whole, Operand, pair_of, single_of, plain_string, builtin_of, uri_of, object_of, method_of, index_of, unary_of, branches_of, cond_of}
+use Rattle.parse_syntax.specs.Grammar.{Whole, Operand, pair_of, single_of, plain_string, builtin_of, uri_of, object_of, method_step, index_read, unary_of, branches_of, cond_of}
 use Rattle.parse_syntax.specs.Reading.{read_within, read_parens, read_args, read_index, read_members, read_literal, read_method_args, read_word}
 use Rattle.parse_look.specs.declared.look.Level.TheVariants as level
 use Rattle.parse_look.specs.declared.look.Opener.{Opener}
@@ -34,12 +34,12 @@ bind_bind (Got x r) f g = refl
 bind_bind (Bad k r) f g = refl
 
 -- a word, and then what hands on its value
-module _ {A B : Type 0} (v : GrammarToken → Option A) (q : Reader GrammarToken B) where
+module _ {A B : Type 0} (v : GrammarToken → Option A) (q : TokenReader GrammarToken B) where
   then_got : (a : Answer GrammarToken A) → (a >>= λ x r. q r >>= λ y r'. Got y r') ≡ (a >>= λ _ r. q r)
   then_got (Bad k r) = refl
   then_got (Got x r) = bind_got (q r)
 
-  pub word_then : (s : List GrammarToken) → and_then second_of (one_of v) q s ≡ (one_of v s >>= λ _ r. q r)
+  pub word_then : (s : List GrammarToken) → and_then keep_second (one_of v) q s ≡ (one_of v s >>= λ _ r. q r)
   word_then s = then_got (one_of v s)
 
 pub head_of : {A : Type 0} (v : GrammarToken → Option A) (s : List GrammarToken) (x : A) (rest : List GrammarToken) → one_of v s ≡ Got x rest → heads v s ≡ true
@@ -127,7 +127,7 @@ json_one [] r w e = cc
 json_one (token.Name at n property.Stringify ∷ s) r w e = let q : builtin.Stringify ≡ w = cc in sym q
 json_one (_ ∷ s) r w e = cc
 
-module _ (tables : Tables) where
+module _ (tables : TokenTables) where
   whole_is : (n : ℕ) → read_within tables n Whole ≡ expression_at tables n
   unfolding expression_at
   whole_is zero = refl
@@ -148,7 +148,7 @@ module _ (tables : Tables) where
 
   pub parens_is : (n : ℕ) (s : List GrammarToken) → 0 < n → parens_at tables n s ≡ (one_of opening s >>= λ _ r. expression_at tables (n - 1) r >>= λ x r. one_of closing r >>= λ _ r. Got x r)
   unfolding parens_at
-  parens_is n s h = word_then opening (and_then first_of (inner tables n Whole) (one_of closing)) s ∙ ap (λ q. one_of opening s >>= λ _ r. q r >>= λ x r. one_of closing r >>= λ _ r. Got x r) (inner_whole n h)
+  parens_is n s h = word_then opening (and_then keep_first (inner tables n Whole) (one_of closing)) s ∙ ap (λ q. one_of opening s >>= λ _ r. q r >>= λ x r. one_of closing r >>= λ _ r. Got x r) (inner_whole n h)
 
   -- built-in functions
 
@@ -170,7 +170,7 @@ module _ (tables : Tables) where
   plain_call n at s = bind_bind (read_args (inner tables n Whole) s) (λ ts r. Got (plain_string ts) r) (λ p r. Got (builtin_of at p) r)
 
   -- a function behind a point, where its arguments are read by a
-  function_call : (n at : ℕ) (v : GrammarToken → Option Builtin) (a : Reader GrammarToken (List ExprTree)) (r : List GrammarToken) → ((w : Builtin) (r' : List GrammarToken) → one_of v r ≡ Got w r' → a r' ≡ given_at tables n w r') → (and_then pair_of (one_of v) a r >>= λ p r. Got (builtin_of at p) r) ≡ (one_of v r >>= λ w r'. calling n at w r')
+  function_call : (n at : ℕ) (v : GrammarToken → Option Builtin) (a : TokenReader GrammarToken (List ExprTree)) (r : List GrammarToken) → ((w : Builtin) (r' : List GrammarToken) → one_of v r ≡ Got w r' → a r' ≡ given_at tables n w r') → (and_then pair_of (one_of v) a r >>= λ p r. Got (builtin_of at p) r) ≡ (one_of v r >>= λ w r'. calling n at w r')
   function_call n at v a r h = go (one_of v r) refl
     where
       args : (w : Builtin) (r' : List GrammarToken) → a r' ≡ given_at tables n w r' → ((a r' >>= λ ts r''. Got (pair_of w ts) r'') >>= λ p r. Got (builtin_of at p) r) ≡ calling n at w r'
@@ -180,7 +180,7 @@ module _ (tables : Tables) where
       go (Bad k r') e = refl
       go (Got w r') e = args w r' (h w r' e)
 
-  behind : {A : Type 0} (s : List GrammarToken) (q : Reader GrammarToken A) (g : A → List GrammarToken → Answer GrammarToken ExprTree) → (and_then second_of (one_of point) q s >>= g) ≡ (one_of point s >>= λ _ r. q r >>= g)
+  behind : {A : Type 0} (s : List GrammarToken) (q : TokenReader GrammarToken A) (g : A → List GrammarToken → Answer GrammarToken ExprTree) → (and_then keep_second (one_of point) q s >>= g) ≡ (one_of point s >>= λ _ r. q r >>= g)
   behind s q g = ap (λ a. a >>= g) (word_then point q s) ∙ bind_bind (one_of point s) (λ _ r. q r) g
 
   given_plain : (n : ℕ) (w : Builtin) (r : List GrammarToken) → (w ≡ builtin.Stringify → ⊥) → read_args (inner tables n Whole) r ≡ given_at tables n w r
@@ -195,10 +195,10 @@ module _ (tables : Tables) where
   uri_call : (n at : ℕ) (w : Builtin) (s : List GrammarToken) → (w ≡ builtin.Stringify → ⊥) → (read_args (inner tables n Whole) s >>= λ ts r. Got (uri_of (at, w) ts) r) ≡ calling n at w s
   uri_call n at w s h = ap (λ a. a >>= λ ts r. Got (uri_of (at, w) ts) r) (given_plain n w s h)
 
-  string_call : (n at : ℕ) (s : List GrammarToken) → (choose (heads point) (and_then second_of (one_of point) (and_then pair_of (one_of from_word) (read_args (inner tables n Whole)))) (map_by plain_string (read_args (inner tables n Whole))) s >>= λ p r. Got (builtin_of at p) r) ≡ (read_string_called s >>= λ w r. calling n at w r)
+  string_call : (n at : ℕ) (s : List GrammarToken) → (choose (heads point) (and_then keep_second (one_of point) (and_then pair_of (one_of from_word) (read_args (inner tables n Whole)))) (map_by plain_string (read_args (inner tables n Whole))) s >>= λ p r. Got (builtin_of at p) r) ≡ (read_string_called s >>= λ w r. calling n at w r)
   string_call n at s = go (heads point s) refl
     where
-      go : (b : Bool) → heads point s ≡ b → (choose (heads point) (and_then second_of (one_of point) (and_then pair_of (one_of from_word) (read_args (inner tables n Whole)))) (map_by plain_string (read_args (inner tables n Whole))) s >>= λ p r. Got (builtin_of at p) r) ≡ (read_string_called s >>= λ w r. calling n at w r)
+      go : (b : Bool) → heads point s ≡ b → (choose (heads point) (and_then keep_second (one_of point) (and_then pair_of (one_of from_word) (read_args (inner tables n Whole)))) (map_by plain_string (read_args (inner tables n Whole))) s >>= λ p r. Got (builtin_of at p) r) ≡ (read_string_called s >>= λ w r. calling n at w r)
       go true h = rw h (behind s (and_then pair_of (one_of from_word) (read_args (inner tables n Whole))) (λ p r. Got (builtin_of at p) r)
           ∙ ap (λ f. one_of point s >>= f) (λ i _ r. function_call n at from_word (read_args (inner tables n Whole)) r (λ w r' e. given_plain n w r' (from_plain r r' w e)) i)
           ∙ sym (behind s (one_of from_word) (λ w r. calling n at w r)))
@@ -216,17 +216,17 @@ module _ (tables : Tables) where
       behind s (and_then pair_of (one_of symbol_function) (read_args (inner tables n Whole))) (λ p r. Got (builtin_of at p) r)
       ∙ ap (λ f. one_of point s >>= f) (λ i _ r. function_call n at symbol_function (read_args (inner tables n Whole)) r (λ w r' e. given_plain n w r' (symbol_plain r r' w e)) i)
       ∙ sym (behind s (one_of symbol_function) (λ w r. calling n at w r))
-      ∙ sym (paired at (and_then second_of (one_of point) (one_of symbol_function) s) (λ c r. calling n c.0 c.1 r))
+      ∙ sym (paired at (and_then keep_second (one_of point) (one_of symbol_function) s) (λ c r. calling n c.0 c.1 r))
   builtin_is n (token.Word at word.Json number ∷ s) =
       behind s (and_then pair_of (one_of stringify_word) (map_by single_of (read_parens (inner tables n Whole)))) (λ p r. Got (builtin_of at p) r)
       ∙ ap (λ f. one_of point s >>= f) (λ i _ r. function_call n at stringify_word (map_by single_of (read_parens (inner tables n Whole))) r (λ w r' e. given_single n w r' (json_one r r' w e)) i)
       ∙ sym (behind s (one_of stringify_word) (λ w r. calling n at w r))
-      ∙ sym (paired at (and_then second_of (one_of point) (one_of stringify_word) s) (λ c r. calling n c.0 c.1 r))
+      ∙ sym (paired at (and_then keep_second (one_of point) (one_of stringify_word) s) (λ c r. calling n c.0 c.1 r))
   builtin_is n (token.Word at word.Object number ∷ s) =
       behind s (and_then pair_of (one_of keys_word) (read_args (inner tables n Whole))) (λ p r. Got (builtin_of at p) r)
       ∙ ap (λ f. one_of point s >>= f) (λ i _ r. function_call n at keys_word (read_args (inner tables n Whole)) r (λ w r' e. given_plain n w r' (keys_plain r r' w e)) i)
       ∙ sym (behind s (one_of keys_word) (λ w r. calling n at w r))
-      ∙ sym (paired at (and_then second_of (one_of point) (one_of keys_word) s) (λ c r. calling n c.0 c.1 r))
+      ∙ sym (paired at (and_then keep_second (one_of point) (one_of keys_word) s) (λ c r. calling n c.0 c.1 r))
   builtin_is n (token.Word at word.EncodeUri number ∷ s) = uri_call n at builtin.EncodeUri s (λ h. cc)
   builtin_is n (token.Word at word.EncodeUriComponent number ∷ s) = uri_call n at builtin.EncodeUriComponent s (λ h. cc)
   builtin_is n (token.Word at word.DecodeUri number ∷ s) = uri_call n at builtin.DecodeUri s (λ h. cc)
@@ -321,15 +321,15 @@ module _ (tables : Tables) where
       value k (Bad w r) = refl
       value k (Got y r) = refl
 
-      behind_key : (q : Reader GrammarToken ExprTree) (k : List ℕ) (a : Answer GrammarToken (Unit {0})) → ((a >>= λ _ r. q r >>= λ y r. Got y r) >>= λ y r. Got (pair_of k y) r) ≡ (a >>= λ _ r. q r >>= λ y r. Got (k, y) r)
+      behind_key : (q : TokenReader GrammarToken ExprTree) (k : List ℕ) (a : Answer GrammarToken (Unit {0})) → ((a >>= λ _ r. q r >>= λ y r. Got y r) >>= λ y r. Got (pair_of k y) r) ≡ (a >>= λ _ r. q r >>= λ y r. Got (k, y) r)
       behind_key q k (Bad w r) = refl
       behind_key q k (Got u r) = value k (q r)
 
-      first : (q : Reader GrammarToken ExprTree) (a : Answer GrammarToken (List ℕ)) → (a >>= λ k r. (one_of colon r >>= λ _ r. q r >>= λ y r. Got y r) >>= λ y r. Got (pair_of k y) r) ≡ (a >>= λ k r. one_of colon r >>= λ _ r. q r >>= λ y r. Got (k, y) r)
+      first : (q : TokenReader GrammarToken ExprTree) (a : Answer GrammarToken (List ℕ)) → (a >>= λ k r. (one_of colon r >>= λ _ r. q r >>= λ y r. Got y r) >>= λ y r. Got (pair_of k y) r) ≡ (a >>= λ k r. one_of colon r >>= λ _ r. q r >>= λ y r. Got (k, y) r)
       first q (Bad w r) = refl
       first q (Got k r) = behind_key q k (one_of colon r)
 
-      go : (q : Reader GrammarToken ExprTree) → inner tables n Whole ≡ q → entry_at tables n s ≡ (one_of (key tables) s >>= λ k r. one_of colon r >>= λ _ r. q r >>= λ x r. Got (k, x) r)
+      go : (q : TokenReader GrammarToken ExprTree) → inner tables n Whole ≡ q → entry_at tables n s ≡ (one_of (key tables) s >>= λ k r. one_of colon r >>= λ _ r. q r >>= λ x r. Got (k, x) r)
       go q i = rw i (first q (one_of (key tables) s))
 
   -- steps
@@ -346,11 +346,11 @@ module _ (tables : Tables) where
   unfolding member_at
   member_none n s h p m = rw (h, p) (none s m)
     where
-      none : (s : List GrammarToken) → heads (method tables) s ≡ false → (one_of (method tables) s >>= λ x r. read_method_args (has_room n) (inner tables n Whole) r >>= λ y r. Got (method_of x y) r) ≡ wrong s
+      none : (s : List GrammarToken) → heads (method tables) s ≡ false → (one_of (method tables) s >>= λ x r. read_method_args (has_room n) (inner tables n Whole) r >>= λ y r. Got (method_step x y) r) ≡ wrong s
       none [] e = refl
       none (t ∷ s) e = go (method tables t) e
         where
-          go : (o : Option ((ℕ × Method) × List ℕ)) → is_some o ≡ false → (take_or o t s >>= λ x r. read_method_args (has_room n) (inner tables n Whole) r >>= λ y r. Got (method_of x y) r) ≡ wrong (t ∷ s)
+          go : (o : Option ((ℕ × Method) × List ℕ)) → is_some o ≡ false → (take_or o t s >>= λ x r. read_method_args (has_room n) (inner tables n Whole) r >>= λ y r. Got (method_step x y) r) ≡ wrong (t ∷ s)
           go None e = refl
           go (Some x) e = let q : true ≡ false = e in cc
 
@@ -364,17 +364,17 @@ module _ (tables : Tables) where
     unfolding member_at
     member_deep y r' o z = rw (h, p, e, head_of opening r y r' o, no_room_for n z, head_of opening r y r' o) refl
 
-    pub member_call : (y : Unit {0}) (r' : List GrammarToken) → one_of opening r ≡ Got y r' → 0 < n → member_at tables n s ≡ (args_at tables n r >>= λ ts r'. Got (method_of m (Some ts)) r')
+    pub member_call : (y : Unit {0}) (r' : List GrammarToken) → one_of opening r ≡ Got y r' → 0 < n → member_at tables n s ≡ (args_at tables n r >>= λ ts r'. Got (method_step m (Some ts)) r')
     unfolding member_at args_at
     member_call y r' o z = rw (h, p, e, head_of opening r y r' o, room_for n z) (flat (read_args (inner tables n Whole) r))
       where
-        flat : (a : Answer GrammarToken (List ExprTree)) → ((a >>= λ x r. Got (Some x) r) >>= λ y r. Got (method_of m y) r) ≡ (a >>= λ ts r'. Got (method_of m (Some ts)) r')
+        flat : (a : Answer GrammarToken (List ExprTree)) → ((a >>= λ x r. Got (Some x) r) >>= λ y r. Got (method_step m y) r) ≡ (a >>= λ ts r'. Got (method_step m (Some ts)) r')
         flat (Got x r) = refl
         flat (Bad k r) = refl
 
   no_step : (n : ℕ) (s : List GrammarToken) → heads open_bracket s ≡ false → heads point s ≡ false → opens (has_room n) (heads open_bracket) (read_index (inner tables n Whole)) s ≡ wrong s
   no_step zero s h p = rw h refl
-  no_step (suc n) s h p = (then_strict index_of open_bracket (and_then first_of (inner tables (suc n) Whole) (one_of close_bracket))).fails s h
+  no_step (suc n) s h p = (then_strict index_read open_bracket (and_then keep_first (inner tables (suc n) Whole) (one_of close_bracket))).fails s h
 
   pub step_member : (n : ℕ) (s : List GrammarToken) → heads open_bracket s ≡ false → step_at tables n s ≡ (one_of point s >>= λ _ r. member_at tables n r)
   unfolding step_at member_at
@@ -398,15 +398,15 @@ module _ (tables : Tables) where
   unfolding step_at
   step_deep n s at r e z = rw (bracket_no_point s r at e, no_room_for n z, head_of open_bracket s at r e) refl
 
-  pub step_index : (n : ℕ) (s : List GrammarToken) (at : ℕ) (r : List GrammarToken) → one_of open_bracket s ≡ Got at r → 0 < n → step_at tables n s ≡ (expression_at tables (n - 1) r >>= λ x r'. one_of close_bracket r' >>= λ _ r''. Got (index_of at x) r'')
+  pub step_index : (n : ℕ) (s : List GrammarToken) (at : ℕ) (r : List GrammarToken) → one_of open_bracket s ≡ Got at r → 0 < n → step_at tables n s ≡ (expression_at tables (n - 1) r >>= λ x r'. one_of close_bracket r' >>= λ _ r''. Got (index_read at x) r'')
   unfolding step_at
-  step_index n s at r e z = rw (bracket_no_point s r at e, room_for n z, e) (closed (inner tables n Whole r) ∙ ap (λ q. q r >>= λ x r'. one_of close_bracket r' >>= λ _ r''. Got (index_of at x) r'') (inner_whole n z))
+  step_index n s at r e z = rw (bracket_no_point s r at e, room_for n z, e) (closed (inner tables n Whole r) ∙ ap (λ q. q r >>= λ x r'. one_of close_bracket r' >>= λ _ r''. Got (index_read at x) r'') (inner_whole n z))
     where
-      end : (x : ExprTree) (a : Answer GrammarToken (Unit {0})) → ((a >>= λ _ r. Got x r) >>= λ y r'. Got (index_of at y) r') ≡ (a >>= λ _ r''. Got (index_of at x) r'')
+      end : (x : ExprTree) (a : Answer GrammarToken (Unit {0})) → ((a >>= λ _ r. Got x r) >>= λ y r'. Got (index_read at y) r') ≡ (a >>= λ _ r''. Got (index_read at x) r'')
       end x (Got y r) = refl
       end x (Bad k r) = refl
 
-      closed : (a : Answer GrammarToken ExprTree) → ((a >>= λ x r. one_of close_bracket r >>= λ _ r'. Got x r') >>= λ y r'. Got (index_of at y) r') ≡ (a >>= λ x r'. one_of close_bracket r' >>= λ _ r''. Got (index_of at x) r'')
+      closed : (a : Answer GrammarToken ExprTree) → ((a >>= λ x r. one_of close_bracket r >>= λ _ r'. Got x r') >>= λ y r'. Got (index_read at y) r') ≡ (a >>= λ x r'. one_of close_bracket r' >>= λ _ r''. Got (index_read at x) r'')
       closed (Got x r) = end x (one_of close_bracket r)
       closed (Bad k r) = refl
 
@@ -424,7 +424,7 @@ module _ (tables : Tables) where
   unfolding unary_at
   unary_signed n s o r e z = go (unary_at tables (n - 1)) (inner_operand n z)
     where
-      go : (q : Reader GrammarToken ExprTree) → inner tables n Operand ≡ q → unary_at tables n s ≡ (q r >>= λ x r'. Got (unary_of o x) r')
+      go : (q : TokenReader GrammarToken ExprTree) → inner tables n Operand ≡ q → unary_at tables n s ≡ (q r >>= λ x r'. Got (unary_of o x) r')
       go q i = rw (head_of sign s o r e, room_for n z, e, i) refl
 
   -- conditionals
@@ -445,7 +445,7 @@ module _ (tables : Tables) where
   unfolding branches_at
   branches_some n t s r e z = go (expression_at tables (n - 1)) (inner_whole n z)
     where
-      last : (q : Reader GrammarToken ExprTree) (x : ExprTree) (a : Answer GrammarToken (Unit {0})) → (((a >>= λ _ r2. q r2 >>= λ y r3. Got y r3) >>= λ y r'. Got (branches_of x y) r') >>= λ b r. Got (cond_of t b) r) ≡ (a >>= λ _ r2. q r2 >>= λ y r3. Got (tree.conditional t x y) r3)
+      last : (q : TokenReader GrammarToken ExprTree) (x : ExprTree) (a : Answer GrammarToken (Unit {0})) → (((a >>= λ _ r2. q r2 >>= λ y r3. Got y r3) >>= λ y r'. Got (branches_of x y) r') >>= λ b r. Got (cond_of t b) r) ≡ (a >>= λ _ r2. q r2 >>= λ y r3. Got (tree.conditional t x y) r3)
       last q x (Bad k r) = refl
       last q x (Got u r) = go (q r)
         where
@@ -453,9 +453,9 @@ module _ (tables : Tables) where
           go (Bad k r) = refl
           go (Got y r) = refl
 
-      first : (q : Reader GrammarToken ExprTree) (a : Answer GrammarToken ExprTree) → ((a >>= λ x r1. (one_of colon r1 >>= λ _ r2. q r2 >>= λ y r3. Got y r3) >>= λ y r'. Got (branches_of x y) r') >>= λ b r. Got (cond_of t b) r) ≡ (a >>= λ x r1. one_of colon r1 >>= λ _ r2. q r2 >>= λ y r3. Got (tree.conditional t x y) r3)
+      first : (q : TokenReader GrammarToken ExprTree) (a : Answer GrammarToken ExprTree) → ((a >>= λ x r1. (one_of colon r1 >>= λ _ r2. q r2 >>= λ y r3. Got y r3) >>= λ y r'. Got (branches_of x y) r') >>= λ b r. Got (cond_of t b) r) ≡ (a >>= λ x r1. one_of colon r1 >>= λ _ r2. q r2 >>= λ y r3. Got (tree.conditional t x y) r3)
       first q (Bad k r) = refl
       first q (Got x r) = last q x (one_of colon r)
 
-      go : (q : Reader GrammarToken ExprTree) → inner tables n Whole ≡ q → branches_at tables n t s ≡ (q r >>= λ x r1. one_of colon r1 >>= λ _ r2. q r2 >>= λ y r3. Got (tree.conditional t x y) r3)
+      go : (q : TokenReader GrammarToken ExprTree) → inner tables n Whole ≡ q → branches_at tables n t s ≡ (q r >>= λ x r1. one_of colon r1 >>= λ _ r2. q r2 >>= λ y r3. Got (tree.conditional t x y) r3)
       go q i = rw (head_of question s tt r e, room_for n z, e, i) (ap (λ a. a >>= λ b r. Got (cond_of t b) r) (bind_got (q r >>= λ x r1. (one_of colon r1 >>= λ _ r2. q r2 >>= λ y r3. Got y r3) >>= λ y r'. Got (branches_of x y) r')) ∙ first q (q r))

@@ -2,7 +2,7 @@
 ghost use Rattle.std.specs.Prelude.{◌≡◌, ◌<◌, map};
 ghost use Rattle.eval_tree.specs.Tree.{expr_tree, step_tree, entry_tree};
 ghost use Rattle.parse_statements.specs.At.{args_at, parens_at, given_at, builtin_at, entry_at, members_at, literal_at, primary_at, member_at, step_at, post_at, unary_at, operand_at, chain_at, branches_at, expression_at};
-ghost use Rattle.parse_look.specs.Gives.{Gives};
+ghost use Rattle.parse_look.specs.Gives.{GivesAnswer};
 ghost use Rattle.parse_syntax.specs.Tables.{tables_of};
 
 use crate::node::{add, builtin, call, chain, conditional, index, link, object, post, signed};
@@ -26,7 +26,7 @@ pub(crate) fn args<'a>(
     room: u32,
 ) -> Result<(Vec<Expr>, &'a [GrammarToken]), Fault<'a>>
     requires { 0 < room }
-    ensures { Gives (λ found. map expr_tree found.0.items) (λ found. found.1.now) result
+    ensures { GivesAnswer (λ found. map expr_tree found.0.items) (λ found. found.1.now) result
         (args_at (tables_of tables.now) room tokens.now) }
 {
     let rest = take(tokens, Fixed::OpenParen)?;
@@ -55,7 +55,7 @@ pub(crate) fn parens<'a>(
     room: u32,
 ) -> Result<(Expr, &'a [GrammarToken]), Fault<'a>>
     requires { 0 < room }
-    ensures { Gives (λ found. expr_tree found.0) (λ found. found.1.now) result
+    ensures { GivesAnswer (λ found. expr_tree found.0) (λ found. found.1.now) result
         (parens_at (tables_of tables.now) room tokens.now) }
 {
     let rest = take(tokens, Fixed::OpenParen)?;
@@ -75,7 +75,7 @@ fn given<'a>(
     which: Builtin,
 ) -> Result<(Vec<Expr>, &'a [GrammarToken]), Fault<'a>>
     requires { 0 < room }
-    ensures { Gives (λ found. map expr_tree found.0.items) (λ found. found.1.now) result
+    ensures { GivesAnswer (λ found. map expr_tree found.0.items) (λ found. found.1.now) result
         (given_at (tables_of tables.now) room which tokens.now) }
 {
     if which != Builtin::Stringify {
@@ -99,7 +99,7 @@ fn builtin_call<'a>(
     room: u32,
 ) -> Result<(Expr, &'a [GrammarToken]), Fault<'a>>
     requires { 0 < room }
-    ensures { Gives (λ found. expr_tree found.0) (λ found. found.1.now) result
+    ensures { GivesAnswer (λ found. expr_tree found.0) (λ found. found.1.now) result
         (builtin_at (tables_of tables.now) room tokens.now) }
 {
     let (called, rest) = called(tokens)?;
@@ -117,7 +117,7 @@ fn entry<'a>(
     room: u32,
 ) -> Result<((Units, Expr), &'a [GrammarToken]), Fault<'a>>
     requires { 0 < room }
-    ensures { Gives (λ found. entry_tree found.0) (λ found. found.1.now) result
+    ensures { GivesAnswer (λ found. entry_tree found.0) (λ found. found.1.now) result
         (entry_at (tables_of tables.now) room tokens.now) }
 {
     let (key, rest) = key(alloc, tables, tokens)?;
@@ -136,7 +136,7 @@ fn members<'a>(
     room: u32,
 ) -> Result<(Vec<(Units, Expr)>, &'a [GrammarToken]), Fault<'a>>
     requires { 0 < room }
-    ensures { Gives (λ found. map entry_tree found.0.items) (λ found. found.1.now) result
+    ensures { GivesAnswer (λ found. map entry_tree found.0.items) (λ found. found.1.now) result
         (members_at (tables_of tables.now) room tokens.now) }
 {
     if let Some(after) = behind(tokens, Fixed::CloseBrace) {
@@ -164,7 +164,7 @@ fn object_literal<'a>(
     room: u32,
 ) -> Result<(Expr, &'a [GrammarToken]), Fault<'a>>
     requires { 0 < room }
-    ensures { Gives (λ found. expr_tree found.0) (λ found. found.1.now) result
+    ensures { GivesAnswer (λ found. expr_tree found.0) (λ found. found.1.now) result
         (literal_at (tables_of tables.now) room tokens.now) }
 {
     let Some((at, rest)) = open_literal(tokens) else {
@@ -183,7 +183,7 @@ fn primary<'a>(
     tokens: &'a [GrammarToken],
     room: u32,
 ) -> Result<(Expr, &'a [GrammarToken]), Fault<'a>>
-    ensures { Gives (λ found. expr_tree found.0) (λ found. found.1.now) result
+    ensures { GivesAnswer (λ found. expr_tree found.0) (λ found. found.1.now) result
         (primary_at (tables_of tables.now) room tokens.now) }
 {
     if let Some(found) = simple(alloc, tables, tokens)? {
@@ -211,7 +211,7 @@ fn behind_point<'a>(
     tokens: &'a [GrammarToken],
     room: u32,
 ) -> Result<(PostStep, &'a [GrammarToken]), Fault<'a>>
-    ensures { Gives (λ found. step_tree found.0) (λ found. found.1.now) result
+    ensures { GivesAnswer (λ found. step_tree found.0) (λ found. found.1.now) result
         (member_at (tables_of tables.now) room tokens.now) }
 {
     if let Some(found) = member(tokens) {
@@ -243,7 +243,7 @@ fn step<'a>(
     tokens: &'a [GrammarToken],
     room: u32,
 ) -> Result<(PostStep, &'a [GrammarToken]), Fault<'a>>
-    ensures { Gives (λ found. step_tree found.0) (λ found. found.1.now) result
+    ensures { GivesAnswer (λ found. step_tree found.0) (λ found. found.1.now) result
         (step_at (tables_of tables.now) room tokens.now) }
 {
     let Some((at, rest)) = open_bracket(tokens) else {
@@ -266,7 +266,7 @@ fn postfix<'a>(
     tokens: &'a [GrammarToken],
     room: u32,
 ) -> Result<(Expr, &'a [GrammarToken]), Fault<'a>>
-    ensures { Gives (λ found. expr_tree found.0) (λ found. found.1.now) result
+    ensures { GivesAnswer (λ found. expr_tree found.0) (λ found. found.1.now) result
         (post_at (tables_of tables.now) room tokens.now) }
 {
     let (of, mut rest) = primary(alloc, tables, tokens, room)?;
@@ -289,7 +289,7 @@ fn unary<'a>(
     tokens: &'a [GrammarToken],
     room: u32,
 ) -> Result<(Expr, &'a [GrammarToken]), Fault<'a>>
-    ensures { Gives (λ found. expr_tree found.0) (λ found. found.1.now) result
+    ensures { GivesAnswer (λ found. expr_tree found.0) (λ found. found.1.now) result
         (unary_at (tables_of tables.now) room tokens.now) }
 {
     let Some((sign, rest)) = sign(tokens) else {
@@ -313,7 +313,7 @@ fn operand<'a>(
     room: u32,
     level: Level,
 ) -> Result<(Expr, &'a [GrammarToken]), Fault<'a>>
-    ensures { Gives (λ found. expr_tree found.0) (λ found. found.1.now) result
+    ensures { GivesAnswer (λ found. expr_tree found.0) (λ found. found.1.now) result
         (operand_at (tables_of tables.now) room level tokens.now) }
 {
     match level {
@@ -334,7 +334,7 @@ fn chained<'a>(
     room: u32,
     level: Level,
 ) -> Result<(Expr, &'a [GrammarToken]), Fault<'a>>
-    ensures { Gives (λ found. expr_tree found.0) (λ found. found.1.now) result
+    ensures { GivesAnswer (λ found. expr_tree found.0) (λ found. found.1.now) result
         (chain_at (tables_of tables.now) room level tokens.now) }
 {
     let (first, mut rest) = operand(alloc, tables, tokens, room, level)?;
@@ -358,7 +358,7 @@ fn branches<'a>(
     tokens: &'a [GrammarToken],
     room: u32,
 ) -> Result<(Expr, &'a [GrammarToken]), Fault<'a>>
-    ensures { Gives (λ found. expr_tree found.0) (λ found. found.1.now) result
+    ensures { GivesAnswer (λ found. expr_tree found.0) (λ found. found.1.now) result
         (branches_at (tables_of tables.now) room (expr_tree test) tokens.now) }
 {
     let Some(rest) = behind(tokens, Fixed::Question) else {
@@ -383,7 +383,7 @@ pub(crate) fn expression<'a>(
     tokens: &'a [GrammarToken],
     room: u32,
 ) -> Result<(Expr, &'a [GrammarToken]), Fault<'a>>
-    ensures { Gives (λ found. expr_tree found.0) (λ found. found.1.now) result
+    ensures { GivesAnswer (λ found. expr_tree found.0) (λ found. found.1.now) result
         (expression_at (tables_of tables.now) room tokens.now) }
 {
     let (test, rest) = chained(alloc, tables, tokens, room, Level::Or)?;

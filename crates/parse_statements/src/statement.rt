@@ -6,7 +6,7 @@ ghost use Rattle.eval_tree.specs.Tree.{StmtTree, init_tree, stmt_tree, arm_tree,
 ghost use Rattle.parse_syntax.specs.Grammar.{Statements, most};
 ghost use Rattle.parse_syntax.specs.Reading.{read_strict, read_statements};
 ghost use Rattle.parse_statements.specs.At.{init_at, let_at, const_at, assign_at, print_at, statement_at, statements_at, block_at, arm_at, rest_at, if_at, for_at};
-ghost use Rattle.parse_look.specs.Gives.{Gives, OnFault, IsOrMemory};
+ghost use Rattle.parse_look.specs.Gives.{GivesAnswer, OnFault, IsFoundOrMemory};
 ghost use Rattle.parse_syntax.specs.Tables.{tables_of};
 
 use crate::expr::{args, expression, parens};
@@ -30,7 +30,7 @@ fn init<'a>(
     tokens: &'a [GrammarToken],
     room: u32,
 ) -> Result<(Option<Expr>, &'a [GrammarToken]), Fault<'a>>
-    ensures { Gives (λ found. init_tree found.0) (λ found. found.1.now) result
+    ensures { GivesAnswer (λ found. init_tree found.0) (λ found. found.1.now) result
         (init_at (tables_of tables.now) room tokens.now) }
 {
     match behind(tokens, Fixed::Assign) {
@@ -50,7 +50,7 @@ fn declaration<'a>(
     tokens: &'a [GrammarToken],
     room: u32,
 ) -> Result<(Stmt, &'a [GrammarToken]), Fault<'a>>
-    ensures { Gives (λ found. stmt_tree found.0) (λ found. found.1.now) result
+    ensures { GivesAnswer (λ found. stmt_tree found.0) (λ found. found.1.now) result
         (let_at (tables_of tables.now) room tokens.now) }
 {
     let rest = take(tokens, Fixed::Let)?;
@@ -69,7 +69,7 @@ fn constant<'a>(
     tokens: &'a [GrammarToken],
     room: u32,
 ) -> Result<(Stmt, &'a [GrammarToken]), Fault<'a>>
-    ensures { Gives (λ found. stmt_tree found.0) (λ found. found.1.now) result
+    ensures { GivesAnswer (λ found. stmt_tree found.0) (λ found. found.1.now) result
         (const_at (tables_of tables.now) room tokens.now) }
 {
     let rest = take(tokens, Fixed::Const)?;
@@ -89,7 +89,7 @@ fn assign<'a>(
     tokens: &'a [GrammarToken],
     room: u32,
 ) -> Result<(Stmt, &'a [GrammarToken]), Fault<'a>>
-    ensures { Gives (λ found. stmt_tree found.0) (λ found. found.1.now) result
+    ensures { GivesAnswer (λ found. stmt_tree found.0) (λ found. found.1.now) result
         (assign_at (tables_of tables.now) room tokens.now) }
 {
     let (name, rest) = name(tokens)?;
@@ -109,7 +109,7 @@ fn print_line<'a>(
     room: u32,
 ) -> Result<(Stmt, &'a [GrammarToken]), Fault<'a>>
     requires { 0 < room }
-    ensures { Gives (λ found. stmt_tree found.0) (λ found. found.1.now) result
+    ensures { GivesAnswer (λ found. stmt_tree found.0) (λ found. found.1.now) result
         (print_at (tables_of tables.now) room tokens.now) }
 {
     let rest = take(tokens, Fixed::Print)?;
@@ -127,7 +127,7 @@ fn list<'a>(
     prints: bool,
     room: u32,
 ) -> Result<(Vec<Stmt>, &'a [GrammarToken]), Fault<'a>>
-    ensures { Gives (λ found. map stmt_tree found.0.items) (λ found. found.1.now) result
+    ensures { GivesAnswer (λ found. map stmt_tree found.0.items) (λ found. found.1.now) result
         (statements_at (tables_of tables.now) prints room tokens.now) }
 {
     let mut items = Vec::new(alloc);
@@ -151,7 +151,7 @@ fn inside<'a>(
     room: u32,
 ) -> Result<(Block, &'a [GrammarToken]), Fault<'a>>
     requires { 0 < room }
-    ensures { Gives (λ found. block_tree found.0) (λ found. found.1.now) result
+    ensures { GivesAnswer (λ found. block_tree found.0) (λ found. found.1.now) result
         (block_at (tables_of tables.now) prints room tokens.now) }
 {
     let rest = take(tokens, Fixed::OpenBrace)?;
@@ -172,7 +172,7 @@ fn condition<'a>(
     room: u32,
 ) -> Result<(Arm, &'a [GrammarToken]), Fault<'a>>
     requires { 0 < room }
-    ensures { Gives (λ found. arm_tree found.0) (λ found. found.1.now) result
+    ensures { GivesAnswer (λ found. arm_tree found.0) (λ found. found.1.now) result
         (arm_at (tables_of tables.now) prints room tokens.now) }
 {
     let rest = take(tokens, Fixed::If)?;
@@ -192,7 +192,7 @@ fn otherwise<'a>(
     room: u32,
 ) -> Result<(Block, &'a [GrammarToken]), Fault<'a>>
     requires { 0 < room }
-    ensures { Gives (λ found. block_tree found.0) (λ found. found.1.now) result
+    ensures { GivesAnswer (λ found. block_tree found.0) (λ found. found.1.now) result
         (rest_at (tables_of tables.now) prints room tokens.now) }
 {
     match behind(tokens, Fixed::Else) {
@@ -212,7 +212,7 @@ fn if_statement<'a>(
     room: u32,
 ) -> Result<(Stmt, &'a [GrammarToken]), Fault<'a>>
     requires { 0 < room }
-    ensures { Gives (λ found. stmt_tree found.0) (λ found. found.1.now) result
+    ensures { GivesAnswer (λ found. stmt_tree found.0) (λ found. found.1.now) result
         (if_at (tables_of tables.now) prints room tokens.now) }
 {
     let (first, mut rest) = condition(alloc, tables, tokens, prints, room)?;
@@ -238,7 +238,7 @@ fn for_statement<'a>(
     room: u32,
 ) -> Result<(Stmt, &'a [GrammarToken]), Fault<'a>>
     requires { 0 < room }
-    ensures { Gives (λ found. stmt_tree found.0) (λ found. found.1.now) result
+    ensures { GivesAnswer (λ found. stmt_tree found.0) (λ found. found.1.now) result
         (for_at (tables_of tables.now) prints room tokens.now) }
 {
     let (header, rest) = header(tokens)?;
@@ -256,7 +256,7 @@ fn statement<'a>(
     prints: bool,
     room: u32,
 ) -> Result<(Stmt, &'a [GrammarToken]), Fault<'a>>
-    ensures { Gives (λ found. stmt_tree found.0) (λ found. found.1.now) result
+    ensures { GivesAnswer (λ found. stmt_tree found.0) (λ found. found.1.now) result
         (statement_at (tables_of tables.now) prints room tokens.now) }
 {
     match next(tokens) {
@@ -338,7 +338,7 @@ fn statement<'a>(
 // [ Directive ]
 #[tactic(auto, using(crate::proofs::Lines::strict_none, crate::proofs::Lines::strict_some))]
 fn strict(tokens: &[GrammarToken]) -> Result<&[GrammarToken], Fault<'_>>
-    ensures { Gives (λ _. tt) (λ rest. rest.now) result (read_strict tokens.now) }
+    ensures { GivesAnswer (λ _. tt) (λ rest. rest.now) result (read_strict tokens.now) }
 {
     match behind(tokens, Fixed::Directive) {
         Some(rest) => take(rest, Fixed::Semicolon),
@@ -355,7 +355,7 @@ fn whole<'a>(
     prints: bool,
     room: u32,
 ) -> Result<Vec<Stmt>, Fault<'a>>
-    ensures { Gives (λ body. map stmt_tree body.items) (λ _. []) result
+    ensures { GivesAnswer (λ body. map stmt_tree body.items) (λ _. []) result
         (read_whole (read_statements (tables_of tables.now) prints room) tokens.now) }
 {
     let rest = strict(tokens)?;
@@ -382,7 +382,7 @@ pub fn statements<'a>(
     ensures spells { IfOk result (λ body. Statements (tables_of tables.now) prints most tokens.now
         (map stmt_tree body.items)) }
     ensures found { (x : List StmtTree) → Statements (tables_of tables.now) prints most tokens.now x
-        → IsOrMemory (λ body. map stmt_tree body.items) result x }
+        → IsFoundOrMemory (λ body. map stmt_tree body.items) result x }
     ensures refused { OnFault result (IsRefused (Statements (tables_of tables.now) prints) most tokens.now) }
 {
     whole(alloc, tables, tokens, prints, limit())

@@ -1,14 +1,14 @@
 -- What holds of a reader for a language, and of readers put together.
 use Rattle.std.proofs.Common.{◌≡◌, List, ◌∷◌, ◌++◌, Bool, true, refl, sym, ap, ◌∙◌, subst, append_assoc}
 use Rattle.parse_syntax.specs.Lang.{Lang, Bind, bound}
-use Rattle.parse_syntax.specs.Reader.{Answer, Got, Bad, Reader, ◌>>=◌, Kind, TooDeep, and_bind}
+use Rattle.parse_syntax.specs.Reader.{Answer, Got, Bad, TokenReader, ◌>>=◌, SyntaxFaultKind, TooDeep, and_bind}
 use Rattle.parse_syntax.proofs.Laws.{Front, Begins, BeginsWith, IsLawful, Holds}
 use Rattle.parse_syntax.proofs.Local.{SameHead, same_front, Stands, IsLocal}
 
 module _ {T : Type 0} where
   -- one after the other, by the first value
 
-  pub record BoundParts {A B C : Type 0} (f : A → B → C) (r : Reader T A) (q : A → Reader T B) (s : List T) (z : C) (rest : List T) : Type 0 where
+  pub record BoundParts {A B C : Type 0} (f : A → B → C) (r : TokenReader T A) (q : A → TokenReader T B) (s : List T) (z : C) (rest : List T) : Type 0 where
     pub first : A
     pub second : B
     pub between : List T
@@ -16,7 +16,7 @@ module _ {T : Type 0} where
     pub got_second : q first between ≡ Got second rest
     pub value : f first second ≡ z
 
-  pub bound_parts : {A B C : Type 0} (f : A → B → C) (r : Reader T A) (q : A → Reader T B) (s : List T) (z : C) (rest : List T) → and_bind f r q s ≡ Got z rest → BoundParts f r q s z rest
+  pub bound_parts : {A B C : Type 0} (f : A → B → C) (r : TokenReader T A) (q : A → TokenReader T B) (s : List T) (z : C) (rest : List T) → and_bind f r q s ≡ Got z rest → BoundParts f r q s z rest
   bound_parts f r q s z rest e = go (r s) refl e
     where
       last : (x : _) (between : List T) → r s ≡ Got x between → (b : Answer T _) → q x between ≡ b → (b >>= λ y rest'. Got (f x y) rest') ≡ Got z rest → BoundParts f r q s z rest
@@ -29,11 +29,11 @@ module _ {T : Type 0} where
       go (Got x between) ea h = last x between ea (q x between) refl h
 
   -- where two readers, one after the other, fail
-  pub data BoundFails {A B : Type 0} (r : Reader T A) (q : A → Reader T B) (s : List T) (k : Kind) (rest : List T) : Type 0 where
+  pub data BoundFails {A B : Type 0} (r : TokenReader T A) (q : A → TokenReader T B) (s : List T) (k : SyntaxFaultKind) (rest : List T) : Type 0 where
     first_fails : r s ≡ Bad k rest → BoundFails r q s k rest
     second_fails : (x : A) (between : List T) → r s ≡ Got x between → q x between ≡ Bad k rest → BoundFails r q s k rest
 
-  pub bound_fails : {A B C : Type 0} (f : A → B → C) (r : Reader T A) (q : A → Reader T B) (s : List T) (k : Kind) (rest : List T) → and_bind f r q s ≡ Bad k rest → BoundFails r q s k rest
+  pub bound_fails : {A B C : Type 0} (f : A → B → C) (r : TokenReader T A) (q : A → TokenReader T B) (s : List T) (k : SyntaxFaultKind) (rest : List T) → and_bind f r q s ≡ Bad k rest → BoundFails r q s k rest
   bound_fails f r q s k rest e = go (r s) refl e
     where
       last : (x : _) (between : List T) → r s ≡ Got x between → (b : Answer T _) → q x between ≡ b → (b >>= λ y rest'. Got (f x y) rest') ≡ Bad k rest → BoundFails r q s k rest
@@ -44,7 +44,7 @@ module _ {T : Type 0} where
       go (Bad k' t) ea h = first_fails (ea ∙ cc)
       go (Got x between) ea h = last x between ea (q x between) refl h
 
-  module _ {A B C : Type 0} (f : A → B → C) (L D : Lang T A) (M E : A → Lang T B) (stop_r stop_q : List T → Bool) (r : Reader T A) (q : A → Reader T B) (lr : IsLawful L L D stop_r r) (lq : (a : List T) (x : A) → L a x → IsLawful (M x) (M x) (E x) stop_q (q x)) where
+  module _ {A B C : Type 0} (f : A → B → C) (L D : Lang T A) (M E : A → Lang T B) (stop_r stop_q : List T → Bool) (r : TokenReader T A) (q : A → TokenReader T B) (lr : IsLawful L L D stop_r r) (lq : (a : List T) (x : A) → L a x → IsLawful (M x) (M x) (E x) stop_q (q x)) where
     bind_sound : (s : List T) (z : C) (rest : List T) → and_bind f r q s ≡ Got z rest → Front (Bind f L M) s z rest
     bind_sound s z rest e =
         let p = bound_parts f r q s z rest e in
@@ -57,7 +57,7 @@ module _ {T : Type 0} where
     bind_complete follows _ _ rest (bound a b x y ha hb) h =
         rw (append_assoc a b rest, lr.complete a x (b ++ rest) ha (follows x b y rest hb h), (lq a x ha).complete b y rest hb h) refl
 
-    bind_viable : ((a : List T) (x : A) → L a x → Holds (M x)) → (s : List T) (k : Kind) (rest : List T) → and_bind f r q s ≡ Bad k rest → Begins (Bind f L M) s rest
+    bind_viable : ((a : List T) (x : A) → L a x → Holds (M x)) → (s : List T) (k : SyntaxFaultKind) (rest : List T) → and_bind f r q s ≡ Bad k rest → Begins (Bind f L M) s rest
     bind_viable some s k rest e = go (bound_fails f r q s k rest e)
       where
         go : BoundFails r q s k rest → Begins (Bind f L M) s rest
@@ -91,7 +91,7 @@ module _ {T : Type 0} where
       deep = bind_deep wider some_e;
     }
 
-  module _ (P : Kind → Type 0) {A B C : Type 0} (f : A → B → C) (r r' : Reader T A) (q q' : A → Reader T B) where
+  module _ (P : SyntaxFaultKind → Type 0) {A B C : Type 0} (f : A → B → C) (r r' : TokenReader T A) (q q' : A → TokenReader T B) where
     pub bind_local : IsLocal P r r' → ((x : A) → IsLocal P (q x) (q' x)) → IsLocal P (and_bind f r q) (and_bind f r' q')
     bind_local lr lq = record { got = got_both; bad = λ s k rest d e. bad_both s k rest d (bound_fails f r q s k rest e) }
       where
@@ -105,7 +105,7 @@ module _ {T : Type 0} where
             rw (append_assoc a.front b.front v, a.always (b.front ++ v) h1, b.always v h) (ap (λ y. Got y v) p.value) in
             record { front = a.front ++ b.front; whole = a.whole ∙ ap (λ t. a.front ++ t) b.whole ∙ sym (append_assoc a.front b.front rest); always = step }
 
-        bad_both : (s : List T) (k : Kind) (rest : List T) → P k → BoundFails r q s k rest → Stands (and_bind f r' q') (λ v. Bad k v) s rest
+        bad_both : (s : List T) (k : SyntaxFaultKind) (rest : List T) → P k → BoundFails r q s k rest → Stands (and_bind f r' q') (λ v. Bad k v) s rest
         bad_both s k rest d (first_fails h) =
             let a = lr.bad s k rest d h in
             record { front = a.front; whole = a.whole; always = λ v h. rw (a.always v h) refl }

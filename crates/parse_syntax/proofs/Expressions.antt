@@ -2,8 +2,8 @@
 use Rattle.std.proofs.Common.{◌≡◌, ℕ, ◌≤◌, List, [], ◌∷◌, ◌++◌, Bool, true, false, nat_lt, Option, Some, None, refl, ap, ◌∙◌, arith, append_assoc}
 use Rattle.std.specs.Prelude.{decimal}
 use Rattle.js_lex.specs.declared.token.Mark.TheVariants as mark
-use Rattle.parse_syntax.specs.Lang.{Lang, One, one, Then, both, Mapped, mapped, Nothing, nothing, Either, left, right, Many, end, more, if_room, first_of, second_of, ◌▸◌, ◌◂◌}
-use Rattle.parse_syntax.specs.Reader.{Reader, Kind, map_by, and_then, one_of, choose, heads}
+use Rattle.parse_syntax.specs.Lang.{Lang, One, one, Then, both, Mapped, mapped, Nothing, nothing, Either, left, right, Many, end, more, if_room, keep_first, keep_second, ◌▸◌, ◌◂◌}
+use Rattle.parse_syntax.specs.Reader.{TokenReader, SyntaxFaultKind, map_by, and_then, one_of, choose, heads}
 use Rattle.parse_syntax.proofs.Laws.{Holds}
 use Rattle.parse_syntax.proofs.Wider.{Begins, Starts, one_starts, then_starts, either_starts, head_gives, some_of}
 use Rattle.parse_syntax.proofs.Part.{anything, Branch, Part, both_hold, one_part, then_part, next_part, map_part, branch, sooner, part_of, choose_branch, nothing_branch, heads_test, Rooms, then_strict, map_strict, open_branch, many_part}
@@ -17,10 +17,10 @@ use Rattle.eval_tree.specs.declared.tree.Method.TheVariants as methods
 use Rattle.eval_tree.specs.declared.tree.Builtin.{Builtin}
 use Rattle.eval_tree.specs.Tree as tree
 use Rattle.eval_tree.specs.Tree.{ExprTree, LinkTree, StepTree}
-use Rattle.parse_syntax.specs.Tables.{Tables}
+use Rattle.parse_syntax.specs.Tables.{TokenTables}
 use Rattle.parse_syntax.specs.Terminals.{string_word, symbol_word, json_word, object_word, uri_function, member_word, property_word, method, key, from_word, symbol_function, stringify_word, keys_word, opening, closing, open_bracket, close_bracket, open_literal, close_brace, comma, point, question, colon, sign, or_op, and_op, equal_op, compare_op, sum_op, simple}
 use Rattle.parse_syntax.specs.Grammar
-use Rattle.parse_syntax.specs.Grammar.{list_of, none_of, single_of, pair_of, index_of, method_of, object_of, builtin_of, uri_of, plain_string, post_of, unary_of, link_of, chain_of, branches_of, cond_of}
+use Rattle.parse_syntax.specs.Grammar.{list_of, none_of, single_of, pair_of, index_read, method_step, object_of, builtin_of, uri_of, plain_string, post_of, unary_of, link_of, chain_of, branches_of, cond_of}
 use Rattle.parse_syntax.specs.Reading.{read_parens, read_items, read_args, read_string, read_symbol, read_json, read_uri, read_object_call, read_entry, read_entries, read_members, read_literal, read_primary, read_method_args, read_word, read_member, read_index, read_step, step_mark, read_post, read_unary, read_chain, read_sum, read_comparison, read_equality, read_conjunction, read_disjunction, read_branches, read_conditional}
 use Rattle.parse_syntax.proofs.Stops.{stops, stops_more, HasLevel, question_level, or_level, and_level, equal_level, compare_level, sum_level, step_level, opening_level, colon_level, closing_level, close_bracket_level, close_brace_level, comma_level, none_of_level, class, simple_of, opening_of, string_of, symbol_of, json_of, uri_function_of, literal_of, sign_of, begins_unary, sign_begins, primary_begins, no_closing, part, point_of, bracket_of, paren_of, member_of, property_of, is_step, point_step, bracket_step, step_no_args, entry_class, key_of, close_brace_of}
 use Rattle.parse_syntax.proofs.Stops.{object_of as object_word_of, method_of as method_word_of}
@@ -41,14 +41,14 @@ room_starts : {A : Type 0} (room : Bool) {L : Lang GrammarToken A} (test : Gramm
 room_starts room {L = L} test st = record { by = λ ts x h. st.by ts x (room_of room L ts x h) }
 
 -- what is known of an expression and an operand where one more is open
-pub record Inner (P : Kind → Type 0) (room : Bool) (E U F G : Lang GrammarToken ExprTree) (e u e' u' : Reader GrammarToken ExprTree) : Type 0 where
+pub record Inner (P : SyntaxFaultKind → Type 0) (room : Bool) (E U F G : Lang GrammarToken ExprTree) (e u e' u' : TokenReader GrammarToken ExprTree) : Type 0 where
   pub whole : room ≡ true → Part P E F (stops 1) e e'
   pub operand : room ≡ true → Part P U G (stops 7) u u'
   pub first_whole : room ≡ true → Starts E begins_unary
   pub held_whole : Holds F
   pub held_operand : Holds G
 
-module _ (P : Kind → Type 0) where
+module _ (P : SyntaxFaultKind → Type 0) where
   pub opening_part : Part P (One opening) (One opening) anything (one_of opening) (one_of opening)
   opening_part = one_part P opening (token.Mark 0 mark.OpenParen false) tt refl
 
@@ -82,12 +82,12 @@ module _ (P : Kind → Type 0) where
   keys_part : Part P (One keys_word) (One keys_word) anything (one_of keys_word) (one_of keys_word)
   keys_part = one_part P keys_word (token.Name 0 0 property.Keys) _ refl
 
-  module _ {E F : Lang GrammarToken ExprTree} {e e' : Reader GrammarToken ExprTree} (p : Part P E F (stops 1) e e') where
+  module _ {E F : Lang GrammarToken ExprTree} {e e' : TokenReader GrammarToken ExprTree} (p : Part P E F (stops 1) e e') where
     pub parens_part : Part P (Grammar.parens E) (Grammar.parens F) anything (read_parens e) (read_parens e')
-    parens_part = next_part second_of opening_part (then_part first_of p closing_part (λ b y rest h s. one_stops closing 0 1 closing_level refl b y rest h))
+    parens_part = next_part keep_second opening_part (then_part keep_first p closing_part (λ b y rest h s. one_stops closing 0 1 closing_level refl b y rest h))
 
     items_part : Part P (Grammar.items E) (Grammar.items F) (heads closing) (read_items e) (read_items e')
-    items_part = then_part list_of p (many_part (heads comma) (heads closing) (next_part second_of comma_part p) (record {
+    items_part = then_part list_of p (many_part (heads comma) (heads closing) (next_part keep_second comma_part p) (record {
       test = heads_test comma;
       none = refl;
       eats = λ ts x h. then_some comma ts x h;
@@ -110,18 +110,18 @@ module _ (P : Kind → Type 0) where
         follows _ _ rest (more a b x xs ha hb) s = rw (append_assoc a b rest) (then_stops comma 0 1 comma_level refl a x (b ++ rest) ha)
 
     pub args_part : Starts E begins_unary → Part P (Grammar.args E) (Grammar.args F) anything (read_args e) (read_args e')
-    args_part st = next_part second_of opening_part (part_of
+    args_part st = next_part keep_second opening_part (part_of
         (choose_branch (heads closing) (heads_test closing)
         (branch (map_part none_of closing_part) (λ ts x h. left ts x h))
-        (branch (then_part first_of items_part closing_part (λ b y rest h s. one_heads closing b y rest h)) (λ ts x h. right ts x h))
+        (branch (then_part keep_first items_part closing_part (λ b y rest h s. one_heads closing b y rest h)) (λ ts x h. right ts x h))
         (λ ts x rest h. mapped_heads closing ts x rest h)
-        (λ ts x rest h s. head_gives begins_unary (heads closing) false (λ t q. no_closing t q) ts rest ((then_starts first_of (Grammar.items E) (One closing) begins_unary (then_starts list_of E (Many (One comma ▸ E)) begins_unary st)).by ts x h)))
+        (λ ts x rest h s. head_gives begins_unary (heads closing) false (λ t q. no_closing t q) ts rest ((then_starts keep_first (Grammar.items E) (One closing) begins_unary (then_starts list_of E (Many (One comma ▸ E)) begins_unary st)).by ts x h)))
         (record { tokens = closing_part.some.tokens; value = []; spells = left closing_part.some.tokens [] (mapped closing_part.some.tokens tt closing_part.some.spells) }))
 
-    string_part : Starts E begins_unary → Part P (Grammar.string_call E) (Grammar.string_call F) anything (read_string e) (read_string e')
+    string_part : Starts E begins_unary → Part P (Grammar.string_primary E) (Grammar.string_primary F) anything (read_string e) (read_string e')
     string_part st = next_part builtin_of (one_part P string_word (token.Word 0 word.String 0) 0 refl) (part_of
         (choose_branch (heads point) (heads_test point)
-        (branch (next_part second_of point_part (next_part pair_of from_part (args_part st))) (λ ts x h. left ts x h))
+        (branch (next_part keep_second point_part (next_part pair_of from_part (args_part st))) (λ ts x h. left ts x h))
         (branch (map_part plain_string (args_part st)) (λ ts x h. right ts x h))
         (λ ts x rest h. then_heads point ts x rest h)
         (λ ts x rest h s. plain_no_point ts x rest h))
@@ -134,24 +134,24 @@ module _ (P : Kind → Type 0) where
         plain_no_point _ _ rest (mapped a x h) = then_lacks part point_of paren_of (λ q. omega arith) a x rest h
 
     symbol_part : Starts E begins_unary → Part P (Grammar.symbol_call E) (Grammar.symbol_call F) anything (read_symbol e) (read_symbol e')
-    symbol_part st = next_part builtin_of (one_part P symbol_word (token.Word 0 word.Symbol 0) 0 refl) (next_part second_of point_part (next_part pair_of function_part (args_part st)))
+    symbol_part st = next_part builtin_of (one_part P symbol_word (token.Word 0 word.Symbol 0) 0 refl) (next_part keep_second point_part (next_part pair_of function_part (args_part st)))
 
     json_part : Part P (Grammar.json_call E) (Grammar.json_call F) anything (read_json e) (read_json e')
-    json_part = next_part builtin_of (one_part P json_word (token.Word 0 word.Json 0) 0 refl) (next_part second_of point_part (next_part pair_of stringify_part (map_part single_of parens_part)))
+    json_part = next_part builtin_of (one_part P json_word (token.Word 0 word.Json 0) 0 refl) (next_part keep_second point_part (next_part pair_of stringify_part (map_part single_of parens_part)))
 
-    uri_part : Starts E begins_unary → Part P (Grammar.uri_call E) (Grammar.uri_call F) anything (read_uri e) (read_uri e')
+    uri_part : Starts E begins_unary → Part P (Grammar.uri_primary E) (Grammar.uri_primary F) anything (read_uri e) (read_uri e')
     uri_part st = next_part uri_of (one_part P uri_function (token.Word 0 word.EncodeUri 0) _ refl) (args_part st)
 
     object_call_part : Starts E begins_unary → Part P (Grammar.object_call E) (Grammar.object_call F) anything (read_object_call e) (read_object_call e')
-    object_call_part st = next_part builtin_of (one_part P object_word (token.Word 0 word.Object 0) 0 refl) (next_part second_of point_part (next_part pair_of keys_part (args_part st)))
+    object_call_part st = next_part builtin_of (one_part P object_word (token.Word 0 word.Object 0) 0 refl) (next_part keep_second point_part (next_part pair_of keys_part (args_part st)))
 
     -- object literals
-    module _ (tables : Tables) where
+    module _ (tables : TokenTables) where
       entry_part : Part P (Grammar.entry tables E) (Grammar.entry tables F) (stops 1) (read_entry tables e) (read_entry tables e')
-      entry_part = next_part pair_of (one_part P (key tables) (token.Number 0 0) (decimal 0) refl) (next_part second_of colon_part p)
+      entry_part = next_part pair_of (one_part P (key tables) (token.Number 0 0) (decimal 0) refl) (next_part keep_second colon_part p)
 
-      entries_part : Part P (Grammar.entries tables E) (Grammar.entries tables F) (heads close_brace) (read_entries tables e) (read_entries tables e')
-      entries_part = then_part list_of entry_part (many_part (heads comma) (heads close_brace) (next_part second_of comma_part entry_part) (record {
+      entries_part : Part P (Grammar.property_definitions tables E) (Grammar.property_definitions tables F) (heads close_brace) (read_entries tables e) (read_entries tables e')
+      entries_part = then_part list_of entry_part (many_part (heads comma) (heads close_brace) (next_part keep_second comma_part entry_part) (record {
         test = heads_test comma;
         none = refl;
         eats = λ ts x h. then_some comma ts x h;
@@ -173,58 +173,58 @@ module _ (P : Kind → Type 0) where
           follows _ _ rest end s = heads_stop close_brace 0 1 close_brace_level refl rest s
           follows _ _ rest (more a b x xs ha hb) s = rw (append_assoc a b rest) (then_stops comma 0 1 comma_level refl a x (b ++ rest) ha)
 
-      entries_start : Starts (Grammar.entries tables E ◂ One close_brace) (over entry_class 0)
-      entries_start = then_starts first_of (Grammar.entries tables E) (One close_brace) (over entry_class 0) (then_starts list_of (Grammar.entry tables E) (Many (One comma ▸ Grammar.entry tables E)) (over entry_class 0) (first_over entry_class (key tables) 1 0 (key_of tables) refl))
+      entries_start : Starts (Grammar.property_definitions tables E ◂ One close_brace) (over entry_class 0)
+      entries_start = then_starts keep_first (Grammar.property_definitions tables E) (One close_brace) (over entry_class 0) (then_starts list_of (Grammar.entry tables E) (Many (One comma ▸ Grammar.entry tables E)) (over entry_class 0) (first_over entry_class (key tables) 1 0 (key_of tables) refl))
 
       literal_part : Part P (Grammar.object_literal tables E) (Grammar.object_literal tables F) anything (read_literal tables e) (read_literal tables e')
       literal_part = next_part object_of (one_part P open_literal (token.Mark 0 mark.OpenBrace false) 0 refl) (part_of
           (choose_branch (heads close_brace) (heads_test close_brace)
           (branch (map_part none_of close_brace_part) (λ ts x h. left ts x h))
-          (branch (then_part first_of entries_part close_brace_part (λ b y rest h s. one_heads close_brace b y rest h)) (λ ts x h. right ts x h))
+          (branch (then_part keep_first entries_part close_brace_part (λ b y rest h s. one_heads close_brace b y rest h)) (λ ts x h. right ts x h))
           (λ ts x rest h. mapped_heads close_brace ts x rest h)
           (λ ts x rest h s. lacks entry_class close_brace 0 0 close_brace_of (omega arith) entries_start ts x rest h))
           (record { tokens = close_brace_part.some.tokens; value = []; spells = left close_brace_part.some.tokens [] (mapped close_brace_part.some.tokens tt close_brace_part.some.spells) }))
 
     index_part : Part P (Grammar.index E) (Grammar.index F) anything (read_index e) (read_index e')
-    index_part = next_part index_of (one_part P open_bracket (token.Mark 0 mark.OpenBracket false) 0 refl) (then_part first_of p close_bracket_part (λ b y rest h s. one_stops close_bracket 0 1 close_bracket_level refl b y rest h))
+    index_part = next_part index_read (one_part P open_bracket (token.Mark 0 mark.OpenBracket false) 0 refl) (then_part keep_first p close_bracket_part (λ b y rest h s. one_stops close_bracket 0 1 close_bracket_level refl b y rest h))
 
     branches_part : Part P (Grammar.branches E) (Grammar.branches F) (stops 1) (read_branches e) (read_branches e')
-    branches_part = next_part second_of (one_part P question (token.Mark 0 mark.Question false) tt refl) (then_part branches_of p (next_part second_of colon_part p) (λ b y rest h s. then_stops colon 0 1 colon_level refl b y rest h))
+    branches_part = next_part keep_second (one_part P question (token.Mark 0 mark.Question false) tt refl) (then_part branches_of p (next_part keep_second colon_part p) (λ b y rest h s. then_stops colon 0 1 colon_level refl b y rest h))
 
   -- () is a list of arguments at each level
   pub no_args : (L : Lang GrammarToken ExprTree) → Holds (Grammar.args L)
-  no_args L = both_hold second_of opening_part.some (record { tokens = closing_part.some.tokens; value = []; spells = left closing_part.some.tokens [] (mapped closing_part.some.tokens tt closing_part.some.spells) })
+  no_args L = both_hold keep_second opening_part.some (record { tokens = closing_part.some.tokens; value = []; spells = left closing_part.some.tokens [] (mapped closing_part.some.tokens tt closing_part.some.spells) })
 
   -- what a word that opens goes on with
 
   pub held_parens : {L : Lang GrammarToken ExprTree} → Holds L → Holds (Grammar.parens L)
-  held_parens h = both_hold second_of opening_part.some (both_hold first_of h closing_part.some)
+  held_parens h = both_hold keep_second opening_part.some (both_hold keep_first h closing_part.some)
 
   held_string : (L : Lang GrammarToken ExprTree) → Holds (Either (One point ▸ Then pair_of (One from_word) (Grammar.args L)) (Mapped plain_string (Grammar.args L)))
   held_string L = let m = no_args L in record { tokens = m.tokens; value = plain_string m.value; spells = right m.tokens (plain_string m.value) (mapped m.tokens m.value m.spells) }
 
   held_symbol : (L : Lang GrammarToken ExprTree) → Holds (One point ▸ Then pair_of (One symbol_function) (Grammar.args L))
-  held_symbol L = both_hold second_of point_part.some (both_hold pair_of function_part.some (no_args L))
+  held_symbol L = both_hold keep_second point_part.some (both_hold pair_of function_part.some (no_args L))
 
   held_json : {L : Lang GrammarToken ExprTree} → Holds L → Holds (One point ▸ Then pair_of (One stringify_word) (Mapped single_of (Grammar.parens L)))
   held_json h =
       let m = held_parens h in
-      both_hold second_of point_part.some (both_hold pair_of stringify_part.some (record { tokens = m.tokens; value = single_of m.value; spells = mapped m.tokens m.value m.spells }))
+      both_hold keep_second point_part.some (both_hold pair_of stringify_part.some (record { tokens = m.tokens; value = single_of m.value; spells = mapped m.tokens m.value m.spells }))
 
   held_object_call : (L : Lang GrammarToken ExprTree) → Holds (One point ▸ Then pair_of (One keys_word) (Grammar.args L))
-  held_object_call L = both_hold second_of point_part.some (both_hold pair_of keys_part.some (no_args L))
+  held_object_call L = both_hold keep_second point_part.some (both_hold pair_of keys_part.some (no_args L))
 
   -- { } is an object literal at each level
-  held_literal : (tables : Tables) (L : Lang GrammarToken ExprTree) → Holds (Either (Mapped none_of (One close_brace)) (Grammar.entries tables L ◂ One close_brace))
+  held_literal : (tables : TokenTables) (L : Lang GrammarToken ExprTree) → Holds (Either (Mapped none_of (One close_brace)) (Grammar.property_definitions tables L ◂ One close_brace))
   held_literal tables L = record { tokens = close_brace_part.some.tokens; value = []; spells = left close_brace_part.some.tokens [] (mapped close_brace_part.some.tokens tt close_brace_part.some.spells) }
 
   -- ( begins a method's arguments at each level
   held_args : (L : Lang GrammarToken ExprTree) (t : GrammarToken) (y : Unit {0}) → opening t ≡ Some y → (tail : List GrammarToken) × (x : Option (List ExprTree)) × Mapped Some (Grammar.args L) (t ∷ tail) x
   held_args L t y q =
-      let d = deeper second_of opening {L = Either (Mapped none_of (One closing)) (Grammar.items L ◂ One closing)} (record { tokens = closing_part.some.tokens; value = []; spells = left closing_part.some.tokens [] (mapped closing_part.some.tokens tt closing_part.some.spells) }) t y q in
+      let d = deeper keep_second opening {L = Either (Mapped none_of (One closing)) (Grammar.items L ◂ One closing)} (record { tokens = closing_part.some.tokens; value = []; spells = left closing_part.some.tokens [] (mapped closing_part.some.tokens tt closing_part.some.spells) }) t y q in
       (d.0, Some d.1, mapped (t ∷ d.0) d.1 d.2)
 
-  module _ (tables : Tables) (room room' : Bool) (rs : Rooms P room room') (E U F G : Lang GrammarToken ExprTree) (e u e' u' : Reader GrammarToken ExprTree) (i : Inner P room E U F G e u e' u') where
+  module _ (tables : TokenTables) (room room' : Bool) (rs : Rooms P room room') (E U F G : Lang GrammarToken ExprTree) (e u e' u' : TokenReader GrammarToken ExprTree) (i : Inner P room E U F G e u e' u') where
     -- a primary, from each of its alternatives on
 
     abbrev From_literal : Lang GrammarToken ExprTree
@@ -234,7 +234,7 @@ module _ (P : Kind → Type 0) where
     From_object = Either (if_room room (Grammar.object_call E)) From_literal
 
     abbrev From_uri : Lang GrammarToken ExprTree
-    From_uri = Either (if_room room (Grammar.uri_call E)) From_object
+    From_uri = Either (if_room room (Grammar.uri_primary E)) From_object
 
     abbrev From_json : Lang GrammarToken ExprTree
     From_json = Either (if_room room (Grammar.json_call E)) From_uri
@@ -243,7 +243,7 @@ module _ (P : Kind → Type 0) where
     From_symbol = Either (if_room room (Grammar.symbol_call E)) From_json
 
     abbrev From_string : Lang GrammarToken ExprTree
-    From_string = Either (if_room room (Grammar.string_call E)) From_symbol
+    From_string = Either (if_room room (Grammar.string_primary E)) From_symbol
 
     abbrev From_parens : Lang GrammarToken ExprTree
     From_parens = Either (if_room room (Grammar.parens E)) From_string
@@ -255,7 +255,7 @@ module _ (P : Kind → Type 0) where
     object_starts = either_starts (if_room room (Grammar.object_call E)) From_literal (over class 6) (room_starts room (over class 6) (first_over class object_word 7 6 object_word_of refl)) (lower class 7 6 refl literal_starts)
 
     uri_starts : Starts From_uri (over class 5)
-    uri_starts = either_starts (if_room room (Grammar.uri_call E)) From_object (over class 5) (room_starts room (over class 5) (first_over class uri_function 6 5 uri_function_of refl)) (lower class 6 5 refl object_starts)
+    uri_starts = either_starts (if_room room (Grammar.uri_primary E)) From_object (over class 5) (room_starts room (over class 5) (first_over class uri_function 6 5 uri_function_of refl)) (lower class 6 5 refl object_starts)
 
     json_starts : Starts From_json (over class 4)
     json_starts = either_starts (if_room room (Grammar.json_call E)) From_uri (over class 4) (room_starts room (over class 4) (first_over class json_word 5 4 json_of refl)) (lower class 5 4 refl uri_starts)
@@ -264,7 +264,7 @@ module _ (P : Kind → Type 0) where
     symbol_starts = either_starts (if_room room (Grammar.symbol_call E)) From_json (over class 3) (room_starts room (over class 3) (first_over class symbol_word 4 3 symbol_of refl)) (lower class 4 3 refl json_starts)
 
     string_starts : Starts From_string (over class 2)
-    string_starts = either_starts (if_room room (Grammar.string_call E)) From_symbol (over class 2) (room_starts room (over class 2) (first_over class string_word 3 2 string_of refl)) (lower class 3 2 refl symbol_starts)
+    string_starts = either_starts (if_room room (Grammar.string_primary E)) From_symbol (over class 2) (room_starts room (over class 2) (first_over class string_word 3 2 string_of refl)) (lower class 3 2 refl symbol_starts)
 
     parens_starts : Starts From_parens (over class 1)
     parens_starts = either_starts (if_room room (Grammar.parens E)) From_string (over class 1) (room_starts room (over class 1) (first_over class opening 2 1 opening_of refl)) (lower class 2 1 refl string_starts)
@@ -281,27 +281,27 @@ module _ (P : Kind → Type 0) where
         some_primary (deeper object_of open_literal (held_literal tables F)) (then_strict object_of open_literal (read_members tables e')) in
         let objects = choose_branch (heads object_word) (heads_test object_word)
         (open_branch room room' rs object_word (λ r. branch (object_call_part (i.whole r) (i.first_whole r)) (λ ts x h. right ts x (right ts x (right ts x (right ts x (right ts x (right ts x (left ts x (in_room room (Grammar.object_call E) r ts x h)))))))))
-        some_primary (deeper builtin_of object_word (held_object_call F)) (then_strict builtin_of object_word (and_then second_of (one_of point) (and_then pair_of (one_of keys_word) (read_args e')))))
+        some_primary (deeper builtin_of object_word (held_object_call F)) (then_strict builtin_of object_word (and_then keep_second (one_of point) (and_then pair_of (one_of keys_word) (read_args e')))))
         literals (λ ts x rest h. then_heads object_word ts x rest (room_of room (Grammar.object_call E) ts x h)) (λ ts x rest h s. lacks class object_word 7 7 object_word_of (omega arith) literal_starts ts x rest h) in
         let uris = choose_branch (heads uri_function) (heads_test uri_function)
-        (open_branch room room' rs uri_function (λ r. branch (uri_part (i.whole r) (i.first_whole r)) (λ ts x h. right ts x (right ts x (right ts x (right ts x (right ts x (left ts x (in_room room (Grammar.uri_call E) r ts x h))))))))
+        (open_branch room room' rs uri_function (λ r. branch (uri_part (i.whole r) (i.first_whole r)) (λ ts x h. right ts x (right ts x (right ts x (right ts x (right ts x (left ts x (in_room room (Grammar.uri_primary E) r ts x h))))))))
         some_primary (deeper uri_of uri_function (no_args F)) (then_strict uri_of uri_function (read_args e')))
-        objects (λ ts x rest h. then_heads uri_function ts x rest (room_of room (Grammar.uri_call E) ts x h)) (λ ts x rest h s. lacks class uri_function 6 6 uri_function_of (omega arith) object_starts ts x rest h) in
+        objects (λ ts x rest h. then_heads uri_function ts x rest (room_of room (Grammar.uri_primary E) ts x h)) (λ ts x rest h s. lacks class uri_function 6 6 uri_function_of (omega arith) object_starts ts x rest h) in
         let json = choose_branch (heads json_word) (heads_test json_word)
         (open_branch room room' rs json_word (λ r. branch (json_part (i.whole r)) (λ ts x h. right ts x (right ts x (right ts x (right ts x (left ts x (in_room room (Grammar.json_call E) r ts x h)))))))
-        some_primary (deeper builtin_of json_word (held_json i.held_whole)) (then_strict builtin_of json_word (and_then second_of (one_of point) (and_then pair_of (one_of stringify_word) (map_by single_of (read_parens e'))))))
+        some_primary (deeper builtin_of json_word (held_json i.held_whole)) (then_strict builtin_of json_word (and_then keep_second (one_of point) (and_then pair_of (one_of stringify_word) (map_by single_of (read_parens e'))))))
         uris (λ ts x rest h. then_heads json_word ts x rest (room_of room (Grammar.json_call E) ts x h)) (λ ts x rest h s. lacks class json_word 5 5 json_of (omega arith) uri_starts ts x rest h) in
         let symbols = choose_branch (heads symbol_word) (heads_test symbol_word)
         (open_branch room room' rs symbol_word (λ r. branch (symbol_part (i.whole r) (i.first_whole r)) (λ ts x h. right ts x (right ts x (right ts x (left ts x (in_room room (Grammar.symbol_call E) r ts x h))))))
-        some_primary (deeper builtin_of symbol_word (held_symbol F)) (then_strict builtin_of symbol_word (and_then second_of (one_of point) (and_then pair_of (one_of symbol_function) (read_args e')))))
+        some_primary (deeper builtin_of symbol_word (held_symbol F)) (then_strict builtin_of symbol_word (and_then keep_second (one_of point) (and_then pair_of (one_of symbol_function) (read_args e')))))
         json (λ ts x rest h. then_heads symbol_word ts x rest (room_of room (Grammar.symbol_call E) ts x h)) (λ ts x rest h s. lacks class symbol_word 4 4 symbol_of (omega arith) json_starts ts x rest h) in
         let strings = choose_branch (heads string_word) (heads_test string_word)
-        (open_branch room room' rs string_word (λ r. branch (string_part (i.whole r) (i.first_whole r)) (λ ts x h. right ts x (right ts x (left ts x (in_room room (Grammar.string_call E) r ts x h)))))
-        some_primary (deeper builtin_of string_word (held_string F)) (then_strict builtin_of string_word (choose (heads point) (and_then second_of (one_of point) (and_then pair_of (one_of from_word) (read_args e'))) (map_by plain_string (read_args e')))))
-        symbols (λ ts x rest h. then_heads string_word ts x rest (room_of room (Grammar.string_call E) ts x h)) (λ ts x rest h s. lacks class string_word 3 3 string_of (omega arith) symbol_starts ts x rest h) in
+        (open_branch room room' rs string_word (λ r. branch (string_part (i.whole r) (i.first_whole r)) (λ ts x h. right ts x (right ts x (left ts x (in_room room (Grammar.string_primary E) r ts x h)))))
+        some_primary (deeper builtin_of string_word (held_string F)) (then_strict builtin_of string_word (choose (heads point) (and_then keep_second (one_of point) (and_then pair_of (one_of from_word) (read_args e'))) (map_by plain_string (read_args e')))))
+        symbols (λ ts x rest h. then_heads string_word ts x rest (room_of room (Grammar.string_primary E) ts x h)) (λ ts x rest h s. lacks class string_word 3 3 string_of (omega arith) symbol_starts ts x rest h) in
         let opened = choose_branch (heads opening) (heads_test opening)
         (open_branch room room' rs opening (λ r. branch (parens_part (i.whole r)) (λ ts x h. right ts x (left ts x (in_room room (Grammar.parens E) r ts x h))))
-        some_primary (deeper second_of opening (both_hold first_of i.held_whole closing_part.some)) (then_strict second_of opening (and_then first_of e' (one_of closing))))
+        some_primary (deeper keep_second opening (both_hold keep_first i.held_whole closing_part.some)) (then_strict keep_second opening (and_then keep_first e' (one_of closing))))
         strings (λ ts x rest h. then_heads opening ts x rest (room_of room (Grammar.parens E) ts x h)) (λ ts x rest h s. lacks class opening 2 2 opening_of (omega arith) string_starts ts x rest h) in
         part_of (choose_branch (heads (simple tables)) (heads_test (simple tables)) (branch (one_part P (simple tables) (token.Number 0 0) (tree.number 0) refl) (λ ts x h. left ts x h)) opened
         (one_heads (simple tables)) (λ ts x rest h s. lacks class (simple tables) 1 1 (simple_of tables) (omega arith) parens_starts ts x rest h)) some_primary
@@ -323,7 +323,7 @@ module _ (P : Kind → Type 0) where
         (open_branch room room' rs opening
         (λ r. sooner (λ q h. refl) (branch (map_part Some (args_part (i.whole r) (i.first_whole r))) (λ ts x h. left ts x (in_room room (Mapped Some (Grammar.args E)) r ts x h))))
         some_method_args (held_args F)
-        (map_strict Some opening (read_args e') (then_strict second_of opening (choose (heads closing) (map_by none_of (one_of closing)) (and_then first_of (read_items e') (one_of closing))))))
+        (map_strict Some opening (read_args e') (then_strict keep_second opening (choose (heads closing) (map_by none_of (one_of closing)) (and_then keep_first (read_items e') (one_of closing))))))
         (nothing_branch P None)
         (λ ts x rest h. args_heads ts x rest (room_of room (Mapped Some (Grammar.args E)) ts x h))
         no_args_here)
@@ -332,20 +332,20 @@ module _ (P : Kind → Type 0) where
     -- what stands behind a point
 
     abbrev Word : Lang GrammarToken StepTree
-    Word = Either (One member_word) (Either (One (property_word tables)) (Then method_of (One (method tables)) (Grammar.method_args room E)))
+    Word = Either (One member_word) (Either (One (property_word tables)) (Then method_step (One (method tables)) (Grammar.method_args room E)))
 
     some_word : Holds Word
     some_word = record { tokens = token.Name 0 0 property.Length ∷ []; value = tree.of_length; spells = left (token.Name 0 0 property.Length ∷ []) tree.of_length (one (token.Name 0 0 property.Length) tree.of_length refl) }
 
-    no_member : (ts : List GrammarToken) (x : StepTree) (rest : List GrammarToken) → Either (One (property_word tables)) (Then method_of (One (method tables)) (Grammar.method_args room E)) ts x → heads member_word (ts ++ rest) ≡ false
+    no_member : (ts : List GrammarToken) (x : StepTree) (rest : List GrammarToken) → Either (One (property_word tables)) (Then method_step (One (method tables)) (Grammar.method_args room E)) ts x → heads member_word (ts ++ rest) ≡ false
     no_member = either_lacks member_word
         (one_lacks part member_of (property_of tables) (λ q. omega arith))
         (then_lacks part member_of (method_word_of tables) (λ q. omega arith))
 
-    methods_branch : Branch P Word (Then method_of (One (method tables)) (Grammar.method_args room E)) (Then method_of (One (method tables)) (Grammar.method_args true F)) (stops 8) (and_then method_of (one_of (method tables)) (read_method_args room e)) (and_then method_of (one_of (method tables)) (read_method_args room' e'))
-    methods_branch = branch (next_part method_of (one_part P (method tables) (token.Name 0 0 (property.Method methods.At)) _ refl) method_args_part) (λ ts x h. right ts x (right ts x h))
+    methods_branch : Branch P Word (Then method_step (One (method tables)) (Grammar.method_args room E)) (Then method_step (One (method tables)) (Grammar.method_args true F)) (stops 8) (and_then method_step (one_of (method tables)) (read_method_args room e)) (and_then method_step (one_of (method tables)) (read_method_args room' e'))
+    methods_branch = branch (next_part method_step (one_part P (method tables) (token.Name 0 0 (property.Method methods.At)) _ refl) method_args_part) (λ ts x h. right ts x (right ts x h))
 
-    word_part : Part P Word (Either (One member_word) (Either (One (property_word tables)) (Then method_of (One (method tables)) (Grammar.method_args true F)))) (stops 8) (read_word tables room e) (read_word tables room' e')
+    word_part : Part P Word (Either (One member_word) (Either (One (property_word tables)) (Then method_step (One (method tables)) (Grammar.method_args true F)))) (stops 8) (read_word tables room e) (read_word tables room' e')
     word_part =
         let properties = choose_branch (heads (property_word tables)) (heads_test (property_word tables))
         (sooner (λ q h. refl) (branch (one_part P (property_word tables) (token.Name 0 0 property.Nothing) _ refl) (λ ts x h. right ts x (left ts x h))))
@@ -361,7 +361,7 @@ module _ (P : Kind → Type 0) where
         some_word
 
     member_part : Part P (Grammar.member tables room E) (Grammar.member tables true F) (stops 8) (read_member tables room e) (read_member tables room' e')
-    member_part = next_part second_of point_part word_part
+    member_part = next_part keep_second point_part word_part
 
     some_step : Holds (Grammar.step tables room E)
     some_step = record { tokens = member_part.some.tokens; value = member_part.some.value; spells = left member_part.some.tokens member_part.some.value member_part.some.spells }
@@ -372,16 +372,16 @@ module _ (P : Kind → Type 0) where
         (branch member_part (λ ts x h. left ts x h))
         (open_branch room room' rs open_bracket (λ r. sooner (λ q h. refl) (branch (index_part (i.whole r)) (λ ts x h. right ts x (in_room room (Grammar.index E) r ts x h))))
         some_step
-        (deeper index_of open_bracket (both_hold first_of i.held_whole close_bracket_part.some))
-        (then_strict index_of open_bracket (and_then first_of e' (one_of close_bracket))))
+        (deeper index_read open_bracket (both_hold keep_first i.held_whole close_bracket_part.some))
+        (then_strict index_read open_bracket (and_then keep_first e' (one_of close_bracket))))
         (λ ts x rest h. then_heads point ts x rest h)
         (λ ts x rest h s. then_lacks part point_of bracket_of (λ q. omega arith) ts x rest (room_of room (Grammar.index E) ts x h)))
         some_step
 
     pub step_starts : Starts (Grammar.step tables room E) is_step
     step_starts = either_starts (Grammar.member tables room E) (if_room room (Grammar.index E)) is_step
-        (then_starts second_of (One point) Word is_step (one_starts point is_step point_step))
-        (room_starts room is_step (then_starts index_of (One open_bracket) (E ◂ One close_bracket) is_step (one_starts open_bracket is_step bracket_step)))
+        (then_starts keep_second (One point) Word is_step (one_starts point is_step point_step))
+        (room_starts room is_step (then_starts index_read (One open_bracket) (E ◂ One close_bracket) is_step (one_starts open_bracket is_step bracket_step)))
 
     post_part : Part P (Grammar.post tables room E) (Grammar.post tables true F) (stops 7) (read_post tables room e) (read_post tables room' e')
     post_part = next_part post_of primary_part (many_part (heads step_mark) (stops 7) step_part (record {
@@ -420,7 +420,7 @@ module _ (P : Kind → Type 0) where
         raised (t ∷ ts) h = primary_begins t h
 
   -- a chain of level k over what the level above ends
-  pub chain_part : (o : GrammarToken → Option (ℕ × Op)) (k k' : ℕ) → HasLevel o k → nat_lt k k' ≡ true → k ≤ k' → (t : GrammarToken) (x : ℕ × Op) → o t ≡ Some x → {L D : Lang GrammarToken ExprTree} {r r' : Reader GrammarToken ExprTree} → Part P L D (stops k') r r' → Part P (Grammar.chain o L) (Grammar.chain o D) (stops k) (read_chain o r) (read_chain o r')
+  pub chain_part : (o : GrammarToken → Option (ℕ × Op)) (k k' : ℕ) → HasLevel o k → nat_lt k k' ≡ true → k ≤ k' → (t : GrammarToken) (x : ℕ × Op) → o t ≡ Some x → {L D : Lang GrammarToken ExprTree} {r r' : TokenReader GrammarToken ExprTree} → Part P L D (stops k') r r' → Part P (Grammar.chain o L) (Grammar.chain o D) (stops k) (read_chain o r) (read_chain o r')
   chain_part o k k' of lt le t x some_op {L = L} p = then_part chain_of p (many_part (heads o) (stops k) (next_part link_of (one_part P o t x some_op) p) (record {
     test = heads_test o;
     none = refl;
@@ -435,8 +435,8 @@ module _ (P : Kind → Type 0) where
       follows _ _ rest end s = stops_more k k' rest le s
       follows _ _ rest (more a b x xs ha hb) s = rw (append_assoc a b rest) (then_stops o k k' of lt a x (b ++ rest) ha)
 
-  module _ (tables : Tables) (room room' : Bool) (rs : Rooms P room room') (E U F G : Lang GrammarToken ExprTree) (e u e' u' : Reader GrammarToken ExprTree) (i : Inner P room E U F G e u e' u') where
-    pub sum_part : Part P (Grammar.sum tables room E U) (Grammar.sum tables true F G) (stops 6) (read_sum tables room e u) (read_sum tables room' e' u')
+  module _ (tables : TokenTables) (room room' : Bool) (rs : Rooms P room room') (E U F G : Lang GrammarToken ExprTree) (e u e' u' : TokenReader GrammarToken ExprTree) (i : Inner P room E U F G e u e' u') where
+    pub sum_part : Part P (Grammar.additive tables room E U) (Grammar.additive tables true F G) (stops 6) (read_sum tables room e u) (read_sum tables room' e' u')
     sum_part = chain_part sum_op 6 7 sum_level refl (omega arith) (token.Mark 0 mark.Plus false) _ refl (unary_part tables room room' rs E U F G e u e' u' i)
 
     pub comparison_part : Part P (Grammar.comparison tables room E U) (Grammar.comparison tables true F G) (stops 5) (read_comparison tables room e u) (read_comparison tables room' e' u')
@@ -456,8 +456,8 @@ module _ (P : Kind → Type 0) where
         (choose_branch (heads question) (heads_test question)
         (open_branch room room' rs question (λ r. branch (branches_part (i.whole r)) (λ ts x h. left ts x (in_room room (Grammar.branches E) r ts x h)))
         none_here
-        (deeper second_of question (both_hold branches_of i.held_whole (both_hold second_of colon_part.some i.held_whole)))
-        (then_strict second_of question (and_then branches_of e' (and_then second_of (one_of colon) e'))))
+        (deeper keep_second question (both_hold branches_of i.held_whole (both_hold keep_second colon_part.some i.held_whole)))
+        (then_strict keep_second question (and_then branches_of e' (and_then keep_second (one_of colon) e'))))
         (nothing_branch P None)
         (λ ts x rest h. then_heads question ts x rest (room_of room (Grammar.branches E) ts x h))
         ended)
@@ -476,11 +476,11 @@ module _ (P : Kind → Type 0) where
         follows _ _ rest (left b y h) s = then_stops question 1 2 question_level refl b y rest (room_of room (Grammar.branches E) b y h)
         follows _ _ rest (right b y h) s = nothing_stops b y rest h s
 
-    pub sum_starts : Starts (Grammar.sum tables room E U) begins_unary
+    pub sum_starts : Starts (Grammar.additive tables room E U) begins_unary
     sum_starts = then_starts chain_of (Grammar.unary tables room E U) (Many (Then link_of (One sum_op) (Grammar.unary tables room E U))) begins_unary (unary_starts tables room room' rs E U F G e u e' u' i)
 
     pub comparison_starts : Starts (Grammar.comparison tables room E U) begins_unary
-    comparison_starts = then_starts chain_of (Grammar.sum tables room E U) (Many (Then link_of (One compare_op) (Grammar.sum tables room E U))) begins_unary sum_starts
+    comparison_starts = then_starts chain_of (Grammar.additive tables room E U) (Many (Then link_of (One compare_op) (Grammar.additive tables room E U))) begins_unary sum_starts
 
     pub equality_starts : Starts (Grammar.equality tables room E U) begins_unary
     equality_starts = then_starts chain_of (Grammar.comparison tables room E U) (Many (Then link_of (One equal_op) (Grammar.comparison tables room E U))) begins_unary comparison_starts

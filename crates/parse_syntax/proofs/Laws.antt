@@ -1,7 +1,7 @@
 -- What holds of a reader for a language, and of readers put together.
 use Rattle.std.proofs.Common.{◌≡◌, ℕ, zero, suc, ◌<◌, ◌≤◌, List, [], ◌∷◌, ◌++◌, length, Bool, true, false, cond, Option, Some, None, refl, sym, ap, ◌∙◌, subst, arith, append_assoc, length-append}
 use Rattle.parse_syntax.specs.Lang.{Lang, One, one, Then, both, Mapped, mapped, Nothing, nothing, Either, left, right, Many, end, more, Never}
-use Rattle.parse_syntax.specs.Reader.{Answer, Got, Bad, Reader, ◌>>=◌, Kind, Wrong, TooDeep, wrong, too_deep, map_by, and_then, take_or, one_of, succeed, opens, choose, loop, all_of}
+use Rattle.parse_syntax.specs.Reader.{Answer, Got, Bad, TokenReader, ◌>>=◌, SyntaxFaultKind, Wrong, TooDeep, wrong, too_deep, map_by, and_then, take_or, one_of, succeed, opens, choose, loop, all_of}
 
 module _ {T : Type 0} where
   -- the front of the tokens spells the value
@@ -30,10 +30,10 @@ module _ {T : Type 0} where
     pub spells : L (front ++ token ∷ more) value
 
   -- r reads L; where it fails, what stands before begins V, and where there is no room, what stands up to there begins D
-  pub record IsLawful {A : Type 0} (L V D : Lang T A) (stops : List T → Bool) (r : Reader T A) : Type 0 where
+  pub record IsLawful {A : Type 0} (L V D : Lang T A) (stops : List T → Bool) (r : TokenReader T A) : Type 0 where
     pub sound : (s : List T) (x : A) (rest : List T) → r s ≡ Got x rest → Front L s x rest
     pub complete : (ts : List T) (x : A) (rest : List T) → L ts x → stops rest ≡ true → r (ts ++ rest) ≡ Got x rest
-    pub viable : (s : List T) (k : Kind) (rest : List T) → r s ≡ Bad k rest → Begins V s rest
+    pub viable : (s : List T) (k : SyntaxFaultKind) (rest : List T) → r s ≡ Bad k rest → Begins V s rest
     pub deep : (s : List T) (rest : List T) → r s ≡ Bad TooDeep rest → BeginsWith D s rest
 
   -- a language has a value
@@ -44,7 +44,7 @@ module _ {T : Type 0} where
 
   -- one after the other
 
-  pub record Parts {A B C : Type 0} (f : A → B → C) (r : Reader T A) (q : Reader T B) (s : List T) (z : C) (rest : List T) : Type 0 where
+  pub record Parts {A B C : Type 0} (f : A → B → C) (r : TokenReader T A) (q : TokenReader T B) (s : List T) (z : C) (rest : List T) : Type 0 where
     pub first : A
     pub second : B
     pub between : List T
@@ -52,7 +52,7 @@ module _ {T : Type 0} where
     pub got_second : q between ≡ Got second rest
     pub value : f first second ≡ z
 
-  pub parts : {A B C : Type 0} (f : A → B → C) (r : Reader T A) (q : Reader T B) (s : List T) (z : C) (rest : List T) → and_then f r q s ≡ Got z rest → Parts f r q s z rest
+  pub parts : {A B C : Type 0} (f : A → B → C) (r : TokenReader T A) (q : TokenReader T B) (s : List T) (z : C) (rest : List T) → and_then f r q s ≡ Got z rest → Parts f r q s z rest
   parts f r q s z rest e = go (r s) refl e
     where
       last : (x : _) (between : List T) → r s ≡ Got x between → (b : Answer T _) → q between ≡ b → (b >>= λ y rest'. Got (f x y) rest') ≡ Got z rest → Parts f r q s z rest
@@ -65,11 +65,11 @@ module _ {T : Type 0} where
       go (Got x between) ea h = last x between ea (q between) refl h
 
   -- where two readers, one after the other, fail
-  pub data Fails {A B : Type 0} (r : Reader T A) (q : Reader T B) (s : List T) (k : Kind) (rest : List T) : Type 0 where
+  pub data Fails {A B : Type 0} (r : TokenReader T A) (q : TokenReader T B) (s : List T) (k : SyntaxFaultKind) (rest : List T) : Type 0 where
     at_first : r s ≡ Bad k rest → Fails r q s k rest
     at_second : (x : A) (between : List T) → r s ≡ Got x between → q between ≡ Bad k rest → Fails r q s k rest
 
-  pub fails : {A B C : Type 0} (f : A → B → C) (r : Reader T A) (q : Reader T B) (s : List T) (k : Kind) (rest : List T) → and_then f r q s ≡ Bad k rest → Fails r q s k rest
+  pub fails : {A B C : Type 0} (f : A → B → C) (r : TokenReader T A) (q : TokenReader T B) (s : List T) (k : SyntaxFaultKind) (rest : List T) → and_then f r q s ≡ Bad k rest → Fails r q s k rest
   fails f r q s k rest e = go (r s) refl e
     where
       last : (x : _) (between : List T) → r s ≡ Got x between → (b : Answer T _) → q between ≡ b → (b >>= λ y rest'. Got (f x y) rest') ≡ Bad k rest → Fails r q s k rest
@@ -80,7 +80,7 @@ module _ {T : Type 0} where
       go (Bad k' t) ea h = at_first (ea ∙ cc)
       go (Got x between) ea h = last x between ea (q between) refl h
 
-  module _ {A B C : Type 0} (f : A → B → C) (L D : Lang T A) (M E : Lang T B) (stop_r stop_q : List T → Bool) (r : Reader T A) (q : Reader T B) where
+  module _ {A B C : Type 0} (f : A → B → C) (L D : Lang T A) (M E : Lang T B) (stop_r stop_q : List T → Bool) (r : TokenReader T A) (q : TokenReader T B) where
     then_sound : IsLawful L L D stop_r r → IsLawful M M E stop_q q → (s : List T) (z : C) (rest : List T) → and_then f r q s ≡ Got z rest → Front (Then f L M) s z rest
     then_sound lr lq s z rest e =
         let p = parts f r q s z rest e in
@@ -93,7 +93,7 @@ module _ {T : Type 0} where
     then_complete lr lq follows _ _ rest (both a b x y ha hb) h =
         rw (append_assoc a b rest, lr.complete a x (b ++ rest) ha (follows b y rest hb h), lq.complete b y rest hb h) refl
 
-    then_viable : IsLawful L L D stop_r r → IsLawful M M E stop_q q → Holds M → (s : List T) (k : Kind) (rest : List T) → and_then f r q s ≡ Bad k rest → Begins (Then f L M) s rest
+    then_viable : IsLawful L L D stop_r r → IsLawful M M E stop_q q → Holds M → (s : List T) (k : SyntaxFaultKind) (rest : List T) → and_then f r q s ≡ Bad k rest → Begins (Then f L M) s rest
     then_viable lr lq some s k rest e = go (fails f r q s k rest e)
       where
         go : Fails r q s k rest → Begins (Then f L M) s rest
@@ -142,7 +142,7 @@ module _ {T : Type 0} where
     one_complete : (ts : List T) (x : A) (rest : List T) → One value ts x → one_of value (ts ++ rest) ≡ Got x rest
     one_complete _ _ rest (one t x h) = ap (λ o. take_or o t rest) h
 
-    one_bad : (s : List T) (k : Kind) (rest : List T) → one_of value s ≡ Bad k rest → (s ≡ rest) × (k ≡ TooDeep → ⊥)
+    one_bad : (s : List T) (k : SyntaxFaultKind) (rest : List T) → one_of value s ≡ Bad k rest → (s ≡ rest) × (k ≡ TooDeep → ⊥)
     one_bad [] k rest e = let h : Wrong ≡ k = cc in (cc, λ d. let g : Wrong ≡ TooDeep = h ∙ d in cc)
     one_bad (t ∷ tail) k rest e = go (value t) e
       where
@@ -160,7 +160,7 @@ module _ {T : Type 0} where
 
   -- another value
 
-  module _ {A B : Type 0} (f : A → B) (r : Reader T A) where
+  module _ {A B : Type 0} (f : A → B) (r : TokenReader T A) where
     pub map_got : (s : List T) (y : B) (rest : List T) → map_by f r s ≡ Got y rest → (x : A) × (r s ≡ Got x rest) × (f x ≡ y)
     map_got s y rest e = go (r s) refl e
       where
@@ -168,14 +168,14 @@ module _ {T : Type 0} where
         go (Got x t) ea h = (x, ea ∙ cc, cc)
         go (Bad k t) ea h = cc
 
-    pub map_bad : (s : List T) (k : Kind) (rest : List T) → map_by f r s ≡ Bad k rest → r s ≡ Bad k rest
+    pub map_bad : (s : List T) (k : SyntaxFaultKind) (rest : List T) → map_by f r s ≡ Bad k rest → r s ≡ Bad k rest
     map_bad s k rest e = go (r s) refl e
       where
         go : (a : Answer T A) → r s ≡ a → (a >>= λ x rest. Got (f x) rest) ≡ Bad k rest → r s ≡ Bad k rest
         go (Got x t) ea h = cc
         go (Bad k' t) ea h = ea ∙ cc
 
-  module _ {A B : Type 0} (f : A → B) (L V D : Lang T A) (stops : List T → Bool) (r : Reader T A) where
+  module _ {A B : Type 0} (f : A → B) (L V D : Lang T A) (stops : List T → Bool) (r : TokenReader T A) where
     map_complete : IsLawful L V D stops r → (ts : List T) (y : B) (rest : List T) → Mapped f L ts y → stops rest ≡ true → map_by f r (ts ++ rest) ≡ Got y rest
     map_complete l _ _ rest (mapped a x h) e = rw (l.complete a x rest h e) refl
 
@@ -196,7 +196,7 @@ module _ {T : Type 0} where
 
   -- either
 
-  module _ {A : Type 0} (starts : List T → Bool) (L M D E V : Lang T A) (stops : List T → Bool) (r q : Reader T A) where
+  module _ {A : Type 0} (starts : List T → Bool) (L M D E V : Lang T A) (stops : List T → Bool) (r q : TokenReader T A) where
     choose_complete : IsLawful L V D stops r → IsLawful M V E stops q → ((ts : List T) (x : A) (rest : List T) → L ts x → starts (ts ++ rest) ≡ true) → ((ts : List T) (x : A) (rest : List T) → M ts x → stops rest ≡ true → starts (ts ++ rest) ≡ false) → (ts : List T) (x : A) (rest : List T) → Either L M ts x → stops rest ≡ true → choose starts r q (ts ++ rest) ≡ Got x rest
     choose_complete lr lq hit miss _ _ rest (left a x h) e = rw (hit a x rest h, lr.complete a x rest h e) refl
     choose_complete lr lq hit miss _ _ rest (right a x h) e = rw (miss a x rest h e, lq.complete a x rest h e) refl
@@ -208,7 +208,7 @@ module _ {T : Type 0} where
         go true e = let a = lr.sound s x rest e in record { front = a.front; whole = a.whole; spells = left a.front x a.spells }
         go false e = let a = lq.sound s x rest e in record { front = a.front; whole = a.whole; spells = right a.front x a.spells }
 
-    choose_viable : IsLawful L V D stops r → IsLawful M V E stops q → (s : List T) (k : Kind) (rest : List T) → choose starts r q s ≡ Bad k rest → Begins V s rest
+    choose_viable : IsLawful L V D stops r → IsLawful M V E stops q → (s : List T) (k : SyntaxFaultKind) (rest : List T) → choose starts r q s ≡ Bad k rest → Begins V s rest
     choose_viable lr lq s k rest e = go (starts s) e
       where
         go : (b : Bool) → cond b (r s) (q s) ≡ Bad k rest → Begins V s rest
@@ -232,7 +232,7 @@ module _ {T : Type 0} where
 
   -- any number of times
 
-  module _ {A : Type 0} (starts : List T → Bool) (L D : Lang T A) (stop_item stops : List T → Bool) (r : Reader T A) (l : IsLawful L L D stop_item r) where
+  module _ {A : Type 0} (starts : List T → Bool) (L D : Lang T A) (stop_item stops : List T → Bool) (r : TokenReader T A) (l : IsLawful L L D stop_item r) where
     loop_sound : (n : ℕ) (s : List T) (xs : List A) (rest : List T) → loop starts r n s ≡ Got xs rest → Front (Many L) s xs rest
     loop_sound zero s xs rest e = let same : [] ≡ xs = cc in record { front = []; whole = cc; spells = subst (λ v. Many L [] v) same end }
     loop_sound (suc n) s xs rest e = go (loop_sound n) (starts s) e
@@ -248,11 +248,11 @@ module _ {T : Type 0} where
             let b = ih p.between p.second rest p.got_second in
             record { front = a.front ++ b.front; whole = a.whole ∙ ap (λ t. a.front ++ t) b.whole ∙ sym (append_assoc a.front b.front rest); spells = subst (λ v. Many L (a.front ++ b.front) v) p.value (more a.front b.front p.first p.second a.spells b.spells) }
 
-    loop_viable : (n : ℕ) (s : List T) (k : Kind) (rest : List T) → loop starts r n s ≡ Bad k rest → Begins (Many L) s rest
+    loop_viable : (n : ℕ) (s : List T) (k : SyntaxFaultKind) (rest : List T) → loop starts r n s ≡ Bad k rest → Begins (Many L) s rest
     loop_viable zero s k rest e = cc
     loop_viable (suc n) s k rest e = go (loop_viable n) (starts s) e
       where
-        failed : ((s : List T) (k : Kind) (rest : List T) → loop starts r n s ≡ Bad k rest → Begins (Many L) s rest) → Fails r (loop starts r n) s k rest → Begins (Many L) s rest
+        failed : ((s : List T) (k : SyntaxFaultKind) (rest : List T) → loop starts r n s ≡ Bad k rest → Begins (Many L) s rest) → Fails r (loop starts r n) s k rest → Begins (Many L) s rest
         failed ih (at_first h) =
             let a = l.viable s k rest h in
             record { front = a.front; more = a.more ++ []; value = a.value ∷ []; whole = a.whole; spells = subst (λ ts. Many L ts (a.value ∷ [])) (append_assoc a.front a.more []) (more (a.front ++ a.more) [] a.value [] a.spells end) }
@@ -261,7 +261,7 @@ module _ {T : Type 0} where
             let b = ih between k rest g in
             record { front = a.front ++ b.front; more = b.more; value = x ∷ b.value; whole = a.whole ∙ ap (λ t. a.front ++ t) b.whole ∙ sym (append_assoc a.front b.front rest); spells = subst (λ ts. Many L ts (x ∷ b.value)) (sym (append_assoc a.front b.front b.more)) (more a.front (b.front ++ b.more) x b.value a.spells b.spells) }
 
-        go : ((s : List T) (k : Kind) (rest : List T) → loop starts r n s ≡ Bad k rest → Begins (Many L) s rest) → (b : Bool) → cond b (r s >>= λ x rest. loop starts r n rest >>= λ xs rest'. Got (x ∷ xs) rest') (Got [] s) ≡ Bad k rest → Begins (Many L) s rest
+        go : ((s : List T) (k : SyntaxFaultKind) (rest : List T) → loop starts r n s ≡ Bad k rest → Begins (Many L) s rest) → (b : Bool) → cond b (r s >>= λ x rest. loop starts r n rest >>= λ xs rest'. Got (x ∷ xs) rest') (Got [] s) ≡ Bad k rest → Begins (Many L) s rest
         go ih false e = cc
         go ih true e = failed ih (fails (λ x xs. x ∷ xs) r (loop starts r n) s k rest e)
 
@@ -313,7 +313,7 @@ module _ {T : Type 0} where
 
   -- the same for a wider language
 
-  pub within : {A : Type 0} (L V W D : Lang T A) (stops : List T → Bool) (r : Reader T A) → ((ts : List T) (x : A) → V ts x → W ts x) → IsLawful L V D stops r → IsLawful L W D stops r
+  pub within : {A : Type 0} (L V W D : Lang T A) (stops : List T → Bool) (r : TokenReader T A) → ((ts : List T) (x : A) → V ts x → W ts x) → IsLawful L V D stops r → IsLawful L W D stops r
   within L V W D stops r wider l = record {
     sound = l.sound;
     complete = l.complete;
@@ -334,7 +334,7 @@ module _ {T : Type 0} where
     }
 
     -- where there is no room for what begins so
-    pub no_room_lawful : (L : Lang T A) (starts : List T → Bool) → ((ts : List T) (x : A) → L ts x → ⊥) → Holds V → ((t : T) (after : List T) → starts (t ∷ after) ≡ true → (more : List T) × (x : A) × D (t ∷ more) x) → starts [] ≡ false → (r : Reader T A) → IsLawful L V D stops (opens false starts r)
+    pub no_room_lawful : (L : Lang T A) (starts : List T → Bool) → ((ts : List T) (x : A) → L ts x → ⊥) → Holds V → ((t : T) (after : List T) → starts (t ∷ after) ≡ true → (more : List T) × (x : A) × D (t ∷ more) x) → starts [] ≡ false → (r : TokenReader T A) → IsLawful L V D stops (opens false starts r)
     no_room_lawful L starts none some deeper at_end r = record {
       sound = λ s x rest e. absurd (sound_of s x rest (starts s) e);
       complete = λ ts x rest h e. absurd (none ts x h);
@@ -346,7 +346,7 @@ module _ {T : Type 0} where
         sound_of s x rest true e = cc
         sound_of s x rest false e = cc
 
-        whole_of : (s : List T) (k : Kind) (rest : List T) (b : Bool) → cond b (too_deep {A = A} s) (wrong s) ≡ Bad k rest → s ≡ rest
+        whole_of : (s : List T) (k : SyntaxFaultKind) (rest : List T) (b : Bool) → cond b (too_deep {A = A} s) (wrong s) ≡ Bad k rest → s ≡ rest
         whole_of s k rest true e = cc
         whole_of s k rest false e = cc
 

@@ -1,6 +1,6 @@
 -- A reader looks no further than the first token that it does not take; with more room it answers the same.
 use Rattle.std.proofs.Common.{◌≡◌, ℕ, zero, suc, ◌<◌, ◌≤◌, List, [], ◌∷◌, ◌++◌, length, Bool, true, false, cond, Option, Some, None, refl, sym, ap, ◌∙◌, subst, arith, append_assoc, length-append}
-use Rattle.parse_syntax.specs.Reader.{Answer, Got, Bad, Reader, ◌>>=◌, Kind, Wrong, TooDeep, wrong, too_deep, map_by, and_then, take_or, one_of, succeed, choose, loop, all_of}
+use Rattle.parse_syntax.specs.Reader.{Answer, Got, Bad, TokenReader, ◌>>=◌, SyntaxFaultKind, Wrong, TooDeep, wrong, too_deep, map_by, and_then, take_or, one_of, succeed, choose, loop, all_of}
 use Rattle.parse_syntax.proofs.Laws.{parts, Fails, at_first, at_second, fails, map_got, map_bad}
 
 module _ {T : Type 0} where
@@ -16,21 +16,21 @@ module _ {T : Type 0} where
   same_front (t ∷ a) s v h = refl
 
   -- the answer stands for each rest with the same first token
-  pub record Stands {A : Type 0} (r : Reader T A) (answer : List T → Answer T A) (s rest : List T) : Type 0 where
+  pub record Stands {A : Type 0} (r : TokenReader T A) (answer : List T → Answer T A) (s rest : List T) : Type 0 where
     pub front : List T
     pub whole : s ≡ front ++ rest
     pub always : (v : List T) → SameHead rest v → r (front ++ v) ≡ answer v
 
   -- what r answers, but for faults that P leaves out, q answers whatever comes after the first token that r does not take
-  pub record IsLocal {A : Type 0} (P : Kind → Type 0) (r q : Reader T A) : Type 0 where
+  pub record IsLocal {A : Type 0} (P : SyntaxFaultKind → Type 0) (r q : TokenReader T A) : Type 0 where
     pub got : (s : List T) (x : A) (rest : List T) → r s ≡ Got x rest → Stands q (λ v. Got x v) s rest
-    pub bad : (s : List T) (k : Kind) (rest : List T) → P k → r s ≡ Bad k rest → Stands q (λ v. Bad k v) s rest
+    pub bad : (s : List T) (k : SyntaxFaultKind) (rest : List T) → P k → r s ≡ Bad k rest → Stands q (λ v. Bad k v) s rest
 
   -- a test that looks at the first token
   pub record IsTest (test : List T → Bool) : Type 0 where
     pub same : (s v : List T) → SameHead s v → test s ≡ test v
 
-  module _ (P : Kind → Type 0) {A B C : Type 0} (f : A → B → C) (r r' : Reader T A) (q q' : Reader T B) where
+  module _ (P : SyntaxFaultKind → Type 0) {A B C : Type 0} (f : A → B → C) (r r' : TokenReader T A) (q q' : TokenReader T B) where
     pub then_local : IsLocal P r r' → IsLocal P q q' → IsLocal P (and_then f r q) (and_then f r' q')
     then_local lr lq = record { got = got_both; bad = λ s k rest d e. bad_both s k rest d (fails f r q s k rest e) }
       where
@@ -44,7 +44,7 @@ module _ {T : Type 0} where
             rw (append_assoc a.front b.front v, a.always (b.front ++ v) h1, b.always v h) (ap (λ y. Got y v) p.value) in
             record { front = a.front ++ b.front; whole = a.whole ∙ ap (λ t. a.front ++ t) b.whole ∙ sym (append_assoc a.front b.front rest); always = step }
 
-        bad_both : (s : List T) (k : Kind) (rest : List T) → P k → Fails r q s k rest → Stands (and_then f r' q') (λ v. Bad k v) s rest
+        bad_both : (s : List T) (k : SyntaxFaultKind) (rest : List T) → P k → Fails r q s k rest → Stands (and_then f r' q') (λ v. Bad k v) s rest
         bad_both s k rest d (at_first h) =
             let a = lr.bad s k rest d h in
             record { front = a.front; whole = a.whole; always = λ v h. rw (a.always v h) refl }
@@ -56,7 +56,7 @@ module _ {T : Type 0} where
             rw (append_assoc a.front b.front v, a.always (b.front ++ v) h1, b.always v h) refl in
             record { front = a.front ++ b.front; whole = a.whole ∙ ap (λ t. a.front ++ t) b.whole ∙ sym (append_assoc a.front b.front rest); always = step }
 
-  module _ (P : Kind → Type 0) {A : Type 0} (value : T → Option A) where
+  module _ (P : SyntaxFaultKind → Type 0) {A : Type 0} (value : T → Option A) where
     pub one_local : IsLocal P (one_of value) (one_of value)
     one_local = record { got = got_one; bad = bad_one }
       where
@@ -71,7 +71,7 @@ module _ {T : Type 0} where
                 let same_rest : tail ≡ rest = cc in
                 record { front = t ∷ []; whole = ap (λ m. t ∷ m) same_rest; always = λ v _. ap (λ o. take_or o t v) h ∙ ap (λ y. Got y v) same }
 
-        bad_one : (s : List T) (k : Kind) (rest : List T) → P k → one_of value s ≡ Bad k rest → Stands (one_of value) (λ v. Bad k v) s rest
+        bad_one : (s : List T) (k : SyntaxFaultKind) (rest : List T) → P k → one_of value s ≡ Bad k rest → Stands (one_of value) (λ v. Bad k v) s rest
         bad_one [] k rest d e =
             let h : Wrong ≡ k = cc in
             let g : [] ≡ rest = cc in
@@ -93,7 +93,7 @@ module _ {T : Type 0} where
                 record { front = []; whole = w; always = λ v m. same None h g v (subst (λ s. SameHead s v) (sym w) m) }
             go (Some y) h e = cc
 
-  module _ (P : Kind → Type 0) {A B : Type 0} (f : A → B) (r r' : Reader T A) where
+  module _ (P : SyntaxFaultKind → Type 0) {A B : Type 0} (f : A → B) (r r' : TokenReader T A) where
     pub map_local : IsLocal P r r' → IsLocal P (map_by f r) (map_by f r')
     map_local l = record {
       got = λ s y rest e.
@@ -105,7 +105,7 @@ module _ {T : Type 0} where
           record { front = a.front; whole = a.whole; always = λ v h. rw (a.always v h) refl };
     }
 
-  module _ (P : Kind → Type 0) {A : Type 0} (starts : List T → Bool) (r r' q q' : Reader T A) where
+  module _ (P : SyntaxFaultKind → Type 0) {A : Type 0} (starts : List T → Bool) (r r' q q' : TokenReader T A) where
     pub choose_local : IsTest starts → IsLocal P r r' → IsLocal P q q' → IsLocal P (choose starts r q) (choose starts r' q')
     choose_local t lr lq = record { got = λ s x rest e. got_of s x rest (starts s) refl e; bad = λ s k rest d e. bad_of s k rest d (starts s) refl e }
       where
@@ -116,15 +116,15 @@ module _ {T : Type 0} where
         got_of s x rest true h e = let a = lr.got s x rest e in record { front = a.front; whole = a.whole; always = λ v m. rw (moved s a.front rest v true h a.whole m) (a.always v m) }
         got_of s x rest false h e = let a = lq.got s x rest e in record { front = a.front; whole = a.whole; always = λ v m. rw (moved s a.front rest v false h a.whole m) (a.always v m) }
 
-        bad_of : (s : List T) (k : Kind) (rest : List T) → P k → (b : Bool) → starts s ≡ b → cond b (r s) (q s) ≡ Bad k rest → Stands (choose starts r' q') (λ v. Bad k v) s rest
+        bad_of : (s : List T) (k : SyntaxFaultKind) (rest : List T) → P k → (b : Bool) → starts s ≡ b → cond b (r s) (q s) ≡ Bad k rest → Stands (choose starts r' q') (λ v. Bad k v) s rest
         bad_of s k rest d true h e = let a = lr.bad s k rest d e in record { front = a.front; whole = a.whole; always = λ v m. rw (moved s a.front rest v true h a.whole m) (a.always v m) }
         bad_of s k rest d false h e = let a = lq.bad s k rest d e in record { front = a.front; whole = a.whole; always = λ v m. rw (moved s a.front rest v false h a.whole m) (a.always v m) }
 
   -- what a reader takes is something
-  pub record IsEating {A : Type 0} (r : Reader T A) : Type 0 where
+  pub record IsEating {A : Type 0} (r : TokenReader T A) : Type 0 where
     pub less : (s : List T) (x : A) (rest : List T) → r s ≡ Got x rest → length rest < length s
 
-  module _ (P : Kind → Type 0) {A : Type 0} (starts : List T → Bool) (r r' : Reader T A) (t : IsTest starts) (none : starts [] ≡ false) (lr : IsLocal P r r') (eats : IsEating r) where
+  module _ (P : SyntaxFaultKind → Type 0) {A : Type 0} (starts : List T → Bool) (r r' : TokenReader T A) (t : IsTest starts) (none : starts [] ≡ false) (lr : IsLocal P r r') (eats : IsEating r) where
     Turn : (b : Bool) → ℕ → List T → Answer T (List A)
     Turn b n s = cond b (r s >>= λ x rest. loop starts r n rest >>= λ xs rest'. Got (x ∷ xs) rest') (Got [] s)
 
@@ -167,12 +167,12 @@ module _ {T : Type 0} where
             let b = ih p.between p.second rest le2 p.got_second in
             (a.front ++ b.0, a.whole ∙ ap (λ t. a.front ++ t) b.1 ∙ sym (append_assoc a.front b.0 rest), go_on s a.front b.0 rest p.between p.first (Got [] []) (λ v. Got xs v) h a.whole lt b.1 a.always (λ v m e le'. rw (b.2 v m e le') (ap (λ y. Got y v) p.value)))
 
-    loop_bad : (n : ℕ) (s : List T) (k : Kind) (rest : List T) → P k → length s ≤ n → loop starts r n s ≡ Bad k rest → Agree (λ v. Bad k v) s rest
+    loop_bad : (n : ℕ) (s : List T) (k : SyntaxFaultKind) (rest : List T) → P k → length s ≤ n → loop starts r n s ≡ Bad k rest → Agree (λ v. Bad k v) s rest
     unfolding Agree
     loop_bad zero s k rest d le e = cc
     loop_bad (suc n) s k rest d le e = go (loop_bad n) (starts s) refl e
       where
-        failed : ((s : List T) (k : Kind) (rest : List T) → P k → length s ≤ n → loop starts r n s ≡ Bad k rest → Agree (λ v. Bad k v) s rest) → starts s ≡ true → Fails r (loop starts r n) s k rest → Agree (λ v. Bad k v) s rest
+        failed : ((s : List T) (k : SyntaxFaultKind) (rest : List T) → P k → length s ≤ n → loop starts r n s ≡ Bad k rest → Agree (λ v. Bad k v) s rest) → starts s ≡ true → Fails r (loop starts r n) s k rest → Agree (λ v. Bad k v) s rest
         failed ih h (at_first g) =
             let a = lr.bad s k rest d g in
             (a.front, a.whole, λ v m e le'. first a.front v m (sym (t.same (a.front ++ rest) (a.front ++ v) (same_front a.front rest v e)) ∙ ap starts (sym a.whole) ∙ h) (a.always v e) le')
@@ -191,7 +191,7 @@ module _ {T : Type 0} where
             let b = ih between k rest d le2 g2 in
             (a.front ++ b.0, a.whole ∙ ap (λ t. a.front ++ t) b.1 ∙ sym (append_assoc a.front b.0 rest), go_on s a.front b.0 rest between x (Got [] []) (λ v. Bad k v) h a.whole lt b.1 a.always (λ v m e le'. rw (b.2 v m e le') refl))
 
-        go : ((s : List T) (k : Kind) (rest : List T) → P k → length s ≤ n → loop starts r n s ≡ Bad k rest → Agree (λ v. Bad k v) s rest) → (b : Bool) → starts s ≡ b → cond b (r s >>= λ x rest. loop starts r n rest >>= λ xs rest'. Got (x ∷ xs) rest') (Got [] s) ≡ Bad k rest → Agree (λ v. Bad k v) s rest
+        go : ((s : List T) (k : SyntaxFaultKind) (rest : List T) → P k → length s ≤ n → loop starts r n s ≡ Bad k rest → Agree (λ v. Bad k v) s rest) → (b : Bool) → starts s ≡ b → cond b (r s >>= λ x rest. loop starts r n rest >>= λ xs rest'. Got (x ∷ xs) rest') (Got [] s) ≡ Bad k rest → Agree (λ v. Bad k v) s rest
         go ih false h e = cc
         go ih true h e = failed ih h (fails (λ x xs. x ∷ xs) r (loop starts r n) s k rest e)
 
@@ -202,7 +202,7 @@ module _ {T : Type 0} where
       bad = λ s k rest d e. let a = loop_bad (length s) s k rest d (omega arith) e in record { front = a.0; whole = a.1; always = λ v m. a.2 v (length (a.0 ++ v)) m (omega arith) };
     }
 
-  module _ (P : Kind → Type 0) {A : Type 0} where
+  module _ (P : SyntaxFaultKind → Type 0) {A : Type 0} where
     pub deep_local : IsLocal {A = A} P too_deep too_deep
     deep_local = record {
       got = λ s x rest e. cc;
@@ -210,7 +210,7 @@ module _ {T : Type 0} where
     }
 
     -- where there is no room, nothing is asked of more room
-    pub no_room_local : (P TooDeep → ⊥) → (r : Reader T A) → IsLocal P too_deep r
+    pub no_room_local : (P TooDeep → ⊥) → (r : TokenReader T A) → IsLocal P too_deep r
     no_room_local less r = record {
       got = λ s x rest e. cc;
       bad = λ s k rest d e. let h : TooDeep ≡ k = cc in absurd (less (subst P (sym h) d));

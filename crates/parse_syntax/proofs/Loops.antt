@@ -1,10 +1,10 @@
 -- Loops of a parser: what was read so far, and what is to be read.
 use Rattle.std.proofs.Common.{◌≡◌, ℕ, zero, suc, ◌<◌, ◌≤◌, List, [], ◌∷◌, ◌++◌, length, Bool, true, false, cond, Option, Some, None, refl, sym, ap, ◌∙◌, arith, append_assoc, append-nil}
-use Rattle.parse_syntax.specs.Reader.{Answer, Got, Bad, Kind, Reader, ◌>>=◌, and_then, take_or, one_of, loop, all_of, with_front}
+use Rattle.parse_syntax.specs.Reader.{Answer, Got, Bad, SyntaxFaultKind, TokenReader, ◌>>=◌, and_then, take_or, one_of, loop, all_of, with_front}
 use Rattle.parse_syntax.proofs.Local.{IsEating}
 
 module _ {T : Type 0} where
-  module _ {A : Type 0} (starts : List T → Bool) (none : starts [] ≡ false) (item : Reader T A) (eats : IsEating item) where
+  module _ {A : Type 0} (starts : List T → Bool) (none : starts [] ≡ false) (item : TokenReader T A) (eats : IsEating item) where
     -- more turns than tokens change nothing
     enough : (n m : ℕ) (s : List T) → length s ≤ n → length s ≤ m → loop starts item n s ≡ loop starts item m s
     enough zero zero s a b = refl
@@ -36,7 +36,7 @@ module _ {T : Type 0} where
     pub keeps_on : (front : List A) (s : List T) (x : A) (rest : List T) (all : Answer T (List A)) → starts s ≡ true → item s ≡ Got x rest → with_front front (all_of starts item s) ≡ all → with_front (front ++ x ∷ []) (all_of starts item rest) ≡ all
     keeps_on front s x rest all h e i = sym (step_of_loop front s x rest h e) ∙ i
 
-    pub fails_on : (front : List A) (s : List T) (k : Kind) (rest : List T) (all : Answer T (List A)) → starts s ≡ true → item s ≡ Bad k rest → with_front front (all_of starts item s) ≡ all → all ≡ Bad k rest
+    pub fails_on : (front : List A) (s : List T) (k : SyntaxFaultKind) (rest : List T) (all : Answer T (List A)) → starts s ≡ true → item s ≡ Bad k rest → with_front front (all_of starts item s) ≡ all → all ≡ Bad k rest
     fails_on front [] k rest all h e i = let q : true ≡ false = sym h ∙ none in cc
     fails_on front (t ∷ s) k rest all h e i = sym i ∙ rw (h, e) refl
 
@@ -45,7 +45,7 @@ module _ {T : Type 0} where
     ends_on front (t ∷ s) all h i = sym i ∙ rw h (ap (λ l. Got l (t ∷ s)) (append-nil front))
 
   -- what reads a token and then something that reads tokens
-  pub then_eats : {A B C : Type 0} (f : A → B → C) (v : T → Option A) (q : Reader T B) → IsEating q → IsEating (and_then f (one_of v) q)
+  pub then_eats : {A B C : Type 0} (f : A → B → C) (v : T → Option A) (q : TokenReader T B) → IsEating q → IsEating (and_then f (one_of v) q)
   then_eats f v q e = record { less = less_of }
     where
       less_of : (s : List T) (x : _) (rest : List T) → and_then f (one_of v) q s ≡ Got x rest → length rest < length s

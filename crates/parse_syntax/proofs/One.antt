@@ -1,7 +1,7 @@
 -- No tokens are a script and refused, and none are refused in two ways.
 use Rattle.std.proofs.Common.{◌≡◌, ℕ, List, [], ◌∷◌, ◌++◌, refl, sym, ◌∙◌, subst, append_assoc, append-nil}
 use Rattle.parse_syntax.specs.Lang.{Lang}
-use Rattle.parse_syntax.specs.Reader.{Kind, Wrong, TooDeep}
+use Rattle.parse_syntax.specs.Reader.{SyntaxFaultKind, Wrong, TooDeep}
 use Rattle.parse_syntax.specs.Refused.{CanBegin, IsWrongAt, IsRefused}
 
 -- where two lists that go on to the same one stand to each other
@@ -26,23 +26,23 @@ compare (t ∷ f) r (u ∷ g) s e =
 
 module _ {T A : Type 0} (Script : ℕ → Lang T A) (n : ℕ) (ts : List T) where
   -- what goes on so begins no script of this level
-  stopped : (k : Kind) (front : List T) (t : T) (after more : List T) (x : A) → IsWrongAt Script n front k (t ∷ after) → Script n (front ++ t ∷ more) x → ⊥
+  stopped : (k : SyntaxFaultKind) (front : List T) (t : T) (after more : List T) (x : A) → IsWrongAt Script n front k (t ∷ after) → Script n (front ++ t ∷ more) x → ⊥
   stopped Wrong front t after more x w s = w n (more, x, subst (λ q. Script n q x) (sym (append_assoc front (t ∷ []) more)) s)
   stopped TooDeep front t after more x w s = w.0 (more, x, subst (λ q. Script n q x) (sym (append_assoc front (t ∷ []) more)) s)
 
-  pub not_both : (x : A) (k : Kind) (rest : List T) → Script n ts x → IsRefused Script n ts k rest → ⊥
+  pub not_both : (x : A) (k : SyntaxFaultKind) (rest : List T) → Script n ts x → IsRefused Script n ts k rest → ⊥
   not_both x k rest s r = go k rest (subst (λ q. Script n q x) r.whole s) r.wrong
     where
-      go : (k : Kind) (rest : List T) → Script n (r.front ++ rest) x → IsWrongAt Script n r.front k rest → ⊥
+      go : (k : SyntaxFaultKind) (rest : List T) → Script n (r.front ++ rest) x → IsWrongAt Script n r.front k rest → ⊥
       go Wrong [] s w = w n x (subst (λ q. Script n q x) (append-nil r.front) s)
       go TooDeep [] s w = w
       go k (t ∷ after) s w = stopped k r.front t after after x w s
 
   -- what begins a script goes past no place where one is wrong
-  beyond : (front : List T) (k : Kind) (t : T) (z after : List T) → IsWrongAt Script n front k (t ∷ after) → CanBegin Script n (front ++ t ∷ z) → ⊥
+  beyond : (front : List T) (k : SyntaxFaultKind) (t : T) (z after : List T) → IsWrongAt Script n front k (t ∷ after) → CanBegin Script n (front ++ t ∷ z) → ⊥
   beyond front k t z after w c = stopped k front t after (z ++ c.0) c.1 w (subst (λ q. Script n q c.1) (append_assoc front (t ∷ z) c.0) c.2)
 
-  same_kind : (front : List T) (k j : Kind) (rest : List T) → IsWrongAt Script n front k rest → IsWrongAt Script n front j rest → k ≡ j
+  same_kind : (front : List T) (k j : SyntaxFaultKind) (rest : List T) → IsWrongAt Script n front k rest → IsWrongAt Script n front j rest → k ≡ j
   same_kind front Wrong Wrong rest v w = refl
   same_kind front TooDeep TooDeep rest v w = refl
   same_kind front Wrong TooDeep [] v w = absurd w
@@ -50,7 +50,7 @@ module _ {T A : Type 0} (Script : ℕ → Lang T A) (n : ℕ) (ts : List T) wher
   same_kind front Wrong TooDeep (t ∷ rest) v w = absurd (v w.1 w.2)
   same_kind front TooDeep Wrong (t ∷ rest) v w = absurd (w v.1 v.2)
 
-  pub one_refusal : (k j : Kind) (rest left : List T) → IsRefused Script n ts k rest → IsRefused Script n ts j left → (k ≡ j) × (rest ≡ left)
+  pub one_refusal : (k j : SyntaxFaultKind) (rest left : List T) → IsRefused Script n ts k rest → IsRefused Script n ts j left → (k ≡ j) × (rest ≡ left)
   one_refusal k j rest left a b = go (compare a.front rest b.front left (sym a.whole ∙ b.whole))
     where
       go : Compared a.front rest b.front left → (k ≡ j) × (rest ≡ left)

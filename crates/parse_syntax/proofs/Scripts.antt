@@ -1,7 +1,7 @@
 -- What the reader of a whole text answers, by the grammar, at every level.
 use Rattle.std.proofs.Common.{◌≡◌, ℕ, zero, suc, ◌≤◌, List, [], ◌∷◌, ◌++◌, Bool, true, false, cond, None, refl, ap, arith, append_assoc}
-use Rattle.parse_syntax.specs.Lang.{one, left, right, Never, end, both, Many, more, nothing, second_of}
-use Rattle.parse_syntax.specs.Reader.{Got, Bad, Reader, Kind, TooDeep, wrong, read_whole}
+use Rattle.parse_syntax.specs.Lang.{one, left, right, Never, end, both, Many, more, nothing, keep_second}
+use Rattle.parse_syntax.specs.Reader.{Got, Bad, TokenReader, SyntaxFaultKind, TooDeep, wrong, read_whole}
 use Rattle.parse_syntax.specs.Refused.{IsRefused}
 use Rattle.parse_syntax.proofs.Laws.{Holds}
 use Rattle.parse_syntax.proofs.Wider.{Starts, head_gives}
@@ -13,7 +13,7 @@ use Rattle.parse_syntax.specs.declared.token.GrammarToken.{GrammarToken}
 use Rattle.parse_syntax.specs.declared.token.GrammarToken.TheVariants as token
 use Rattle.eval_tree.specs.Tree as tree
 use Rattle.eval_tree.specs.Tree.{ExprTree, StmtTree}
-use Rattle.parse_syntax.specs.Tables.{Tables}
+use Rattle.parse_syntax.specs.Tables.{TokenTables}
 use Rattle.parse_syntax.specs.Terminals.{else_word, directive}
 use Rattle.parse_syntax.specs.Grammar.{Whole, Operand, within_room, Expression, Statement, Statements}
 use Rattle.parse_syntax.specs.Reading.{goes_on, read_within, read_at, read_statements}
@@ -23,7 +23,7 @@ use Rattle.parse_syntax.proofs.Expressions.{whole_part, unary_part, whole_starts
 use Rattle.parse_syntax.proofs.Statements as statements
 use Rattle.parse_syntax.proofs.Statements.{first, directive_first, no_more, list_item, statement_part, statement_starts, strict_part}
 
-module _ (tables : Tables) where
+module _ (tables : TokenTables) where
   -- every level of expressions
 
   an_operand : within_room tables 0 Operand (token.Number 0 0 ∷ []) (tree.number 0)
@@ -42,13 +42,13 @@ module _ (tables : Tables) where
   pub held_lowest : Holds (Expression tables 0)
   held_lowest = record { tokens = token.Number 0 0 ∷ []; value = tree.number 0; spells = a_number }
 
-  pub record Levels (P : Kind → Type 0) (n m : ℕ) : Type 0 where
+  pub record Levels (P : SyntaxFaultKind → Type 0) (n m : ℕ) : Type 0 where
     pub whole : Part P (Expression tables n) (Expression tables (suc n)) (stops 1) (read_within tables n Whole) (read_within tables m Whole)
     pub operand : Part P (within_room tables n Operand) (within_room tables (suc n) Operand) (stops 7) (read_within tables n Operand) (read_within tables m Operand)
     pub starts : Starts (Expression tables n) begins_unary
 
-  module _ (P : Kind → Type 0) where
-    pub lowest : (e' u' : Reader GrammarToken ExprTree) → expressions.Inner P false Never Never (Expression tables 0) (within_room tables 0 Operand) wrong wrong e' u'
+  module _ (P : SyntaxFaultKind → Type 0) where
+    pub lowest : (e' u' : TokenReader GrammarToken ExprTree) → expressions.Inner P false Never Never (Expression tables 0) (within_room tables 0 Operand) wrong wrong e' u'
     lowest e' u' = record {
       whole = λ h. let q : false ≡ true = h in cc;
       operand = λ h. let q : false ≡ true = h in cc;
@@ -98,11 +98,11 @@ module _ (tables : Tables) where
     starts_at zero = statement_starts tables prints false (Expression tables 0) Never Never
     starts_at (suc n) = statement_starts tables prints true (Expression tables (suc n)) (Expression tables n) (Statement tables prints n)
 
-    module _ (P : Kind → Type 0) where
+    module _ (P : SyntaxFaultKind → Type 0) where
       abbrev pub Level : ℕ → ℕ → Type 0
       Level n m = Part P (Statement tables prints n) (Statement tables prints (suc n)) (no_such else_word) (read_at tables prints n) (read_at tables prints m)
 
-      nowhere : (m : ℕ) (i' : Reader GrammarToken ExprTree) (s' : Reader GrammarToken StmtTree) → Levels P 0 m → statements.Inner P false (Expression tables 0) (Expression tables 1) Never (Expression tables 0) Never (Statement tables prints 0) (read_within tables 0 Whole) (read_within tables m Whole) wrong i' wrong s'
+      nowhere : (m : ℕ) (i' : TokenReader GrammarToken ExprTree) (s' : TokenReader GrammarToken StmtTree) → Levels P 0 m → statements.Inner P false (Expression tables 0) (Expression tables 1) Never (Expression tables 0) Never (Statement tables prints 0) (read_within tables 0 Whole) (read_within tables m Whole) wrong i' wrong s'
       nowhere m i' s' l = record {
         here = l.whole;
         test = λ h. let q : false ≡ true = h in cc;
@@ -146,7 +146,7 @@ module _ (tables : Tables) where
           rw (append_assoc a b rest) (head_gives (over first 0) (no_such directive) true (λ t s q. ap (λ b. cond b false true) (none_over first directive 0 0 directive_first (omega arith) t s q)) a (b ++ rest) ((starts_at n).by a x ha))
 
       script_part : (n m : ℕ) → Level n m → Part P (Statements tables prints n) (Statements tables prints (suc n)) no_more (read_statements tables prints n) (read_statements tables prints m)
-      script_part n m l = then_part second_of (strict_part P) (many_part goes_on no_more l (list_item (Statement tables prints n) (starts_at n))) (no_directive n)
+      script_part n m l = then_part keep_second (strict_part P) (many_part goes_on no_more l (list_item (Statement tables prints n) (starts_at n))) (no_directive n)
 
     -- the scripts by how many may be open
     pub scripts : Family (Statements tables prints) no_more (read_statements tables prints)
@@ -167,5 +167,5 @@ module _ (tables : Tables) where
     pub one_list : (n m : ℕ) (ts : List GrammarToken) (x y : List StmtTree) → Statements tables prints n ts x → Statements tables prints m ts y → x ≡ y
     one_list = whole.one_script scripts
 
-    pub refuses : (n : ℕ) (ts : List GrammarToken) (k : Kind) (rest : List GrammarToken) → read_whole (read_statements tables prints n) ts ≡ Bad k rest → IsRefused (Statements tables prints) n ts k rest
+    pub refuses : (n : ℕ) (ts : List GrammarToken) (k : SyntaxFaultKind) (rest : List GrammarToken) → read_whole (read_statements tables prints n) ts ≡ Bad k rest → IsRefused (Statements tables prints) n ts k rest
     refuses = whole.refuses scripts

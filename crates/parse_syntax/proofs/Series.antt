@@ -1,7 +1,7 @@
 -- Items that begin with the tokens v and w, and then perhaps v and something else: no further than the first token that is not taken.
 use Rattle.std.proofs.Common.{◌≡◌, ℕ, zero, suc, ◌≤◌, List, [], ◌∷◌, ◌++◌, length, false, Option, Some, None, refl, sym, ap, ◌∙◌, subst, arith, append_assoc, length-append}
-use Rattle.parse_syntax.specs.Lang.{second_of}
-use Rattle.parse_syntax.specs.Reader.{Answer, Got, Bad, Reader, ◌>>=◌, Kind, and_then, one_of, succeed, choose, loop, all_of, is_some, heads, heads_two}
+use Rattle.parse_syntax.specs.Lang.{keep_second}
+use Rattle.parse_syntax.specs.Reader.{Answer, Got, Bad, TokenReader, ◌>>=◌, SyntaxFaultKind, and_then, one_of, succeed, choose, loop, all_of, is_some, heads, heads_two}
 use Rattle.parse_syntax.proofs.Local.{SameHead, same_front, Stands, IsLocal}
 
 module _ {T : Type 0} where
@@ -14,12 +14,12 @@ module _ {T : Type 0} where
   left_by (Got x rest) = rest
   left_by (Bad k rest) = rest
 
-  abbrev pub Counts : {A : Type 0} → (Kind → Type 0) → Answer T A → Type 0
+  abbrev pub Counts : {A : Type 0} → (SyntaxFaultKind → Type 0) → Answer T A → Type 0
   Counts P (Got x rest) = Unit {0}
   Counts P (Bad k rest) = P k
 
   -- both halves of locality at once
-  pub stands : {A : Type 0} {P : Kind → Type 0} {r q : Reader T A} → IsLocal P r q → (s : List T) (a : Answer T A) → r s ≡ a → Counts P a → Stands q (leaving a) s (left_by a)
+  pub stands : {A : Type 0} {P : SyntaxFaultKind → Type 0} {r q : TokenReader T A} → IsLocal P r q → (s : List T) (a : Answer T A) → r s ≡ a → Counts P a → Stands q (leaving a) s (left_by a)
   stands l s (Got x rest) e c = l.got s x rest e
   stands l s (Bad k rest) e c = l.bad s k rest c e
 
@@ -29,14 +29,14 @@ module _ {T : Type 0} where
   head_kept v (t ∷ s) [] h = absurd h
   head_kept v (t ∷ s) (t2 ∷ u) h = ap (λ t. is_some (v t)) h
 
-  module _ {A B V W : Type 0} (v : T → Option V) (w : T → Option W) (z : B) (c : Reader T A) (b : Reader T B) where
-    abbrev pub item : Reader T A
-    item = and_then second_of (one_of v) (and_then second_of (one_of w) c)
+  module _ {A B V W : Type 0} (v : T → Option V) (w : T → Option W) (z : B) (c : TokenReader T A) (b : TokenReader T B) where
+    abbrev pub item : TokenReader T A
+    item = and_then keep_second (one_of v) (and_then keep_second (one_of w) c)
 
-    abbrev pub last : Reader T B
-    last = choose (heads v) (and_then second_of (one_of v) b) (succeed z)
+    abbrev pub last : TokenReader T B
+    last = choose (heads v) (and_then keep_second (one_of v) b) (succeed z)
 
-    abbrev pub from : {R : Type 0} → (List A → B → R) → ℕ → Reader T R
+    abbrev pub from : {R : Type 0} → (List A → B → R) → ℕ → TokenReader T R
     from h n s = loop (heads_two v w) item n s >>= λ xs rest. last rest >>= λ y rest'. Got (h xs y) rest'
 
     not_two : (s : List T) → heads v s ≡ false → heads_two v w s ≡ false
@@ -69,7 +69,7 @@ module _ {T : Type 0} where
             rest_of (Bad k r) = refl
             rest_of (Got xs r) = refl
 
-  module _ (P : Kind → Type 0) {A B V W : Type 0} (v : T → Option V) (w : T → Option W) (z : B) (c c' : Reader T A) (b b' : Reader T B) (lc : IsLocal P c c') (lb : IsLocal P b b') where
+  module _ (P : SyntaxFaultKind → Type 0) {A B V W : Type 0} (v : T → Option V) (w : T → Option W) (z : B) (c c' : TokenReader T A) (b b' : TokenReader T B) (lc : IsLocal P c c') (lb : IsLocal P b b') where
     -- with enough turns, whatever comes after
     abbrev Agree : {R : Type 0} → (List A → B → R) → Answer T R → List T → Type 0
     Agree h a s = (front : List T) × (s ≡ front ++ left_by a) × ((u : List T) (m : ℕ) → SameHead (left_by a) u → length (front ++ u) ≤ m → from v w z c' b' h m (front ++ u) ≡ leaving a u)

@@ -2,8 +2,8 @@
 use Rattle.std.proofs.Common.{◌≡◌, ℕ, List, [], ◌∷◌, ◌++◌, Bool, true, false, cond, nat_lt, nat_eq, Option, Some, None, refl, sym, ap, arith, append_assoc}
 use Rattle.std.proofs.lemmas.Bool.Decides.{nat_tests}
 use Rattle.js_lex.specs.declared.token.Mark.TheVariants as mark
-use Rattle.parse_syntax.specs.Lang.{Lang, One, one, Then, both, Bind, Mapped, mapped, Nothing, nothing, Either, left, right, Many, end, if_room, first_of, second_of, ◌▸◌, ◌◂◌}
-use Rattle.parse_syntax.specs.Reader.{Reader, Kind, map_by, and_then, and_bind, one_of, opens, all_of, is_some, heads, heads_two, allowed}
+use Rattle.parse_syntax.specs.Lang.{Lang, One, one, Then, both, Bind, Mapped, mapped, Nothing, nothing, Either, left, right, Many, end, if_room, keep_first, keep_second, ◌▸◌, ◌◂◌}
+use Rattle.parse_syntax.specs.Reader.{TokenReader, SyntaxFaultKind, map_by, and_then, and_bind, one_of, opens, all_of, is_some, heads, heads_two, allowed}
 use Rattle.parse_syntax.proofs.Laws.{Holds}
 use Rattle.parse_syntax.proofs.Local.{SameHead, IsTest}
 use Rattle.parse_syntax.proofs.Wider.{Starts, then_starts, mapped_starts, either_starts, head_gives}
@@ -14,8 +14,8 @@ use Rattle.parse_syntax.specs.declared.token.GrammarToken.TheVariants as token
 use Rattle.parse_syntax.specs.declared.token.Word.TheVariants as word
 use Rattle.parse_syntax.specs.declared.token.Property.TheVariants as property
 use Rattle.eval_tree.specs.Tree.{ExprTree, StmtTree, BlockTree, block}
-use Rattle.parse_syntax.specs.Tables.{Tables}
-use Rattle.parse_syntax.specs.Terminals.{Ident, when, directive, let_word, const_word, print_word, if_word, else_word, for_word, name, the_name, opening, open_brace, close_brace, semicolon, less, assign_mark, assign_op, increment, nought, bound_number}
+use Rattle.parse_syntax.specs.Tables.{TokenTables}
+use Rattle.parse_syntax.specs.Terminals.{Identifier, when, directive, let_word, const_word, print_word, if_word, else_word, for_word, name, the_name, opening, open_brace, close_brace, semicolon, less, assign_mark, assign_op, increment, nought, bound_number}
 use Rattle.parse_syntax.specs.Grammar
 use Rattle.parse_syntax.specs.Grammar.{pair_of, inside_of, no_inside, print_of, arm_of, more_of, if_of, header_of, let_of, const_of, assign_of, for_of}
 use Rattle.parse_syntax.specs.Reading.{goes_on, read_args, read_parens, read_block, read_init, read_let, read_const, read_assign, read_print, read_arm, read_rest, read_if, read_turns, read_header, read_for, read_statement, read_strict}
@@ -57,7 +57,7 @@ const_first = record { is = go }
 name_first : IsOf first name 4
 name_first = record { is = go }
   where
-    go : (t : GrammarToken) (x : Ident) → name t ≡ Some x → first t ≡ 4
+    go : (t : GrammarToken) (x : Identifier) → name t ≡ Some x → first t ≡ 4
     go (token.Name at n p) x e = refl
     go _ x e = cc
 
@@ -142,7 +142,7 @@ list_item S st = record {
     at_end (_ ∷ s) e = refl
 
 -- what is known of an expression at this level, and of an expression and a statement where one more is open
-pub record Inner (P : Kind → Type 0) (room : Bool) (E H I J : Lang GrammarToken ExprTree) (S F : Lang GrammarToken StmtTree) (e e' i i' : Reader GrammarToken ExprTree) (s s' : Reader GrammarToken StmtTree) : Type 0 where
+pub record Inner (P : SyntaxFaultKind → Type 0) (room : Bool) (E H I J : Lang GrammarToken ExprTree) (S F : Lang GrammarToken StmtTree) (e e' i i' : TokenReader GrammarToken ExprTree) (s s' : TokenReader GrammarToken StmtTree) : Type 0 where
   pub here : Part P E H (stops 1) e e'
   pub test : room ≡ true → Part P I J (stops 1) i i'
   pub first_test : room ≡ true → Starts I begins_unary
@@ -165,7 +165,7 @@ at_semicolon_no_assign (_ ∷ s) h = refl
 
 -- what a statement begins with
 
-module _ (tables : Tables) (prints room : Bool) (E I : Lang GrammarToken ExprTree) (S : Lang GrammarToken StmtTree) where
+module _ (tables : TokenTables) (prints room : Bool) (E I : Lang GrammarToken ExprTree) (S : Lang GrammarToken StmtTree) where
   for_starts : (k : ℕ) → nat_lt k 7 ≡ true → Starts (if_room room (Grammar.for_statement tables S)) (over first k)
   for_starts k lt = record { by = λ ts x h. (then_starts (for_of tables) Grammar.for_header (Grammar.block_part S) (over first k) (first_over first for_word 7 k for_first lt)).by ts x (room_of room (Grammar.for_statement tables S) ts x h) }
 
@@ -173,7 +173,7 @@ module _ (tables : Tables) (prints room : Bool) (E I : Lang GrammarToken ExprTre
   From_if = Either (if_room room (Grammar.if_statement I S)) (if_room room (Grammar.for_statement tables S))
 
   abbrev pub From_print : Lang GrammarToken StmtTree
-  From_print = Either (if_room prints (if_room room (Grammar.print_line I))) From_if
+  From_print = Either (if_room prints (if_room room (Grammar.print_statement I))) From_if
 
   abbrev pub From_assign : Lang GrammarToken StmtTree
   From_assign = Either (Grammar.assign_line tables E) From_print
@@ -190,11 +190,11 @@ module _ (tables : Tables) (prints room : Bool) (E I : Lang GrammarToken ExprTre
       (for_starts 5 refl)
 
   print_starts : Starts From_print (over first 4)
-  print_starts = either_starts (if_room prints (if_room room (Grammar.print_line I))) From_if (over first 4)
-      (record { by = λ ts x h. first_print.by ts x (room_of room (Grammar.print_line I) ts x (room_of prints (if_room room (Grammar.print_line I)) ts x h)) })
+  print_starts = either_starts (if_room prints (if_room room (Grammar.print_statement I))) From_if (over first 4)
+      (record { by = λ ts x h. first_print.by ts x (room_of room (Grammar.print_statement I) ts x (room_of prints (if_room room (Grammar.print_statement I)) ts x h)) })
       (lower first 5 4 refl if_starts)
     where
-      first_print : Starts (Grammar.print_line I) (over first 4)
+      first_print : Starts (Grammar.print_statement I) (over first 4)
       first_print = first_over first print_word 5 4 print_first refl
 
   assign_starts : Starts From_assign (over first 3)
@@ -220,7 +220,7 @@ module _ (tables : Tables) (prints room : Bool) (E I : Lang GrammarToken ExprTre
   for_heads : (ts : List GrammarToken) (x : StmtTree) (rest : List GrammarToken) → Grammar.for_statement tables S ts x → heads for_word (ts ++ rest) ≡ true
   for_heads _ _ rest (both a b x y ha hb) = rw (append_assoc a b rest) (then_heads for_word a x (b ++ rest) ha)
 
-module _ (P : Kind → Type 0) where
+module _ (P : SyntaxFaultKind → Type 0) where
   name_part : Part P (One name) (One name) anything (one_of name) (one_of name)
   name_part = one_part P name (token.Name 0 0 property.Nothing) (record { at = 0; number = 0 }) refl
 
@@ -251,25 +251,25 @@ module _ (P : Kind → Type 0) where
   the_name_part : (x : ℕ) → Part P (One (the_name x)) (One (the_name x)) anything (one_of (the_name x)) (one_of (the_name x))
   the_name_part x = one_part P (the_name x) (token.Name 0 x property.Nothing) tt (ap (λ b. when b tt) (same_name x))
 
-  turns_part : (x : Ident) → Part P (Grammar.turns x) (Grammar.turns x) anything (read_turns x) (read_turns x)
+  turns_part : (x : Identifier) → Part P (Grammar.loop_head x) (Grammar.loop_head x) anything (read_turns x) (read_turns x)
   turns_part x =
-      let last = next_part second_of semicolon_part (next_part second_of (the_name_part x.number) (next_part second_of (one_part P increment (token.Mark 0 mark.Increment false) tt refl) (closing_part P))) in
-      next_part second_of assign_part (next_part second_of (one_part P nought (token.Number 0 0) tt refl) (next_part second_of semicolon_part (next_part second_of (the_name_part x.number) (next_part second_of (one_part P less (token.Mark 0 mark.Less false) tt refl) (next_part first_of (one_part P bound_number (token.Number 0 0) 0 refl) last)))))
+      let last = next_part keep_second semicolon_part (next_part keep_second (the_name_part x.number) (next_part keep_second (one_part P increment (token.Mark 0 mark.Increment false) tt refl) (closing_part P))) in
+      next_part keep_second assign_part (next_part keep_second (one_part P nought (token.Number 0 0) tt refl) (next_part keep_second semicolon_part (next_part keep_second (the_name_part x.number) (next_part keep_second (one_part P less (token.Mark 0 mark.Less false) tt refl) (next_part keep_first (one_part P bound_number (token.Number 0 0) 0 refl) last)))))
 
-  from_opening : Part P (One opening ▸ One let_word ▸ Bind header_of (One name) Grammar.turns) (One opening ▸ One let_word ▸ Bind header_of (One name) Grammar.turns) anything (and_then second_of (one_of opening) (and_then second_of (one_of let_word) (and_bind header_of (one_of name) read_turns))) (and_then second_of (one_of opening) (and_then second_of (one_of let_word) (and_bind header_of (one_of name) read_turns)))
-  from_opening = next_part second_of (opening_part P) (next_part second_of let_part (bind_part header_of name_part (λ a x h. turns_part x) (λ x. (turns_part x).local)))
+  from_opening : Part P (One opening ▸ One let_word ▸ Bind header_of (One name) Grammar.loop_head) (One opening ▸ One let_word ▸ Bind header_of (One name) Grammar.loop_head) anything (and_then keep_second (one_of opening) (and_then keep_second (one_of let_word) (and_bind header_of (one_of name) read_turns))) (and_then keep_second (one_of opening) (and_then keep_second (one_of let_word) (and_bind header_of (one_of name) read_turns)))
+  from_opening = next_part keep_second (opening_part P) (next_part keep_second let_part (bind_part header_of name_part (λ a x h. turns_part x) (λ x. (turns_part x).local)))
 
   header_part : Part P Grammar.for_header Grammar.for_header anything read_header read_header
-  header_part = next_part second_of (one_part P for_word (token.Word 0 word.For 0) tt refl) from_opening
+  header_part = next_part keep_second (one_part P for_word (token.Word 0 word.For 0) tt refl) from_opening
 
-  module _ (tables : Tables) {E H : Lang GrammarToken ExprTree} {e e' : Reader GrammarToken ExprTree} (p : Part P E H (stops 1) e e') where
-    ended_part : Part P (E ◂ One semicolon) (H ◂ One semicolon) anything (and_then first_of e (one_of semicolon)) (and_then first_of e' (one_of semicolon))
-    ended_part = then_part first_of p semicolon_part (λ b y rest h s. one_stops semicolon 0 1 semicolon_level refl b y rest h)
+  module _ (tables : TokenTables) {E H : Lang GrammarToken ExprTree} {e e' : TokenReader GrammarToken ExprTree} (p : Part P E H (stops 1) e e') where
+    ended_part : Part P (E ◂ One semicolon) (H ◂ One semicolon) anything (and_then keep_first e (one_of semicolon)) (and_then keep_first e' (one_of semicolon))
+    ended_part = then_part keep_first p semicolon_part (λ b y rest h s. one_stops semicolon 0 1 semicolon_level refl b y rest h)
 
     init_part : Part P (Either (Mapped Some (One assign_mark ▸ E)) (Nothing None)) (Either (Mapped Some (One assign_mark ▸ H)) (Nothing None)) (heads semicolon) (read_init e) (read_init e')
     init_part = part_of
         (choose_branch (heads assign_mark) (heads_test assign_mark)
-        (sooner (heads_stop semicolon 0 1 semicolon_level refl) (branch (map_part Some (next_part second_of assign_part p)) (λ ts x h. left ts x h)))
+        (sooner (heads_stop semicolon 0 1 semicolon_level refl) (branch (map_part Some (next_part keep_second assign_part p)) (λ ts x h. left ts x h)))
         (nothing_branch P None)
         assign_heads ended)
         (record { tokens = []; value = None; spells = right [] None (nothing None refl) })
@@ -281,23 +281,23 @@ module _ (P : Kind → Type 0) where
         ended _ _ rest (nothing x h) s = at_semicolon_no_assign rest s
 
     let_line_part : Part P (Grammar.let_line tables E) (Grammar.let_line tables H) anything (read_let tables e) (read_let tables e')
-    let_line_part = next_part second_of let_part (then_part first_of (next_part (let_of tables) name_part init_part) semicolon_part (λ b y rest h s. one_heads semicolon b y rest h))
+    let_line_part = next_part keep_second let_part (then_part keep_first (next_part (let_of tables) name_part init_part) semicolon_part (λ b y rest h s. one_heads semicolon b y rest h))
 
     const_line_part : Part P (Grammar.const_line tables E) (Grammar.const_line tables H) anything (read_const tables e) (read_const tables e')
-    const_line_part = next_part second_of (one_part P const_word (token.Word 0 word.Const 0) tt refl) (next_part (const_of tables) name_part (next_part second_of assign_part ended_part))
+    const_line_part = next_part keep_second (one_part P const_word (token.Word 0 word.Const 0) tt refl) (next_part (const_of tables) name_part (next_part keep_second assign_part ended_part))
 
     assign_line_part : Part P (Grammar.assign_line tables E) (Grammar.assign_line tables H) anything (read_assign tables e) (read_assign tables e')
     assign_line_part = next_part (assign_of tables) name_part (next_part pair_of (one_part P assign_op (token.Mark 0 mark.Assign false) None refl) ended_part)
 
-  module _ (tables : Tables) {I J : Lang GrammarToken ExprTree} {i i' : Reader GrammarToken ExprTree} {S F : Lang GrammarToken StmtTree} {s s' : Reader GrammarToken StmtTree} (q : Part P I J (stops 1) i i') (p : Part P S F (no_such else_word) s s') (st : Starts S (over first 0)) where
+  module _ (tables : TokenTables) {I J : Lang GrammarToken ExprTree} {i i' : TokenReader GrammarToken ExprTree} {S F : Lang GrammarToken StmtTree} {s s' : TokenReader GrammarToken StmtTree} (q : Part P I J (stops 1) i i') (p : Part P S F (no_such else_word) s s') (st : Starts S (over first 0)) where
     pub block_part : Part P (Grammar.block_part S) (Grammar.block_part F) anything (read_block s) (read_block s')
-    block_part = next_part second_of open_brace_part (map_part inside_of (then_part first_of (many_part goes_on no_more p (list_item S st)) close_brace_part closes))
+    block_part = next_part keep_second open_brace_part (map_part inside_of (then_part keep_first (many_part goes_on no_more p (list_item S st)) close_brace_part closes))
       where
         closes : (b : List GrammarToken) (y : Unit {0}) (rest : List GrammarToken) → One close_brace b y → anything rest ≡ true → no_more (b ++ rest) ≡ true
         closes _ _ rest (one t y e) h = ap (λ o. cond (cond (is_some o) false true) false true) e
 
     pub arm_part : Part P (Grammar.if_arm I S) (Grammar.if_arm J F) anything (read_arm i s) (read_arm i' s')
-    arm_part = next_part second_of if_part (next_part arm_of (parens_part P q) block_part)
+    arm_part = next_part keep_second if_part (next_part arm_of (parens_part P q) block_part)
 
     block_no_if : (ts : List GrammarToken) (x : BlockTree) (rest : List GrammarToken) → Grammar.block_part S ts x → heads if_word (ts ++ rest) ≡ false
     block_no_if ts x rest h = then_lacks first if_first open_brace_of (λ q. omega arith) ts x rest h
@@ -312,29 +312,29 @@ module _ (P : Kind → Type 0) where
 
   no_statements : (L : Lang GrammarToken StmtTree) → Holds (Mapped inside_of (Many L ◂ One close_brace))
   no_statements L =
-      let m = both_hold first_of (record { tokens = []; value = []; spells = end }) close_brace_part.some in
+      let m = both_hold keep_first (record { tokens = []; value = []; spells = end }) close_brace_part.some in
       record { tokens = m.tokens; value = inside_of m.value; spells = mapped m.tokens m.value m.spells }
 
   body : (L : Lang GrammarToken StmtTree) → Holds (Grammar.block_part L)
-  body L = both_hold second_of open_brace_part.some (no_statements L)
+  body L = both_hold keep_second open_brace_part.some (no_statements L)
 
   block_rest : (L : Lang GrammarToken StmtTree) (t : GrammarToken) (y : Unit {0}) → open_brace t ≡ Some y → (tail : List GrammarToken) × (x : StmtTree) × Mapped block (Grammar.block_part L) (t ∷ tail) x
-  block_rest L t y e = let d = deeper second_of open_brace (no_statements L) t y e in (d.0, block d.1, mapped (t ∷ d.0) d.1 d.2)
+  block_rest L t y e = let d = deeper keep_second open_brace (no_statements L) t y e in (d.0, block d.1, mapped (t ∷ d.0) d.1 d.2)
 
   if_rest : {J : Lang GrammarToken ExprTree} (L : Lang GrammarToken StmtTree) → Holds J → (t : GrammarToken) (y : Unit {0}) → if_word t ≡ Some y → (tail : List GrammarToken) × (x : StmtTree) × Grammar.if_statement J L (t ∷ tail) x
   if_rest L held t y e =
-      let d = deeper second_of if_word (both_hold arm_of (held_parens P held) (body L)) t y e in
+      let d = deeper keep_second if_word (both_hold arm_of (held_parens P held) (body L)) t y e in
       (d.0 ++ [], if_of d.1 ([], no_inside), both (t ∷ d.0) [] d.1 ([], no_inside) d.2 (both [] [] [] no_inside end (right [] no_inside (nothing no_inside refl))))
 
-  for_rest : (tables : Tables) (L : Lang GrammarToken StmtTree) (t : GrammarToken) (y : Unit {0}) → for_word t ≡ Some y → (tail : List GrammarToken) × (x : StmtTree) × Grammar.for_statement tables L (t ∷ tail) x
+  for_rest : (tables : TokenTables) (L : Lang GrammarToken StmtTree) (t : GrammarToken) (y : Unit {0}) → for_word t ≡ Some y → (tail : List GrammarToken) × (x : StmtTree) × Grammar.for_statement tables L (t ∷ tail) x
   for_rest tables L t y e =
-      let d = deeper second_of for_word from_opening.some t y e in
+      let d = deeper keep_second for_word from_opening.some t y e in
       let b = body L in
       (d.0 ++ b.tokens, for_of tables d.1 b.value, both (t ∷ d.0) b.tokens d.1 b.value d.2 b.spells)
 
   -- one level
 
-  module _ (tables : Tables) (prints room room' : Bool) (rs : Rooms P room room') (E H I J : Lang GrammarToken ExprTree) (S F : Lang GrammarToken StmtTree) (e e' i i' : Reader GrammarToken ExprTree) (s s' : Reader GrammarToken StmtTree) (k : Inner P room E H I J S F e e' i i' s s') where
+  module _ (tables : TokenTables) (prints room room' : Bool) (rs : Rooms P room room') (E H I J : Lang GrammarToken ExprTree) (S F : Lang GrammarToken StmtTree) (e e' i i' : TokenReader GrammarToken ExprTree) (s s' : TokenReader GrammarToken StmtTree) (k : Inner P room E H I J S F e e' i i' s s') where
     some_statement : Holds (Grammar.statement tables prints room E I S)
     some_statement = let m = (let_line_part tables k.here).some in record { tokens = m.tokens; value = m.value; spells = right m.tokens m.value (left m.tokens m.value m.spells) }
 
@@ -342,19 +342,19 @@ module _ (P : Kind → Type 0) where
     block_branch = open_branch room room' rs open_brace
         (λ r. sooner (λ q h. refl) (branch (map_part block (block_part tables (k.test r) (k.law r) (k.starts r))) (λ ts x h. left ts x (in_room room (Mapped block (Grammar.block_part S)) r ts x h))))
         some_statement (block_rest F)
-        (map_strict block open_brace (read_block s') (then_strict second_of open_brace (map_by inside_of (and_then first_of (all_of goes_on s') (one_of close_brace)))))
+        (map_strict block open_brace (read_block s') (then_strict keep_second open_brace (map_by inside_of (and_then keep_first (all_of goes_on s') (one_of close_brace)))))
 
-    print_branch : Branch P (Grammar.statement tables prints room E I S) (if_room prints (if_room room (Grammar.print_line I))) (if_room prints (Grammar.print_line J)) (no_such else_word) (allowed prints (opens room (heads print_word) (read_print i))) (allowed prints (opens room' (heads print_word) (read_print i')))
+    print_branch : Branch P (Grammar.statement tables prints room E I S) (if_room prints (if_room room (Grammar.print_statement I))) (if_room prints (Grammar.print_statement J)) (no_such else_word) (allowed prints (opens room (heads print_word) (read_print i))) (allowed prints (opens room' (heads print_word) (read_print i')))
     print_branch = never_branch prints some_statement (λ a. open_branch room room' rs print_word
-        (λ r. sooner (λ q h. refl) (branch (next_part second_of (one_part P print_word (token.Word 0 word.Print 0) tt refl) (map_part print_of (next_part first_of (args_part P (k.test r) (k.first_test r)) semicolon_part)))
-        (λ ts x h. right ts x (right ts x (right ts x (right ts x (left ts x (in_room prints (if_room room (Grammar.print_line I)) a ts x (in_room room (Grammar.print_line I) r ts x h)))))))))
+        (λ r. sooner (λ q h. refl) (branch (next_part keep_second (one_part P print_word (token.Word 0 word.Print 0) tt refl) (map_part print_of (next_part keep_first (args_part P (k.test r) (k.first_test r)) semicolon_part)))
+        (λ ts x h. right ts x (right ts x (right ts x (right ts x (left ts x (in_room prints (if_room room (Grammar.print_statement I)) a ts x (in_room room (Grammar.print_statement I) r ts x h)))))))))
         some_statement
-        (deeper second_of print_word printed)
-        (then_strict second_of print_word (map_by print_of (and_then first_of (read_args i') (one_of semicolon)))))
+        (deeper keep_second print_word printed)
+        (then_strict keep_second print_word (map_by print_of (and_then keep_first (read_args i') (one_of semicolon)))))
       where
         printed : Holds (Mapped print_of (Grammar.args J ◂ One semicolon))
         printed =
-            let m = both_hold first_of (no_args P J) semicolon_part.some in
+            let m = both_hold keep_first (no_args P J) semicolon_part.some in
             record { tokens = m.tokens; value = print_of m.value; spells = mapped m.tokens m.value m.spells }
 
     if_branch : Branch P (Grammar.statement tables prints room E I S) (if_room room (Grammar.if_statement I S)) (Grammar.if_statement J F) (no_such else_word) (opens room (heads if_word) (read_if i s)) (opens room' (heads if_word) (read_if i' s'))
@@ -362,20 +362,20 @@ module _ (P : Kind → Type 0) where
         (λ r. branch (if_statement_part tables (k.test r) (k.law r) (k.starts r)) (λ ts x h. right ts x (right ts x (right ts x (right ts x (right ts x (left ts x (in_room room (Grammar.if_statement I S) r ts x h))))))))
         some_statement
         (if_rest F k.held_test)
-        (first_strict if_of if_word (read_arm i' s') (and_then more_of (all_of (heads_two else_word if_word) (and_then second_of (one_of else_word) (read_arm i' s'))) (read_rest s')) (then_strict second_of if_word (and_then arm_of (read_parens i') (read_block s'))))
+        (first_strict if_of if_word (read_arm i' s') (and_then more_of (all_of (heads_two else_word if_word) (and_then keep_second (one_of else_word) (read_arm i' s'))) (read_rest s')) (then_strict keep_second if_word (and_then arm_of (read_parens i') (read_block s'))))
 
     for_branch : Branch P (Grammar.statement tables prints room E I S) (if_room room (Grammar.for_statement tables S)) (Grammar.for_statement tables F) (no_such else_word) (opens room (heads for_word) (read_for tables s)) (opens room' (heads for_word) (read_for tables s'))
     for_branch = open_branch room room' rs for_word
         (λ r. sooner (λ q h. refl) (branch (for_statement_part tables (k.test r) (k.law r) (k.starts r)) (λ ts x h. right ts x (right ts x (right ts x (right ts x (right ts x (right ts x (in_room room (Grammar.for_statement tables S) r ts x h)))))))))
         some_statement
         (for_rest tables F)
-        (first_strict (for_of tables) for_word read_header (read_block s') (then_strict second_of for_word (and_then second_of (one_of opening) (and_then second_of (one_of let_word) (and_bind header_of (one_of name) read_turns)))))
+        (first_strict (for_of tables) for_word read_header (read_block s') (then_strict keep_second for_word (and_then keep_second (one_of opening) (and_then keep_second (one_of let_word) (and_bind header_of (one_of name) read_turns)))))
 
     -- the statements at this level
     pub statement_part : Part P (Grammar.statement tables prints room E I S) (Grammar.statement tables prints true H J F) (no_such else_word) (read_statement tables prints room e i s) (read_statement tables prints room' e' i' s')
     statement_part =
         let ifs = choose_branch (heads if_word) (heads_test if_word) if_branch for_branch (λ ts x rest h. if_heads tables prints room E I S ts x rest (room_of room (Grammar.if_statement I S) ts x h)) (λ ts x rest h q. lacks first if_word 6 6 if_first (omega arith) (for_starts tables prints room E I S 6 refl) ts x rest h) in
-        let prints' = choose_branch (heads print_word) (heads_test print_word) print_branch ifs (λ ts x rest h. then_heads print_word ts x rest (room_of room (Grammar.print_line I) ts x (room_of prints (if_room room (Grammar.print_line I)) ts x h))) (λ ts x rest h q. lacks first print_word 5 5 print_first (omega arith) (if_starts tables prints room E I S) ts x rest h) in
+        let prints' = choose_branch (heads print_word) (heads_test print_word) print_branch ifs (λ ts x rest h. then_heads print_word ts x rest (room_of room (Grammar.print_statement I) ts x (room_of prints (if_room room (Grammar.print_statement I)) ts x h))) (λ ts x rest h q. lacks first print_word 5 5 print_first (omega arith) (if_starts tables prints room E I S) ts x rest h) in
         let assigns = choose_branch (heads name) (heads_test name) (sooner (λ q h. refl) (branch (assign_line_part tables k.here) (λ ts x h. right ts x (right ts x (right ts x (left ts x h)))))) prints' (λ ts x rest h. then_heads name ts x rest h) (λ ts x rest h q. lacks first name 4 4 name_first (omega arith) (print_starts tables prints room E I S) ts x rest h) in
         let consts = choose_branch (heads const_word) (heads_test const_word) (sooner (λ q h. refl) (branch (const_line_part tables k.here) (λ ts x h. right ts x (right ts x (left ts x h))))) assigns (λ ts x rest h. then_heads const_word ts x rest h) (λ ts x rest h q. lacks first const_word 3 3 const_first (omega arith) (assign_starts tables prints room E I S) ts x rest h) in
         let lets = choose_branch (heads let_word) (heads_test let_word) (sooner (λ q h. refl) (branch (let_line_part tables k.here) (λ ts x h. right ts x (left ts x h)))) consts (λ ts x rest h. then_heads let_word ts x rest h) (λ ts x rest h q. lacks first let_word 2 2 let_first (omega arith) (const_starts tables prints room E I S) ts x rest h) in
@@ -385,7 +385,7 @@ module _ (P : Kind → Type 0) where
   pub strict_part : Part P Grammar.strict Grammar.strict (no_such directive) read_strict read_strict
   strict_part = part_of
       (choose_branch (heads directive) (heads_test directive)
-      (sooner (λ q h. refl) (branch (next_part second_of (one_part P directive (token.Directive 0) tt refl) semicolon_part) (λ ts x h. left ts x h)))
+      (sooner (λ q h. refl) (branch (next_part keep_second (one_part P directive (token.Directive 0) tt refl) semicolon_part) (λ ts x h. left ts x h)))
       (nothing_branch P tt)
       (λ ts x rest h. then_heads directive ts x rest h)
       none_there)

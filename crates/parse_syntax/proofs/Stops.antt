@@ -10,7 +10,7 @@ use Rattle.parse_syntax.specs.declared.token.Word.TheVariants as word
 use Rattle.parse_syntax.specs.declared.token.Property.TheVariants as property
 use Rattle.eval_tree.specs.declared.tree.Method.{Method}
 use Rattle.eval_tree.specs.Tree.{ExprTree, StepTree}
-use Rattle.parse_syntax.specs.Tables.{Tables}
+use Rattle.parse_syntax.specs.Tables.{TokenTables}
 use Rattle.parse_syntax.specs.Terminals.{string_word, symbol_word, json_word, object_word, uri_function, member_word, property_word, method, key, opening, closing, open_bracket, close_bracket, open_literal, close_brace, comma, point, question, colon, sign, or_op, and_op, equal_op, compare_op, sum_op, simple, constant}
 use Rattle.parse_syntax.specs.Reading.{step_mark}
 
@@ -181,7 +181,7 @@ class (token.Word at word.Object number) = 7
 class (token.Mark at mark.OpenBrace l) = 8
 class _ = 0
 
-pub simple_of : (tables : Tables) → IsOf class (simple tables) 1
+pub simple_of : (tables : TokenTables) → IsOf class (simple tables) 1
 simple_of tables = record { is = go }
   where
     constants : (at number : ℕ) (w : _) (x : ExprTree) → constant w ≡ Some x → class (token.Word at w number) ≡ 1
@@ -331,14 +331,14 @@ member_of = record { is = go }
     go (token.Name at n property.Description) x e = refl
     go _ x e = cc
 
-pub method_of : (tables : Tables) → IsOf part (method tables) 5
+pub method_of : (tables : TokenTables) → IsOf part (method tables) 5
 method_of tables = record { is = go }
   where
     go : (t : GrammarToken) (x : (ℕ × Method) × List ℕ) → method tables t ≡ Some x → part t ≡ 5
     go (token.Name at n (property.Method m)) x e = refl
     go _ x e = cc
 
-pub property_of : (tables : Tables) → IsOf part (property_word tables) 6
+pub property_of : (tables : TokenTables) → IsOf part (property_word tables) 6
 property_of tables = record { is = go }
   where
     go : (t : GrammarToken) (x : StepTree) → property_word tables t ≡ Some x → part t ≡ 6
@@ -383,7 +383,7 @@ entry_class (token.Name at n p) = 1
 entry_class (token.Word at w number) = 1
 entry_class _ = 0
 
-pub key_of : (tables : Tables) → IsOf entry_class (key tables) 1
+pub key_of : (tables : TokenTables) → IsOf entry_class (key tables) 1
 key_of tables = record { is = go }
   where
     go : (t : GrammarToken) (x : List ℕ) → key tables t ≡ Some x → entry_class t ≡ 1

@@ -2,8 +2,8 @@
 use Rattle.std.proofs.Common.{◌≡◌, ℕ, zero, suc, ◌+◌, ◌<◌, ◌≤◌, List, [], ◌∷◌, ◌++◌, Bool, true, false, ◌⊎◌, inl, inr, refl, sym, ap, ◌∙◌, subst, arith, append_assoc, append-nil}
 use Rattle.std.proofs.lemmas.Bool.{cases_lt}
 use Rattle.std.proofs.lemmas.List.{append_cancel_right}
-use Rattle.parse_syntax.specs.Lang.{Lang, Then, both, Nothing, nothing, first_of}
-use Rattle.parse_syntax.specs.Reader.{Got, Bad, Reader, Kind, Wrong, TooDeep, at_end, read_whole}
+use Rattle.parse_syntax.specs.Lang.{Lang, Then, both, Nothing, nothing, keep_first}
+use Rattle.parse_syntax.specs.Reader.{Got, Bad, TokenReader, SyntaxFaultKind, Wrong, TooDeep, at_end, read_whole}
 use Rattle.parse_syntax.specs.Refused.{CanBegin, IsWrongAt, IsRefused}
 use Rattle.parse_syntax.proofs.Laws.{IsLawful, Front, parts}
 use Rattle.parse_syntax.proofs.Local.{SameHead, Stands, IsLocal}
@@ -31,7 +31,7 @@ module _ {T : Type 0} where
   end_complete : (ts : List T) (x : Unit {0}) (rest : List T) → Ended ts x → is_empty rest ≡ true → at_end (ts ++ rest) ≡ Got x rest
   end_complete _ _ rest (nothing x h) e = empty_of rest e x
 
-  end_bad : (s : List T) (k : Kind) (rest : List T) → at_end s ≡ Bad k rest → (s ≡ rest) × (k ≡ TooDeep → ⊥)
+  end_bad : (s : List T) (k : SyntaxFaultKind) (rest : List T) → at_end s ≡ Bad k rest → (s ≡ rest) × (k ≡ TooDeep → ⊥)
   end_bad [] k rest e = cc
   end_bad (t ∷ s) k rest e = let a : Wrong ≡ k = cc in (cc, λ d. let g : Wrong ≡ TooDeep = a ∙ d in cc)
 
@@ -43,7 +43,7 @@ module _ {T : Type 0} where
     deep = λ s rest e. absurd ((end_bad s TooDeep rest e).1 refl);
   }
 
-  end_local : (P : Kind → Type 0) → IsLocal {T = T} P at_end at_end
+  end_local : (P : SyntaxFaultKind → Type 0) → IsLocal {T = T} P at_end at_end
   end_local P = record { got = got_of; bad = bad_of }
     where
       stay : (v : List T) → SameHead [] v → (x : Unit {0}) → at_end v ≡ Got x v
@@ -54,34 +54,34 @@ module _ {T : Type 0} where
       got_of [] x rest e = let w : [] ≡ rest = cc in record { front = []; whole = w; always = λ v m. stay v (subst (λ q. SameHead q v) (sym w) m) x }
       got_of (t ∷ s) x rest e = cc
 
-      same : (t : T) (s : List T) (k : Kind) → Wrong ≡ k → (v : List T) → SameHead (t ∷ s) v → at_end v ≡ Bad k v
+      same : (t : T) (s : List T) (k : SyntaxFaultKind) → Wrong ≡ k → (v : List T) → SameHead (t ∷ s) v → at_end v ≡ Bad k v
       same t s k a [] m = absurd m
       same t s k a (u ∷ v) m = ap (λ k. Bad k (u ∷ v)) a
 
-      bad_of : (s : List T) (k : Kind) (rest : List T) → P k → at_end s ≡ Bad k rest → Stands at_end (λ v. Bad k v) s rest
+      bad_of : (s : List T) (k : SyntaxFaultKind) (rest : List T) → P k → at_end s ≡ Bad k rest → Stands at_end (λ v. Bad k v) s rest
       bad_of [] k rest d e = cc
       bad_of (t ∷ s) k rest d e =
           let a : Wrong ≡ k = cc in
           let w : t ∷ s ≡ rest = cc in
           record { front = []; whole = w; always = λ v m. same t s k a v (subst (λ q. SameHead q v) (sym w) m) }
 
-  end_part : (P : Kind → Type 0) → Part P Ended Ended is_empty at_end at_end
+  end_part : (P : SyntaxFaultKind → Type 0) → Part P Ended Ended is_empty at_end at_end
   end_part P = record { lawful = end_lawful; wider = itself Ended; local = end_local P; some = record { tokens = []; value = tt; spells = nothing tt refl } }
 
-abbrev pub Shallow : Kind → Type 0
+abbrev pub Shallow : SyntaxFaultKind → Type 0
 Shallow k = k ≡ TooDeep → ⊥
 
 -- a family of readers for a family of languages: at each level, and one more may be open above
-pub record Family {T A : Type 0} (Script : ℕ → Lang T A) (stops : List T → Bool) (read : ℕ → Reader T A) : Type 0 where
+pub record Family {T A : Type 0} (Script : ℕ → Lang T A) (stops : List T → Bool) (read : ℕ → TokenReader T A) : Type 0 where
   pub at_nothing : stops [] ≡ true
   pub same : (n : ℕ) → Part (λ k. Unit {0}) (Script n) (Script (suc n)) stops (read n) (read n)
   pub more : (n m : ℕ) → n ≤ m → Part Shallow (Script n) (Script (suc n)) stops (read n) (read m)
 
-module _ {T A : Type 0} {Script : ℕ → Lang T A} {stops : List T → Bool} {read : ℕ → Reader T A} (f : Family Script stops read) where
+module _ {T A : Type 0} {Script : ℕ → Lang T A} {stops : List T → Bool} {read : ℕ → TokenReader T A} (f : Family Script stops read) where
   abbrev AllOf : ℕ → Lang T A
-  AllOf n = Then first_of (Script n) Ended
+  AllOf n = Then keep_first (Script n) Ended
 
-  abbrev read_all : ℕ → Reader T A
+  abbrev read_all : ℕ → TokenReader T A
   read_all n = read_whole (read n)
 
   empty_stops : (rest : List T) → is_empty rest ≡ true → stops rest ≡ true
@@ -92,10 +92,10 @@ module _ {T A : Type 0} {Script : ℕ → Lang T A} {stops : List T → Bool} {r
   follows _ _ rest (nothing x h) e = empty_stops rest e
 
   all_same : (n : ℕ) → Part (λ k. Unit {0}) (AllOf n) (AllOf (suc n)) is_empty (read_all n) (read_all n)
-  all_same n = then_part first_of (f.same n) (end_part (λ k. Unit {0})) follows
+  all_same n = then_part keep_first (f.same n) (end_part (λ k. Unit {0})) follows
 
   all_more : (n m : ℕ) → n ≤ m → Part Shallow (AllOf n) (AllOf (suc n)) is_empty (read_all n) (read_all m)
-  all_more n m le = then_part first_of (f.more n m le) (end_part Shallow) follows
+  all_more n m le = then_part keep_first (f.more n m le) (end_part Shallow) follows
 
   all_law : (n : ℕ) → IsLawful (AllOf n) (AllOf n) (AllOf (suc n)) is_empty (read_all n)
   all_law n = (all_same n).lawful
@@ -129,7 +129,7 @@ module _ {T A : Type 0} {Script : ℕ → Lang T A} {stops : List T → Bool} {r
     where
       ended : (rest : List T) → read_all n ts ≡ Got x rest → rest ≡ []
       ended rest e =
-          let p = parts first_of (read n) at_end ts x rest e in
+          let p = parts keep_first (read n) at_end ts x rest e in
           none p.between p.second rest p.got_second
         where
           none : (b : List T) (y : Unit {0}) (rest : List T) → at_end b ≡ Got y rest → rest ≡ []
@@ -153,7 +153,7 @@ module _ {T A : Type 0} {Script : ℕ → Lang T A} {stops : List T → Bool} {r
   -- what r does not take with this first token, no text that goes on so has
   module _ (n : ℕ) (ts front : List T) where
     -- with more room
-    wider_none : (k : Kind) (rest v : List T) → ts ≡ front ++ rest → Shallow k → read_all n ts ≡ Bad k rest → SameHead rest v → (m : ℕ) (x : A) → Script m (front ++ v) x → ⊥
+    wider_none : (k : SyntaxFaultKind) (rest v : List T) → ts ≡ front ++ rest → Shallow k → read_all n ts ≡ Bad k rest → SameHead rest v → (m : ℕ) (x : A) → Script m (front ++ v) x → ⊥
     wider_none k rest v w d e h m x s =
         let a = (all_more n (n + m) (omega arith)).local.bad ts k rest d e in
         let g : a.front ≡ front = append_cancel_right a.front front rest (sym a.whole ∙ w) in
@@ -163,7 +163,7 @@ module _ {T A : Type 0} {Script : ℕ → Lang T A} {stops : List T → Bool} {r
         cc
 
     -- with the same room
-    same_none : (k : Kind) (rest v : List T) → ts ≡ front ++ rest → read_all n ts ≡ Bad k rest → SameHead rest v → (x : A) → Script n (front ++ v) x → ⊥
+    same_none : (k : SyntaxFaultKind) (rest v : List T) → ts ≡ front ++ rest → read_all n ts ≡ Bad k rest → SameHead rest v → (x : A) → Script n (front ++ v) x → ⊥
     same_none k rest v w e h x s =
         let a = (all_same n).local.bad ts k rest tt e in
         let g : a.front ≡ front = append_cancel_right a.front front rest (sym a.whole ∙ w) in
@@ -196,14 +196,14 @@ module _ {T A : Type 0} {Script : ℕ → Lang T A} {stops : List T → Bool} {r
         let q : [] ≡ a.token ∷ a.after = a.there in
         cc
 
-    wrong_at : (k : Kind) (rest : List T) → ts ≡ front ++ rest → read_all n ts ≡ Bad k rest → IsWrongAt Script n front k rest
+    wrong_at : (k : SyntaxFaultKind) (rest : List T) → ts ≡ front ++ rest → read_all n ts ≡ Bad k rest → IsWrongAt Script n front k rest
     wrong_at Wrong [] w e = λ m x s. wider_none Wrong [] [] w (λ h. cc) e tt m x (subst (λ q. Script m q x) (sym (append-nil front)) s)
     wrong_at Wrong (t ∷ after) w e = begins_none t after w e
     wrong_at TooDeep [] w e = not_deep e
     wrong_at TooDeep (t ∷ after) w e = (deep_none t after w e, suc n, deep_begins t after w e)
 
   -- where the reader fails, the grammar says what it says
-  pub refuses : (n : ℕ) (ts : List T) (k : Kind) (rest : List T) → read_all n ts ≡ Bad k rest → IsRefused Script n ts k rest
+  pub refuses : (n : ℕ) (ts : List T) (k : SyntaxFaultKind) (rest : List T) → read_all n ts ≡ Bad k rest → IsRefused Script n ts k rest
   refuses n ts k rest e =
       let a = (all_law n).viable ts k rest e in
       record { front = a.front; whole = a.whole; begins = (a.more, a.value, from_all n (a.front ++ a.more) a.value a.spells); wrong = wrong_at n ts a.front k rest a.whole e }

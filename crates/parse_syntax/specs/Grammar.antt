@@ -6,8 +6,8 @@ use Rattle.eval_tree.specs.declared.tree.Op.{Op}
 use Rattle.eval_tree.specs.declared.tree.Method.{Method}
 use Rattle.eval_tree.specs.declared.tree.Builtin.{Builtin}
 use Rattle.eval_tree.specs.declared.tree.Builtin.TheVariants as builtin
-use Rattle.parse_syntax.specs.Terminals.{Ident, directive, let_word, const_word, print_word, if_word, else_word, for_word, string_word, symbol_word, json_word, object_word, uri_function, name, the_name, member_word, property_word, method, key, from_word, symbol_function, stringify_word, keys_word, opening, closing, open_bracket, close_bracket, open_brace, open_literal, close_brace, comma, point, semicolon, question, colon, less, assign_mark, assign_op, increment, sign, or_op, and_op, equal_op, compare_op, sum_op, nought, bound_number, simple}
-use Rattle.parse_syntax.specs.Tables.{Tables}
+use Rattle.parse_syntax.specs.Terminals.{Identifier, directive, let_word, const_word, print_word, if_word, else_word, for_word, string_word, symbol_word, json_word, object_word, uri_function, name, the_name, member_word, property_word, method, key, from_word, symbol_function, stringify_word, keys_word, opening, closing, open_bracket, close_bracket, open_brace, open_literal, close_brace, comma, point, semicolon, question, colon, less, assign_mark, assign_op, increment, sign, or_op, and_op, equal_op, compare_op, sum_op, nought, bound_number, simple}
+use Rattle.parse_syntax.specs.Tables.{TokenTables}
 use Rattle.eval_tree.specs.Tree as tree
 use Rattle.eval_tree.specs.Tree.{ExprTree, LinkTree, StepTree, links, steps, exprs, StmtTree, BlockTree, block_of, ArmTree, arms, stmts}
 
@@ -30,13 +30,13 @@ abbrev pub pair_of : {A B : Type 0} → A → B → A × B
 pair_of x y = (x, y)
 
 -- the step [ t ], with the offset of its bracket
-abbrev pub index_of : ℕ → ExprTree → StepTree
-index_of at t = tree.of_index at t
+abbrev pub index_read : ℕ → ExprTree → StepTree
+index_read at t = tree.of_index at t
 
 -- a method and its letters, with arguments or without, where it is the read of a property of that name
-abbrev pub method_of : (ℕ × Method) × List ℕ → Option (List ExprTree) → StepTree
-method_of m None = tree.of_property m.0.0 m.1
-method_of m (Some ts) = tree.of_call m.0.0 m.0.1 (exprs ts)
+abbrev pub method_step : (ℕ × Method) × List ℕ → Option (List ExprTree) → StepTree
+method_step m None = tree.of_property m.0.0 m.1
+method_step m (Some ts) = tree.of_call m.0.0 m.0.1 (exprs ts)
 
 -- an object literal, at an offset, with its members
 abbrev pub object_of : ℕ → List (List ℕ × ExprTree) → ExprTree
@@ -119,33 +119,33 @@ abbrev pub if_of : ArmTree → List ArmTree × BlockTree → StmtTree
 if_of a p = tree.if_line (arms (a ∷ p.0)) p.1
 
 -- the name of a loop and its bound
-abbrev pub header_of : Ident → ℕ → Ident × ℕ
+abbrev pub header_of : Identifier → ℕ → Identifier × ℕ
 header_of x bound = (x, bound)
 
-module _ (tables : Tables) where
+module _ (tables : TokenTables) where
   -- the letters of a name
-  abbrev pub letters : Ident → List ℕ
+  abbrev pub letters : Identifier → List ℕ
   letters x = get_or tables.names x.number []
 
   -- a let of this name, with its initializer if it has one
-  abbrev pub let_of : Ident → Option ExprTree → StmtTree
+  abbrev pub let_of : Identifier → Option ExprTree → StmtTree
   let_of x init = tree.let_line x.at (letters x) init
 
   -- a const of this name, with its initializer
-  abbrev pub const_of : Ident → ExprTree → StmtTree
+  abbrev pub const_of : Identifier → ExprTree → StmtTree
   const_of x init = tree.const_line x.at (letters x) init
 
   -- an assignment to this name; where += is at an offset, an append of the value
-  abbrev pub assigned : Ident → Option ℕ → ExprTree → StmtTree
-  assigned x None e = tree.assign x.at (letters x) e
-  assigned x (Some at) e = tree.append at x.at (letters x) e
+  abbrev pub assignment_of : Identifier → Option ℕ → ExprTree → StmtTree
+  assignment_of x None e = tree.assign x.at (letters x) e
+  assignment_of x (Some at) e = tree.append at x.at (letters x) e
 
   -- an assignment to this name: the offset of +=, or none for =, and the value
-  abbrev pub assign_of : Ident → Option ℕ × ExprTree → StmtTree
-  assign_of x p = assigned x p.0 p.1
+  abbrev pub assign_of : Identifier → Option ℕ × ExprTree → StmtTree
+  assign_of x p = assignment_of x p.0 p.1
 
   -- a loop over a body, from its name and its bound
-  abbrev pub for_of : Ident × ℕ → BlockTree → StmtTree
+  abbrev pub for_of : Identifier × ℕ → BlockTree → StmtTree
   for_of h b = tree.for_line (letters h.0) h.1 b
 
 -- expressions, over what an expression E and an operand U are where one more is open
@@ -163,8 +163,8 @@ abbrev pub args : Lang GrammarToken ExprTree → Lang GrammarToken (List ExprTre
 args E = One opening ▸ Either (Mapped none_of (One closing)) (items E ◂ One closing)
 
 -- String Args | String . fromCharCode Args | String . fromCodePoint Args
-abbrev pub string_call : Lang GrammarToken ExprTree → Lang GrammarToken ExprTree
-string_call E = Then builtin_of (One string_word)
+abbrev pub string_primary : Lang GrammarToken ExprTree → Lang GrammarToken ExprTree
+string_primary E = Then builtin_of (One string_word)
     (Either (One point ▸ Then pair_of (One from_word) (args E)) (Mapped plain_string (args E)))
 
 -- Symbol . for Args | Symbol . keyFor Args
@@ -177,35 +177,36 @@ json_call E = Then builtin_of (One json_word)
     (One point ▸ Then pair_of (One stringify_word) (Mapped single_of (parens E)))
 
 -- encodeURI Args | encodeURIComponent Args | decodeURI Args | decodeURIComponent Args
-abbrev pub uri_call : Lang GrammarToken ExprTree → Lang GrammarToken ExprTree
-uri_call E = Then uri_of (One uri_function) (args E)
+abbrev pub uri_primary : Lang GrammarToken ExprTree → Lang GrammarToken ExprTree
+uri_primary E = Then uri_of (One uri_function) (args E)
 
 -- Object . keys Args
 abbrev pub object_call : Lang GrammarToken ExprTree → Lang GrammarToken ExprTree
 object_call E = Then builtin_of (One object_word) (One point ▸ Then pair_of (One keys_word) (args E))
 
 -- Key : E
-abbrev pub entry : Tables → Lang GrammarToken ExprTree → Lang GrammarToken (List ℕ × ExprTree)
+abbrev pub entry : TokenTables → Lang GrammarToken ExprTree → Lang GrammarToken (List ℕ × ExprTree)
 entry tables E = Then pair_of (One (key tables)) (One colon ▸ E)
 
 -- Key : E { , Key : E }
-abbrev pub entries : Tables → Lang GrammarToken ExprTree → Lang GrammarToken (List (List ℕ × ExprTree))
-entries tables E = Then list_of (entry tables E) (Many (One comma ▸ entry tables E))
+abbrev pub property_definitions : TokenTables → Lang GrammarToken ExprTree
+    → Lang GrammarToken (List (List ℕ × ExprTree))
+property_definitions tables E = Then list_of (entry tables E) (Many (One comma ▸ entry tables E))
 
 -- { [ Key : E { , Key : E } ] }
-abbrev pub object_literal : Tables → Lang GrammarToken ExprTree → Lang GrammarToken ExprTree
+abbrev pub object_literal : TokenTables → Lang GrammarToken ExprTree → Lang GrammarToken ExprTree
 object_literal tables E = Then object_of (One open_literal)
-    (Either (Mapped none_of (One close_brace)) (entries tables E ◂ One close_brace))
+    (Either (Mapped none_of (One close_brace)) (property_definitions tables E ◂ One close_brace))
 
 -- Simple | ( E ) | a call of a built-in function | an object literal ("PrimaryExpression", "CallExpression")
-abbrev pub primary : Tables → Bool → Lang GrammarToken ExprTree → Lang GrammarToken ExprTree
+abbrev pub primary : TokenTables → Bool → Lang GrammarToken ExprTree → Lang GrammarToken ExprTree
 primary tables room E =
     Either (One (simple tables))
     (Either (if_room room (parens E))
-    (Either (if_room room (string_call E))
+    (Either (if_room room (string_primary E))
     (Either (if_room room (symbol_call E))
     (Either (if_room room (json_call E))
-    (Either (if_room room (uri_call E))
+    (Either (if_room room (uri_primary E))
     (Either (if_room room (object_call E))
     (if_room room (object_literal tables E))))))))
 
@@ -214,24 +215,24 @@ abbrev pub method_args : Bool → Lang GrammarToken ExprTree → Lang GrammarTok
 method_args room E = Either (if_room room (Mapped Some (args E))) (Nothing None)
 
 -- . Member | . Method Args | . Property, where a method without arguments is a property
-abbrev pub member : Tables → Bool → Lang GrammarToken ExprTree → Lang GrammarToken StepTree
+abbrev pub member : TokenTables → Bool → Lang GrammarToken ExprTree → Lang GrammarToken StepTree
 member tables room E = One point ▸ Either (One member_word)
-    (Either (One (property_word tables)) (Then method_of (One (method tables)) (method_args room E)))
+    (Either (One (property_word tables)) (Then method_step (One (method tables)) (method_args room E)))
 
 -- [ E ]
 abbrev pub index : Lang GrammarToken ExprTree → Lang GrammarToken StepTree
-index E = Then index_of (One open_bracket) (E ◂ One close_bracket)
+index E = Then index_read (One open_bracket) (E ◂ One close_bracket)
 
 -- Member | [ E ], a step behind an expression
-abbrev pub step : Tables → Bool → Lang GrammarToken ExprTree → Lang GrammarToken StepTree
+abbrev pub step : TokenTables → Bool → Lang GrammarToken ExprTree → Lang GrammarToken StepTree
 step tables room E = Either (member tables room E) (if_room room (index E))
 
 -- Primary { Step }
-abbrev pub post : Tables → Bool → Lang GrammarToken ExprTree → Lang GrammarToken ExprTree
+abbrev pub post : TokenTables → Bool → Lang GrammarToken ExprTree → Lang GrammarToken ExprTree
 post tables room E = Then post_of (primary tables room E) (Many (step tables room E))
 
 -- ( - | ! ) U | Post
-abbrev pub unary : Tables → Bool → Lang GrammarToken ExprTree → Lang GrammarToken ExprTree
+abbrev pub unary : TokenTables → Bool → Lang GrammarToken ExprTree → Lang GrammarToken ExprTree
     → Lang GrammarToken ExprTree
 unary tables room E U = Either (if_room room (Then unary_of (One sign) U)) (post tables room E)
 
@@ -240,27 +241,27 @@ abbrev pub chain : (GrammarToken → Option (ℕ × Op)) → Lang GrammarToken E
 chain o L = Then chain_of L (Many (Then link_of (One o) L))
 
 -- Unary { ( + | - ) Unary } ("AdditiveExpression")
-abbrev pub sum : Tables → Bool → Lang GrammarToken ExprTree → Lang GrammarToken ExprTree
+abbrev pub additive : TokenTables → Bool → Lang GrammarToken ExprTree → Lang GrammarToken ExprTree
     → Lang GrammarToken ExprTree
-sum tables room E U = chain sum_op (unary tables room E U)
+additive tables room E U = chain sum_op (unary tables room E U)
 
 -- Sum { ( < | > | <= | >= ) Sum } ("RelationalExpression")
-abbrev pub comparison : Tables → Bool → Lang GrammarToken ExprTree → Lang GrammarToken ExprTree
+abbrev pub comparison : TokenTables → Bool → Lang GrammarToken ExprTree → Lang GrammarToken ExprTree
     → Lang GrammarToken ExprTree
-comparison tables room E U = chain compare_op (sum tables room E U)
+comparison tables room E U = chain compare_op (additive tables room E U)
 
 -- Comparison { ( === | !== ) Comparison } ("EqualityExpression")
-abbrev pub equality : Tables → Bool → Lang GrammarToken ExprTree → Lang GrammarToken ExprTree
+abbrev pub equality : TokenTables → Bool → Lang GrammarToken ExprTree → Lang GrammarToken ExprTree
     → Lang GrammarToken ExprTree
 equality tables room E U = chain equal_op (comparison tables room E U)
 
 -- Equality { && Equality } ("LogicalANDExpression")
-abbrev pub conjunction : Tables → Bool → Lang GrammarToken ExprTree → Lang GrammarToken ExprTree
+abbrev pub conjunction : TokenTables → Bool → Lang GrammarToken ExprTree → Lang GrammarToken ExprTree
     → Lang GrammarToken ExprTree
 conjunction tables room E U = chain and_op (equality tables room E U)
 
 -- Conjunction { || Conjunction } ("LogicalORExpression")
-abbrev pub disjunction : Tables → Bool → Lang GrammarToken ExprTree → Lang GrammarToken ExprTree
+abbrev pub disjunction : TokenTables → Bool → Lang GrammarToken ExprTree → Lang GrammarToken ExprTree
     → Lang GrammarToken ExprTree
 disjunction tables room E U = chain or_op (conjunction tables room E U)
 
@@ -269,7 +270,7 @@ abbrev pub branches : Lang GrammarToken ExprTree → Lang GrammarToken (Option (
 branches E = One question ▸ Then branches_of E (One colon ▸ E)
 
 -- Or [ ? E : E ]
-abbrev pub conditional : Tables → Bool → Lang GrammarToken ExprTree → Lang GrammarToken ExprTree
+abbrev pub conditional : TokenTables → Bool → Lang GrammarToken ExprTree → Lang GrammarToken ExprTree
     → Lang GrammarToken ExprTree
 conditional tables room E U =
     Then cond_of (disjunction tables room E U) (Either (if_room room (branches E)) (Nothing None))
@@ -279,17 +280,18 @@ pub data Which : Type 0 where
   Whole Operand : Which
 
 -- an expression, or the operand of a sign, where I says what each is with one more open
-abbrev pub level : Tables → Bool → (Which → Lang GrammarToken ExprTree) → Which → Lang GrammarToken ExprTree
+abbrev pub level : TokenTables → Bool → (Which → Lang GrammarToken ExprTree) → Which
+    → Lang GrammarToken ExprTree
 level tables room I Whole = conditional tables room (I Whole) (I Operand)
 level tables room I Operand = unary tables room (I Whole) (I Operand)
 
 -- with room for so many that are open
-abbrev pub within_room : Tables → ℕ → Which → Lang GrammarToken ExprTree
+abbrev pub within_room : TokenTables → ℕ → Which → Lang GrammarToken ExprTree
 within_room tables zero = level tables false (λ w. Never)
 within_room tables (suc n) = level tables true (within_room tables n)
 
 -- an expression in which at most so many are open ("ConditionalExpression")
-abbrev pub Expression : Tables → ℕ → Lang GrammarToken ExprTree
+abbrev pub Expression : TokenTables → ℕ → Lang GrammarToken ExprTree
 Expression tables n = within_room tables n Whole
 
 -- statements, over an expression E at this level, and what an expression I and a statement S are where one
@@ -300,21 +302,21 @@ abbrev pub block_part : Lang GrammarToken StmtTree → Lang GrammarToken BlockTr
 block_part S = One open_brace ▸ Mapped inside_of (Many S ◂ One close_brace)
 
 -- let Name [ = E ] ; ("LexicalDeclaration")
-abbrev pub let_line : Tables → Lang GrammarToken ExprTree → Lang GrammarToken StmtTree
+abbrev pub let_line : TokenTables → Lang GrammarToken ExprTree → Lang GrammarToken StmtTree
 let_line tables E = One let_word ▸ Then (let_of tables) (One name)
     (Either (Mapped Some (One assign_mark ▸ E)) (Nothing None)) ◂ One semicolon
 
 -- const Name = E ; ("LexicalDeclaration")
-abbrev pub const_line : Tables → Lang GrammarToken ExprTree → Lang GrammarToken StmtTree
+abbrev pub const_line : TokenTables → Lang GrammarToken ExprTree → Lang GrammarToken StmtTree
 const_line tables E = One const_word ▸ Then (const_of tables) (One name) (One assign_mark ▸ E ◂ One semicolon)
 
 -- Name ( = | += ) E ; ("AssignmentExpression" as an "ExpressionStatement")
-abbrev pub assign_line : Tables → Lang GrammarToken ExprTree → Lang GrammarToken StmtTree
+abbrev pub assign_line : TokenTables → Lang GrammarToken ExprTree → Lang GrammarToken StmtTree
 assign_line tables E = Then (assign_of tables) (One name) (Then pair_of (One assign_op) (E ◂ One semicolon))
 
 -- print Args ; which prints a line
-abbrev pub print_line : Lang GrammarToken ExprTree → Lang GrammarToken StmtTree
-print_line I = One print_word ▸ Mapped print_of (args I ◂ One semicolon)
+abbrev pub print_statement : Lang GrammarToken ExprTree → Lang GrammarToken StmtTree
+print_statement I = One print_word ▸ Mapped print_of (args I ◂ One semicolon)
 
 -- if ( I ) B
 abbrev pub if_arm : Lang GrammarToken ExprTree → Lang GrammarToken StmtTree → Lang GrammarToken ArmTree
@@ -326,32 +328,33 @@ if_statement I S = Then if_of (if_arm I S) (Then more_of (Many (One else_word �
     (Either (One else_word ▸ block_part S) (Nothing no_inside)))
 
 -- = 0 ; x < Bound ; x ++ ), where x is the name before it
-abbrev pub turns : Ident → Lang GrammarToken ℕ
-turns x = One assign_mark ▸ One nought ▸ One semicolon ▸ One (the_name x.number) ▸ One less ▸ One bound_number
+abbrev pub loop_head : Identifier → Lang GrammarToken ℕ
+loop_head x = One assign_mark ▸ One nought ▸ One semicolon ▸ One (the_name x.number) ▸ One less
+    ▸ One bound_number
     ◂ One semicolon ▸ One (the_name x.number) ▸ One increment ▸ One closing
 
 -- for ( let x = 0 ; x < Bound ; x ++ )
-abbrev pub for_header : Lang GrammarToken (Ident × ℕ)
-for_header = One for_word ▸ One opening ▸ One let_word ▸ Bind header_of (One name) turns
+abbrev pub for_header : Lang GrammarToken (Identifier × ℕ)
+for_header = One for_word ▸ One opening ▸ One let_word ▸ Bind header_of (One name) loop_head
 
 -- for ( let x = 0 ; x < Bound ; x ++ ) B ("ForStatement")
-abbrev pub for_statement : Tables → Lang GrammarToken StmtTree → Lang GrammarToken StmtTree
+abbrev pub for_statement : TokenTables → Lang GrammarToken StmtTree → Lang GrammarToken StmtTree
 for_statement tables S = Then (for_of tables) for_header (block_part S)
 
 -- with prints, or without
-abbrev pub statement : Tables → Bool → Bool → Lang GrammarToken ExprTree → Lang GrammarToken ExprTree
+abbrev pub statement : TokenTables → Bool → Bool → Lang GrammarToken ExprTree → Lang GrammarToken ExprTree
     → Lang GrammarToken StmtTree → Lang GrammarToken StmtTree
 statement tables prints room E I S =
     Either (if_room room (Mapped tree.block (block_part S)))
     (Either (let_line tables E)
     (Either (const_line tables E)
     (Either (assign_line tables E)
-    (Either (if_room prints (if_room room (print_line I)))
+    (Either (if_room prints (if_room room (print_statement I)))
     (Either (if_room room (if_statement I S))
     (if_room room (for_statement tables S)))))))
 
 -- with room for so many that are open
-abbrev pub Statement : Tables → Bool → ℕ → Lang GrammarToken StmtTree
+abbrev pub Statement : TokenTables → Bool → ℕ → Lang GrammarToken StmtTree
 Statement tables prints zero = statement tables prints false (Expression tables 0) Never Never
 Statement tables prints (suc n) =
     statement tables prints true (Expression tables (suc n)) (Expression tables n) (Statement tables prints n)
@@ -361,7 +364,7 @@ abbrev pub strict : Lang GrammarToken (Unit {0})
 strict = Either (One directive ▸ One semicolon) (Nothing tt)
 
 -- [ Directive ] { Statement }
-abbrev pub Statements : Tables → Bool → ℕ → Lang GrammarToken (List StmtTree)
+abbrev pub Statements : TokenTables → Bool → ℕ → Lang GrammarToken (List StmtTree)
 Statements tables prints n = strict ▸ Many (Statement tables prints n)
 
 -- so many may be open

@@ -1,68 +1,70 @@
 -- Reading scripts from the front. No public contract cites these: they are what the parser's functions give.
 use Rattle.std.specs.Prelude.{ℕ, zero, suc, Bool, true, false, cond, List, [], ◌∷◌, Option, Some, None}
 use Rattle.js_lex.specs.declared.token.Mark.TheVariants as mark
-use Rattle.parse_syntax.specs.Lang.{first_of, second_of}
-use Rattle.parse_syntax.specs.Reader.{Reader, wrong, map_by, and_then, and_bind, one_of, choose, all_of, succeed, opens, is_some, heads, heads_two, allowed}
+use Rattle.parse_syntax.specs.Lang.{keep_first, keep_second}
+use Rattle.parse_syntax.specs.Reader.{TokenReader, wrong, map_by, and_then, and_bind, one_of, choose, all_of, succeed, opens, is_some, heads, heads_two, allowed}
 use Rattle.parse_syntax.specs.declared.token.GrammarToken.{GrammarToken}
 use Rattle.parse_syntax.specs.declared.token.GrammarToken.TheVariants as token
 use Rattle.eval_tree.specs.declared.tree.Op.{Op}
 use Rattle.eval_tree.specs.Tree.{ExprTree, StepTree, StmtTree, BlockTree, ArmTree, block}
-use Rattle.parse_syntax.specs.Tables.{Tables}
-use Rattle.parse_syntax.specs.Terminals.{Ident, directive, let_word, const_word, print_word, if_word, else_word, for_word, string_word, symbol_word, json_word, object_word, uri_function, name, the_name, member_word, property_word, method, key, from_word, symbol_function, stringify_word, keys_word, opening, closing, open_bracket, close_bracket, open_brace, open_literal, close_brace, comma, point, semicolon, question, colon, less, assign_mark, assign_op, increment, sign, or_op, and_op, equal_op, compare_op, sum_op, nought, bound_number, simple}
-use Rattle.parse_syntax.specs.Grammar.{list_of, none_of, single_of, pair_of, index_of, method_of, object_of, builtin_of, uri_of, plain_string, post_of, unary_of, link_of, chain_of, branches_of, cond_of, inside_of, no_inside, print_of, arm_of, more_of, if_of, header_of, let_of, const_of, assign_of, for_of, Which, Whole, Operand}
+use Rattle.parse_syntax.specs.Tables.{TokenTables}
+use Rattle.parse_syntax.specs.Terminals.{Identifier, directive, let_word, const_word, print_word, if_word, else_word, for_word, string_word, symbol_word, json_word, object_word, uri_function, name, the_name, member_word, property_word, method, key, from_word, symbol_function, stringify_word, keys_word, opening, closing, open_bracket, close_bracket, open_brace, open_literal, close_brace, comma, point, semicolon, question, colon, less, assign_mark, assign_op, increment, sign, or_op, and_op, equal_op, compare_op, sum_op, nought, bound_number, simple}
+use Rattle.parse_syntax.specs.Grammar.{list_of, none_of, single_of, pair_of, index_read, method_step, object_of, builtin_of, uri_of, plain_string, post_of, unary_of, link_of, chain_of, branches_of, cond_of, inside_of, no_inside, print_of, arm_of, more_of, if_of, header_of, let_of, const_of, assign_of, for_of, Which, Whole, Operand}
 
 -- expressions
 
-abbrev pub read_parens : Reader GrammarToken ExprTree → Reader GrammarToken ExprTree
-read_parens e = and_then second_of (one_of opening) (and_then first_of e (one_of closing))
+abbrev pub read_parens : TokenReader GrammarToken ExprTree → TokenReader GrammarToken ExprTree
+read_parens e = and_then keep_second (one_of opening) (and_then keep_first e (one_of closing))
 
-abbrev pub read_items : Reader GrammarToken ExprTree → Reader GrammarToken (List ExprTree)
-read_items e = and_then list_of e (all_of (heads comma) (and_then second_of (one_of comma) e))
+abbrev pub read_items : TokenReader GrammarToken ExprTree → TokenReader GrammarToken (List ExprTree)
+read_items e = and_then list_of e (all_of (heads comma) (and_then keep_second (one_of comma) e))
 
-abbrev pub read_args : Reader GrammarToken ExprTree → Reader GrammarToken (List ExprTree)
-read_args e = and_then second_of (one_of opening)
+abbrev pub read_args : TokenReader GrammarToken ExprTree → TokenReader GrammarToken (List ExprTree)
+read_args e = and_then keep_second (one_of opening)
     (choose (heads closing) (map_by none_of (one_of closing))
-    (and_then first_of (read_items e) (one_of closing)))
+    (and_then keep_first (read_items e) (one_of closing)))
 
-abbrev pub read_string : Reader GrammarToken ExprTree → Reader GrammarToken ExprTree
+abbrev pub read_string : TokenReader GrammarToken ExprTree → TokenReader GrammarToken ExprTree
 read_string e = and_then builtin_of (one_of string_word)
     (choose (heads point)
-    (and_then second_of (one_of point) (and_then pair_of (one_of from_word) (read_args e)))
+    (and_then keep_second (one_of point) (and_then pair_of (one_of from_word) (read_args e)))
     (map_by plain_string (read_args e)))
 
-abbrev pub read_symbol : Reader GrammarToken ExprTree → Reader GrammarToken ExprTree
+abbrev pub read_symbol : TokenReader GrammarToken ExprTree → TokenReader GrammarToken ExprTree
 read_symbol e = and_then builtin_of (one_of symbol_word)
-    (and_then second_of (one_of point) (and_then pair_of (one_of symbol_function) (read_args e)))
+    (and_then keep_second (one_of point) (and_then pair_of (one_of symbol_function) (read_args e)))
 
-abbrev pub read_json : Reader GrammarToken ExprTree → Reader GrammarToken ExprTree
-read_json e = and_then builtin_of (one_of json_word) (and_then second_of (one_of point)
+abbrev pub read_json : TokenReader GrammarToken ExprTree → TokenReader GrammarToken ExprTree
+read_json e = and_then builtin_of (one_of json_word) (and_then keep_second (one_of point)
     (and_then pair_of (one_of stringify_word) (map_by single_of (read_parens e))))
 
-abbrev pub read_uri : Reader GrammarToken ExprTree → Reader GrammarToken ExprTree
+abbrev pub read_uri : TokenReader GrammarToken ExprTree → TokenReader GrammarToken ExprTree
 read_uri e = and_then uri_of (one_of uri_function) (read_args e)
 
-abbrev pub read_object_call : Reader GrammarToken ExprTree → Reader GrammarToken ExprTree
+abbrev pub read_object_call : TokenReader GrammarToken ExprTree → TokenReader GrammarToken ExprTree
 read_object_call e = and_then builtin_of (one_of object_word)
-    (and_then second_of (one_of point) (and_then pair_of (one_of keys_word) (read_args e)))
+    (and_then keep_second (one_of point) (and_then pair_of (one_of keys_word) (read_args e)))
 
-abbrev pub read_entry : Tables → Reader GrammarToken ExprTree → Reader GrammarToken (List ℕ × ExprTree)
-read_entry tables e = and_then pair_of (one_of (key tables)) (and_then second_of (one_of colon) e)
+abbrev pub read_entry : TokenTables → TokenReader GrammarToken ExprTree
+    → TokenReader GrammarToken (List ℕ × ExprTree)
+read_entry tables e = and_then pair_of (one_of (key tables)) (and_then keep_second (one_of colon) e)
 
-abbrev pub read_entries : Tables → Reader GrammarToken ExprTree
-    → Reader GrammarToken (List (List ℕ × ExprTree))
+abbrev pub read_entries : TokenTables → TokenReader GrammarToken ExprTree
+    → TokenReader GrammarToken (List (List ℕ × ExprTree))
 read_entries tables e = and_then list_of (read_entry tables e)
-    (all_of (heads comma) (and_then second_of (one_of comma) (read_entry tables e)))
+    (all_of (heads comma) (and_then keep_second (one_of comma) (read_entry tables e)))
 
 -- what follows the { of an object literal
-abbrev pub read_members : Tables → Reader GrammarToken ExprTree
-    → Reader GrammarToken (List (List ℕ × ExprTree))
+abbrev pub read_members : TokenTables → TokenReader GrammarToken ExprTree
+    → TokenReader GrammarToken (List (List ℕ × ExprTree))
 read_members tables e = choose (heads close_brace) (map_by none_of (one_of close_brace))
-    (and_then first_of (read_entries tables e) (one_of close_brace))
+    (and_then keep_first (read_entries tables e) (one_of close_brace))
 
-abbrev pub read_literal : Tables → Reader GrammarToken ExprTree → Reader GrammarToken ExprTree
+abbrev pub read_literal : TokenTables → TokenReader GrammarToken ExprTree → TokenReader GrammarToken ExprTree
 read_literal tables e = and_then object_of (one_of open_literal) (read_members tables e)
 
-abbrev pub read_primary : Tables → Bool → Reader GrammarToken ExprTree → Reader GrammarToken ExprTree
+abbrev pub read_primary : TokenTables → Bool → TokenReader GrammarToken ExprTree
+    → TokenReader GrammarToken ExprTree
 read_primary tables room e =
     choose (heads (simple tables)) (one_of (simple tables))
     (choose (heads opening) (opens room (heads opening) (read_parens e))
@@ -73,25 +75,28 @@ read_primary tables room e =
     (choose (heads object_word) (opens room (heads object_word) (read_object_call e))
     (opens room (heads open_literal) (read_literal tables e))))))))
 
-abbrev pub read_method_args : Bool → Reader GrammarToken ExprTree
-    → Reader GrammarToken (Option (List ExprTree))
+abbrev pub read_method_args : Bool → TokenReader GrammarToken ExprTree
+    → TokenReader GrammarToken (Option (List ExprTree))
 read_method_args room e =
     choose (heads opening) (opens room (heads opening) (map_by Some (read_args e))) (succeed None)
 
 -- what follows a point
-abbrev pub read_word : Tables → Bool → Reader GrammarToken ExprTree → Reader GrammarToken StepTree
+abbrev pub read_word : TokenTables → Bool → TokenReader GrammarToken ExprTree
+    → TokenReader GrammarToken StepTree
 read_word tables room e =
     choose (heads member_word) (one_of member_word)
     (choose (heads (property_word tables)) (one_of (property_word tables))
-    (and_then method_of (one_of (method tables)) (read_method_args room e)))
+    (and_then method_step (one_of (method tables)) (read_method_args room e)))
 
-abbrev pub read_member : Tables → Bool → Reader GrammarToken ExprTree → Reader GrammarToken StepTree
-read_member tables room e = and_then second_of (one_of point) (read_word tables room e)
+abbrev pub read_member : TokenTables → Bool → TokenReader GrammarToken ExprTree
+    → TokenReader GrammarToken StepTree
+read_member tables room e = and_then keep_second (one_of point) (read_word tables room e)
 
-abbrev pub read_index : Reader GrammarToken ExprTree → Reader GrammarToken StepTree
-read_index e = and_then index_of (one_of open_bracket) (and_then first_of e (one_of close_bracket))
+abbrev pub read_index : TokenReader GrammarToken ExprTree → TokenReader GrammarToken StepTree
+read_index e = and_then index_read (one_of open_bracket) (and_then keep_first e (one_of close_bracket))
 
-abbrev pub read_step : Tables → Bool → Reader GrammarToken ExprTree → Reader GrammarToken StepTree
+abbrev pub read_step : TokenTables → Bool → TokenReader GrammarToken ExprTree
+    → TokenReader GrammarToken StepTree
 read_step tables room e =
     choose (heads point) (read_member tables room e) (opens room (heads open_bracket) (read_index e))
 
@@ -101,54 +106,63 @@ step_mark (token.Mark at mark.Point l) = Some tt
 step_mark (token.Mark at mark.OpenBracket l) = Some tt
 step_mark _ = None
 
-abbrev pub read_post : Tables → Bool → Reader GrammarToken ExprTree → Reader GrammarToken ExprTree
+abbrev pub read_post : TokenTables → Bool → TokenReader GrammarToken ExprTree
+    → TokenReader GrammarToken ExprTree
 read_post tables room e =
     and_then post_of (read_primary tables room e) (all_of (heads step_mark) (read_step tables room e))
 
-abbrev pub read_unary : Tables → Bool → Reader GrammarToken ExprTree → Reader GrammarToken ExprTree
-    → Reader GrammarToken ExprTree
+abbrev pub read_unary : TokenTables → Bool → TokenReader GrammarToken ExprTree
+    → TokenReader GrammarToken ExprTree
+    → TokenReader GrammarToken ExprTree
 read_unary tables room e u = choose (heads sign) (opens room (heads sign) (and_then unary_of (one_of sign) u))
     (read_post tables room e)
 
-abbrev pub read_chain : (GrammarToken → Option (ℕ × Op)) → Reader GrammarToken ExprTree
-    → Reader GrammarToken ExprTree
+abbrev pub read_chain : (GrammarToken → Option (ℕ × Op)) → TokenReader GrammarToken ExprTree
+    → TokenReader GrammarToken ExprTree
 read_chain o r = and_then chain_of r (all_of (heads o) (and_then link_of (one_of o) r))
 
-abbrev pub read_sum : Tables → Bool → Reader GrammarToken ExprTree → Reader GrammarToken ExprTree
-    → Reader GrammarToken ExprTree
+abbrev pub read_sum : TokenTables → Bool → TokenReader GrammarToken ExprTree
+    → TokenReader GrammarToken ExprTree
+    → TokenReader GrammarToken ExprTree
 read_sum tables room e u = read_chain sum_op (read_unary tables room e u)
 
-abbrev pub read_comparison : Tables → Bool → Reader GrammarToken ExprTree → Reader GrammarToken ExprTree
-    → Reader GrammarToken ExprTree
+abbrev pub read_comparison : TokenTables → Bool → TokenReader GrammarToken ExprTree
+    → TokenReader GrammarToken ExprTree
+    → TokenReader GrammarToken ExprTree
 read_comparison tables room e u = read_chain compare_op (read_sum tables room e u)
 
-abbrev pub read_equality : Tables → Bool → Reader GrammarToken ExprTree → Reader GrammarToken ExprTree
-    → Reader GrammarToken ExprTree
+abbrev pub read_equality : TokenTables → Bool → TokenReader GrammarToken ExprTree
+    → TokenReader GrammarToken ExprTree
+    → TokenReader GrammarToken ExprTree
 read_equality tables room e u = read_chain equal_op (read_comparison tables room e u)
 
-abbrev pub read_conjunction : Tables → Bool → Reader GrammarToken ExprTree → Reader GrammarToken ExprTree
-    → Reader GrammarToken ExprTree
+abbrev pub read_conjunction : TokenTables → Bool → TokenReader GrammarToken ExprTree
+    → TokenReader GrammarToken ExprTree
+    → TokenReader GrammarToken ExprTree
 read_conjunction tables room e u = read_chain and_op (read_equality tables room e u)
 
-abbrev pub read_disjunction : Tables → Bool → Reader GrammarToken ExprTree → Reader GrammarToken ExprTree
-    → Reader GrammarToken ExprTree
+abbrev pub read_disjunction : TokenTables → Bool → TokenReader GrammarToken ExprTree
+    → TokenReader GrammarToken ExprTree
+    → TokenReader GrammarToken ExprTree
 read_disjunction tables room e u = read_chain or_op (read_conjunction tables room e u)
 
-abbrev pub read_branches : Reader GrammarToken ExprTree → Reader GrammarToken (Option (ExprTree × ExprTree))
+abbrev pub read_branches : TokenReader GrammarToken ExprTree
+    → TokenReader GrammarToken (Option (ExprTree × ExprTree))
 read_branches e =
-    and_then second_of (one_of question) (and_then branches_of e (and_then second_of (one_of colon) e))
+    and_then keep_second (one_of question) (and_then branches_of e (and_then keep_second (one_of colon) e))
 
-abbrev pub read_conditional : Tables → Bool → Reader GrammarToken ExprTree → Reader GrammarToken ExprTree
-    → Reader GrammarToken ExprTree
+abbrev pub read_conditional : TokenTables → Bool → TokenReader GrammarToken ExprTree
+    → TokenReader GrammarToken ExprTree
+    → TokenReader GrammarToken ExprTree
 read_conditional tables room e u = and_then cond_of (read_disjunction tables room e u)
     (choose (heads question) (opens room (heads question) (read_branches e)) (succeed None))
 
-abbrev pub read_level : Tables → Bool → (Which → Reader GrammarToken ExprTree) → Which
-    → Reader GrammarToken ExprTree
+abbrev pub read_level : TokenTables → Bool → (Which → TokenReader GrammarToken ExprTree) → Which
+    → TokenReader GrammarToken ExprTree
 read_level tables room i Whole = read_conditional tables room (i Whole) (i Operand)
 read_level tables room i Operand = read_unary tables room (i Whole) (i Operand)
 
-abbrev pub read_within : Tables → ℕ → Which → Reader GrammarToken ExprTree
+abbrev pub read_within : TokenTables → ℕ → Which → TokenReader GrammarToken ExprTree
 read_within tables zero = read_level tables false (λ w. wrong)
 read_within tables (suc n) = read_level tables true (read_within tables n)
 
@@ -159,66 +173,67 @@ abbrev pub goes_on : List GrammarToken → Bool
 goes_on [] = false
 goes_on (t ∷ s) = cond (is_some (close_brace t)) false true
 
-abbrev pub read_block : Reader GrammarToken StmtTree → Reader GrammarToken BlockTree
-read_block s = and_then second_of (one_of open_brace)
-    (map_by inside_of (and_then first_of (all_of goes_on s) (one_of close_brace)))
+abbrev pub read_block : TokenReader GrammarToken StmtTree → TokenReader GrammarToken BlockTree
+read_block s = and_then keep_second (one_of open_brace)
+    (map_by inside_of (and_then keep_first (all_of goes_on s) (one_of close_brace)))
 
-abbrev pub read_init : Reader GrammarToken ExprTree → Reader GrammarToken (Option ExprTree)
+abbrev pub read_init : TokenReader GrammarToken ExprTree → TokenReader GrammarToken (Option ExprTree)
 read_init e =
-    choose (heads assign_mark) (map_by Some (and_then second_of (one_of assign_mark) e)) (succeed None)
+    choose (heads assign_mark) (map_by Some (and_then keep_second (one_of assign_mark) e)) (succeed None)
 
-abbrev pub read_let : Tables → Reader GrammarToken ExprTree → Reader GrammarToken StmtTree
-read_let tables e = and_then second_of (one_of let_word)
-    (and_then first_of (and_then (let_of tables) (one_of name) (read_init e)) (one_of semicolon))
+abbrev pub read_let : TokenTables → TokenReader GrammarToken ExprTree → TokenReader GrammarToken StmtTree
+read_let tables e = and_then keep_second (one_of let_word)
+    (and_then keep_first (and_then (let_of tables) (one_of name) (read_init e)) (one_of semicolon))
 
-abbrev pub read_const : Tables → Reader GrammarToken ExprTree → Reader GrammarToken StmtTree
-read_const tables e = and_then second_of (one_of const_word) (and_then (const_of tables) (one_of name)
-    (and_then second_of (one_of assign_mark) (and_then first_of e (one_of semicolon))))
+abbrev pub read_const : TokenTables → TokenReader GrammarToken ExprTree → TokenReader GrammarToken StmtTree
+read_const tables e = and_then keep_second (one_of const_word) (and_then (const_of tables) (one_of name)
+    (and_then keep_second (one_of assign_mark) (and_then keep_first e (one_of semicolon))))
 
-abbrev pub read_assign : Tables → Reader GrammarToken ExprTree → Reader GrammarToken StmtTree
+abbrev pub read_assign : TokenTables → TokenReader GrammarToken ExprTree → TokenReader GrammarToken StmtTree
 read_assign tables e = and_then (assign_of tables) (one_of name)
-    (and_then pair_of (one_of assign_op) (and_then first_of e (one_of semicolon)))
+    (and_then pair_of (one_of assign_op) (and_then keep_first e (one_of semicolon)))
 
-abbrev pub read_print : Reader GrammarToken ExprTree → Reader GrammarToken StmtTree
-read_print e = and_then second_of (one_of print_word)
-    (map_by print_of (and_then first_of (read_args e) (one_of semicolon)))
+abbrev pub read_print : TokenReader GrammarToken ExprTree → TokenReader GrammarToken StmtTree
+read_print e = and_then keep_second (one_of print_word)
+    (map_by print_of (and_then keep_first (read_args e) (one_of semicolon)))
 
-abbrev pub read_arm : Reader GrammarToken ExprTree → Reader GrammarToken StmtTree
-    → Reader GrammarToken ArmTree
-read_arm e s = and_then second_of (one_of if_word) (and_then arm_of (read_parens e) (read_block s))
+abbrev pub read_arm : TokenReader GrammarToken ExprTree → TokenReader GrammarToken StmtTree
+    → TokenReader GrammarToken ArmTree
+read_arm e s = and_then keep_second (one_of if_word) (and_then arm_of (read_parens e) (read_block s))
 
-abbrev pub read_rest : Reader GrammarToken StmtTree → Reader GrammarToken BlockTree
+abbrev pub read_rest : TokenReader GrammarToken StmtTree → TokenReader GrammarToken BlockTree
 read_rest s =
-    choose (heads else_word) (and_then second_of (one_of else_word) (read_block s)) (succeed no_inside)
+    choose (heads else_word) (and_then keep_second (one_of else_word) (read_block s)) (succeed no_inside)
 
-abbrev pub read_if : Reader GrammarToken ExprTree → Reader GrammarToken StmtTree
-    → Reader GrammarToken StmtTree
+abbrev pub read_if : TokenReader GrammarToken ExprTree → TokenReader GrammarToken StmtTree
+    → TokenReader GrammarToken StmtTree
 read_if e s = and_then if_of (read_arm e s)
     (and_then more_of
-    (all_of (heads_two else_word if_word) (and_then second_of (one_of else_word) (read_arm e s)))
+    (all_of (heads_two else_word if_word) (and_then keep_second (one_of else_word) (read_arm e s)))
     (read_rest s))
 
-abbrev pub read_turns : Ident → Reader GrammarToken ℕ
-read_turns x = and_then second_of (one_of assign_mark)
-    (and_then second_of (one_of nought)
-    (and_then second_of (one_of semicolon)
-    (and_then second_of (one_of (the_name x.number))
-    (and_then second_of (one_of less)
-    (and_then first_of (one_of bound_number)
-    (and_then second_of (one_of semicolon)
-    (and_then second_of (one_of (the_name x.number))
-    (and_then second_of (one_of increment)
+abbrev pub read_turns : Identifier → TokenReader GrammarToken ℕ
+read_turns x = and_then keep_second (one_of assign_mark)
+    (and_then keep_second (one_of nought)
+    (and_then keep_second (one_of semicolon)
+    (and_then keep_second (one_of (the_name x.number))
+    (and_then keep_second (one_of less)
+    (and_then keep_first (one_of bound_number)
+    (and_then keep_second (one_of semicolon)
+    (and_then keep_second (one_of (the_name x.number))
+    (and_then keep_second (one_of increment)
     (one_of closing)))))))))
 
-abbrev pub read_header : Reader GrammarToken (Ident × ℕ)
-read_header = and_then second_of (one_of for_word) (and_then second_of (one_of opening)
-    (and_then second_of (one_of let_word) (and_bind header_of (one_of name) read_turns)))
+abbrev pub read_header : TokenReader GrammarToken (Identifier × ℕ)
+read_header = and_then keep_second (one_of for_word) (and_then keep_second (one_of opening)
+    (and_then keep_second (one_of let_word) (and_bind header_of (one_of name) read_turns)))
 
-abbrev pub read_for : Tables → Reader GrammarToken StmtTree → Reader GrammarToken StmtTree
+abbrev pub read_for : TokenTables → TokenReader GrammarToken StmtTree → TokenReader GrammarToken StmtTree
 read_for tables s = and_then (for_of tables) read_header (read_block s)
 
-abbrev pub read_statement : Tables → Bool → Bool → Reader GrammarToken ExprTree → Reader GrammarToken ExprTree
-    → Reader GrammarToken StmtTree → Reader GrammarToken StmtTree
+abbrev pub read_statement : TokenTables → Bool → Bool → TokenReader GrammarToken ExprTree
+    → TokenReader GrammarToken ExprTree
+    → TokenReader GrammarToken StmtTree → TokenReader GrammarToken StmtTree
 read_statement tables prints room e i s =
     choose (heads open_brace) (opens room (heads open_brace) (map_by block (read_block s)))
     (choose (heads let_word) (read_let tables e)
@@ -228,13 +243,14 @@ read_statement tables prints room e i s =
     (choose (heads if_word) (opens room (heads if_word) (read_if i s))
     (opens room (heads for_word) (read_for tables s)))))))
 
-abbrev pub read_at : Tables → Bool → ℕ → Reader GrammarToken StmtTree
+abbrev pub read_at : TokenTables → Bool → ℕ → TokenReader GrammarToken StmtTree
 read_at tables prints zero = read_statement tables prints false (read_within tables 0 Whole) wrong wrong
 read_at tables prints (suc n) = read_statement tables prints true (read_within tables (suc n) Whole)
     (read_within tables n Whole) (read_at tables prints n)
 
-abbrev pub read_strict : Reader GrammarToken (Unit {0})
-read_strict = choose (heads directive) (and_then second_of (one_of directive) (one_of semicolon)) (succeed tt)
+abbrev pub read_strict : TokenReader GrammarToken (Unit {0})
+read_strict = choose (heads directive) (and_then keep_second (one_of directive) (one_of semicolon))
+    (succeed tt)
 
-abbrev pub read_statements : Tables → Bool → ℕ → Reader GrammarToken (List StmtTree)
-read_statements tables prints n = and_then second_of read_strict (all_of goes_on (read_at tables prints n))
+abbrev pub read_statements : TokenTables → Bool → ℕ → TokenReader GrammarToken (List StmtTree)
+read_statements tables prints n = and_then keep_second read_strict (all_of goes_on (read_at tables prints n))

@@ -2,7 +2,7 @@
 -- open at once.
 use Rattle.std.specs.Prelude.{◌≡◌, ℕ, List, [], ◌∷◌, ◌++◌}
 use Rattle.parse_syntax.specs.Lang.{Lang}
-use Rattle.parse_syntax.specs.Reader.{Kind, Wrong, TooDeep}
+use Rattle.parse_syntax.specs.Reader.{SyntaxFaultKind, Wrong, TooDeep}
 
 module _ {T A : Type 0} (Script : ℕ → Lang T A) where
   -- the tokens go on to a script with at most n open; what they go on with need not come from a text, which
@@ -11,7 +11,7 @@ module _ {T A : Type 0} (Script : ℕ → Lang T A) where
   CanBegin n ts = (more : List T) × (x : A) × Script n (ts ++ more) x
 
   -- what is wrong at the first token after the front, or at the end of the text
-  abbrev pub IsWrongAt : ℕ → List T → Kind → List T → Type 0
+  abbrev pub IsWrongAt : ℕ → List T → SyntaxFaultKind → List T → Type 0
   IsWrongAt n front Wrong [] = (m : ℕ) (x : A) → Script m front x → ⊥
   IsWrongAt n front Wrong (t ∷ after) = (m : ℕ) → CanBegin m (front ++ t ∷ []) → ⊥
   IsWrongAt n front TooDeep [] = ⊥
@@ -19,7 +19,7 @@ module _ {T A : Type 0} (Script : ℕ → Lang T A) where
       (CanBegin n (front ++ t ∷ []) → ⊥) × (m : ℕ) × CanBegin m (front ++ t ∷ [])
 
   -- the tokens before the rest begin a script, and with the rest's first one, none
-  pub record IsRefused (n : ℕ) (tokens : List T) (kind : Kind) (rest : List T) : Type 0 where
+  pub record IsRefused (n : ℕ) (tokens : List T) (kind : SyntaxFaultKind) (rest : List T) : Type 0 where
     pub front : List T
     pub whole : tokens ≡ front ++ rest
     pub begins : CanBegin n front

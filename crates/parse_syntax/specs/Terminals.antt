@@ -15,10 +15,10 @@ use Rattle.eval_tree.specs.declared.tree.Builtin.{Builtin}
 use Rattle.eval_tree.specs.declared.tree.Builtin.TheVariants as builtin
 use Rattle.eval_tree.specs.Tree as tree
 use Rattle.eval_tree.specs.Tree.{ExprTree, StepTree}
-use Rattle.parse_syntax.specs.Tables.{Tables}
+use Rattle.parse_syntax.specs.Tables.{TokenTables}
 
 -- a name where it is: its offset, and the number of its letters
-pub record Ident : Type 0 where
+pub record Identifier : Type 0 where
   pub at : ℕ
   pub number : ℕ
 
@@ -96,7 +96,7 @@ uri_function _ = None
 
 -- a name, as a declaration or an expression has it: its offset, and the number of its letters
 -- ("BindingIdentifier", "IdentifierReference")
-abbrev pub name : GrammarToken → Option Ident
+abbrev pub name : GrammarToken → Option Identifier
 name (token.Name at n p) = Some (record { at = at; number = n })
 name _ = None
 
@@ -124,7 +124,7 @@ method_at at letters (property.Method m) = Some ((at, m), letters)
 method_at at letters _ = None
 
 -- an identifier that is the name of a method: its offset, the method and its letters
-abbrev pub method : Tables → GrammarToken → Option ((ℕ × Method) × List ℕ)
+abbrev pub method : TokenTables → GrammarToken → Option ((ℕ × Method) × List ℕ)
 method tables (token.Name at n p) = method_at at (get_or tables.names n []) p
 method tables _ = None
 
@@ -137,7 +137,7 @@ property_at at letters _ = Some (tree.of_property at letters)
 
 -- an identifier behind a point that is neither length nor description nor the name of a method: the read of the
 -- property of that name ("EvaluatePropertyAccessWithIdentifierKey")
-abbrev pub property_word : Tables → GrammarToken → Option StepTree
+abbrev pub property_word : TokenTables → GrammarToken → Option StepTree
 property_word tables (token.Name at n p) = property_at at (get_or tables.names n []) p
 property_word tables (token.Word at w number) = Some (tree.of_property at (get_or tables.names number []))
 property_word tables _ = None
@@ -155,14 +155,14 @@ from_word (token.Name at n p) = from_of p
 from_word _ = None
 
 -- keyFor, as a function of Symbol; none for other identifiers
-abbrev pub key_of : Property → Option Builtin
-key_of property.KeyFor = Some builtin.KeyFor
-key_of _ = None
+abbrev pub key_for_function : Property → Option Builtin
+key_for_function property.KeyFor = Some builtin.KeyFor
+key_for_function _ = None
 
 -- the identifier for or keyFor behind Symbol and a point: the function ("Properties of the Symbol Constructor")
 abbrev pub symbol_function : GrammarToken → Option Builtin
 symbol_function (token.Word at word.For number) = Some builtin.SymbolFor
-symbol_function (token.Name at n p) = key_of p
+symbol_function (token.Name at n p) = key_for_function p
 symbol_function _ = None
 
 -- stringify, as a function of JSON; none for other identifiers
@@ -176,18 +176,18 @@ stringify_word (token.Name at n p) = stringify_of p
 stringify_word _ = None
 
 -- keys, as a function of Object; none for other identifiers
-abbrev pub keys_of : Property → Option Builtin
-keys_of property.Keys = Some builtin.Keys
-keys_of _ = None
+abbrev pub keys_function : Property → Option Builtin
+keys_function property.Keys = Some builtin.Keys
+keys_function _ = None
 
 -- the identifier keys behind Object and a point: the function ("Object.keys")
 abbrev pub keys_word : GrammarToken → Option Builtin
-keys_word (token.Name at n p) = keys_of p
+keys_word (token.Name at n p) = keys_function p
 keys_word _ = None
 
 -- the key of a member of an object literal (ECMA-262, "LiteralPropertyName"): the letters of any identifier, the
 -- units of a string, or the decimal digits of a number
-abbrev pub key : Tables → GrammarToken → Option (List ℕ)
+abbrev pub key : TokenTables → GrammarToken → Option (List ℕ)
 key tables (token.Text at n k) = Some (get_or tables.keys n [])
 key tables (token.Number at n) = Some (decimal n)
 key tables (token.Name at n p) = Some (get_or tables.names n [])
@@ -340,7 +340,7 @@ constant _ = None
 
 -- a token that is an expression alone. So is each string: whether it is a key shows only at the token behind
 -- it, and in a whole script a key precedes the colon of a member alone
-abbrev pub simple : Tables → GrammarToken → Option ExprTree
+abbrev pub simple : TokenTables → GrammarToken → Option ExprTree
 simple tables (token.Text at n k) = Some (tree.literal n)
 simple tables (token.Number at n) = Some (tree.number n)
 simple tables (token.Name at n p) = Some (tree.variable (get_or tables.names n []))
@@ -348,10 +348,10 @@ simple tables (token.Word at w number) = constant w
 simple tables _ = None
 
 -- whether a token that isn't allowed at its place is an identifier
-abbrev pub is_word : GrammarToken → Bool
-is_word (token.Name at n p) = true
-is_word (token.Word at w number) = true
-is_word _ = false
+abbrev pub is_word_token : GrammarToken → Bool
+is_word_token (token.Name at n p) = true
+is_word_token (token.Word at w number) = true
+is_word_token _ = false
 
 -- where a token is
 abbrev pub place : GrammarToken → ℕ

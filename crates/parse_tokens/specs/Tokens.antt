@@ -12,7 +12,7 @@ use Rattle.js_lex.specs.Tokens.{TokensOf}
 use Rattle.parse_syntax.specs.declared.token.GrammarToken.{GrammarToken}
 use Rattle.parse_syntax.specs.declared.token.GrammarToken.TheVariants as token
 use Rattle.parse_syntax.specs.declared.token.Word.{Word}
-use Rattle.parse_tokens.specs.Words.{word_of, property_of, is_in}
+use Rattle.parse_tokens.specs.Words.{word_meant, word_property, is_in}
 
 -- The number of an identifier is its place in the table of names, which has each identifier once in source order.
 
@@ -100,11 +100,11 @@ keys_with key keys units = if key then keys ++ units ∷ [] else keys
 -- an identifier at an offset: one that is no name, or a name with what it means behind a point
 abbrev pub word_token : Option Word → List (List ℕ) → List ℕ → ℕ → GrammarToken
 word_token (Some w) names letters at = token.Word at w (place_in names letters)
-word_token None names letters at = token.Name at (place_in names letters) (property_of letters)
+word_token None names letters at = token.Name at (place_in names letters) (word_property letters)
 
 -- a token of this source text and kind, at an offset, which is a key or not
 abbrev pub token_of : Before → List ℕ → ℕ → Bool → Bool → TokenKind → GrammarToken
-token_of before source at after_line key kinds.Word = word_token (word_of source) before.names source at
+token_of before source at after_line key kinds.Word = word_token (word_meant source) before.names source at
 token_of before source at after_line key (kinds.Text units) =
     string_token key before.first before.texts before.keys source at
 token_of before source at after_line key (kinds.Number value) = token.Number at value
@@ -132,13 +132,13 @@ keys_after key before (kinds.Number value) = before.keys
 keys_after key before (kinds.Mark mark) = before.keys
 
 -- the grammar's token for a token of the text, which is a key or not, where this precedes it
-abbrev pub token_at : List ℕ → Before → Bool → Lexed → GrammarToken
-token_at bytes before key t =
+abbrev pub grammar_token : List ℕ → Before → Bool → Lexed → GrammarToken
+grammar_token bytes before key t =
     token_of before (slice bytes t.from t.to) t.from (has_line_end (slice bytes before.end t.from)) key t.kind
 
 -- what precedes the token that follows this one
-abbrev pub after : List ℕ → Before → Bool → Lexed → Before
-after bytes before key t = record {
+abbrev pub before_next : List ℕ → Before → Bool → Lexed → Before
+before_next bytes before key t = record {
   first = false;
   end = t.to;
   names = table_after before (slice bytes t.from t.to) t.kind;
@@ -149,17 +149,17 @@ after bytes before key t = record {
 -- the tokens, where { or a comma precedes them or not
 abbrev pub tokens_from : List ℕ → Bool → Before → List Lexed → List GrammarToken
 tokens_from bytes opened before [] = []
-tokens_from bytes opened before (t ∷ ts) = token_at bytes before (is_key opened t.kind ts) t ∷
-    tokens_from bytes (opens_member t.kind) (after bytes before (is_key opened t.kind ts) t) ts
+tokens_from bytes opened before (t ∷ ts) = grammar_token bytes before (is_key opened t.kind ts) t ∷
+    tokens_from bytes (opens_member t.kind) (before_next bytes before (is_key opened t.kind ts) t) ts
 
 -- what follows all these tokens, where { or a comma precedes them or not
 abbrev pub after_all : List ℕ → Bool → Before → List Lexed → Before
 after_all bytes opened before [] = before
 after_all bytes opened before (t ∷ ts) =
-    after_all bytes (opens_member t.kind) (after bytes before (is_key opened t.kind ts) t) ts
+    after_all bytes (opens_member t.kind) (before_next bytes before (is_key opened t.kind ts) t) ts
 
 -- the bytes have these tokens, literals, names and keys
-pub record Reads (bytes : List ℕ) (tokens : List GrammarToken)
+pub record HasTokens (bytes : List ℕ) (tokens : List GrammarToken)
     (literals names keys : List (List ℕ)) : Type 0 where
   pub lexed : List Lexed
   pub lexes : TokensOf bytes lexed

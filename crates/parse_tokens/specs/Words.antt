@@ -92,8 +92,8 @@ word_or None false = None
 
 -- what an identifier is where it can't be a name: the identifier itself if it has a meaning here, else Reserved; None for
 -- a name
-abbrev pub word_of : List ℕ → Option Word
-word_of letters = word_or (keyword_of letters) (is_reserved letters)
+abbrev pub word_meant : List ℕ → Option Word
+word_meant letters = word_or (keyword_of letters) (is_reserved letters)
 
 -- a name behind a point that is no method
 abbrev pub other_property : List ℕ → Option Property
@@ -114,5 +114,5 @@ property_or None (Some m) = property.Method m
 property_or None None = property.Nothing
 
 -- what a name means behind a point
-abbrev pub property_of : List ℕ → Property
-property_of letters = property_or (other_property letters) (method_of letters)
+abbrev pub word_property : List ℕ → Property
+word_property letters = property_or (other_property letters) (method_of letters)

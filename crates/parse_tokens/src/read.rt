@@ -4,12 +4,12 @@ ghost use Rattle.std.specs.List.{list_any};
 ghost use Rattle.std.specs.Str.{IsCharBoundary, chars};
 ghost use Rattle.js_lex.specs.Elements.{is_line_end};
 ghost use Rattle.js_lex.specs.Spans.{slice};
-ghost use Rattle.js_lex.specs.Tokens.{LexFaultOf, Fails, Lexes};
+ghost use Rattle.js_lex.specs.Tokens.{LexFaultOf, FailsFrom, Lexes};
 ghost use Rattle.js_lex.specs.declared.token.Token.{Token as Lexed};
 ghost use Rattle.js_lex.specs.declared.token.LexFault.{LexFault};
 ghost use Rattle.js_lex.specs.declared.token.LexFault.TheVariants.{Memory};
 ghost use Rattle.parse_tokens.specs.Tokens as definition;
-ghost use Rattle.parse_tokens.specs.Tokens.{Reads, place_in, with_name, has_line_end, begins_colon, token_at, after};
+ghost use Rattle.parse_tokens.specs.Tokens.{HasTokens, place_in, with_name, has_line_end, begins_colon, grammar_token, before_next};
 ghost use Rattle.parse_tokens.specs.Words as words;
 ghost use Rattle.parse_syntax.specs.declared.token.GrammarToken.{GrammarToken};
 ghost use Rattle.parse_tokens.specs.Steps.{Agrees, IsScriptTokens, ScannedTo, TellsKey, before_of};
@@ -88,7 +88,7 @@ fn word_token(
     requires few { length names.old.items ≤ 1_048_576 }
     requires agrees { Agrees numbers.old names.old.items }
     ensures token { IfOk result (λ token. token
-        ≡ definition.word_token (words.word_of letters.now) names.old.items letters.now at) }
+        ≡ definition.word_token (words.word_meant letters.now) names.old.items letters.now at) }
     ensures names { OnOk result (names.new.items
         ≡ with_name names.old.items letters.now) }
     ensures agrees { OnOk result (Agrees numbers.new names.new.items) }
@@ -198,7 +198,8 @@ fn next(
     requires last { IsCharBoundary text.now end }
     requires start { IsCharBoundary text.now token.from }
     ensures tokens { OnOk result (script.new.tokens ≡ script.old.tokens) }
-    ensures token { IfOk result (λ found. found ≡ token_at text.now (before_of script.old end) key token) }
+    ensures token { IfOk result (λ found. found
+        ≡ grammar_token text.now (before_of script.old end) key token) }
     ensures literals { OnOk result (script.new.literals.items
         ≡ definition.literals_after key (before_of script.old end)
         (slice text.now token.from token.to) token.kind) }
@@ -253,13 +254,13 @@ fn add(
     requires last { IsCharBoundary text.now end }
     requires start { IsCharBoundary text.now token.from }
     ensures tokens { OnOk result (script.new.tokens.items
-        ≡ script.old.tokens.items ++ token_at text.now (before_of script.old end) key token ∷ []) }
+        ≡ script.old.tokens.items ++ grammar_token text.now (before_of script.old end) key token ∷ []) }
     ensures literals { OnOk result (script.new.literals.items
-        ≡ (after text.now (before_of script.old end) key token).texts) }
+        ≡ (before_next text.now (before_of script.old end) key token).texts) }
     ensures names { OnOk result (script.new.names.items
-        ≡ (after text.now (before_of script.old end) key token).names) }
+        ≡ (before_next text.now (before_of script.old end) key token).names) }
     ensures keys { OnOk result (script.new.keys.items
-        ≡ (after text.now (before_of script.old end) key token).keys) }
+        ≡ (before_next text.now (before_of script.old end) key token).keys) }
     ensures agrees { OnOk result (Agrees numbers.new script.new.names.items) }
 {
     let token = next(alloc, script, numbers, text, end, token, key)?;
@@ -307,7 +308,7 @@ fn colon_follows(alloc: Global, text: &str, at: u32) -> Result<bool, LexFault>
     requires cut { IsCharBoundary text.now at }
     ensures colon { IfOk result (λ colon. (ts : List Lexed) → Lexes text.now at ts
         → colon ≡ begins_colon ts) }
-    ensures fault { IfErr result (λ e. (e ≡ Memory) ⊎ Fails text.now at e) }
+    ensures fault { IfErr result (λ e. (e ≡ Memory) ⊎ FailsFrom text.now at e) }
 {
     match js_lex::next_token(alloc, text, at) {
         Ok(Some(token)) => Ok(is_colon(&token.kind)),
@@ -321,7 +322,7 @@ fn is_key(alloc: Global, text: &str, opened: bool, token: &js_lex::Token) -> Res
     requires size { length text.now ≤ 1_048_576 }
     requires cut { IsCharBoundary text.now token.now.to }
     ensures key { IfOk result (TellsKey text.now opened token.now) }
-    ensures fault { IfErr result (λ e. (e ≡ Memory) ⊎ Fails text.now token.now.to e) }
+    ensures fault { IfErr result (λ e. (e ≡ Memory) ⊎ FailsFrom text.now token.now.to e) }
 {
     if !opened {
         return Ok(false);
@@ -338,7 +339,7 @@ fn is_key(alloc: Global, text: &str, opened: bool, token: &js_lex::Token) -> Res
 fn scan(alloc: Global, text: &str) -> Result<ScriptTokens, LexFault>
     requires { length text.now ≤ 1_048_576 }
     ensures read { IfOk result (ScannedTo text.now) }
-    ensures refused { IfErr result (λ fault. (fault ≡ Memory) ⊎ Fails text.now 0 fault) }
+    ensures refused { IfErr result (λ fault. (fault ≡ Memory) ⊎ FailsFrom text.now 0 fault) }
 {
     let mut script = match no_tokens(alloc, text.len()) {
         Ok(script) => script,
@@ -372,7 +373,7 @@ fn scan(alloc: Global, text: &str) -> Result<ScriptTokens, LexFault>
 fn read(alloc: Global, bytes: &[u8]) -> Result<ScriptTokens, LexFault>
     requires { length bytes.now ≤ 1_048_576 }
     ensures read { IfOk result
-        (λ script. Reads bytes.now script.tokens.items script.literals.items script.names.items
+        (λ script. HasTokens bytes.now script.tokens.items script.literals.items script.names.items
         script.keys.items) }
     ensures refused { IfErr result (λ fault. (fault ≡ Memory) ⊎ LexFaultOf bytes.now fault) }
 {
@@ -386,11 +387,11 @@ fn read(alloc: Global, bytes: &[u8]) -> Result<ScriptTokens, LexFault>
 pub fn tokens(alloc: Global, bytes: &[u8]) -> Result<ScriptTokens, LexFault>
     requires { length bytes.now ≤ 1_048_576 }
     ensures read { IfOk result
-        (λ script. Reads bytes.now script.tokens.items script.literals.items script.names.items
+        (λ script. HasTokens bytes.now script.tokens.items script.literals.items script.names.items
         script.keys.items) }
     ensures refused { IfErr result (λ fault. (fault ≡ Memory) ⊎ LexFaultOf bytes.now fault) }
     ensures found { (ts : List GrammarToken) (texts names keys : List (List ℕ))
-        → Reads bytes.now ts texts names keys
+        → HasTokens bytes.now ts texts names keys
         → IfOk result (λ script. IsScriptTokens script ts texts names keys)
         × IfErr result (λ fault. fault ≡ Memory) }
     ensures faults { (f : LexFault) → LexFaultOf bytes.now f

@@ -75,7 +75,7 @@ fn keyword(letters: &[u8]) -> Option<Word>
 
 /// The identifier, where it is no name.
 pub(crate) fn word_named(letters: &[u8]) -> Option<Word>
-    ensures { result ≡ words.word_of letters.now }
+    ensures { result ≡ words.word_meant letters.now }
 {
     match keyword(letters) {
         Some(word) => Some(word),
@@ -114,7 +114,7 @@ fn other_property(letters: &[u8]) -> Option<Property>
 
 /// What a name means behind a point.
 pub(crate) fn property_named(letters: &[u8]) -> Property
-    ensures { result ≡ words.property_of letters.now }
+    ensures { result ≡ words.word_property letters.now }
 {
     if let Some(property) = other_property(letters) {
         return property;

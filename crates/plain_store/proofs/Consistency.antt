@@ -11,7 +11,7 @@ use Rattle.std.specs.Cmp.Lexicographic.{slice_cmp, nat_list_cmp_total}
 use Rattle.std.specs.FinMap.{get, empty, insert, get-insert, get-empty, nat_cmp-IsAntisymmetric, slice_cmp-IsAntisymmetric}
 use Rattle.js_store.specs.declared.limit.Limit.{Limit}
 use Rattle.js_store.specs.State.{Grows}
-use Rattle.plain_store.specs.Plain.{IsConsistent, units_at, history_of, plain_state}
+use Rattle.plain_store.specs.Plain.{IsConsistent, plain_units, history_of, plain_state}
 use Rattle.plain_store.specs.Sound.{Numbers, some_same}
 
 get_more : (strings more : List (List ℕ)) (n : ℕ) (u : List ℕ) → slice_get strings n ≡ Some u → slice_get (strings ++ more) n ≡ Some u
@@ -19,23 +19,23 @@ get_more [] more n u h = absurd (cc)
 get_more (x ∷ xs) more zero u h = h
 get_more (x ∷ xs) more (suc n) u h = get_more xs more n u h
 
-at_more : (strings more : List (List ℕ)) (n : ℕ) (u : List ℕ) → slice_get strings n ≡ Some u → units_at (strings ++ more) n ≡ u
+at_more : (strings more : List (List ℕ)) (n : ℕ) (u : List ℕ) → slice_get strings n ≡ Some u → plain_units (strings ++ more) n ≡ u
 at_more strings more n u h = ap (λ o. unwrap_or o []) (get_more strings more n u h)
 
-at_is : (strings : List (List ℕ)) (n : ℕ) (u : List ℕ) → slice_get strings n ≡ Some u → units_at strings n ≡ u
+at_is : (strings : List (List ℕ)) (n : ℕ) (u : List ℕ) → slice_get strings n ≡ Some u → plain_units strings n ≡ u
 at_is strings n u h = ap (λ o. unwrap_or o []) h
 
 -- where a number interned stands
-answer_stands : (strings : List (List ℕ)) (answers : List ℕ) (t : Numbers) → IsConsistent strings answers t → (k : ℕ) → k < length answers → slice_get strings (slice_index answers k) ≡ Some (units_at strings (slice_index answers k))
-answer_stands strings answers t h k l = h.found (units_at strings (slice_index answers k)) (slice_index answers k) (h.answered k l)
+answer_stands : (strings : List (List ℕ)) (answers : List ℕ) (t : Numbers) → IsConsistent strings answers t → (k : ℕ) → k < length answers → slice_get strings (slice_index answers k) ≡ Some (plain_units strings (slice_index answers k))
+answer_stands strings answers t h k l = h.found (plain_units strings (slice_index answers k)) (slice_index answers k) (h.answered k l)
 
-length_at_push : (strings : List (List ℕ)) (u : List ℕ) (n : ℕ) → ((m : ℕ) → length (units_at strings m) ≤ 536870888) → length u ≤ 536870888 → length (units_at (strings ++ u ∷ []) n) ≤ 536870888
+length_at_push : (strings : List (List ℕ)) (u : List ℕ) (n : ℕ) → ((m : ℕ) → length (plain_units strings m) ≤ 536870888) → length u ≤ 536870888 → length (plain_units (strings ++ u ∷ []) n) ≤ 536870888
 length_at_push [] u zero h l = l
 length_at_push [] u (suc n) h l = omega arith
 length_at_push (x ∷ xs) u zero h l = h 0
 length_at_push (x ∷ xs) u (suc n) h l = length_at_push xs u n (λ m. h (suc m)) l
 
-range_at_push : (strings : List (List ℕ)) (u : List ℕ) (n : ℕ) → ((m : ℕ) → All (λ x. x < 65536) (units_at strings m)) → All (λ x. x < 65536) u → All (λ x. x < 65536) (units_at (strings ++ u ∷ []) n)
+range_at_push : (strings : List (List ℕ)) (u : List ℕ) (n : ℕ) → ((m : ℕ) → All (λ x. x < 65536) (plain_units strings m)) → All (λ x. x < 65536) u → All (λ x. x < 65536) (plain_units (strings ++ u ∷ []) n)
 range_at_push [] u zero h l = l
 range_at_push [] u (suc n) h l = All-nil (λ (x : ℕ). x < 65536)
 range_at_push (x ∷ xs) u zero h l = h 0
@@ -48,13 +48,13 @@ one_more strings answers t u k l r room = record {
   ranges = λ n. range_at_push strings u n k.ranges r;
   count = omega (arith, length-append strings (u ∷ []));
   found = λ w n h. get_more strings (u ∷ []) n w (k.found w n h);
-  answered = λ i h. ap (get t) (at_more strings (u ∷ []) (slice_index answers i) (units_at strings (slice_index answers i)) (answer_stands strings answers t k i h)) ∙ k.answered i h;
+  answered = λ i h. ap (get t) (at_more strings (u ∷ []) (slice_index answers i) (plain_units strings (slice_index answers i)) (answer_stands strings answers t k i h)) ∙ k.answered i h;
 }
 
-history_more : (strings more : List (List ℕ)) (answers : List ℕ) → ((k : ℕ) → k < length answers → slice_get strings (slice_index answers k) ≡ Some (units_at strings (slice_index answers k))) → history_of (strings ++ more) answers ≡ history_of strings answers
+history_more : (strings more : List (List ℕ)) (answers : List ℕ) → ((k : ℕ) → k < length answers → slice_get strings (slice_index answers k) ≡ Some (plain_units strings (slice_index answers k))) → history_of (strings ++ more) answers ≡ history_of strings answers
 history_more strings more [] h = refl
 history_more strings more (n ∷ ns) h =
-    let here : units_at (strings ++ more) n ≡ units_at strings n = at_more strings more n (units_at strings n) (h 0 (omega arith)) in
+    let here : plain_units (strings ++ more) n ≡ plain_units strings n = at_more strings more n (plain_units strings n) (h 0 (omega arith)) in
     let rest = history_more strings more ns (λ k l. h (suc k) (omega arith)) in
     cc (here, rest)
 
@@ -91,7 +91,7 @@ one_entry strings answers t u s k h none = record {
   ranges = k.ranges;
   count = k.count;
   found = λ w n g. found_by (eq_by_cmp (slice_cmp nat_cmp) w u) strings t u w s n refl k.found h g;
-  answered = λ i l. answered_by (eq_by_cmp (slice_cmp nat_cmp) (units_at strings (slice_index answers i)) u) t u (units_at strings (slice_index answers i)) s (slice_index answers i) refl none (k.answered i l);
+  answered = λ i l. answered_by (eq_by_cmp (slice_cmp nat_cmp) (plain_units strings (slice_index answers i)) u) t u (plain_units strings (slice_index answers i)) s (slice_index answers i) refl none (k.answered i l);
 }
 
 push_cases : (answers : List ℕ) (n i : ℕ) → i < length (answers ++ n ∷ []) → ((i < length answers) × (slice_index (answers ++ n ∷ []) i ≡ slice_index answers i)) ⊎ (slice_index (answers ++ n ∷ []) i ≡ n)
@@ -101,26 +101,26 @@ push_cases (m ∷ ms) n zero h = inl (omega arith, refl)
 push_cases (m ∷ ms) n (suc i) h = elim (push_cases ms n i (omega arith)) [ inl p ↦ inl (omega (arith, p.0), p.1) | inr e ↦ inr e ]
 
 -- one more call, whose number is that of the table
-pub one_answer : (strings : List (List ℕ)) (answers : List ℕ) (t : Numbers) (n : ℕ) → IsConsistent strings answers t → get t (units_at strings n) ≡ Some n → IsConsistent strings (answers ++ n ∷ []) t
+pub one_answer : (strings : List (List ℕ)) (answers : List ℕ) (t : Numbers) (n : ℕ) → IsConsistent strings answers t → get t (plain_units strings n) ≡ Some n → IsConsistent strings (answers ++ n ∷ []) t
 one_answer strings answers t n k h = record {
   lengths = k.lengths;
   ranges = k.ranges;
   count = k.count;
   found = k.found;
   answered = λ i l. elim (push_cases answers n i l) [
-    | inl p ↦ ap (λ m. get t (units_at strings m)) p.1 ∙ k.answered i p.0 ∙ ap Some (sym p.1)
-    | inr e ↦ ap (λ m. get t (units_at strings m)) e ∙ h ∙ ap Some (sym e)
+    | inl p ↦ ap (λ m. get t (plain_units strings m)) p.1 ∙ k.answered i p.0 ∙ ap Some (sym p.1)
+    | inr e ↦ ap (λ m. get t (plain_units strings m)) e ∙ h ∙ ap Some (sym e)
   ];
 }
 
-pub history_push : (strings : List (List ℕ)) (answers : List ℕ) (n : ℕ) → history_of strings (answers ++ n ∷ []) ≡ history_of strings answers ++ (units_at strings n, n) ∷ []
+pub history_push : (strings : List (List ℕ)) (answers : List ℕ) (n : ℕ) → history_of strings (answers ++ n ∷ []) ≡ history_of strings answers ++ (plain_units strings n, n) ∷ []
 history_push strings [] n = refl
 history_push strings (m ∷ ms) n = cc (history_push strings ms n)
 
 -- what was interned before one more call
 interned_still : (strings : List (List ℕ)) (answers : List ℕ) (m : ℕ) (u : List ℕ) (n : ℕ) → Contains (history_of strings answers) (u, n) → Contains (history_of strings (answers ++ m ∷ [])) (u, n)
 interned_still strings answers m u n h =
-    subst (λ (l : List (List ℕ × ℕ)). Contains l (u, n)) (sym (history_push strings answers m)) (Contains-append_left (history_of strings answers) ((units_at strings m, m) ∷ []) (u, n) h)
+    subst (λ (l : List (List ℕ × ℕ)). Contains l (u, n)) (sym (history_push strings answers m)) (Contains-append_left (history_of strings answers) ((plain_units strings m, m) ∷ []) (u, n) h)
 
 -- what one more call of `intern` keeps
 pub grows_answer : (strings now : List (List ℕ)) (answers more : List ℕ) (m : ℕ) (l same : Limit) → now ≡ strings → more ≡ answers ++ m ∷ [] → same ≡ l → Grows (plain_state strings answers l) (plain_state now more same)
@@ -171,5 +171,5 @@ entered t u s = get-insert nat_list_cmp_total t u s u ∙ ap (λ b. cond b (Some
 pub read_stands : (strings : List (List ℕ)) (s : ℕ) (x u : List ℕ) → s < length strings → x ≡ get_or strings s x → u ≡ x → slice_get strings s ≡ Some u
 read_stands strings s x u h e f = slice_get-get_or strings s x h ∙ ap Some (sym e ∙ sym f)
 
-pub read_at : (strings : List (List ℕ)) (s : ℕ) (x u : List ℕ) → s < length strings → x ≡ get_or strings s x → u ≡ x → units_at strings s ≡ u
+pub read_at : (strings : List (List ℕ)) (s : ℕ) (x u : List ℕ) → s < length strings → x ≡ get_or strings s x → u ≡ x → plain_units strings s ≡ u
 read_at strings s x u h e f = at_is strings s u (read_stands strings s x u h e f)

@@ -8,12 +8,12 @@ use Rattle.js_store.specs.Limits.{limit_units}
 use Rattle.js_store.specs.State.{State}
 
 -- the units of a number
-abbrev pub units_at : List (List ℕ) → ℕ → List ℕ
-units_at strings n = unwrap_or (slice_get strings n) []
+abbrev pub plain_units : List (List ℕ) → ℕ → List ℕ
+plain_units strings n = unwrap_or (slice_get strings n) []
 
 -- the units of each number that was answered, in order
 abbrev pub history_of : List (List ℕ) → List ℕ → List (List ℕ × ℕ)
-history_of strings answers = map (λ n. (units_at strings n, n)) answers
+history_of strings answers = map (λ n. (plain_units strings n, n)) answers
 
 -- the meaning of the strings and of the numbers that `intern` answered, with the limit
 abbrev pub plain_state : List (List ℕ) → List ℕ → Limit → State (Unit {0})
@@ -37,9 +37,9 @@ plain_state strings answers limit = record {
 -- their units, and each number answered is the one that the table has for its units
 pub record IsConsistent (strings : List (List ℕ)) (answers : List ℕ)
     (table : FinMap (slice_cmp nat_cmp) ℕ) : Type 0 where
-  pub lengths : (n : ℕ) → length (units_at strings n) ≤ 536870888
-  pub ranges : (n : ℕ) → All (λ x. x < 65536) (units_at strings n)
+  pub lengths : (n : ℕ) → length (plain_units strings n) ≤ 536870888
+  pub ranges : (n : ℕ) → All (λ x. x < 65536) (plain_units strings n)
   pub count : length strings ≤ 4294967295
   pub found : (u : List ℕ) (n : ℕ) → get table u ≡ Some n → slice_get strings n ≡ Some u
   pub answered : (k : ℕ) → k < length answers
-      → get table (units_at strings (slice_index answers k)) ≡ Some (slice_index answers k)
+      → get table (plain_units strings (slice_index answers k)) ≡ Some (slice_index answers k)

@@ -9,26 +9,26 @@ use Rattle.js_store.specs.declared.limit.Limit.{Limit}
 use Rattle.js_store.specs.declared.limit.Limit.TheVariants.{Bits32, Bits64}
 use Rattle.js_store.specs.Limits.{limit_units}
 use Rattle.js_store.specs.State.{Sound}
-use Rattle.plain_store.specs.Plain.{IsConsistent, history_of, plain_state, units_at}
+use Rattle.plain_store.specs.Plain.{IsConsistent, history_of, plain_state, plain_units}
 
 abbrev pub Numbers : Type 0
 Numbers = FinMap (slice_cmp nat_cmp) ℕ
 
-pub record Answer (strings : List (List ℕ)) (answers : List ℕ) (u : List ℕ) (n : ℕ) : Type 0 where
+pub record IsAnswerOf (strings : List (List ℕ)) (answers : List ℕ) (u : List ℕ) (n : ℕ) : Type 0 where
   pub k : ℕ
   pub here : k < length answers
   pub number : slice_index answers k ≡ n
-  pub units : units_at strings n ≡ u
+  pub units : plain_units strings n ≡ u
 
 -- a pair of the history is one of the answers
 pub answer_of : (strings : List (List ℕ)) (answers : List ℕ) (u : List ℕ) (n : ℕ)
-    → Contains (history_of strings answers) (u, n) → Answer strings answers u n
+    → Contains (history_of strings answers) (u, n) → IsAnswerOf strings answers u n
 answer_of strings answers u n h =
-    let f : ℕ → List ℕ × ℕ = λ m. (units_at strings m, m) in
+    let f : ℕ → List ℕ × ℕ = λ m. (plain_units strings m, m) in
     let l : h.0 < length answers = subst (λ (x : ℕ). h.0 < x) (length-map answers f) h.1 in
     let e : f (get_or answers h.0 0) ≡ (u, n) = sym (get_or-map f answers h.0 0 (u, n) l) ∙ h.2 in
     let m : get_or answers h.0 0 ≡ n = ap (λ p. p.1) e in
-    record { k = h.0; here = l; number = m; units = ap (units_at strings) (sym m) ∙ ap (λ p. p.0) e }
+    record { k = h.0; here = l; number = m; units = ap (plain_units strings) (sym m) ∙ ap (λ p. p.0) e }
 
 pub some_same : (m n : ℕ) → Some m ≡ Some n → m ≡ n
 some_same m n e = ap (λ o. unwrap_or o m) e
@@ -38,7 +38,8 @@ in_table : (strings : List (List ℕ)) (answers : List ℕ) (t : Numbers) → Is
     → (u : List ℕ) (n : ℕ) → Contains (history_of strings answers) (u, n) → get t u ≡ Some n
 in_table strings answers t k u n h =
     let a = answer_of strings answers u n h in
-    ap (get t) (sym a.units ∙ ap (units_at strings) (sym a.number)) ∙ k.answered a.k a.here ∙ ap Some a.number
+    ap (get t) (sym a.units ∙ ap (plain_units strings) (sym a.number)) ∙ k.answered a.k a.here ∙ ap Some
+    a.number
 
 get_within : (strings : List (List ℕ)) (n : ℕ) (u : List ℕ) → slice_get strings n ≡ Some u
     → n < length strings
@@ -54,9 +55,9 @@ high : (l : Limit) → limit_units l ≤ 536870888
 high Bits32 = omega arith
 high Bits64 = omega arith
 
-pub sound_of : (strings : List (List ℕ)) (answers : List ℕ) (l : Limit) (t : Numbers)
+pub plain_sound : (strings : List (List ℕ)) (answers : List ℕ) (l : Limit) (t : Numbers)
     → IsConsistent strings answers t → Sound (plain_state strings answers l)
-sound_of strings answers l t k = record {
+plain_sound strings answers l t k = record {
   one_number = λ u m n p q. some_same m n
       (sym (in_table strings answers t k u m p) ∙ in_table strings answers t k u n q);
   one_list =

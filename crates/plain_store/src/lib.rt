@@ -9,7 +9,7 @@ ghost use Rattle.std.specs.Prelude.{◌≡◌, ◌<◌, ◌≤◌, [], ◌∷◌
 ghost use Rattle.std.proofs.Props.{props};
 ghost use Rattle.std.specs.FinMap as map;
 ghost use Rattle.js_store.specs.Limits.{limit_units};
-ghost use Rattle.plain_store.specs.Plain.{IsConsistent, units_at, history_of};
+ghost use Rattle.plain_store.specs.Plain.{IsConsistent, plain_units, history_of};
 
 mod table;
 
@@ -75,9 +75,10 @@ impl PlainStore {
         ensures strings { self.new.strings.items ≡ self.old.strings.items }
         ensures answers { self.new.answers.items ≡ self.old.answers.items }
         ensures limit { self.new.limit ≡ self.old.limit }
-        ensures ok { IfOk result (λ n. map.get self.new.table (units_at self.old.strings.items s) ≡ Some n) }
+        ensures ok { IfOk result (λ n. map.get self.new.table (plain_units self.old.strings.items s)
+            ≡ Some n) }
         ensures units { IfOk result
-            (λ n. slice_get self.old.strings.items n ≡ Some (units_at self.old.strings.items s)) }
+            (λ n. slice_get self.old.strings.items n ≡ Some (plain_units self.old.strings.items s)) }
     {
         let units = self.strings[s as usize].as_slice();
         if let Some(number) = self.table.get(units) {
@@ -102,7 +103,7 @@ impl Strings for PlainStore {
     type Ref = u32;
 
     ghost use Rattle.plain_store.specs.Plain.{plain_state};
-    ghost use Rattle.plain_store.specs.Sound.{sound_of};
+    ghost use Rattle.plain_store.specs.Sound.{plain_sound};
 
     ghost Frame = { Unit {0} };
 
@@ -184,5 +185,5 @@ impl Strings for PlainStore {
         self.limit.units()
     }
 
-    ghost sound = { λ s. sound_of s.strings.items s.answers.items s.limit s.table s.consistent };
+    ghost sound = { λ s. plain_sound s.strings.items s.answers.items s.limit s.table s.consistent };
 }

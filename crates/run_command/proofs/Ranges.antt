@@ -13,7 +13,7 @@ use Rattle.clap.proofs.ValueTestLemmas.{accepts-Accepts}
 use Rattle.clap.proofs.WalkLemmas.{both}
 use Rattle.js_store.specs.declared.limit.Limit.{Limit}
 use Rattle.run_command.specs.declared.plan.Sizes.{Sizes}
-use Rattle.run_command.specs.Words.{Asked, IsInRange, IsSomeFiles, Name, Request, asked_in, files, files_in, generated_in, is_some_files, jobs_in, limit_in, made_from, most_size, most_together, named_in, number_in, number_of, request_by, request_in, request_with, sizes_by, sizes_in, summary_in}
+use Rattle.run_command.specs.Words.{Asked, IsRequestInRange, IsSomeFiles, FileWord, Request, asked_in, files, files_in, generated_in, is_some_files, jobs_in, limit_in, made_from, most_size, most_together, named_in, number_in, option_number, request_by, request_in, request_with, sizes_by, sizes_in, summary_in}
 
 none≢some : {T : Type 0} (x : T) → ◌≡◌ {A = Option T} None (Some x) → ⊥
 none≢some x is = cc
@@ -51,7 +51,7 @@ option_between : (least most : ℕ) (text : Option Text) (n : ℕ) → option_an
 option_between least most None n is = absurd (none≢some n is)
 option_between least most (Some text) n is = number_between least most text n is
 
-between : (least most : ℕ) (id : Text) (rows : List Row) (n : ℕ) → number_of least most id rows ≡ Some n → (least ≤ n) × (n ≤ most)
+between : (least most : ℕ) (id : Text) (rows : List Row) (n : ℕ) → option_number least most id rows ≡ Some n → (least ≤ n) × (n ≤ most)
 between least most id rows n is = option_between least most (first_of id rows) n is
 
 -- ---- what is run
@@ -59,7 +59,7 @@ between least most id rows n is = option_between least most (first_of id rows) n
 named_some : (rows : List Row) (asked : Asked) → named_in rows ≡ Some asked → IsSomeFiles asked
 named_some rows asked is = go (is_some_files (files_in rows)) refl
   where
-    at : (prelude : Option Name) (scripts : List Name) → is_some_files scripts ≡ true → IsSomeFiles (files prelude scripts)
+    at : (prelude : Option FileWord) (scripts : List FileWord) → is_some_files scripts ≡ true → IsSomeFiles (files prelude scripts)
     at prelude scripts some =
         let parts = both _ _ some in
         (leb-true _ _ parts.0, leb-true _ _ parts.1)
@@ -81,7 +81,7 @@ generated_some rows asked is = go (is_some (first_of (codes "prelude") rows) || 
     go true fails =
         let none : None ≡ Some asked = rw fails at is in
         absurd (none≢some asked none)
-    go false holds = made_some rows (number_of 0 4294967295 (codes "generate") rows) asked (λ n number. omega (arith, (between 0 4294967295 (codes "generate") rows n number).1)) (rw holds at is)
+    go false holds = made_some rows (option_number 0 4294967295 (codes "generate") rows) asked (λ n number. omega (arith, (between 0 4294967295 (codes "generate") rows n number).1)) (rw holds at is)
 
 asked_some : (rows : List Row) (asked : Asked) → asked_in rows ≡ Some asked → IsSomeFiles asked
 asked_some rows asked is = go (is_some (first_of (codes "generate") rows)) refl
@@ -116,23 +116,23 @@ sizes_between (Some ids) (Some heap_words) (Some slots) sizes i h s is = go (nat
 -- ---- the whole
 
 request_between : (asked : Asked) (jobs : Option ℕ) (sizes : Option Sizes) (limit : Option Limit) (summary : Bool) (request : Request) → IsSomeFiles asked
-    → ((n : ℕ) → jobs ≡ Some n → (1 ≤ n) × (n ≤ 64)) → ((s : Sizes) → sizes ≡ Some s → AreInRange s) → request_by asked jobs sizes limit summary ≡ Some request → IsInRange request
+    → ((n : ℕ) → jobs ≡ Some n → (1 ≤ n) × (n ≤ 64)) → ((s : Sizes) → sizes ≡ Some s → AreInRange s) → request_by asked jobs sizes limit summary ≡ Some request → IsRequestInRange request
 request_between asked None sizes limit summary request some j s is = absurd (none≢some request is)
 request_between asked (Some jobs) None limit summary request some j s is = absurd (none≢some request is)
 request_between asked (Some jobs) (Some sizes) None summary request some j s is = absurd (none≢some request is)
 request_between asked (Some jobs) (Some sizes) (Some limit) summary request some j s is =
     let made : Request = record { asked = asked; jobs = jobs; sizes = sizes; summary = summary; limit = limit } in
     let held = s sizes refl in
-    let fine : IsInRange made = record { files = some; jobs = j jobs refl; ids = held.ids; heap_words = held.heap_words; slots = held.slots; together = held.together } in
-    subst IsInRange (same made request is) fine
+    let fine : IsRequestInRange made = record { files = some; jobs = j jobs refl; ids = held.ids; heap_words = held.heap_words; slots = held.slots; together = held.together } in
+    subst IsRequestInRange (same made request is) fine
 
-pub in_range : (rows : List Row) (request : Request) → request_in rows ≡ Some request → IsInRange request
+pub in_range : (rows : List Row) (request : Request) → request_in rows ≡ Some request → IsRequestInRange request
 in_range rows request is = go (asked_in rows) refl
   where
-    size : (id : Text) (n : ℕ) → number_of 1 most_size id rows ≡ Some n → (1 ≤ n) × (n ≤ most_size)
+    size : (id : Text) (n : ℕ) → option_number 1 most_size id rows ≡ Some n → (1 ≤ n) × (n ≤ most_size)
     size id n is = between 1 most_size id rows n is
 
-    go : (o : Option Asked) → asked_in rows ≡ o → IsInRange request
+    go : (o : Option Asked) → asked_in rows ≡ o → IsRequestInRange request
     go None none =
         let fails : None ≡ Some request = rw none at is in
         absurd (none≢some request fails)

@@ -16,7 +16,7 @@ use Rattle.clap.specs.declared.builder.value_parser.ValueParser.TheVariants as p
 use Rattle.clap.specs.declared.parser.matches.Found.{Found}
 use Rattle.clap.proofs.ValueTestLemmas.{Accepts-accepts, accepts-Accepts}
 use Rattle.clap.proofs.WalkLemmas.{first_value-rows, one_text-rows}
-use Rattle.run_command.specs.Words.{number_in, number_of}
+use Rattle.run_command.specs.Words.{number_in, option_number}
 
 none≢some : {T : Type 0} (x : T) → ◌≡◌ {A = Option T} None (Some x) → ⊥
 none≢some x is = cc
@@ -42,15 +42,15 @@ signless false d = refl
 
 module _ (least most : ℕ) (f : Found) (id : Text) where
   -- what an option spells is what its first value spells
-  of_text : (o : Option Text) (r : Option ℕ) → o ≡ first_value f id → option_and_then (number_in least most) o ≡ r → number_of least most id (rows_of f) ≡ r
+  of_text : (o : Option Text) (r : Option ℕ) → o ≡ first_value f id → option_and_then (number_in least most) o ≡ r → option_number least most id (rows_of f) ≡ r
   of_text o r given is = ap (option_and_then (number_in least most)) (sym (given ∙ first_value-rows f id)) ∙ is
 
-  pub number_not_given : None ≡ first_value f id → number_of least most id (rows_of f) ≡ None
+  pub number_not_given : None ≡ first_value f id → option_number least most id (rows_of f) ≡ None
   number_not_given given = of_text None None given refl
 
   module _ (text : Text) (given : Some text ≡ first_value f id) where
     module _ {E : Type 0} where
-      pub number_unread : (x : Result ℤ E) → ParsesSigned w64 10 text x → None ≡ result_ok x → number_of least most id (rows_of f) ≡ None
+      pub number_unread : (x : Result ℤ E) → ParsesSigned w64 10 text x → None ≡ result_ok x → option_number least most id (rows_of f) ≡ None
       number_unread (Ok z) parsed none = absurd (no_value z none)
       number_unread (Err e) parsed none = of_text (Some text) None given (no_number least most text (λ is. parsed (is.0, is.1)))
 
@@ -58,12 +58,12 @@ module _ (least most : ℕ) (f : Found) (id : Text) where
       parsed_to z (Ok m) parsed is = subst (λ k. ParsesSigned {E = E} w64 10 text (Ok k)) (sym (ap (λ o. unwrap_or o z) is)) parsed
       parsed_to z (Err e) parsed is = absurd (no_value z (sym is))
 
-      pub number_outside : (z : ℤ) (x : Result ℤ E) → ParsesSigned w64 10 text x → Some z ≡ result_ok x → (z <ℤ pos least) ⊎ (pos most <ℤ z) → number_of least most id (rows_of f) ≡ None
+      pub number_outside : (z : ℤ) (x : Result ℤ E) → ParsesSigned w64 10 text x → Some z ≡ result_ok x → (z <ℤ pos least) ⊎ (pos most <ℤ z) → option_number least most id (rows_of f) ≡ None
       number_outside z x parses is out =
           let parsed = parsed_to z x parses is in
           of_text (Some text) None given (no_number least most text (λ is. grind (arith, out, parsed.1, is.2, is.3)))
 
-      pub number_inside : (z : ℤ) (x : Result ℤ E) → ParsesSigned w64 10 text x → Some z ≡ result_ok x → pos least ≤ℤ z → z ≤ℤ pos most → number_of least most id (rows_of f) ≡ Some (nat_abs (to_z w64 (of_z w64 z)))
+      pub number_inside : (z : ℤ) (x : Result ℤ E) → ParsesSigned w64 10 text x → Some z ≡ result_ok x → pos least ≤ℤ z → z ≤ℤ pos most → option_number least most id (rows_of f) ≡ Some (nat_abs (to_z w64 (of_z w64 z)))
       number_inside z x parses is low high =
           let parsed = parsed_to z x parses is in
           let value : z ≡ signed_digits_value 10 text = parsed.1 in

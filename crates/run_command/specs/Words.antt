@@ -17,13 +17,13 @@ use Rattle.run_command.specs.declared.plan.WordsFault.{WordsFault}
 use Rattle.run_command.specs.declared.plan.WordsFault.TheVariants.{Refused, Memory}
 
 -- an argument that names a file, by its bytes
-abbrev pub Name : Type 0
-Name = List ℕ
+abbrev pub FileWord : Type 0
+FileWord = List ℕ
 
 -- what is run: a prelude or none and the scripts, by the names of their files, or the sources that are generated
 -- from a number
 pub data Asked : Type 0 where
-  files : Option Name → List Name → Asked
+  files : Option FileWord → List FileWord → Asked
   made_from : ℕ → Asked
 
 -- what is asked for
@@ -43,8 +43,8 @@ number_in least most text = if is_signed_in (pos least) (pos most) text
     then Some (digits_value 10 (without_leading_sign text)) else None
 
 -- the number of an option
-abbrev pub number_of : ℕ → ℕ → Text → List Row → Option ℕ
-number_of least most id rows = option_and_then (number_in least most) (first_of id rows)
+abbrev pub option_number : ℕ → ℕ → Text → List Row → Option ℕ
+option_number least most id rows = option_and_then (number_in least most) (first_of id rows)
 
 -- the most jobs that may be requested
 abbrev pub most_jobs : ℕ
@@ -67,8 +67,8 @@ sizes_by _ _ _ = None
 
 -- the sizes that the options give, each in its range
 abbrev pub sizes_in : List Row → Option Sizes
-sizes_in rows = sizes_by (number_of 1 most_size (codes "ids") rows)
-    (number_of 1 most_size (codes "heap-words") rows) (number_of 1 most_size (codes "slots") rows)
+sizes_in rows = sizes_by (option_number 1 most_size (codes "ids") rows)
+    (option_number 1 most_size (codes "heap-words") rows) (option_number 1 most_size (codes "slots") rows)
 
 -- `--limit`: 32 or 64
 abbrev pub limit_by : ℕ → Option Limit
@@ -76,11 +76,11 @@ limit_by bits = if bits == 32 then Some Bits32 else (if bits == 64 then Some Bit
 
 -- the limit of the length of strings, as `--limit` gives it
 abbrev pub limit_in : List Row → Option Limit
-limit_in rows = option_and_then limit_by (number_of 32 64 (codes "limit") rows)
+limit_in rows = option_and_then limit_by (option_number 32 64 (codes "limit") rows)
 
 -- the number of `--jobs`, 1 to 64
 abbrev pub jobs_in : List Row → Option ℕ
-jobs_in rows = number_of 1 most_jobs (codes "jobs") rows
+jobs_in rows = option_number 1 most_jobs (codes "jobs") rows
 
 -- `--summary` was given
 abbrev pub summary_in : List Row → Bool
@@ -89,7 +89,7 @@ summary_in rows = option_map_or (λ text. bytes_eq text (codes "true")) (one_of 
 -- ---- what is run
 
 -- the arguments that name files, in order
-abbrev pub files_in : List Row → List Name
+abbrev pub files_in : List Row → List FileWord
 files_in rows = unwrap_or (all_of (codes "FILE") rows) []
 
 -- the most files that may be named, a prelude not counted
@@ -97,7 +97,7 @@ abbrev pub most_files : ℕ
 most_files = 4096
 
 -- these are some files, and not too many
-abbrev pub is_some_files : List Name → Bool
+abbrev pub is_some_files : List FileWord → Bool
 is_some_files scripts = nat_le 1 (length scripts) && nat_le (length scripts) most_files
 
 -- files, one or more, but not too many, and a prelude or none
@@ -109,7 +109,7 @@ named_in rows = if is_some_files (files_in rows)
 abbrev pub generated_in : List Row → Option Asked
 generated_in rows =
     if is_some (first_of (codes "prelude") rows) || not (is_empty (files_in rows)) then None
-    else option_map made_from (number_of 0 4294967295 (codes "generate") rows)
+    else option_map made_from (option_number 0 4294967295 (codes "generate") rows)
 
 -- files; or `--generate` with its number
 abbrev pub asked_in : List Row → Option Asked
@@ -165,7 +165,7 @@ IsSomeFiles (files prelude scripts) = (1 ≤ length scripts) × (length scripts 
 IsSomeFiles (made_from number) = number < 2 ^ 32
 
 -- what holds of every request of valid arguments
-pub record IsInRange (request : Request) : Type 0 where
+pub record IsRequestInRange (request : Request) : Type 0 where
   pub files : IsSomeFiles request.asked
   pub jobs : (1 ≤ request.jobs) × (request.jobs ≤ most_jobs)
   pub ids : (1 ≤ request.sizes.ids) × (request.sizes.ids ≤ most_size)

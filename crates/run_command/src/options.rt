@@ -1,7 +1,7 @@
 // What the matches of the command ask for.
 ghost use Rattle.std.specs.Prelude.{◌≡◌, Some, length, option_map, IfOk, IfErr};
 ghost use Rattle.clap.specs.Words.{found_of, rows_of};
-ghost use Rattle.run_command.specs.Words.{made_from, IsRefusal, asked_for, asked_in, files_in, generated_in, limit_in, named_in, number_of, request_for, request_in, request_with, sizes_in, summary_in};
+ghost use Rattle.run_command.specs.Words.{made_from, IsRefusal, asked_for, asked_in, files_in, generated_in, limit_in, named_in, option_number, request_for, request_in, request_with, sizes_in, summary_in};
 
 use crate::plan::{Input, Plan, Sizes, WordsFault};
 use clap::ArgMatches;
@@ -22,7 +22,7 @@ const FILES_MAX: usize = 4096;
 // The number of an option, where it is in the range. A sign and leading zeros are accepted, as by the
 // command.
 fn number_in(matches: &ArgMatches, id: &str, least: u32, most: u32) -> Option<u32>
-    ensures { result ≡ number_of least most id.now (rows_of (found_of matches.now)) }
+    ensures { result ≡ option_number least most id.now (rows_of (found_of matches.now)) }
 {
     let number = matches.get_str(id)?.parse::<i64>().ok()?;
     if number < i64::from(least) || number > i64::from(most) {

@@ -2,7 +2,7 @@
 ghost use Rattle.std.specs.Prelude.{◌≡◌, Some, map, IfOk, IfErr};
 ghost use Rattle.std.specs.String.{string_bytes};
 ghost use Rattle.clap.specs.Words.{kind_of};
-ghost use Rattle.run_command.specs.Words.{IsInRange, IsRefusal, request_for, request_of};
+ghost use Rattle.run_command.specs.Words.{IsRequestInRange, IsRefusal, request_for, request_of};
 
 use crate::command::matches_for;
 use crate::options::plan_in;
@@ -29,7 +29,7 @@ pub fn read_words<'a>(alloc: Global, words: &'a [String]) -> Result<Plan<'a>, Wo
     ensures planned { IfOk result
         (λ plan. request_of (map string_bytes words.entry.now) ≡ Some (request_for plan)) }
     ensures refused { IfErr result (IsRefusal (request_of (map string_bytes words.entry.now))) }
-    ensures ranges { IfOk result (λ plan. IsInRange (request_for plan)) }
+    ensures ranges { IfOk result (λ plan. IsRequestInRange (request_for plan)) }
 {
     let matches = match matches_for(alloc, words) {
         Ok(matches) => matches,

@@ -7,7 +7,7 @@ use Rattle.eval_scopes.specs.Bindings.{Bound}
 use Rattle.eval_scopes.specs.Seen.{bound_of, bounds_of}
 use Rattle.js_item.specs.declared.item.Item.{Item}
 use Rattle.js_item.specs.Contents.{Content}
-use Rattle.js_item.specs.Seen.{Val, says, mapped}
+use Rattle.js_item.specs.Seen.{Val, says, content_mapped}
 use Rattle.js_item.specs.Fine.{strings_of, FineOf, IsFine}
 use Rattle.eval_values.proofs.Still.{seen_still, fine_still}
 use Rattle.js_eval.specs.Copies.{BoundContent, bound_content}
@@ -25,7 +25,7 @@ module _ {F R : Type 0} (a b : State F) (name : R → ℕ) (g : Grows a b) where
 
 module _ {F R : Type 0} (s : State F) (name : R → ℕ) where
   abbrev bound_by : BoundContent R → Bound Val
-  bound_by c = record { name = c.name; constant = c.constant; value = mapped (says s name) c.value }
+  bound_by c = record { name = c.name; constant = c.constant; value = content_mapped (says s name) c.value }
 
   bounds_are : (bs : List (Binding (Item R))) → bounds_seen s name (bounds_of bs) ≡ map bound_by (map bound_content bs)
   bounds_are [] = refl

@@ -17,7 +17,7 @@ use Rattle.heap_read.specs.declared.string.JsStr.{JsStr}
 use Rattle.heap_intern.specs.Sessions.{SessionFrame}
 use Rattle.run_program.specs.declared.job.Job.{Job}
 use Rattle.run_program.specs.declared.job.Outcome.{Outcome}
-use Rattle.run_program.specs.Jobs.{Part, Runs, number, means}
+use Rattle.run_program.specs.Jobs.{JobUse, Runs, number, means}
 use Rattle.run_program.specs.Files.{RunFile, AreRun, AfterPrelude}
 use Rattle.run_program.proofs.Files.{run_jobs, run_one}
 use Rattle.run_program.specs.Meant.{scripts_meant}
@@ -49,7 +49,7 @@ module _ (a b : State SessionFrame) (script : Script) (o : Outcome) (after : Lis
   abbrev flow : Flow
   flow = meaning (tree_of script) [] a.limit
 
-  first : (p : Part) × AreRun a.sizes b (record { mean = flow; end = o.end; lines = o.lines; part = p } ∷ [])
+  first : (p : JobUse) × AreRun a.sizes b (record { mean = flow; end = o.end; lines = o.lines; part = p } ∷ [])
   first = run_one a.sizes a b [] unused flow (record { index = 0; script = script }) (record { index = 0; lines = o.lines; end = o.end }) after refl g ev
 
   abbrev file : RunFile

@@ -1,7 +1,7 @@
 -- Jobs in a row.
 use Rattle.std.proofs.Common.{◌≡◌, ℕ, ◌+◌, ◌-◌, ◌<◌, ◌≤◌, List, [], ◌∷◌, ◌++◌, length, take, set, get_or, refl, sym, ap, subst, ◌∙◌, arith, append_assoc, Option, Some, None}
 use Rattle.std.proofs.lemmas.List.{append-nil, take_more, take_more_set, get_or-set_other, length-set}
-use Rattle.js_store.specs.State.{State, Has, Grows}
+use Rattle.js_store.specs.State.{State, NamesUnits, Grows}
 use Rattle.js_store.specs.Faults.{Honest, ids_wanted, words_wanted}
 use Rattle.js_store.specs.declared.faults.FullReport.TheVariants.{Ids, Words, Slots}
 use Rattle.js_store.specs.declared.faults.StoreFault.{StoreFault}
@@ -18,7 +18,7 @@ use Rattle.js_eval.specs.Script.{Flow, need_ids, need_words}
 use Rattle.js_eval.specs.Evaluates.{Finished, Interrupted, Evaluates}
 use Rattle.run_program.specs.declared.job.Job.{Job}
 use Rattle.run_program.specs.declared.job.Outcome.{Outcome}
-use Rattle.run_program.specs.Jobs.{Part, fault_in, Reports, Whole, Broken, Ended, CameOf, AtEach, pairs_of, ids_of, words_of, ids_needed, words_needed, most_ids_wanted, most_words_wanted, Later, RanJobs, HasNoLines}
+use Rattle.run_program.specs.Jobs.{JobUse, fault_in, Reports, Whole, Broken, HasJobEnd, CameOf, AtEach, pairs_of, ids_of, words_of, job_ids_needed, job_words_needed, most_ids_wanted, most_words_wanted, Later, RanJobs, HasNoLines}
 
 -- lists of three
 module _ {X Y Z : Type 0} where
@@ -39,15 +39,15 @@ module _ {X Y Z : Type 0} where
   each_append P (x ∷ xs) (y ∷ ys) [] us vs ws h k = absurd h
 
 -- parts
-pub pairs_append : (ps qs : List Part) → pairs_of (ps ++ qs) ≡ pairs_of ps ++ pairs_of qs
+pub pairs_append : (ps qs : List JobUse) → pairs_of (ps ++ qs) ≡ pairs_of ps ++ pairs_of qs
 pairs_append [] qs = refl
 pairs_append (p ∷ ps) qs = ap (λ x. p.pairs ++ x) (pairs_append ps qs) ∙ sym (append_assoc p.pairs (pairs_of ps) (pairs_of qs))
 
-pub ids_append : (ps qs : List Part) → ids_of (ps ++ qs) ≡ ids_of ps + ids_of qs
+pub ids_append : (ps qs : List JobUse) → ids_of (ps ++ qs) ≡ ids_of ps + ids_of qs
 ids_append [] qs = omega arith
 ids_append (p ∷ ps) qs = omega (arith, ids_append ps qs)
 
-pub words_append : (ps qs : List Part) → words_of (ps ++ qs) ≡ words_of ps + words_of qs
+pub words_append : (ps qs : List JobUse) → words_of (ps ++ qs) ≡ words_of ps + words_of qs
 words_append [] qs = omega arith
 words_append (p ∷ ps) qs = omega (arith, words_append ps qs)
 
@@ -56,7 +56,7 @@ pub grows_later : {F : Type 0} {b c : State F} → Grows b c → Later b c
 grows_later g = record { known = g.known; shut = g.shut; low_ids = g.low_ids; low_words = g.low_words; sizes = g.sizes }
 
 module _ {F : Type 0} {b c : State F} (l : Later b c) where
-  has_later : (n : ℕ) (u : List ℕ) → Has b n u → Has c n u
+  has_later : (n : ℕ) (u : List ℕ) → NamesUnits b n u → NamesUnits c n u
   has_later n u h = l.known n (has_known b n u h) ∙ h
 
   reports_later : (f : StoreFault) → Reports b f → Reports c f
@@ -72,7 +72,7 @@ module _ {F : Type 0} {b c : State F} (l : Later b c) where
   shut_later (store.Full (Words at want end)) us h = tt
   shut_later store.Memory us h = tt
 
-  broken_later : (m : Flow) (lines : List ℕ) (f : StoreFault) (p : Part) → Broken b m lines f p → Broken c m lines f p
+  broken_later : (m : Flow) (lines : List ℕ) (f : StoreFault) (p : JobUse) → Broken b m lines f p → Broken c m lines f p
   broken_later m lines f p h = record {
     reports = reports_later f h.reports;
     lines_done = h.lines_done;
@@ -84,17 +84,17 @@ module _ {F : Type 0} {b c : State F} (l : Later b c) where
     next = shut_later f h.left h.next;
   }
 
-  whole_later : (m : Flow) (lines : List ℕ) (e : End) (p : Part) → Whole b m lines e p → Whole c m lines e p
+  whole_later : (m : Flow) (lines : List ℕ) (e : End) (p : JobUse) → Whole b m lines e p → Whole c m lines e p
   whole_later m lines e p h = record { end_is = h.end_is; lines_are = h.lines_are; interned = h.interned; texts = λ u k. let t = h.texts u k in (t.0, has_later t.0 u t.1) }
 
-  ended_later : (m : Flow) (lines : List ℕ) (e : End) (p : Part) → Ended b m lines e p → Ended c m lines e p
+  ended_later : (m : Flow) (lines : List ℕ) (e : End) (p : JobUse) → HasJobEnd b m lines e p → HasJobEnd c m lines e p
   ended_later m lines Done p h = whole_later m lines Done p h
   ended_later m lines (Threw k) p h = whole_later m lines (Threw k) p h
   ended_later m lines (Unsupported at) p h = whole_later m lines (Unsupported at) p h
   ended_later m lines (Full r) p h = broken_later m lines (store.Full r) p h
   ended_later m lines Memory p h = broken_later m lines store.Memory p h
 
-  pub came_later : (m : Flow) (j : Job) (o : Outcome) (p : Part) → CameOf b m j o p → CameOf c m j o p
+  pub came_later : (m : Flow) (j : Job) (o : Outcome) (p : JobUse) → CameOf b m j o p → CameOf c m j o p
   came_later m j o p h = record {
     index = h.index;
     ended = ended_later m o.lines o.end p h.ended;
@@ -145,7 +145,7 @@ reports_now b (store.Full (Slots slots)) h = h.1
 reports_now b store.Memory h = tt
 
 module _ {F : Type 0} (mean : Job → Flow) (a b : State F) (g : Grows a b) (j : Job) (o : Outcome) (index : o.index ≡ j.index) where
-  ran_part : (p : Part) → CameOf b (mean j) j o p → b.history ≡ a.history ++ p.pairs → b.used_ids ≡ a.used_ids + p.ids → b.used_words ≡ a.used_words + p.words → RanJobs mean a b (j ∷ []) (o ∷ [])
+  ran_part : (p : JobUse) → CameOf b (mean j) j o p → b.history ≡ a.history ++ p.pairs → b.used_ids ≡ a.used_ids + p.ids → b.used_words ≡ a.used_words + p.words → RanJobs mean a b (j ∷ []) (o ∷ [])
   ran_part p came grown ids words = record {
     grows = g;
     parts = p ∷ [];
@@ -155,23 +155,23 @@ module _ {F : Type 0} (mean : Job → Flow) (a b : State F) (g : Grows a b) (j :
     used_words = omega (arith, words);
   }
 
-  from_whole : (end : End) (after : List (Bound Val)) → o.end ≡ end → fault_in end ≡ None → ((p : Part) → Whole b (mean j) o.lines end p → Ended b (mean j) o.lines end p)
+  from_whole : (end : End) (after : List (Bound Val)) → o.end ≡ end → fault_in end ≡ None → ((p : JobUse) → Whole b (mean j) o.lines end p → HasJobEnd b (mean j) o.lines end p)
       → Finished a b [] o.lines after end (mean j) → RanJobs mean a b (j ∷ []) (o ∷ [])
   from_whole end after e fault as_end h =
-      let p : Part = record { pairs = h.interned.pairs; ids = b.used_ids - a.used_ids; words = b.used_words - a.used_words } in
+      let p : JobUse = record { pairs = h.interned.pairs; ids = b.used_ids - a.used_ids; words = b.used_words - a.used_words } in
       let whole : Whole b (mean j) o.lines end p = record { end_is = h.end_is; lines_are = h.lines; interned = h.interned.same; texts = h.texts } in
       let fault_is : fault_in o.end ≡ None = ap fault_in e ∙ fault in
       ran_part p (record {
         index = index;
-        ended = subst (λ (x : End). Ended b (mean j) o.lines x p) (sym e) (as_end p whole);
+        ended = subst (λ (x : End). HasJobEnd b (mean j) o.lines x p) (sym e) (as_end p whole);
         within_ids = subst (λ (x : Option StoreFault). p.ids + ids_wanted x ≤ need_ids (mean j)) (sym fault_is) (omega (arith, h.within_ids, g.used_ids));
         within_words = subst (λ (x : Option StoreFault). p.words + words_wanted x ≤ need_words (mean j)) (sym fault_is) (omega (arith, h.within_words, g.used_words));
       }) h.interned.grown (omega (arith, g.used_ids)) (omega (arith, g.used_words))
 
-  from_broken : (end : End) (f : StoreFault) → o.end ≡ end → fault_in end ≡ Some f → ((p : Part) → Broken b (mean j) o.lines f p → Ended b (mean j) o.lines end p)
+  from_broken : (end : End) (f : StoreFault) → o.end ≡ end → fault_in end ≡ Some f → ((p : JobUse) → Broken b (mean j) o.lines f p → HasJobEnd b (mean j) o.lines end p)
       → Interrupted a b [] o.lines f (mean j) → RanJobs mean a b (j ∷ []) (o ∷ [])
   from_broken end f e fault as_end h =
-      let p : Part = record { pairs = h.interned.interns.pairs; ids = b.used_ids - a.used_ids; words = b.used_words - a.used_words } in
+      let p : JobUse = record { pairs = h.interned.interns.pairs; ids = b.used_ids - a.used_ids; words = b.used_words - a.used_words } in
       let broken : Broken b (mean j) o.lines f p = record {
         reports = reports_now b f h.honest;
         lines_done = h.lines.done;
@@ -185,7 +185,7 @@ module _ {F : Type 0} (mean : Job → Flow) (a b : State F) (g : Grows a b) (j :
       let fault_is : fault_in o.end ≡ Some f = ap fault_in e ∙ fault in
       ran_part p (record {
         index = index;
-        ended = subst (λ (x : End). Ended b (mean j) o.lines x p) (sym e) (as_end p broken);
+        ended = subst (λ (x : End). HasJobEnd b (mean j) o.lines x p) (sym e) (as_end p broken);
         within_ids = subst (λ (x : Option StoreFault). p.ids + ids_wanted x ≤ need_ids (mean j)) (sym fault_is) (omega (arith, h.within_ids, g.used_ids));
         within_words = subst (λ (x : Option StoreFault). p.words + words_wanted x ≤ need_words (mean j)) (sym fault_is) (omega (arith, h.within_words, g.used_words));
       }) h.interned.interns.grown (omega (arith, g.used_ids)) (omega (arith, g.used_words))
@@ -200,7 +200,7 @@ module _ {F : Type 0} (mean : Job → Flow) (a b : State F) (g : Grows a b) (j :
   -- a job that found no memory before it began
   pub ran_not : b ≡ a → o.end ≡ Memory → o.lines ≡ [] → RanJobs mean a b (j ∷ []) (o ∷ [])
   ran_not same e empty =
-      let p : Part = record { pairs = []; ids = 0; words = 0 } in
+      let p : JobUse = record { pairs = []; ids = 0; words = 0 } in
       let broken : Broken b (mean j) o.lines store.Memory p = record {
         reports = tt;
         lines_done = [];
@@ -213,13 +213,13 @@ module _ {F : Type 0} (mean : Job → Flow) (a b : State F) (g : Grows a b) (j :
       } in
       ran_part p (record {
         index = index;
-        ended = subst (λ (x : End). Ended b (mean j) o.lines x p) (sym e) broken;
+        ended = subst (λ (x : End). HasJobEnd b (mean j) o.lines x p) (sym e) broken;
         within_ids = subst (λ (x : End). 0 + ids_wanted (fault_in x) ≤ need_ids (mean j)) (sym e) (omega arith);
         within_words = subst (λ (x : End). 0 + words_wanted (fault_in x) ≤ need_words (mean j)) (sym e) (omega arith);
       }) (ap (λ x. x.history) same ∙ sym (append-nil a.history)) (omega (arith, ap (λ x. x.used_ids) same)) (omega (arith, ap (λ x. x.used_words) same))
 
 -- what the jobs used, with the want of any one report besides, is at most what they need
-pub ids_within : {F : Type 0} (mean : Job → Flow) (b : State F) (js : List Job) (os : List Outcome) (ps : List Part) → AtEach (λ j. CameOf b (mean j) j) js os ps → ids_of ps + most_ids_wanted os ≤ ids_needed mean js
+pub ids_within : {F : Type 0} (mean : Job → Flow) (b : State F) (js : List Job) (os : List Outcome) (ps : List JobUse) → AtEach (λ j. CameOf b (mean j) j) js os ps → ids_of ps + most_ids_wanted os ≤ job_ids_needed mean js
 ids_within mean b [] [] [] h = omega arith
 ids_within mean b (j ∷ js) (o ∷ os) (p ∷ ps) h = omega (arith, h.0.within_ids, ids_within mean b js os ps h.1)
 ids_within mean b [] [] (z ∷ zs) h = absurd h
@@ -227,7 +227,7 @@ ids_within mean b [] (y ∷ ys) zs h = absurd h
 ids_within mean b (x ∷ xs) [] zs h = absurd h
 ids_within mean b (x ∷ xs) (y ∷ ys) [] h = absurd h
 
-pub words_within : {F : Type 0} (mean : Job → Flow) (b : State F) (js : List Job) (os : List Outcome) (ps : List Part) → AtEach (λ j. CameOf b (mean j) j) js os ps → words_of ps + most_words_wanted os ≤ words_needed mean js
+pub words_within : {F : Type 0} (mean : Job → Flow) (b : State F) (js : List Job) (os : List Outcome) (ps : List JobUse) → AtEach (λ j. CameOf b (mean j) j) js os ps → words_of ps + most_words_wanted os ≤ job_words_needed mean js
 words_within mean b [] [] [] h = omega arith
 words_within mean b (j ∷ js) (o ∷ os) (p ∷ ps) h = omega (arith, h.0.within_words, words_within mean b js os ps h.1)
 words_within mean b [] [] (z ∷ zs) h = absurd h
@@ -235,8 +235,8 @@ words_within mean b [] (y ∷ ys) zs h = absurd h
 words_within mean b (x ∷ xs) [] zs h = absurd h
 words_within mean b (x ∷ xs) (y ∷ ys) [] h = absurd h
 
-pub ran_within_ids : {F : Type 0} (mean : Job → Flow) (a b : State F) (js : List Job) (os : List Outcome) → RanJobs mean a b js os → b.used_ids + most_ids_wanted os ≤ a.used_ids + ids_needed mean js
+pub ran_within_ids : {F : Type 0} (mean : Job → Flow) (a b : State F) (js : List Job) (os : List Outcome) → RanJobs mean a b js os → b.used_ids + most_ids_wanted os ≤ a.used_ids + job_ids_needed mean js
 ran_within_ids mean a b js os r = omega (arith, r.used_ids, ids_within mean b js os r.parts r.each)
 
-pub ran_within_words : {F : Type 0} (mean : Job → Flow) (a b : State F) (js : List Job) (os : List Outcome) → RanJobs mean a b js os → b.used_words + most_words_wanted os ≤ a.used_words + words_needed mean js
+pub ran_within_words : {F : Type 0} (mean : Job → Flow) (a b : State F) (js : List Job) (os : List Outcome) → RanJobs mean a b js os → b.used_words + most_words_wanted os ≤ a.used_words + job_words_needed mean js
 ran_within_words mean a b js os r = omega (arith, r.used_words, words_within mean b js os r.parts r.each)

@@ -9,7 +9,7 @@ use Rattle.js_item.specs.Seen.{Val}
 use Rattle.js_eval.specs.Script.{Flow, meaning}
 use Rattle.run_program.specs.declared.job.Job.{Job}
 use Rattle.run_program.specs.declared.job.Outcome.{Outcome}
-use Rattle.run_program.specs.Jobs.{Part, CameOf, AtEach}
+use Rattle.run_program.specs.Jobs.{JobUse, CameOf, AtEach}
 use Rattle.run_program.specs.Ran.{AreInPlaces}
 use Rattle.run_program.specs.Stages.{AreNumbered, job_trees}
 
@@ -28,7 +28,7 @@ means_jobs (j ∷ js) top l = ap (λ x. meaning (tree_of j.script) top l ∷ x) 
 
 -- each outcome has its job's number
 module _ {F : Type 0} (mean : Job → Flow) (s : State F) where
-  pub in_places : (place : ℕ) (js : List Job) (os : List Outcome) (ps : List Part) → AreNumbered place js → AtEach (λ j. CameOf s (mean j) j) js os ps → AreInPlaces place os
+  pub in_places : (place : ℕ) (js : List Job) (os : List Outcome) (ps : List JobUse) → AreNumbered place js → AtEach (λ j. CameOf s (mean j) j) js os ps → AreInPlaces place os
   in_places place [] [] [] n h = tt
   in_places place (j ∷ js) (o ∷ os) (p ∷ ps) n h = (h.0.index ∙ n.0, in_places (place + 1) js os ps n.1 h.1)
   in_places place [] [] (p ∷ ps) n h = absurd h
@@ -37,7 +37,7 @@ module _ {F : Type 0} (mean : Job → Flow) (s : State F) where
   in_places place (j ∷ js) (o ∷ os) [] n h = absurd h
 
   -- and there are as many outcomes as jobs
-  pub as_many : (js : List Job) (os : List Outcome) (ps : List Part) → AtEach (λ j. CameOf s (mean j) j) js os ps → length os ≡ length js
+  pub as_many : (js : List Job) (os : List Outcome) (ps : List JobUse) → AtEach (λ j. CameOf s (mean j) j) js os ps → length os ≡ length js
   as_many [] [] [] h = refl
   as_many (j ∷ js) (o ∷ os) (p ∷ ps) h = omega (arith, as_many js os ps h.1)
   as_many [] [] (p ∷ ps) h = absurd h

@@ -15,7 +15,7 @@ use Rattle.js_eval.specs.Seen.{BoundsFine, bounds_seen}
 use Rattle.heap_rule.specs.Paths.{StartsWith}
 use Rattle.heap_read.specs.declared.string.JsStr.{JsStr}
 use Rattle.heap_intern.specs.Sessions.{SessionFrame}
-use Rattle.heap_intern.specs.Shares.{IsJoined, MayJoin, left_by, right_by}
+use Rattle.heap_intern.specs.Shares.{IsSessionJoined, MayJoinSession, giver_after, right_by}
 use Rattle.run_program.specs.declared.job.Job.{Job}
 use Rattle.run_program.specs.declared.job.Outcome.{Outcome}
 use Rattle.run_program.specs.Jobs.{number, means, CameOf, pairs_of, Later, RanJobs, Runs, HasNoLines, MayRun}
@@ -30,11 +30,11 @@ runs_still a b c env js os g h r =
 
 -- what one session of a split did, and what the other did, once they are joined
 module _ (mean : Job → Flow) (v a b : State SessionFrame) (give : ℕ) (js : List Job) (os : List Outcome) (ks : List Job) (us : List Outcome)
-    (less : give < v.frame.share) (r : RanJobs mean (left_by v give) a js os) (s : RanJobs mean (right_by v give) b ks us) where
+    (less : give < v.frame.share) (r : RanJobs mean (giver_after v give) a js os) (s : RanJobs mean (right_by v give) b ks us) where
   began : b.frame.seen ≡ v.history
   began = ap (λ f. f.seen) s.grows.frame
 
-  pub beside_may_join : StartsWith v.history v.frame.seen → MayJoin a b
+  pub beside_may_join : StartsWith v.history v.frame.seen → MayJoinSession a b
   beside_may_join starts = record {
     table = ap (λ f. f.table) s.grows.frame ∙ sym (ap (λ f. f.table) r.grows.frame);
     sizes = s.grows.sizes ∙ sym r.grows.sizes;
@@ -43,7 +43,7 @@ module _ (mean : Job → Flow) (v a b : State SessionFrame) (give : ℕ) (js : L
     second = (pairs_of r.parts, r.history ∙ ap (λ h. h ++ pairs_of r.parts) (sym began));
   }
 
-  module _ (w : State SessionFrame) (j : IsJoined a b w) (bounded : w.bounded ≡ a.bounded) (sure : w.sure ≡ a.sure) where
+  module _ (w : State SessionFrame) (j : IsSessionJoined a b w) (bounded : w.bounded ≡ a.bounded) (sure : w.sure ≡ a.sure) where
     later_left : Later a w
     later_left = record {
       known = j.known;
@@ -106,7 +106,7 @@ module _ (mean : Job → Flow) (v a b : State SessionFrame) (give : ℕ) (js : L
 
 -- the two halves of jobs that may be run
 pub may_left : (v x : State SessionFrame) (groups : ℕ) (env : List (Binding (Item JsStr))) (js front : List Job) (os low : List Outcome) (count : ℕ) → MayRun v groups env js os → 2 ≤ groups
-    → x ≡ left_by v (groups - groups / 2) → low ≡ take count os → length low ≡ length front → MayRun x (groups / 2) env front low
+    → x ≡ giver_after v (groups - groups / 2) → low ≡ take count os → length low ≡ length front → MayRun x (groups / 2) env front low
 may_left v x groups env js front os low count m two is lows lengths = subst (λ (y : State SessionFrame). MayRun y (groups / 2) env front low) (sym is) (record {
   some = omega arith;
   share = omega (arith, m.share);

@@ -1,9 +1,9 @@
 -- What is told of a heap on which all files were run.
 use Rattle.std.proofs.Common.{◌≡◌, ℕ, List, refl, sym, ap, subst, ◌∙◌, arith, Option, Some, None}
 use Rattle.atomic_table.specs.Seated.{TableId}
-use Rattle.js_store.specs.Faults.{Step}
+use Rattle.js_store.specs.Faults.{StoreStep}
 use Rattle.js_store.specs.Limits.{limit_units}
-use Rattle.js_store.specs.State.{State, Sizes, Grows}
+use Rattle.js_store.specs.State.{State, StoreSizes, Grows}
 use Rattle.eval_tree.specs.Tree.{Tree}
 use Rattle.js_eval.specs.Script.{Flow}
 use Rattle.heap_rule.specs.Agents.{first_view}
@@ -14,8 +14,8 @@ use Rattle.heap_table.specs.declared.heap.Heap.{Heap}
 use Rattle.heap_intern.specs.Counting.{different}
 use Rattle.heap_intern.specs.Sessions.{SessionFrame, state_by, table_of}
 use Rattle.heap_intern.specs.Shares.{IsWhole, IsOf, total_by}
-use Rattle.heap_intern.specs.Sound.{sound_of}
-use Rattle.heap_intern.specs.Whole.{HasAll}
+use Rattle.heap_intern.specs.Sound.{session_sound}
+use Rattle.heap_intern.specs.Whole.{HasWholeCounts}
 use Rattle.heap_intern.proofs.Whole.{whole_all}
 use Rattle.run_program.specs.declared.job.Outcome.{Outcome}
 use Rattle.run_program.specs.Files.{RunFile, AreRun}
@@ -25,7 +25,7 @@ use Rattle.run_program.proofs.Tells.{tells}
 use Rattle.run_program.specs.declared.ran.Ran.{Ran}
 use Rattle.run_program.specs.declared.ran.Setup.{Setup}
 use Rattle.run_program.specs.Meant.{prelude_meant}
-use Rattle.run_program.specs.Ran.{IsRan, HasOutcome, all_by, counted, prelude_by, scripts_by, sizes_by, state_kept}
+use Rattle.run_program.specs.Ran.{IsRan, HasOutcome, all_by, counted, prelude_by, scripts_by, setup_sizes, state_kept}
 use Rattle.run_program.specs.Stages.{HaveRun, HaveRunFrom, IsTold}
 
 -- the first moment of a session on a new heap
@@ -36,7 +36,7 @@ pub same_state : (v w : View) (l m : ℕ) (t u : TableId) → v ≡ w → l ≡ 
 same_state v w l m t u a b c = ap (λ (x : View). state_by x l t) a ∙ (ap (λ (n : ℕ). state_by w n t) b ∙ ap (λ (x : TableId). state_by w m x) c)
 
 -- a later moment of the same session, at which the same files were run
-have_later : (z : Sizes) (s t : State SessionFrame) (prelude : Option Flow) (scripts : List Flow) (first : Option Outcome) (os : List Outcome)
+have_later : (z : StoreSizes) (s t : State SessionFrame) (prelude : Option Flow) (scripts : List Flow) (first : Option Outcome) (os : List Outcome)
     → ((files : List RunFile) → AreRun z s files → AreRun z t files) → HaveRun z s prelude scripts first os → HaveRun z t prelude scripts first os
 have_later z s t prelude scripts first os later h = record {
   files = h.files;
@@ -54,14 +54,14 @@ module _ (setup : Setup) (table : TableId) (prelude : Option Tree) (trees : List
   is_whole : IsWhole b
   is_whole = ap (λ (f : SessionFrame). f.share) g.frame ∙ sym (ap (λ (f : SessionFrame). f.agents) g.frame)
 
-  module _ (all : HasAll b) (step : Step (total_by b) d None 0 0) (history : d.history ≡ b.history) (counts : interned ≡ counted setup.count (different b.history)) where
+  module _ (all : HasWholeCounts b) (step : StoreStep (total_by b) d None 0 0) (history : d.history ≡ b.history) (counts : interned ≡ counted setup.count (different b.history)) where
     frame : d.frame ≡ (begun setup table).frame
     frame = step.grows.frame ∙ g.frame
 
     told : IsTold setup d prelude trees first os interned
     told = record {
-      have = have_later (sizes_by setup) b d (prelude_by setup prelude) (scripts_by setup prelude trees) first os
-          (λ files r. run_stays (sizes_by setup) (total_by b) d files (run_totals (sizes_by setup) b files all r) step history) have;
+      have = have_later (setup_sizes setup) b d (prelude_by setup prelude) (scripts_by setup prelude trees) first os
+          (λ files r. run_stays (setup_sizes setup) (total_by b) d files (run_totals (setup_sizes setup) b files all r) step history) have;
       agents = ap (λ (f : SessionFrame). f.agents) frame;
       whole = ap (λ (f : SessionFrame). f.share) frame ∙ sym (ap (λ (f : SessionFrame). f.agents) frame);
       seen_ids = (let w = step.within_ids in let l = step.grows.low_ids in omega arith);
@@ -80,19 +80,19 @@ module _ (setup : Setup) (table : TableId) (prelude : Option Tree) (trees : List
 
 -- the same by what each call tells: of a session of this heap, b after the files were run, t after both counters were read, d at last
 module _ (setup : Setup) (h : Heap) (prelude : Option Tree) (trees : List Tree) (first : Option Outcome) (os : List Outcome) (interned : Option ℕ) (a b t d : State SessionFrame)
-    (is : a ≡ begun setup (table_of h)) (size : size_of h ≡ setup.size) (g : Grows a b) (have : HaveRunFrom a b prelude trees first os) (all : IsWhole b → HasAll b)
-    (total : t ≡ total_by b) (step : Step t d None 0 0) (history : d.history ≡ t.history) (counts : interned ≡ counted setup.count (different t.history)) where
+    (is : a ≡ begun setup (table_of h)) (size : size_of h ≡ setup.size) (g : Grows a b) (have : HaveRunFrom a b prelude trees first os) (all : IsWhole b → HasWholeCounts b)
+    (total : t ≡ total_by b) (step : StoreStep t d None 0 0) (history : d.history ≡ t.history) (counts : interned ≡ counted setup.count (different t.history)) where
   grows_begun : Grows (begun setup (table_of h)) b
   grows_begun = subst (λ (x : State SessionFrame). Grows x b) is g
 
   have_begun : HaveRunFrom (begun setup (table_of h)) b prelude trees first os
   have_begun = subst (λ (x : State SessionFrame). HaveRunFrom x b prelude trees first os) is have
 
-  has_all : HasAll b
+  has_all : HasWholeCounts b
   has_all = all (is_whole setup (table_of h) prelude trees first os interned b d grows_begun have_begun)
 
-  step_total : Step (total_by b) d None 0 0
-  step_total = subst (λ (x : State SessionFrame). Step x d None 0 0) total step
+  step_total : StoreStep (total_by b) d None 0 0
+  step_total = subst (λ (x : State SessionFrame). StoreStep x d None 0 0) total step
 
   same_history : d.history ≡ b.history
   same_history = history ∙ ap (λ (x : State SessionFrame). x.history) total
@@ -122,7 +122,7 @@ is_ran setup prelude trees ran size belongs t = let h = t.have in
     let v = view_of ran.kept.agent in
     let s : State SessionFrame = state_kept setup ran.kept in
     let table = table_of ran.kept.heap in
-    let all : HasAll s = whole_all v (limit_units setup.limit) table belongs.5 t.whole in record {
+    let all : HasWholeCounts s = whole_all v (limit_units setup.limit) table belongs.5 t.whole in record {
       files = h.files;
       are = h.are;
       ends = h.ends;
@@ -130,7 +130,7 @@ is_ran setup prelude trees ran size belongs t = let h = t.have in
       has_prelude = same_prelude (limit_units setup.limit) prelude ran.prelude h.has_prelude;
       in_places = h.in_places;
       run = h.run;
-      tells = tells (sizes_by setup) s (all_by setup prelude trees) h.files all (sound_of v setup.limit table belongs.5) h.run
+      tells = tells (setup_sizes setup) s (all_by setup prelude trees) h.files all (session_sound v setup.limit table belongs.5) h.run
           (are_first s (prelude_by setup prelude) (scripts_by setup prelude trees) h.files h.run.each h.are);
       sizes = size;
       belongs = belongs;

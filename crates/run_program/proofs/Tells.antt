@@ -4,7 +4,7 @@ use Rattle.std.specs.Map.{keys_of}
 use Rattle.std.proofs.lemmas.List.{map-append}
 use Rattle.std.proofs.lemmas.List.Concat.{flat_map-append}
 use Rattle.std.proofs.lemmas.List.Elements.{Contains-append_left, Contains-append_right, Contains-append_cases}
-use Rattle.js_store.specs.State.{State, Sizes, Interned, Sound}
+use Rattle.js_store.specs.State.{State, StoreSizes, Interned, Sound}
 use Rattle.js_store.specs.Faults.{ids_wanted, words_wanted}
 use Rattle.js_store.specs.declared.faults.FullReport.{FullReport}
 use Rattle.js_store.specs.declared.faults.FullReport.TheVariants.{Ids, Words, Slots}
@@ -15,15 +15,15 @@ use Rattle.eval_values.specs.Outcome.{Out, gave, ended, threw, unsupported}
 use Rattle.eval_values.specs.Ran.{NextShut}
 use Rattle.js_eval.specs.declared.ending.End.{End}
 use Rattle.js_eval.specs.declared.ending.End.TheVariants.{Done, Threw, Unsupported, Full, Memory}
-use Rattle.js_eval.specs.Evaluates.{end_of}
+use Rattle.js_eval.specs.Evaluates.{script_end}
 use Rattle.js_eval.specs.Script.{Flow, interned, need_words}
 use Rattle.heap_intern.specs.Counting.{different}
 use Rattle.heap_intern.specs.Sessions.{SessionFrame}
-use Rattle.heap_intern.specs.Whole.{HasAll}
-use Rattle.run_program.specs.Jobs.{Part, Whole, Broken, Ended, fault_in, pairs_of, ids_of, words_of}
+use Rattle.heap_intern.specs.Whole.{HasWholeCounts}
+use Rattle.run_program.specs.Jobs.{JobUse, Whole, Broken, HasJobEnd, fault_in, pairs_of, ids_of, words_of}
 use Rattle.run_program.specs.Fits.{Fits, count_different, ids_needed, words_needed, lists_interned}
-use Rattle.run_program.specs.Files.{RunFile, Came, AreRun, IsAsMeant, IsOwnEnd, means_of, parts_of}
-use Rattle.run_program.specs.Tells.{IdsRanOut, WordsRanOut, SlotsRanOut, RanOut, EndTells, FirstLines, FirstLists, FileTells, Tells}
+use Rattle.run_program.specs.Files.{RunFile, WasFileRun, AreRun, IsAsMeant, IsOwnEnd, means_of, parts_of}
+use Rattle.run_program.specs.Tells.{IdsRanOut, WordsRanOut, SlotsRanOut, RanOut, EndTells, FirstLines, FirstLists, FileTells, FilesTell}
 use Rattle.run_program.proofs.First.{AreFirst}
 use Rattle.run_program.proofs.Counts.{called, different_lists, more_different}
 
@@ -37,25 +37,25 @@ words_front [] ns = omega arith
 words_front (m ∷ ms) ns = omega (arith, words_front ms ns)
 
 -- an end that is the meaning's, and one that is the file's own
-never_full : (o : Out (Unit {0})) (r : FullReport) → Full r ≡ end_of o → ⊥
+never_full : (o : Out (Unit {0})) (r : FullReport) → Full r ≡ script_end o → ⊥
 never_full (gave x l) r e = cc
 never_full (ended (threw k) l) r e = cc
 never_full (ended (unsupported at) l) r e = cc
 
-never_memory : (o : Out (Unit {0})) → Memory ≡ end_of o → ⊥
+never_memory : (o : Out (Unit {0})) → Memory ≡ script_end o → ⊥
 never_memory (gave x l) e = cc
 never_memory (ended (threw k) l) e = cc
 never_memory (ended (unsupported at) l) e = cc
 
-module _ {F : Type 0} (s : State F) (m : Flow) (lines : List ℕ) (p : Part) where
-  whole_of : (e : End) → Ended s m lines e p → e ≡ end_of m.out → Whole s m lines e p
+module _ {F : Type 0} (s : State F) (m : Flow) (lines : List ℕ) (p : JobUse) where
+  whole_of : (e : End) → HasJobEnd s m lines e p → e ≡ script_end m.out → Whole s m lines e p
   whole_of Done h is = h
   whole_of (Threw k) h is = h
   whole_of (Unsupported at) h is = h
   whole_of (Full r) h is = absurd (never_full m.out r is)
   whole_of Memory h is = absurd (never_memory m.out is)
 
-  whole_own : (e : End) → Ended s m lines e p → IsOwnEnd e → Whole s m lines e p
+  whole_own : (e : End) → HasJobEnd s m lines e p → IsOwnEnd e → Whole s m lines e p
   whole_own Done h own = h
   whole_own (Threw k) h own = h
   whole_own (Unsupported at) h own = h
@@ -68,14 +68,14 @@ module _ {F : Type 0} (s : State F) (m : Flow) (lines : List ℕ) (p : Part) whe
   lists_whole : (e : End) → Whole s m lines e p → FirstLists (keys_of p.pairs) (interned m)
   lists_whole e h = record { left = []; split = sym h.interned ∙ sym (append-nil (keys_of p.pairs)) }
 
-  first_lines_of : (e : End) → Ended s m lines e p → FirstLines lines m.lines
+  first_lines_of : (e : End) → HasJobEnd s m lines e p → FirstLines lines m.lines
   first_lines_of Done h = lines_whole Done h
   first_lines_of (Threw k) h = lines_whole (Threw k) h
   first_lines_of (Unsupported at) h = lines_whole (Unsupported at) h
   first_lines_of (Full r) h = record { done = h.lines_done; left = h.lines_left; split = h.lines_split; are = h.lines_are }
   first_lines_of Memory h = record { done = h.lines_done; left = h.lines_left; split = h.lines_split; are = h.lines_are }
 
-  first_lists_of : (e : End) → Ended s m lines e p → FirstLists (keys_of p.pairs) (interned m)
+  first_lists_of : (e : End) → HasJobEnd s m lines e p → FirstLists (keys_of p.pairs) (interned m)
   first_lists_of Done h = lists_whole Done h
   first_lists_of (Threw k) h = lists_whole (Threw k) h
   first_lists_of (Unsupported at) h = lists_whole (Unsupported at) h
@@ -84,24 +84,24 @@ module _ {F : Type 0} (s : State F) (m : Flow) (lines : List ℕ) (p : Part) whe
 
 -- what files used is at most what they need, also with the want of any one of them
 module _ {F : Type 0} (s : State F) where
-  ids_within : (fs : List RunFile) → Every (Came s) fs → ids_of (parts_of fs) ≤ ids_needed (means_of fs)
+  ids_within : (fs : List RunFile) → Every (WasFileRun s) fs → ids_of (parts_of fs) ≤ ids_needed (means_of fs)
   ids_within [] h = omega arith
   ids_within (f ∷ fs) h = omega (arith, h.0.within_ids, ids_within fs h.1)
 
-  words_within : (fs : List RunFile) → Every (Came s) fs → words_of (parts_of fs) ≤ words_needed (means_of fs)
+  words_within : (fs : List RunFile) → Every (WasFileRun s) fs → words_of (parts_of fs) ≤ words_needed (means_of fs)
   words_within [] h = omega arith
   words_within (f ∷ fs) h = omega (arith, h.0.within_words, words_within fs h.1)
 
-  ids_wanted_within : (fs : List RunFile) → Every (Came s) fs → Every (λ f. ids_of (parts_of fs) + ids_wanted (fault_in f.end) ≤ ids_needed (means_of fs)) fs
+  ids_wanted_within : (fs : List RunFile) → Every (WasFileRun s) fs → Every (λ f. ids_of (parts_of fs) + ids_wanted (fault_in f.end) ≤ ids_needed (means_of fs)) fs
   ids_wanted_within [] h = tt
   ids_wanted_within (f ∷ fs) h = (omega (arith, h.0.within_ids, ids_within fs h.1), every_map (λ g k. omega (arith, k, h.0.within_ids)) fs (ids_wanted_within fs h.1))
 
-  words_wanted_within : (fs : List RunFile) → Every (Came s) fs → Every (λ f. words_of (parts_of fs) + words_wanted (fault_in f.end) ≤ words_needed (means_of fs)) fs
+  words_wanted_within : (fs : List RunFile) → Every (WasFileRun s) fs → Every (λ f. words_of (parts_of fs) + words_wanted (fault_in f.end) ≤ words_needed (means_of fs)) fs
   words_wanted_within [] h = tt
   words_wanted_within (f ∷ fs) h = (omega (arith, h.0.within_words, words_within fs h.1), every_map (λ g k. omega (arith, k, h.0.within_words)) fs (words_wanted_within fs h.1))
 
   -- the lists of a history are among those that are meant
-  listed_meant : (fs : List RunFile) → Every (Came s) fs → (u : List ℕ) → Contains (keys_of (pairs_of (parts_of fs))) u → Contains (lists_interned (means_of fs)) u
+  listed_meant : (fs : List RunFile) → Every (WasFileRun s) fs → (u : List ℕ) → Contains (keys_of (pairs_of (parts_of fs))) u → Contains (lists_interned (means_of fs)) u
   listed_meant [] h u c = c
   listed_meant (f ∷ fs) h u c = let first = first_lists_of s f.mean f.lines f.part f.end h.0.ended in
       let d = subst (λ (x : List (List ℕ)). Contains x u) (map-append (λ (q : List ℕ × ℕ). q.0) f.part.pairs (pairs_of (parts_of fs))) c in
@@ -109,7 +109,7 @@ module _ {F : Type 0} (s : State F) where
       (λ b. Contains-append_right (interned f.mean) (lists_interned (means_of fs)) u (listed_meant fs h.1 u b)) (Contains-append_cases (keys_of f.part.pairs) (keys_of (pairs_of (parts_of fs))) u d)
 
   -- where each end is the meaning's they are all of those
-  listed_all : (fs : List RunFile) → Every (Came s) fs → Every IsAsMeant fs → keys_of (pairs_of (parts_of fs)) ≡ lists_interned (means_of fs)
+  listed_all : (fs : List RunFile) → Every (WasFileRun s) fs → Every IsAsMeant fs → keys_of (pairs_of (parts_of fs)) ≡ lists_interned (means_of fs)
   listed_all [] h m = refl
   listed_all (f ∷ fs) h m = map-append (λ (q : List ℕ × ℕ). q.0) f.part.pairs (pairs_of (parts_of fs))
       ∙ (ap (λ x. x ++ keys_of (pairs_of (parts_of fs))) (whole_of s f.mean f.lines f.part f.end h.0.ended m.0).interned ∙ ap (λ x. interned f.mean ++ x) (listed_all fs h.1 m.1))
@@ -120,13 +120,13 @@ each_meant (f ∷ fs) = ((λ u c. Contains-append_left (interned f.mean) (lists_
 
 -- what is known of one file and of all together
 record Facts {F : Type 0} (s : State F) (means : List Flow) (f : RunFile) : Type 0 where
-  came : Came s f
+  came : WasFileRun s f
   ids : s.used_ids + ids_wanted (fault_in f.end) ≤ ids_needed means
   words : s.used_words + words_wanted (fault_in f.end) ≤ words_needed means
   lists : (u : List ℕ) → Contains (interned f.mean) u → Contains (lists_interned means) u
 
-module _ (s : State SessionFrame) (means : List Flow) (all : HasAll s) (sound : Sound s) (into : (u : List ℕ) → Contains (keys_of s.history) u → Contains (lists_interned means) u) where
-  module _ (m : Flow) (lines : List ℕ) (p : Part) (lists : (u : List ℕ) → Contains (interned m) u → Contains (lists_interned means) u) where
+module _ (s : State SessionFrame) (means : List Flow) (all : HasWholeCounts s) (sound : Sound s) (into : (u : List ℕ) → Contains (keys_of s.history) u → Contains (lists_interned means) u) where
+  module _ (m : Flow) (lines : List ℕ) (p : JobUse) (lists : (u : List ℕ) → Contains (interned m) u → Contains (lists_interned means) u) where
     ids_out : (at want end : ℕ) → Broken s m lines (store.Full (Ids at want end)) p → s.used_ids + want ≤ ids_needed means → IdsRanOut s.sizes s means
     ids_out at want end b w = let r = b.reports in record {
       claimed = omega (arith, r.0, r.1, r.2, r.3, all.low_ids, all.ids);
@@ -155,7 +155,7 @@ module _ (s : State SessionFrame) (means : List Flow) (all : HasAll s) (sound : 
           unfit = λ fits. omega (arith, held, more, e, fits);
         }
 
-    end_tells : (e : End) → Ended s m lines e p → p.words + words_wanted (fault_in e) ≤ need_words m → s.used_ids + ids_wanted (fault_in e) ≤ ids_needed means → s.used_words + words_wanted (fault_in e) ≤ words_needed means
+    end_tells : (e : End) → HasJobEnd s m lines e p → p.words + words_wanted (fault_in e) ≤ need_words m → s.used_ids + ids_wanted (fault_in e) ≤ ids_needed means → s.used_words + words_wanted (fault_in e) ≤ words_needed means
         → EndTells s.sizes s means m p e
     end_tells Done h n i w = h.end_is
     end_tells (Threw k) h n i w = h.end_is
@@ -176,13 +176,13 @@ module _ (s : State SessionFrame) (means : List Flow) (all : HasAll s) (sound : 
   }
 
 -- where the sizes are enough nothing runs out
-module _ {F : Type 0} (z : Sizes) (s : State F) (means : List Flow) (fits : Fits z means) (m : Flow) (p : Part) where
+module _ {F : Type 0} (z : StoreSizes) (s : State F) (means : List Flow) (fits : Fits z means) (m : Flow) (p : JobUse) where
   never_out : (r : FullReport) → RanOut z s means m p r → ⊥
   never_out (Ids at want end) h = h.unfit fits.ids
   never_out (Words at want end) h = h.unfit fits.words
   never_out (Slots n) h = h.unfit fits.slots
 
-  end_fits : (e : End) → EndTells z s means m p e → (e ≡ end_of m.out) ⊎ (e ≡ Memory)
+  end_fits : (e : End) → EndTells z s means m p e → (e ≡ script_end m.out) ⊎ (e ≡ Memory)
   end_fits Done h = inl h
   end_fits (Threw k) h = inl h
   end_fits (Unsupported at) h = inl h
@@ -193,7 +193,7 @@ every_both : {A : Type 0} {P Q R : A → Type 0} → ((x : A) → P x → Q x �
 every_both f [] p q = tt
 every_both f (x ∷ xs) p q = (f x p.0 q.0, every_both f xs p.1 q.1)
 
-module _ (z : Sizes) (s : State SessionFrame) (means : List Flow) (files : List RunFile) (all : HasAll s) (sound : Sound s) (run : AreRun z s files) (first : AreFirst means files) where
+module _ (z : StoreSizes) (s : State SessionFrame) (means : List Flow) (files : List RunFile) (all : HasWholeCounts s) (sound : Sound s) (run : AreRun z s files) (first : AreFirst means files) where
   front : (u : List ℕ) → Contains (lists_interned (means_of files)) u → Contains (lists_interned means) u
   front u c = subst (λ (ms : List Flow). Contains (lists_interned ms) u) (sym first.split)
       (subst (λ (x : List (List ℕ)). Contains x u) (sym (flat_map-append interned (means_of files) first.rest)) (Contains-append_left (lists_interned (means_of files)) (lists_interned first.rest) u c))
@@ -232,7 +232,7 @@ module _ (z : Sizes) (s : State SessionFrame) (means : List Flow) (files : List 
   counts_all m = different_lists s.history ∙ ap count_different (ap keys_of run.history ∙ (listed_all s files run.each m
       ∙ ap lists_interned (sym (first.split ∙ (ap (λ x. means_of files ++ x) (first.all m) ∙ append-nil (means_of files))))))
 
-  tells_here : Tells s.sizes s means files
+  tells_here : FilesTell s.sizes s means files
   tells_here = record {
     each = each_tells;
     fits = λ fits. every_map (λ f k. end_fits s.sizes s means fits f.mean f.part f.end k.end) files each_tells;
@@ -243,5 +243,5 @@ module _ (z : Sizes) (s : State SessionFrame) (means : List Flow) (files : List 
     within_words = omega (arith, run.used_words, words_within s files run.each);
   }
 
-  pub tells : Tells z s means files
-  tells = subst (λ (y : Sizes). Tells y s means files) run.sizes tells_here
+  pub tells : FilesTell z s means files
+  tells = subst (λ (y : StoreSizes). FilesTell y s means files) run.sizes tells_here

@@ -1,15 +1,15 @@
 -- Files that were run on one heap, and what of them is in the heap afterwards.
 use Rattle.std.specs.Prelude.{◌≡◌, ℕ, ◌+◌, ◌≤◌, List, [], ◌∷◌, map, Option, Some, None}
-use Rattle.js_store.specs.State.{State, Sizes}
+use Rattle.js_store.specs.State.{State, StoreSizes}
 use Rattle.js_store.specs.Faults.{ids_wanted, words_wanted}
 use Rattle.js_texts.specs.Texts.{Every}
 use Rattle.js_eval.specs.declared.ending.End.{End}
 use Rattle.js_eval.specs.declared.ending.End.TheVariants.{Done, Threw, Unsupported, Full, Memory}
-use Rattle.js_eval.specs.Evaluates.{end_of}
+use Rattle.js_eval.specs.Evaluates.{script_end}
 use Rattle.js_eval.specs.Script.{Flow, need_ids, need_words}
 use Rattle.run_program.specs.declared.job.Job.{Job}
 use Rattle.run_program.specs.declared.job.Outcome.{Outcome}
-use Rattle.run_program.specs.Jobs.{Part, Ended, fault_in, pairs_of, ids_of, words_of}
+use Rattle.run_program.specs.Jobs.{JobUse, HasJobEnd, fault_in, pairs_of, ids_of, words_of}
 
 -- a file that was run: what it means, how it ended, the bytes of the lines that it printed, and what it did
 -- to the heap
@@ -17,28 +17,28 @@ pub record RunFile : Type 0 where
   pub mean : Flow
   pub end : End
   pub lines : List ℕ
-  pub part : Part
+  pub part : JobUse
 
 -- what the files mean, in their order
 abbrev pub means_of : List RunFile → List Flow
 means_of files = map (λ f. f.mean) files
 
 -- what the files did to the heap, in their order
-abbrev pub parts_of : List RunFile → List Part
+abbrev pub parts_of : List RunFile → List JobUse
 parts_of files = map (λ f. f.part) files
 
 -- What came of a file, said of the heap at any moment afterwards. What it used, with what a full heap was
 -- asked for besides, is at most its need.
-pub record Came {F : Type 0} (s : State F) (f : RunFile) : Type 0 where
-  pub ended : Ended s f.mean f.lines f.end f.part
+pub record WasFileRun {F : Type 0} (s : State F) (f : RunFile) : Type 0 where
+  pub ended : HasJobEnd s f.mean f.lines f.end f.part
   pub within_ids : f.part.ids + ids_wanted (fault_in f.end) ≤ need_ids f.mean
   pub within_words : f.part.words + words_wanted (fault_in f.end) ≤ need_words f.mean
 
 -- On a heap of these sizes these files were run, and nothing else was done: the history is what they
 -- interned, in their order, and what was used is what they used.
-pub record AreRun {F : Type 0} (z : Sizes) (s : State F) (files : List RunFile) : Type 0 where
+pub record AreRun {F : Type 0} (z : StoreSizes) (s : State F) (files : List RunFile) : Type 0 where
   pub sizes : s.sizes ≡ z
-  pub each : Every (Came s) files
+  pub each : Every (WasFileRun s) files
   pub history : s.history ≡ pairs_of (parts_of files)
   pub used_ids : s.used_ids ≡ ids_of (parts_of files)
   pub used_words : s.used_words ≡ words_of (parts_of files)
@@ -52,7 +52,7 @@ pub record AreJobs (mean : Job → Flow) (jobs : List Job) (outcomes : List Outc
 
 -- the end is the meaning's
 abbrev pub IsAsMeant : RunFile → Type 0
-IsAsMeant f = f.end ≡ end_of f.mean.out
+IsAsMeant f = f.end ≡ script_end f.mean.out
 
 -- the end is neither Full nor out of memory
 abbrev pub IsOwnEnd : End → Type 0

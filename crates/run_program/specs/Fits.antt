@@ -2,7 +2,7 @@
 use Rattle.std.specs.Prelude.{ℕ, ◌+◌, ◌≤◌, List, [], ◌∷◌, nat_eq, flat_map, Option, Some, None}
 use Rattle.std.specs.Cmp.Lexicographic.{pointwise}
 use Rattle.std.specs.Set.{distinct_count}
-use Rattle.js_store.specs.State.{Sizes}
+use Rattle.js_store.specs.State.{StoreSizes}
 use Rattle.eval_values.specs.Outcome.{Out, gave, ended}
 use Rattle.js_eval.specs.Script.{Flow, interned, need_ids, need_words}
 
@@ -37,19 +37,19 @@ unfoldable pub count_different : List (List ℕ) → ℕ
 count_different lists = distinct_count (pointwise nat_eq) lists
 
 -- the heap has as many ids as all files need together
-abbrev pub FitsIds : Sizes → List Flow → Type 0
+abbrev pub FitsIds : StoreSizes → List Flow → Type 0
 FitsIds z means = ids_needed means ≤ z.ids
 
 -- the heap has as many content words as all files need together
-abbrev pub FitsWords : Sizes → List Flow → Type 0
+abbrev pub FitsWords : StoreSizes → List Flow → Type 0
 FitsWords z means = words_needed means ≤ z.words
 
 -- the string table has a slot for each different list of units that the files intern
-abbrev pub FitsSlots : Sizes → List Flow → Type 0
+abbrev pub FitsSlots : StoreSizes → List Flow → Type 0
 FitsSlots z means = count_different (lists_interned means) ≤ z.slots
 
 -- a heap of these sizes is enough
-pub record Fits (z : Sizes) (means : List Flow) : Type 0 where
+pub record Fits (z : StoreSizes) (means : List Flow) : Type 0 where
   pub ids : FitsIds z means
   pub words : FitsWords z means
   pub slots : FitsSlots z means

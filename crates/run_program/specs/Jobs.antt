@@ -1,7 +1,7 @@
 -- What jobs leave that were run on one heap: each outcome in its job's place, and what all did together.
 use Rattle.std.specs.Prelude.{◌≡◌, ℕ, ◌+◌, ◌<◌, ◌≤◌, List, [], ◌∷◌, ◌++◌, length, map, max, All, Contains, Option, Some, None, IsSome, IsTrue}
 use Rattle.std.specs.List.{concat}
-use Rattle.js_store.specs.State.{State, Has, Grows}
+use Rattle.js_store.specs.State.{State, NamesUnits, Grows}
 use Rattle.js_store.specs.Faults.{ids_wanted, words_wanted}
 use Rattle.js_store.specs.declared.faults.FullReport.TheVariants.{Ids, Words, Slots}
 use Rattle.js_store.specs.declared.faults.StoreFault.{StoreFault}
@@ -13,7 +13,7 @@ use Rattle.js_item.specs.declared.item.Item.{Item}
 use Rattle.eval_values.specs.Ran.{NextShut}
 use Rattle.js_eval.specs.declared.ending.End.{End}
 use Rattle.js_eval.specs.declared.ending.End.TheVariants.{Done, Threw, Unsupported, Full, Memory}
-use Rattle.js_eval.specs.Evaluates.{end_of}
+use Rattle.js_eval.specs.Evaluates.{script_end}
 use Rattle.js_eval.specs.Script as meant
 use Rattle.js_eval.specs.Script.{Flow, meaning, need_ids, need_words}
 use Rattle.js_eval.specs.Seen.{BoundsFine, bounds_seen}
@@ -33,7 +33,7 @@ means s env job = meaning (tree_of job.script) (bounds_seen s number (bounds_of 
 
 -- what one job did to the store: the pairs that it added to the history, and the ids and content words that
 -- it used
-pub record Part : Type 0 where
+pub record JobUse : Type 0 where
   pub pairs : List (List ℕ × ℕ)
   pub ids : ℕ
   pub words : ℕ
@@ -58,17 +58,17 @@ Reports s store.Memory = Unit {0}
 -- A job that came to its own end: the end and the lines are those that are meant, it interned what is meant,
 -- and every string that an expression gave is known.
 pub record Whole {F : Type 0} (s : State F) (m : Flow) (lines : List ℕ) (end : End)
-    (part : Part) : Type 0 where
-  pub end_is : end ≡ end_of m.out
+    (part : JobUse) : Type 0 where
+  pub end_is : end ≡ script_end m.out
   pub lines_are : lines ≡ concat m.lines
   pub interned : map (λ p. p.0) part.pairs ≡ meant.interned m
-  pub texts : (u : List ℕ) → Contains (meant.texts m) u → (n : ℕ) × Has s n u
+  pub texts : (u : List ℕ) → Contains (meant.texts m) u → (n : ℕ) × NamesUnits s n u
 
 -- A job that a full store or lack of memory ended: the report is true, the first ones of the lines are there,
 -- each of them whole, and the first ones of what is meant were interned. Where the string table was full the
 -- next one is shut.
 pub record Broken {F : Type 0} (s : State F) (m : Flow) (lines : List ℕ) (fault : StoreFault)
-    (part : Part) : Type 0 where
+    (part : JobUse) : Type 0 where
   pub reports : Reports s fault
   pub lines_done : List (List ℕ)
   pub lines_left : List (List ℕ)
@@ -79,19 +79,19 @@ pub record Broken {F : Type 0} (s : State F) (m : Flow) (lines : List ℕ) (faul
   pub next : NextShut s fault left
 
 -- a job came to this end: its own, or that of a full store or lack of memory
-abbrev pub Ended : {F : Type 0} → State F → Flow → List ℕ → End → Part → Type 0
-Ended s m lines Done part = Whole s m lines Done part
-Ended s m lines (Threw kind) part = Whole s m lines (Threw kind) part
-Ended s m lines (Unsupported at) part = Whole s m lines (Unsupported at) part
-Ended s m lines (Full report) part = Broken s m lines (store.Full report) part
-Ended s m lines Memory part = Broken s m lines store.Memory part
+abbrev pub HasJobEnd : {F : Type 0} → State F → Flow → List ℕ → End → JobUse → Type 0
+HasJobEnd s m lines Done part = Whole s m lines Done part
+HasJobEnd s m lines (Threw kind) part = Whole s m lines (Threw kind) part
+HasJobEnd s m lines (Unsupported at) part = Whole s m lines (Unsupported at) part
+HasJobEnd s m lines (Full report) part = Broken s m lines (store.Full report) part
+HasJobEnd s m lines Memory part = Broken s m lines store.Memory part
 
 -- a job and what came of it, said of the store at any moment afterwards: what it used, with what a full store
 -- was asked for besides, is at most its need
 pub record CameOf {F : Type 0} (s : State F) (m : Flow) (job : Job) (outcome : Outcome)
-    (part : Part) : Type 0 where
+    (part : JobUse) : Type 0 where
   pub index : outcome.index ≡ job.index
-  pub ended : Ended s m outcome.lines outcome.end part
+  pub ended : HasJobEnd s m outcome.lines outcome.end part
   pub within_ids : part.ids + ids_wanted (fault_in outcome.end) ≤ need_ids m
   pub within_words : part.words + words_wanted (fault_in outcome.end) ≤ need_words m
 
@@ -105,17 +105,17 @@ AtEach P (x ∷ xs) [] zs = ⊥
 AtEach P (x ∷ xs) (y ∷ ys) [] = ⊥
 
 -- what the parts are together, in the order of the jobs
-abbrev pub pairs_of : List Part → List (List ℕ × ℕ)
+abbrev pub pairs_of : List JobUse → List (List ℕ × ℕ)
 pairs_of [] = []
 pairs_of (p ∷ ps) = p.pairs ++ pairs_of ps
 
 -- how many ids the parts used together
-abbrev pub ids_of : List Part → ℕ
+abbrev pub ids_of : List JobUse → ℕ
 ids_of [] = 0
 ids_of (p ∷ ps) = p.ids + ids_of ps
 
 -- how many content words the parts used together
-abbrev pub words_of : List Part → ℕ
+abbrev pub words_of : List JobUse → ℕ
 words_of [] = 0
 words_of (p ∷ ps) = p.words + words_of ps
 
@@ -126,7 +126,7 @@ words_of (p ∷ ps) = p.words + words_of ps
 pub record RanJobs {F : Type 0} (mean : Job → Flow) (before after : State F) (jobs : List Job)
     (outcomes : List Outcome) : Type 0 where
   pub grows : Grows before after
-  pub parts : List Part
+  pub parts : List JobUse
   pub each : AtEach (λ job. CameOf after (mean job) job) jobs outcomes parts
   pub history : after.history ≡ before.history ++ pairs_of parts
   pub used_ids : after.used_ids ≡ before.used_ids + ids_of parts
@@ -138,13 +138,13 @@ abbrev pub Runs : {F : Type 0} → State F → State F → List (Binding (Item J
 Runs before after env jobs outcomes = RanJobs (means before env) before after jobs outcomes
 
 -- what the jobs need together, and the greatest request that one of their reports has
-abbrev pub ids_needed : (Job → Flow) → List Job → ℕ
-ids_needed mean [] = 0
-ids_needed mean (j ∷ js) = need_ids (mean j) + ids_needed mean js
+abbrev pub job_ids_needed : (Job → Flow) → List Job → ℕ
+job_ids_needed mean [] = 0
+job_ids_needed mean (j ∷ js) = need_ids (mean j) + job_ids_needed mean js
 
-abbrev pub words_needed : (Job → Flow) → List Job → ℕ
-words_needed mean [] = 0
-words_needed mean (j ∷ js) = need_words (mean j) + words_needed mean js
+abbrev pub job_words_needed : (Job → Flow) → List Job → ℕ
+job_words_needed mean [] = 0
+job_words_needed mean (j ∷ js) = need_words (mean j) + job_words_needed mean js
 
 abbrev pub most_ids_wanted : List Outcome → ℕ
 most_ids_wanted [] = 0

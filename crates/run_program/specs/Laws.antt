@@ -1,8 +1,8 @@
 -- The laws by which files come to be run on one heap.
 use Rattle.std.specs.Prelude.{◌≡◌, ℕ, List, [], ◌∷◌, ◌++◌, None}
 use Rattle.atomic_table.specs.Seated.{TableId}
-use Rattle.js_store.specs.State.{State, Sizes, Grows}
-use Rattle.js_store.specs.Faults.{Step}
+use Rattle.js_store.specs.State.{State, StoreSizes, Grows}
+use Rattle.js_store.specs.Faults.{StoreStep}
 use Rattle.eval_scopes.specs.Bindings.{Bound}
 use Rattle.eval_tree.specs.declared.tree.Script.{Script}
 use Rattle.eval_tree.specs.Tree.{tree_of}
@@ -14,10 +14,10 @@ use Rattle.heap_rule.specs.Agents.{first_view}
 use Rattle.heap_rule.specs.declared.size.HeapSize.{HeapSize}
 use Rattle.heap_intern.specs.Sessions.{SessionFrame, state_by}
 use Rattle.heap_intern.specs.Shares.{total_by}
-use Rattle.heap_intern.specs.Whole.{HasAll}
+use Rattle.heap_intern.specs.Whole.{HasWholeCounts}
 use Rattle.run_program.specs.declared.job.Job.{Job}
 use Rattle.run_program.specs.declared.job.Outcome.{Outcome}
-use Rattle.run_program.specs.Jobs.{Part, RanJobs}
+use Rattle.run_program.specs.Jobs.{JobUse, RanJobs}
 use Rattle.run_program.specs.Files.{RunFile, AreRun, AreJobs}
 
 -- on a heap that was just made no file was run
@@ -27,25 +27,27 @@ NoneRun = (z : HeapSize) (agents limit : ℕ) (table : TableId) →
 
 -- after some files a script was evaluated, without a line before
 abbrev pub ScriptRun : Type 0
-ScriptRun = (z : Sizes) (s t : State SessionFrame) (files : List RunFile)
+ScriptRun = (z : StoreSizes) (s t : State SessionFrame) (files : List RunFile)
     (script : Script) (top after : List (Bound Val)) (lines : List ℕ) (end : End)
     → AreRun z s files → Grows s t → Evaluates s t [] lines after end (meaning (tree_of script) top s.limit)
-    → (part : Part) × AreRun z t (files
+    → (part : JobUse) × AreRun z t (files
     ++ (record { mean = meaning (tree_of script) top s.limit; end = end; lines = lines; part = part } ∷ []))
 
 -- after some files jobs were run
 abbrev pub JobsRun : Type 0
-JobsRun = (z : Sizes) (s t : State SessionFrame) (files : List RunFile) (mean : Job → Flow) (jobs : List Job)
+JobsRun = (z : StoreSizes) (s t : State SessionFrame) (files : List RunFile) (mean : Job → Flow)
+    (jobs : List Job)
     (outcomes : List Outcome)
     → AreRun z s files → RanJobs mean s t jobs outcomes
     → (more : List RunFile) × AreJobs mean jobs outcomes more × AreRun z t (files ++ more)
 
 -- a call that uses nothing and interns nothing, and the reading of both counters, leave what was run
 abbrev pub StaysRun : Type 0
-StaysRun = (z : Sizes) (s t : State SessionFrame) (files : List RunFile) → AreRun z s files
-    → Step s t None 0 0 → t.history ≡ s.history
+StaysRun = (z : StoreSizes) (s t : State SessionFrame) (files : List RunFile) → AreRun z s files
+    → StoreStep s t None 0 0 → t.history ≡ s.history
     → AreRun z t files
 
 abbrev pub TotalsRun : Type 0
-TotalsRun = (z : Sizes) (s : State SessionFrame) (files : List RunFile) → HasAll s → AreRun z s files
+TotalsRun = (z : StoreSizes) (s : State SessionFrame) (files : List RunFile) → HasWholeCounts s
+    → AreRun z s files
     → AreRun z (total_by s) files

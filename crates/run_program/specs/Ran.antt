@@ -2,7 +2,7 @@
 use Rattle.std.specs.Prelude.{◌≡◌, ℕ, ◌+◌, Bool, true, false, List, [], ◌∷◌, map, Option, Some, None}
 use Rattle.std.specs.Borrow.{Bor}
 use Rattle.js_store.specs.Limits.{limit_units}
-use Rattle.js_store.specs.State.{State, Sizes}
+use Rattle.js_store.specs.State.{State, StoreSizes}
 use Rattle.eval_tree.specs.declared.tree.Script.{Script}
 use Rattle.eval_tree.specs.Tree.{Tree, tree_of}
 use Rattle.js_eval.specs.Script.{Flow}
@@ -13,15 +13,15 @@ use Rattle.heap_intern.specs.Shares.{IsWhole}
 use Rattle.run_program.specs.declared.job.Outcome.{Outcome}
 use Rattle.run_program.specs.Fits.{all_meant}
 use Rattle.run_program.specs.Files.{RunFile, AreRun, AreFilesOf}
-use Rattle.run_program.specs.Tells.{Tells}
+use Rattle.run_program.specs.Tells.{FilesTell}
 use Rattle.run_program.specs.declared.ran.Kept.{Kept}
 use Rattle.run_program.specs.declared.ran.Ran.{Ran}
 use Rattle.run_program.specs.declared.ran.Setup.{Setup}
 use Rattle.run_program.specs.Meant.{prelude_meant, scripts_meant}
 
 -- the sizes of the heap that is to be made, as a store reports them
-abbrev pub sizes_by : Setup → Sizes
-sizes_by setup = record { ids = setup.size.ids; words = setup.size.words; slots = setup.size.slots }
+abbrev pub setup_sizes : Setup → StoreSizes
+setup_sizes setup = record { ids = setup.size.ids; words = setup.size.words; slots = setup.size.slots }
 
 -- what the kept agent knows and has, as a store reports it
 abbrev pub state_kept : Setup → Kept → State SessionFrame
@@ -75,7 +75,7 @@ counted false n = None
 
 -- Files with these meanings were run on the kept heap, which was made with these sizes, and nothing else was
 -- done there: the prelude first, from no bindings, and where it ended Done each of the scripts, from the
--- bindings that the prelude is meant to leave. What they say of the heap is in `Tells`.
+-- bindings that the prelude is meant to leave. What they say of the heap is in `FilesTell`.
 pub record IsRan (setup : Setup) (prelude : Option Tree) (scripts : List Tree) (ran : Ran) : Type 0 where
   pub files : List RunFile
   pub are : AreFilesOf (prelude_by setup prelude) (scripts_by setup prelude scripts) files
@@ -85,8 +85,8 @@ pub record IsRan (setup : Setup) (prelude : Option Tree) (scripts : List Tree) (
   pub has_prelude : HasOutcome prelude ran.prelude
   pub in_places : AreInPlaces 0 ran.scripts.items
   -- what the agent says of the heap
-  pub run : AreRun (sizes_by setup) (state_kept setup ran.kept) files
-  pub tells : Tells (sizes_by setup) (state_kept setup ran.kept) (all_by setup prelude scripts) files
+  pub run : AreRun (setup_sizes setup) (state_kept setup ran.kept) files
+  pub tells : FilesTell (setup_sizes setup) (state_kept setup ran.kept) (all_by setup prelude scripts) files
   -- the heap of these sizes, and the agent with the whole share, which has seen both counters where they
   -- are
   pub sizes : size_of ran.kept.heap ≡ setup.size

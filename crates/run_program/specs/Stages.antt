@@ -1,6 +1,6 @@
 -- What the stages of a run leave. No public contract cites these.
 use Rattle.std.specs.Prelude.{◌≡◌, ℕ, ◌+◌, ◌≤◌, List, [], ◌∷◌, map, Option}
-use Rattle.js_store.specs.State.{State, Sizes}
+use Rattle.js_store.specs.State.{State, StoreSizes}
 use Rattle.eval_tree.specs.Tree.{Tree, tree_of}
 use Rattle.js_eval.specs.Script.{Flow}
 use Rattle.heap_intern.specs.Counting.{different}
@@ -11,7 +11,7 @@ use Rattle.run_program.specs.declared.job.Outcome.{Outcome}
 use Rattle.run_program.specs.Files.{RunFile, AreRun, AreFilesOf}
 use Rattle.run_program.specs.Meant.{prelude_meant, scripts_meant}
 use Rattle.run_program.specs.declared.ran.Setup.{Setup}
-use Rattle.run_program.specs.Ran.{all_outcomes, counted, HasOutcome, AreInPlaces, prelude_by, scripts_by, sizes_by}
+use Rattle.run_program.specs.Ran.{all_outcomes, counted, HasOutcome, AreInPlaces, prelude_by, scripts_by, setup_sizes}
 
 abbrev pub job_trees : List Job → List Tree
 job_trees jobs = map (λ job. tree_of job.script) jobs
@@ -26,7 +26,7 @@ abbrev pub IsUnused : State SessionFrame → Type 0
 IsUnused s = AreRun s.sizes s []
 
 -- files with these meanings were run, and these are their outcomes
-pub record HaveRun (z : Sizes) (s : State SessionFrame) (prelude : Option Flow) (scripts : List Flow)
+pub record HaveRun (z : StoreSizes) (s : State SessionFrame) (prelude : Option Flow) (scripts : List Flow)
     (first : Option Outcome) (outcomes : List Outcome) : Type 0 where
   pub files : List RunFile
   pub are : AreFilesOf prelude scripts files
@@ -45,7 +45,7 @@ HaveRunFrom a b prelude scripts first outcomes =
 -- the same on a heap that was made for it, by the agent with the whole share, and what is reported of the heap
 pub record IsTold (setup : Setup) (s : State SessionFrame) (prelude : Option Tree) (scripts : List Tree)
     (first : Option Outcome) (outcomes : List Outcome) (interned : Option ℕ) : Type 0 where
-  pub have : HaveRun (sizes_by setup) s (prelude_by setup prelude)
+  pub have : HaveRun (setup_sizes setup) s (prelude_by setup prelude)
       (scripts_by setup prelude scripts) first outcomes
   pub agents : s.frame.agents ≡ setup.jobs
   pub whole : IsWhole s

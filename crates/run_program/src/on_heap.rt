@@ -3,7 +3,7 @@ ghost use Rattle.std.specs.Prelude.{◌≡◌, ◌≤◌, ◌<◌, ◌+◌, ℕ,
 ghost use Rattle.eval_scopes.specs.Seen.{bounds_of};
 ghost use Rattle.js_eval.specs.Seen.{BoundsFine};
 ghost use Rattle.heap_intern.specs.Sessions.{state_in};
-ghost use Rattle.run_program.specs.Jobs.{number, HasNoLines, Runs, means, ids_needed, words_needed, most_ids_wanted, most_words_wanted};
+ghost use Rattle.run_program.specs.Jobs.{number, HasNoLines, Runs, means, job_ids_needed, job_words_needed, most_ids_wanted, most_words_wanted};
 
 use crate::group::run_in_order;
 use crate::halves::run_groups;
@@ -33,9 +33,10 @@ pub fn run_group<G: Gate + Sync>(
     ensures ran { Runs (state_in session.old) (state_in session.new) env.now jobs.now outcomes.new }
     ensures frame { (state_in session.new).frame ≡ (state_in session.old).frame }
     ensures ids { (state_in session.new).used_ids + most_ids_wanted outcomes.new
-        ≤ (state_in session.old).used_ids + ids_needed (means (state_in session.old) env.now) jobs.now }
+        ≤ (state_in session.old).used_ids + job_ids_needed (means (state_in session.old) env.now) jobs.now }
     ensures words { (state_in session.new).used_words + most_words_wanted outcomes.new
-        ≤ (state_in session.old).used_words + words_needed (means (state_in session.old) env.now) jobs.now }
+        ≤ (state_in session.old).used_words + job_words_needed (means (state_in session.old) env.now)
+        jobs.now }
 {
     run_in_order(alloc, session, jobs, outcomes, env, gate);
 }
@@ -61,9 +62,10 @@ pub fn run_all<R: Threads + Sync, G: Gate + Sync>(
     ensures ran { Runs (state_in session.old) (state_in session.new) env.now jobs.now outcomes.new }
     ensures frame { (state_in session.new).frame ≡ (state_in session.old).frame }
     ensures ids { (state_in session.new).used_ids + most_ids_wanted outcomes.new
-        ≤ (state_in session.old).used_ids + ids_needed (means (state_in session.old) env.now) jobs.now }
+        ≤ (state_in session.old).used_ids + job_ids_needed (means (state_in session.old) env.now) jobs.now }
     ensures words { (state_in session.new).used_words + most_words_wanted outcomes.new
-        ≤ (state_in session.old).used_words + words_needed (means (state_in session.old) env.now) jobs.now }
+        ≤ (state_in session.old).used_words + job_words_needed (means (state_in session.old) env.now)
+        jobs.now }
 {
     run_groups(rt, alloc, session, jobs, outcomes, groups, env, gate);
 }

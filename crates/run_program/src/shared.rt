@@ -7,7 +7,7 @@ ghost use Rattle.js_eval.specs.Script.{meaning};
 ghost use Rattle.js_eval.specs.Seen.{BoundsFine, bounds_seen};
 ghost use Rattle.js_eval.specs.Evaluates.{Evaluates};
 ghost use Rattle.heap_intern.specs.Sessions.{SessionFrame};
-ghost use Rattle.heap_intern.specs.Shares.{IsJoined, MayJoin, left_by, right_by};
+ghost use Rattle.heap_intern.specs.Shares.{IsSessionJoined, MayJoinSession, giver_after, right_by};
 ghost use Rattle.run_program.specs.Jobs.{number};
 
 use eval_tree::Script;
@@ -24,13 +24,13 @@ pub trait Shared {
     fn lend(&mut self, give: u32) -> Self
         requires some { 1 ≤ give }
         requires less { give < (state self.old).frame.share }
-        ensures left { state self.new ≡ left_by (state self.old) give }
+        ensures left { state self.new ≡ giver_after (state self.old) give }
         ensures right { state result ≡ right_by (state self.old) give };
 
     // Takes over all that another session knows, has and used.
     fn take_back(&mut self, other: Self)
-        requires { MayJoin (state self.old) (state other) }
-        ensures joined { IsJoined (state self.old) (state other) (state self.new) }
+        requires { MayJoinSession (state self.old) (state other) }
+        ensures joined { IsSessionJoined (state self.old) (state other) (state self.new) }
         ensures bounded { (state self.new).bounded ≡ (state self.old).bounded }
         ensures sure { (state self.new).sure ≡ (state self.old).sure };
 

@@ -6,8 +6,8 @@ use Rattle.std.proofs.lemmas.List.{length-append}
 use Rattle.std.proofs.lemmas.List.Elements.{All-nil, All-push}
 use Rattle.std.proofs.lemmas.Nat.{mod_below}
 use Rattle.std.proofs.Math.Nat.{div-le_self}
-use Rattle.run_sources.specs.Draws.{after, draw, each, listed, next}
-use Rattle.run_sources.specs.Lines.{all_line, find_line, line, pad_line, print_line, repeat_line, replace_line, split_line, symbol_line, word_line}
+use Rattle.run_sources.specs.Draws.{state_after, draw, joined_up_to, list_up_to, next}
+use Rattle.run_sources.specs.Lines.{all_line, find_line, generated_line, pad_line, print_line, repeat_line, replace_line, split_line, symbol_line, word_line}
 use Rattle.run_sources.specs.Texts.{IsSmall, before, drawn_line, generated, letter, named_script, prelude, script, word, word_length}
 
 -- two texts behind one another
@@ -22,18 +22,18 @@ either false m s t small least = least
 number : (n : ℕ) → n < 1000 → length (decimal n) ≤ 3
 number n small = length-decimal-le 3 n (omega arith) small (omega (arith, small))
 
-length-each : (f : ℕ → List ℕ) (most k : ℕ) → ((i : ℕ) → i < k → length (f i) ≤ most) → length (each f k) ≤ most * k
-unfolding each
+length-each : (f : ℕ → List ℕ) (most k : ℕ) → ((i : ℕ) → i < k → length (f i) ≤ most) → length (joined_up_to f k) ≤ most * k
+unfolding joined_up_to
 length-each f most zero small = omega arith
 length-each f most (suc k) small =
-    let before : length (each f k) ≤ most * k = length-each f most k (λ i lt. small i (omega (arith, lt))) in
+    let before : length (joined_up_to f k) ≤ most * k = length-each f most k (λ i lt. small i (omega (arith, lt))) in
     let one : length (f k) ≤ most = small k (omega arith) in
-    rw (length-append (each f k) (f k)) (grind (arith, before, one))
+    rw (length-append (joined_up_to f k) (f k)) (grind (arith, before, one))
 
-listed_all : {T : Type 0} (P : T → Type 0) (f : ℕ → T) (k : ℕ) → ((i : ℕ) → i < k → P (f i)) → All P (listed f k)
-unfolding listed
+listed_all : {T : Type 0} (P : T → Type 0) (f : ℕ → T) (k : ℕ) → ((i : ℕ) → i < k → P (f i)) → All P (list_up_to f k)
+unfolding list_up_to
 listed_all P f zero each = All-nil P
-listed_all P f (suc k) each = All-push P (listed f k) (f k) (listed_all P f k (λ i lt. each i (omega (arith, lt)))) (each k (omega arith))
+listed_all P f (suc k) each = All-push P (list_up_to f k) (f k) (listed_all P f k (λ i lt. each i (omega (arith, lt)))) (each k (omega arith))
 
 draw_below : (x most : ℕ) → 0 < most → draw x most < most
 unfolding draw
@@ -85,7 +85,7 @@ split_small a b few less =
     (joined 27 13 (codes "].length + JSON.stringify(w") _ (omega arith) (joined 3 10 (decimal b) _ (number b less) (omega arith)))) in
     omega (arith, all)
 
-line_small : (k a b c : ℕ) → a < 16 → b < 16 → c < 8 → length (line k a b c) ≤ 72
+line_small : (k a b c : ℕ) → a < 16 → b < 16 → c < 8 → length (generated_line k a b c) ≤ 72
 line_small k a b c few less least =
     let first : a < 1000 = omega (arith, few) in
     let second : b < 1000 = omega (arith, less) in
@@ -98,7 +98,7 @@ line_small k a b c few less least =
     (either (k == 4) 72 (replace_line a) (split_line a b) (replace_small a first) (split_small a b first second)))))
 
 drawn_small : (x : ℕ) → length (drawn_line x) ≤ 72
-drawn_small x = line_small (draw x 6) (draw (after 1 x) 16) (draw (after 2 x) 16) (draw (after 3 x) 8) (draw_below (after 1 x) 16 (omega arith)) (draw_below (after 2 x) 16 (omega arith)) (draw_below (after 3 x) 8 (omega arith))
+drawn_small x = line_small (draw x 6) (draw (state_after 1 x) 16) (draw (state_after 2 x) 16) (draw (state_after 3 x) 8) (draw_below (state_after 1 x) 16 (omega arith)) (draw_below (state_after 2 x) 16 (omega arith)) (draw_below (state_after 3 x) 8 (omega arith))
 
 print_small : (j : ℕ) → j < 1000 → length (print_line j) ≤ 25
 print_small j few =
@@ -110,19 +110,19 @@ print_small j few =
 
 prelude_small : (n : ℕ) → length (prelude n) ≤ 4096
 prelude_small n =
-    let words : length (each (λ i. word_line i (word (before n i))) 16) ≤ 42 * 16 =
+    let words : length (joined_up_to (λ i. word_line i (word (before n i))) 16) ≤ 42 * 16 =
     length-each (λ i. word_line i (word (before n i))) 42 16 (λ i lt. word_line_small i (word (before n i)) (omega (arith, lt)) (word_small (before n i))) in
     let last : length all_line ≤ 185 = omega arith in
-    let all : length (prelude n) ≤ 857 = joined 672 185 (each (λ i. word_line i (word (before n i))) 16) all_line (omega (arith, words)) last in
+    let all : length (prelude n) ≤ 857 = joined 672 185 (joined_up_to (λ i. word_line i (word (before n i))) 16) all_line (omega (arith, words)) last in
     omega (arith, all)
 
 script_small : (j x : ℕ) → j < 1000 → length (script j x) ≤ 4096
 script_small j x few =
-    let drawn : length (each (λ l. drawn_line (after (4 * l) x)) 32) ≤ 72 * 32 = length-each (λ l. drawn_line (after (4 * l) x)) 72 32 (λ l lt. drawn_small (after (4 * l) x)) in
+    let drawn : length (joined_up_to (λ l. drawn_line (state_after (4 * l) x)) 32) ≤ 72 * 32 = length-each (λ l. drawn_line (state_after (4 * l) x)) 72 32 (λ l lt. drawn_small (state_after (4 * l) x)) in
     let all : length (script j x) ≤ 2354 = joined 25 2329 (codes "let acc = '';\nlet n = 0;\n") _ (omega arith)
-    (joined 2304 25 (each (λ l. drawn_line (after (4 * l) x)) 32) (print_line j) (omega (arith, drawn)) (print_small j few)) in
+    (joined 2304 25 (joined_up_to (λ l. drawn_line (state_after (4 * l) x)) 32) (print_line j) (omega (arith, drawn)) (print_small j few)) in
     omega (arith, all)
 
 pub generated_small : (n : ℕ) → All IsSmall (generated n)
 generated_small n (zero) d lt = prelude_small n
-generated_small n (suc k) d lt = listed_all IsSmall (named_script n) 32 (λ j few. script_small j (after (128 * j) (before n 16)) (omega (arith, few))) k d (omega (arith, lt))
+generated_small n (suc k) d lt = listed_all IsSmall (named_script n) 32 (λ j few. script_small j (state_after (128 * j) (before n 16)) (omega (arith, few))) k d (omega (arith, lt))

@@ -5,12 +5,12 @@ use Rattle.std.specs.List.{All}
 use Rattle.std.proofs.lemmas.List.Elements.{All-nil}
 use Rattle.run_sources.specs.Texts.{IsSmall, Named}
 use Rattle.js_io.specs.Counts.{next_count}
-use Rattle.js_io.specs.FilesState.{FilesState, IsTooLarge, Tells}
+use Rattle.js_io.specs.FilesState.{FilesState, IsTooLarge, IsToldAs}
 use Rattle.js_parse.specs.declared.fault.Role.TheVariants.{Main}
 use Rattle.eval_tree.specs.Tree.{Tree}
 use Rattle.run_sources.specs.declared.stop.ScriptsFault.{ScriptsFault}
 use Rattle.run_sources.specs.declared.stop.ScriptsFault.TheVariants as stop
-use Rattle.run_sources.specs.Program.{Name, Program, outer_of, program_from, with_prelude}
+use Rattle.run_sources.specs.Program.{FileName, Program, outer_of, program_from, with_prelude}
 use Rattle.run_sources.specs.Reading as reading
 use Rattle.run_sources.specs.Reading.{AreRead, IsLarge, IsPreludeRead, IsQuiet, IsRead, IsUnread, KeepsFiles, Read, ReadUpTo}
 use Rattle.run_sources.specs.Spelling as spelling
@@ -37,26 +37,26 @@ pub quiet_trans : (a b c : FilesState) → IsQuiet a b → IsQuiet b c → IsQui
 quiet_trans a b c p q = record { calm = q.calm ∙ p.calm; not_large = q.not_large ∙ p.not_large; unblamed = q.unblamed ∙ p.unblamed }
 
 -- what was read later was read of the files as they were before
-is_read_of : (a b : FilesState) (name : Name) (source : Named) → KeepsFiles a b → IsRead b.held name source → IsRead a.held name source
-is_read_of a b name source keeps is = record { named = is.named; tells = subst (λ (o : _). Tells o source.text) (keeps.held name) is.tells; small = is.small }
+is_read_of : (a b : FilesState) (name : FileName) (source : Named) → KeepsFiles a b → IsRead b.held name source → IsRead a.held name source
+is_read_of a b name source keeps is = record { named = is.named; tells = subst (λ (o : _). IsToldAs o source.text) (keeps.held name) is.tells; small = is.small }
 
-pub read_of : (a b : FilesState) (names : List Name) (sources : List Named) → KeepsFiles a b → Read b.held names sources → Read a.held names sources
+pub read_of : (a b : FilesState) (names : List FileName) (sources : List Named) → KeepsFiles a b → Read b.held names sources → Read a.held names sources
 read_of a b _ _ keeps reading.Read.none = reading.Read.none
 read_of a b _ _ keeps (reading.Read.next name names source sources is rest) =
     reading.Read.next name names source sources (is_read_of a b name source keeps is) (read_of a b names sources keeps rest)
 
 -- one more file was read
-pub read_turn : (a b : FilesState) (names : List Name) (sources : List Named) (name : Name) (source : Named) → KeepsFiles a b → Read a.held names sources → IsRead b.held name source
+pub read_turn : (a b : FilesState) (names : List FileName) (sources : List Named) (name : FileName) (source : Named) → KeepsFiles a b → Read a.held names sources → IsRead b.held name source
     → Read a.held (names ++ name ∷ []) (sources ++ source ∷ [])
 read_turn a b names sources name source keeps read is = read_more a.held names sources name source read (is_read_of a b name source keeps is)
 
 -- what was too large later was so of the files as they were before
-large_of : (a b : FilesState) (name : Name) (later : ℕ) → KeepsFiles a b → IsQuiet a b → IsTooLarge (b.held name) b.oversize later → IsTooLarge (a.held name) a.oversize later
+large_of : (a b : FilesState) (name : FileName) (later : ℕ) → KeepsFiles a b → IsQuiet a b → IsTooLarge (b.held name) b.oversize later → IsTooLarge (a.held name) a.oversize later
 large_of a b name later keeps quiet larger =
     subst (λ (n : ℕ). IsTooLarge (a.held name) n later) quiet.not_large (subst (λ (o : _). IsTooLarge o b.oversize later) (keeps.held name) larger)
 
 -- this read was not quiet, or memory was wanting
-pub read_halt : (a b c : FilesState) (all before after : List Name) (sources : List Named) (name : Name) (s : ScriptsFault) → all ≡ before ++ name ∷ after → KeepsFiles a b → IsQuiet a b
+pub read_halt : (a b c : FilesState) (all before after : List FileName) (sources : List Named) (name : FileName) (s : ScriptsFault) → all ≡ before ++ name ∷ after → KeepsFiles a b → IsQuiet a b
     → Read a.held before sources → RefusesRead b c name s → RefusesFile a c all s
 read_halt a b c all before after sources name (stop.NotRead blamed) split keeps quiet read (named, once, large, blames) = record {
   up_to = record { before = before; after = after; sources = sources; split = split ∙ ap (λ n. before ++ n ∷ after) (sym named); read = read };
@@ -67,31 +67,31 @@ read_halt a b c all before after sources name (stop.NotRead blamed) split keeps 
 read_halt a b c all before after sources name (stop.TooLarge blamed) split keeps quiet read (named, calm, larger, blames) = record {
   up_to = record { before = before; after = after; sources = sources; split = split ∙ ap (λ n. before ++ n ∷ after) (sym named); read = read };
   calm = calm ∙ quiet.calm;
-  larger = subst (λ (n : Name). IsTooLarge (a.held n) a.oversize c.oversize) (sym named) (large_of a b name c.oversize keeps quiet larger);
+  larger = subst (λ (n : FileName). IsTooLarge (a.held n) a.oversize c.oversize) (sym named) (large_of a b name c.oversize keeps quiet larger);
   blames = blames ∙ sym named;
 }
 read_halt a b c all before after sources name stop.NoMemory split keeps quiet read more = quiet_trans a b c quiet more
 read_halt a b c all before after sources name (stop.Refused blamed fault) split keeps quiet read more = absurd more
 
 -- the prelude's read was not quiet, or memory was wanting
-pub prelude_halt : (a c : FilesState) (prelude : Option Name) (scripts : List Name) (s : ScriptsFault) → RefusesPrelude a c prelude s → RefusesFile a c (with_prelude prelude scripts) s
+pub prelude_halt : (a c : FilesState) (prelude : Option FileName) (scripts : List FileName) (s : ScriptsFault) → RefusesPrelude a c prelude s → RefusesFile a c (with_prelude prelude scripts) s
 prelude_halt a c None scripts s why = absurd why
 prelude_halt a c (Some name) scripts s why = read_halt a a c (name ∷ scripts) [] scripts [] name s refl (keeps_refl a) (quiet_refl a) reading.Read.none why
 
 -- behind the prelude
-module _ (a b : FilesState) (prelude : Option Name) (source : Option Named) (keeps : KeepsFiles a b) (read : IsPreludeRead a.held prelude source) where
-  all_read : (prelude : Option Name) (source : Option Named) (names : List Name) (sources : List Named) → IsPreludeRead a.held prelude source → Read a.held names sources
+module _ (a b : FilesState) (prelude : Option FileName) (source : Option Named) (keeps : KeepsFiles a b) (read : IsPreludeRead a.held prelude source) where
+  all_read : (prelude : Option FileName) (source : Option Named) (names : List FileName) (sources : List Named) → IsPreludeRead a.held prelude source → Read a.held names sources
       → Read a.held (with_prelude prelude names) (with_prelude source sources)
   all_read None None names sources none rest = rest
   all_read None (Some source) names sources none rest = absurd none
   all_read (Some name) None names sources none rest = absurd none
   all_read (Some name) (Some source) names sources is rest = reading.Read.next name names source sources is rest
 
-  parted : (prelude : Option Name) (before after : List Name) (name : Name) → with_prelude prelude (before ++ name ∷ after) ≡ with_prelude prelude before ++ name ∷ after
+  parted : (prelude : Option FileName) (before after : List FileName) (name : FileName) → with_prelude prelude (before ++ name ∷ after) ≡ with_prelude prelude before ++ name ∷ after
   parted None before after name = refl
   parted (Some first) before after name = refl
 
-  up_to : (scripts : List Name) (name : Name) → ReadUpTo b.held scripts name → ReadUpTo a.held (with_prelude prelude scripts) name
+  up_to : (scripts : List FileName) (name : FileName) → ReadUpTo b.held scripts name → ReadUpTo a.held (with_prelude prelude scripts) name
   up_to scripts name up = record {
     before = with_prelude prelude up.before;
     after = up.after;
@@ -101,7 +101,7 @@ module _ (a b : FilesState) (prelude : Option Name) (source : Option Named) (kee
   }
 
   -- a script's read was not quiet, or memory was wanting
-  pub scripts_halt : (c : FilesState) (scripts : List Name) (s : ScriptsFault) → IsQuiet a b → RefusesFile b c scripts s → RefusesFile a c (with_prelude prelude scripts) s
+  pub scripts_halt : (c : FilesState) (scripts : List FileName) (s : ScriptsFault) → IsQuiet a b → RefusesFile b c scripts s → RefusesFile a c (with_prelude prelude scripts) s
   scripts_halt c scripts (stop.NotRead name) quiet why = record {
     up_to = up_to scripts name.now why.up_to;
     once = why.once ∙ ap next_count quiet.calm;
@@ -119,7 +119,7 @@ module _ (a b : FilesState) (prelude : Option Name) (source : Option Named) (kee
 
 -- ---- lengths
 
-prelude_short : (held : Name → Option (List ℕ)) (name : Option Name) (source : Option Named) → IsPreludeRead held name source → IsPreludeShort source
+prelude_short : (held : FileName → Option (List ℕ)) (name : Option FileName) (source : Option Named) → IsPreludeRead held name source → IsPreludeShort source
 prelude_short held None None none = tt
 prelude_short held None (Some source) none = absurd none
 prelude_short held (Some name) None none = absurd none
@@ -129,12 +129,12 @@ short_more : (source : Named) (sources : List Named) → IsShort source → All 
 short_more source sources is rest zero d lt = is
 short_more source sources is rest (suc k) d lt = rest k d (omega (arith, lt))
 
-scripts_short : (held : Name → Option (List ℕ)) (names : List Name) (sources : List Named) → Read held names sources → All IsShort sources
+scripts_short : (held : FileName → Option (List ℕ)) (names : List FileName) (sources : List Named) → Read held names sources → All IsShort sources
 scripts_short held _ _ reading.Read.none = All-nil IsShort
 scripts_short held _ _ (reading.Read.next name names source sources is rest) = short_more source sources is.small (scripts_short held names sources rest)
 
 -- what was read is short
-pub read_short : (held : Name → Option (List ℕ)) (names : Program Name) (sources : Program Named) → AreRead held names sources → AreShort sources
+pub read_short : (held : FileName → Option (List ℕ)) (names : Program FileName) (sources : Program Named) → AreRead held names sources → AreShort sources
 read_short held names sources read = record {
   prelude = prelude_short held names.prelude sources.prelude read.prelude;
   scripts = scripts_short held names.scripts sources.scripts read.scripts;

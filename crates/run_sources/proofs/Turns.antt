@@ -9,7 +9,7 @@ use Rattle.js_parse.specs.declared.fault.Role.TheVariants.{Main}
 use Rattle.js_parse.specs.declared.fault.ParseFault.{ParseFault}
 use Rattle.js_parse.specs.Spells as script
 use Rattle.eval_tree.specs.Tree.{Tree}
-use Rattle.run_sources.specs.Program.{Name, Program, program_from}
+use Rattle.run_sources.specs.Program.{FileName, Program, program_from}
 use Rattle.run_sources.specs.Reading as reading
 use Rattle.run_sources.specs.Reading.{IsRead, Read}
 use Rattle.run_sources.specs.Spelling as spelling
@@ -59,7 +59,7 @@ begun (x ∷ xs) t prelude scripts some is first rest =
     let made : Named → List Named → Program Named = λ p ps. record { prelude = Some p; scripts = ps } in
     sym (ap₂ made (first ∙ ap named_for is) (rest ∙ ap (λ n. map named_for (take n xs)) left ∙ ap (map named_for) (take_whole xs)))
 
-pub read_more : (held : Name → Option (List ℕ)) (names : List Name) (sources : List Named) (name : Name) (source : Named) → Read held names sources → IsRead held name source
+pub read_more : (held : FileName → Option (List ℕ)) (names : List FileName) (sources : List Named) (name : FileName) (source : Named) → Read held names sources → IsRead held name source
     → Read held (names ++ name ∷ []) (sources ++ source ∷ [])
 read_more held _ _ name source reading.Read.none is = reading.Read.next name [] source [] is reading.Read.none
 read_more held _ _ name source (reading.Read.next n ns s ss one rest) is = reading.Read.next n (ns ++ name ∷ []) s (ss ++ source ∷ []) one (read_more held ns ss name source rest is)
@@ -72,7 +72,7 @@ module _ (outer : List (List ℕ)) where
       spelling.AllSpell.next s (ss ++ source ∷ []) t (ts ++ tree ∷ []) one (spell_more ss ts source tree rest spells)
 
   -- behind texts that are scripts, this one is the first that is none
-  pub refused_after : (before : List Named) (trees : List Tree) (name : Name) (source : Named) (after : List Named) (fault : ParseFault) → source.name ≡ name → AllSpell outer before trees
+  pub refused_after : (before : List Named) (trees : List Tree) (name : FileName) (source : Named) (after : List Named) (fault : ParseFault) → source.name ≡ name → AllSpell outer before trees
       → script.Refused Main outer source.text fault → FirstAmong outer name fault (before ++ source ∷ after)
   refused_after _ _ name source after fault named spelling.AllSpell.none refused = spelling.FirstAmong.here source after named refused
   refused_after _ _ name source after fault named (spelling.AllSpell.next s ss t ts one rest) refused =

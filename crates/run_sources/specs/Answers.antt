@@ -15,12 +15,12 @@ use Rattle.run_sources.specs.declared.sources.Sources.{Sources}
 use Rattle.run_sources.specs.declared.sources.Scripts.{Scripts}
 use Rattle.run_sources.specs.declared.stop.ScriptsFault.{ScriptsFault}
 use Rattle.run_sources.specs.declared.stop.ScriptsFault.TheVariants as stop
-use Rattle.run_sources.specs.Program.{Name, Program}
+use Rattle.run_sources.specs.Program.{FileName, Program}
 use Rattle.run_sources.specs.Reading.{IsQuiet, IsUnread, IsLarge}
 use Rattle.run_sources.specs.Spelling.{FirstAmong, FirstRefused}
 
 -- the names of a prelude or none and of scripts
-abbrev pub names_for : Option (Bor (List ℕ)) → List (Bor (List ℕ)) → Program Name
+abbrev pub names_for : Option (Bor (List ℕ)) → List (Bor (List ℕ)) → Program FileName
 names_for prelude scripts =
     record { prelude = option_map (λ n. n.now) prelude; scripts = map (λ n. n.now) scripts }
 
@@ -48,7 +48,7 @@ pub record AreShort (sources : Program Named) : Type 0 where
   pub scripts : All IsShort sources.scripts
 
 -- the reads before this one were quiet and this one was not; or memory ran out
-abbrev pub RefusesFile : FilesState → FilesState → List Name → ScriptsFault → Type 0
+abbrev pub RefusesFile : FilesState → FilesState → List FileName → ScriptsFault → Type 0
 RefusesFile old new names (stop.NotRead name) = IsUnread old new names name.now
 RefusesFile old new names (stop.TooLarge name) = IsLarge old new names name.now
 RefusesFile old new names stop.NoMemory = IsQuiet old new
@@ -63,7 +63,7 @@ RefusesScript sources _ = ⊥
 -- ---- of parts. No public contract cites these.
 
 -- this read failed or found too large a file, and no other did; or memory ran out
-abbrev pub RefusesRead : FilesState → FilesState → Name → ScriptsFault → Type 0
+abbrev pub RefusesRead : FilesState → FilesState → FileName → ScriptsFault → Type 0
 RefusesRead old new name (stop.NotRead blamed) = (blamed.now ≡ name) × (new.faults ≡ next_count old.faults)
     × (new.oversize ≡ old.oversize) × (new.blamed ≡ name)
 RefusesRead old new name (stop.TooLarge blamed) = (blamed.now ≡ name) × (new.faults ≡ old.faults)
@@ -72,7 +72,7 @@ RefusesRead old new name stop.NoMemory = IsQuiet old new
 RefusesRead old new name _ = ⊥
 
 -- there is a prelude, and its read was refused
-abbrev pub RefusesPrelude : FilesState → FilesState → Option Name → ScriptsFault → Type 0
+abbrev pub RefusesPrelude : FilesState → FilesState → Option FileName → ScriptsFault → Type 0
 RefusesPrelude old new None s = ⊥
 RefusesPrelude old new (Some name) s = RefusesRead old new name s
 

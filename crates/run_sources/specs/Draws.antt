@@ -11,16 +11,16 @@ unfoldable pub draw : ℕ → ℕ → ℕ
 draw x most = next x / 65536 % most
 
 -- the state after so many draws
-unfoldable pub after : ℕ → ℕ → ℕ
-after zero x = x
-after (suc k) x = next (after k x)
+unfoldable pub state_after : ℕ → ℕ → ℕ
+state_after zero x = x
+state_after (suc k) x = next (state_after k x)
 
 -- the lists f 0, f 1 and so on, so many of them, put together
-unfoldable pub each : (ℕ → List ℕ) → ℕ → List ℕ
-each f zero = []
-each f (suc k) = each f k ++ f k
+unfoldable pub joined_up_to : (ℕ → List ℕ) → ℕ → List ℕ
+joined_up_to f zero = []
+joined_up_to f (suc k) = joined_up_to f k ++ f k
 
 -- the list of f 0, f 1 and so on
-unfoldable pub listed : {T : Type 0} → (ℕ → T) → ℕ → List T
-listed f zero = []
-listed f (suc k) = listed f k ++ f k ∷ []
+unfoldable pub list_up_to : {T : Type 0} → (ℕ → T) → ℕ → List T
+list_up_to f zero = []
+list_up_to f (suc k) = list_up_to f k ++ f k ∷ []

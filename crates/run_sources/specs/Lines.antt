@@ -46,8 +46,8 @@ split_line a b = codes "n = n + all.split(',')["
     ++ (decimal a ++ (codes "].length + JSON.stringify(w" ++ (decimal b ++ codes ").length;\n")))
 
 -- the line of kind k with three numbers, of which not every kind uses each
-abbrev pub line : ℕ → ℕ → ℕ → ℕ → List ℕ
-line k a b c =
+abbrev pub generated_line : ℕ → ℕ → ℕ → ℕ → List ℕ
+generated_line k a b c =
     if k == 0 then find_line a
     else (if k == 1 then pad_line a b (c + 20)
     else (if k == 2 then repeat_line a c

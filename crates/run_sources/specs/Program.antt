@@ -4,8 +4,8 @@ use Rattle.run_sources.specs.Texts.{Named}
 use Rattle.eval_tree.specs.Tree.{Tree}
 
 -- an argument that names a file, by its bytes
-abbrev pub Name : Type 0
-Name = List ℕ
+abbrev pub FileName : Type 0
+FileName = List ℕ
 
 -- a prelude or none, and scripts in the order of the arguments
 pub record Program (T : Type 0) : Type 0 where

@@ -3,13 +3,13 @@
 use Rattle.std.specs.Prelude.{◌≡◌, ◌≤◌, ⊤, ℕ, List, [], ◌∷◌, ◌++◌, length, Option, None, Some}
 use Rattle.run_sources.specs.Texts.{Named}
 use Rattle.js_io.specs.Counts.{next_count}
-use Rattle.js_io.specs.FilesState.{Tells, IsTooLarge, FilesState}
+use Rattle.js_io.specs.FilesState.{IsToldAs, IsTooLarge, FilesState}
 use Rattle.js_io.specs.declared.files.TheConstants.{FILE_MAX}
-use Rattle.run_sources.specs.Program.{Name, Program}
+use Rattle.run_sources.specs.Program.{FileName, Program}
 
 -- the files are as they were, as far as they are reported, and no count fell
 pub record KeepsFiles (old new : FilesState) : Type 0 where
-  pub held : (name : Name) → new.held name ≡ old.held name
+  pub held : (name : FileName) → new.held name ≡ old.held name
   pub faults : old.faults ≤ new.faults
   pub oversize : old.oversize ≤ new.oversize
 
@@ -21,48 +21,49 @@ pub record IsQuiet (old new : FilesState) : Type 0 where
 
 -- the file of this name has these bytes, as far as files are reported. It is not too large: this is what keeps a
 -- reported file that is too large from passing for one that was read.
-pub record IsRead (held : Name → Option (List ℕ)) (name : Name) (source : Named) : Type 0 where
+pub record IsRead (held : FileName → Option (List ℕ)) (name : FileName) (source : Named) : Type 0 where
   pub named : source.name ≡ name
-  pub tells : Tells (held name) source.text
+  pub tells : IsToldAs (held name) source.text
   pub small : length source.text ≤ FILE_MAX
 
 -- files of these names have these bytes, in order
-pub data Read (held : Name → Option (List ℕ)) : List Name → List Named → Type 0 where
+pub data Read (held : FileName → Option (List ℕ)) : List FileName → List Named → Type 0 where
   none : Read held [] []
-  next : (name : Name) (names : List Name) (source : Named) (sources : List Named)
+  next : (name : FileName) (names : List FileName) (source : Named) (sources : List Named)
       → IsRead held name source → Read held names sources → Read held (name ∷ names) (source ∷ sources)
 
 -- the prelude's file, if there is one
-abbrev pub IsPreludeRead : (Name → Option (List ℕ)) → Option Name → Option Named → Type 0
+abbrev pub IsPreludeRead : (FileName → Option (List ℕ)) → Option FileName → Option Named → Type 0
 IsPreludeRead held None None = ⊤
 IsPreludeRead held None (Some source) = ⊥
 IsPreludeRead held (Some name) None = ⊥
 IsPreludeRead held (Some name) (Some source) = IsRead held name source
 
 -- all files
-pub record AreRead (held : Name → Option (List ℕ)) (names : Program Name)
+pub record AreRead (held : FileName → Option (List ℕ)) (names : Program FileName)
     (sources : Program Named) : Type 0 where
   pub prelude : IsPreludeRead held names.prelude sources.prelude
   pub scripts : Read held names.scripts sources.scripts
 
 -- the files before the one of this name were read
-pub record ReadUpTo (held : Name → Option (List ℕ)) (names : List Name) (name : Name) : Type 0 where
-  pub before : List Name
-  pub after : List Name
+pub record ReadUpTo (held : FileName → Option (List ℕ)) (names : List FileName) (name : FileName) : Type
+    0 where
+  pub before : List FileName
+  pub after : List FileName
   pub sources : List Named
   pub split : names ≡ before ++ name ∷ after
   pub read : Read held before sources
 
 -- one read failed, that of the file of this name, and none found too large a file; all files before it were
 -- read
-pub record IsUnread (old new : FilesState) (names : List Name) (name : Name) : Type 0 where
+pub record IsUnread (old new : FilesState) (names : List FileName) (name : FileName) : Type 0 where
   pub up_to : ReadUpTo old.held names name
   pub once : new.faults ≡ next_count old.faults
   pub not_large : new.oversize ≡ old.oversize
   pub blames : new.blamed ≡ name
 
 -- no read failed, the file of this name is too large, and all files before it were read
-pub record IsLarge (old new : FilesState) (names : List Name) (name : Name) : Type 0 where
+pub record IsLarge (old new : FilesState) (names : List FileName) (name : FileName) : Type 0 where
   pub up_to : ReadUpTo old.held names name
   pub calm : new.faults ≡ old.faults
   pub larger : IsTooLarge (old.held name) old.oversize new.oversize

@@ -5,7 +5,7 @@ use Rattle.js_parse.specs.declared.fault.Role.TheVariants as role
 use Rattle.js_parse.specs.declared.fault.ParseFault.{ParseFault}
 use Rattle.js_parse.specs.Spells as script
 use Rattle.eval_tree.specs.Tree.{Tree}
-use Rattle.run_sources.specs.Program.{Name, Program, outer_of}
+use Rattle.run_sources.specs.Program.{FileName, Program, outer_of}
 
 -- the prelude's source spells this prelude; without one there is no tree
 abbrev pub SpellsPrelude : Option Named → Option Tree → Type 0
@@ -28,7 +28,7 @@ pub record Spell (sources : Program Named) (trees : Program Tree) : Type 0 where
 
 -- after a prelude that declares the outer names, the first of the sources that spells no script is that of this
 -- name, for this fault
-pub data FirstAmong (outer : List (List ℕ)) (name : Name) (fault : ParseFault) : List Named → Type 0 where
+pub data FirstAmong (outer : List (List ℕ)) (name : FileName) (fault : ParseFault) : List Named → Type 0 where
   here : (source : Named) (sources : List Named) → source.name ≡ name
       → script.Refused role.Main outer source.text fault
       → FirstAmong outer name fault (source ∷ sources)
@@ -38,7 +38,7 @@ pub data FirstAmong (outer : List (List ℕ)) (name : Name) (fault : ParseFault)
 
 -- the first of all sources that spells no prelude or script, the prelude before the scripts, is that of this
 -- name, for this fault
-pub data FirstRefused (sources : Program Named) (name : Name) (fault : ParseFault) : Type 0 where
+pub data FirstRefused (sources : Program Named) (name : FileName) (fault : ParseFault) : Type 0 where
   of_prelude : (source : Named) → sources.prelude ≡ Some source → source.name ≡ name
       → script.Refused role.Prelude [] source.text fault
       → FirstRefused sources name fault

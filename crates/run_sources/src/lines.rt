@@ -1,7 +1,7 @@
 // The lines of the sources.
 ghost use Rattle.std.specs.Prelude.{◌≡◌, ◌<◌, ◌^◌, ◌++◌, IfOk, codes};
 ghost use Rattle.std.specs.String.{string_bytes};
-ghost use Rattle.run_sources.specs.Lines.{digits, line, print_line, word_line};
+ghost use Rattle.run_sources.specs.Lines.{digits, generated_line, print_line, word_line};
 
 use std::alloc::{AllocError, Global};
 
@@ -19,7 +19,7 @@ pub(crate) fn word_line(alloc: Global, i: u32, letters: &str) -> Result<String, 
 /// The line of a kind, with the numbers of two strings and one more.
 pub(crate) fn line(alloc: Global, kind: u32, a: u32, b: u32, c: u32) -> Result<String, AllocError>
     requires { c < 2 ^ 31 }
-    ensures { IfOk result (λ text. string_bytes text ≡ line kind a b c) }
+    ensures { IfOk result (λ text. string_bytes text ≡ generated_line kind a b c) }
 {
     match kind {
         0 => format!(in alloc; "n = n + all.indexOf(w{a});\n"),

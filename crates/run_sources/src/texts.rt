@@ -2,7 +2,7 @@
 ghost use Rattle.std.specs.Prelude.{◌≡◌, IfOk, OnOk, map};
 ghost use Rattle.std.specs.List.{All};
 ghost use Rattle.std.specs.String.{string_bytes};
-ghost use Rattle.run_sources.specs.Draws.{after, next};
+ghost use Rattle.run_sources.specs.Draws.{state_after, next};
 ghost use Rattle.run_sources.specs.Texts.{IsSmall, before, drawn_line, generated, named_for, prelude, script, word, word_length};
 
 use crate::draws::Draws;
@@ -27,7 +27,7 @@ pub struct GeneratedText {
 fn word(alloc: Global, draws: &mut Draws) -> Result<String, AllocError>
     ensures word { IfOk result (λ text. string_bytes text ≡ word draws.old.state) }
     ensures state { OnOk result
-        (draws.new.state ≡ after (word_length draws.old.state) (next draws.old.state)) }
+        (draws.new.state ≡ state_after (word_length draws.old.state) (next draws.old.state)) }
 {
     let len = 6 + draws.draw(20);
     let mut text = String::new(alloc);
@@ -53,7 +53,7 @@ fn prelude(alloc: Global, draws: &mut Draws) -> Result<String, AllocError>
 // A line of a script. All four numbers are drawn, also where the line doesn't use them.
 fn drawn_line(alloc: Global, draws: &mut Draws) -> Result<String, AllocError>
     ensures text { IfOk result (λ text. string_bytes text ≡ drawn_line draws.old.state) }
-    ensures state { draws.new.state ≡ after 4 draws.old.state }
+    ensures state { draws.new.state ≡ state_after 4 draws.old.state }
 {
     let kind = draws.draw(6);
     let a = draws.draw(16);
@@ -64,7 +64,7 @@ fn drawn_line(alloc: Global, draws: &mut Draws) -> Result<String, AllocError>
 
 fn script(alloc: Global, draws: &mut Draws, j: u32) -> Result<String, AllocError>
     ensures text { IfOk result (λ text. string_bytes text ≡ script j draws.old.state) }
-    ensures state { OnOk result (draws.new.state ≡ after 128 draws.old.state) }
+    ensures state { OnOk result (draws.new.state ≡ state_after 128 draws.old.state) }
 {
     let mut text = String::from_str(alloc, "let acc = '';\nlet n = 0;\n")?;
     for _line in 0..LINES {

@@ -20,7 +20,7 @@ use Rattle.heap_rule.specs.Learning.{learned_all}
 use Rattle.heap_rule.specs.Maps.{Has, HasKey}
 use Rattle.heap_rule.specs.Paths.{rank}
 use Rattle.heap_rule.specs.Slots.{MayTakeSlot}
-use Rattle.heap_rule.specs.Views.{shown}
+use Rattle.heap_rule.specs.Views.{shown_word}
 use Rattle.heap_rule.proofs.Birth.{narrow_span}
 use Rattle.heap_rule.proofs.MapLemmas.{insert_other, insert_same, key_of}
 use Rattle.heap_table.specs.declared.stores.Step.{Step}
@@ -55,9 +55,9 @@ module _ (v : View) (start word id : ℕ) where
 
   pub eight_units : (fixed : Bool) → Has (born (ready v start word id) id (Flat false start fixed)).units id (bytes_of word)
   eight_units fixed = let f : Form = Flat false start fixed in let n : unwrap_or (get y.own_ids id) 0 ≡ 8 = ap (λ (o : Option ℕ). unwrap_or o 0) (insert_same (insert v.own_ids id 0) id 8) in
-      let here : shown y start ≡ word = ap (λ (o : Option ℕ). unwrap_or o (unwrap_or (get v.frozen start) 0)) word_there in
+      let here : shown_word y start ≡ word = ap (λ (o : Option ℕ). unwrap_or o (unwrap_or (get v.frozen start) 0)) word_there in
       insert_same v.units id (units_for y (unwrap_or (get y.own_ids id) 0) f)
-      ∙ ap Some (ap (λ (m : ℕ). span (shown y) false start 0 m) n ∙ (low_span (shown y) start 0 8 (omega arith) ∙ ap bytes_of here))
+      ∙ ap Some (ap (λ (m : ℕ). span (shown_word y) false start 0 m) n ∙ (low_span (shown_word y) start 0 8 (omega arith) ∙ ap bytes_of here))
 
   pub eight_form : (fixed : Bool) → Has (born (ready v start word id) id (Flat false start fixed)).forms id (Flat false start fixed)
   eight_form fixed = insert_same v.forms id (Flat false start fixed)
@@ -116,7 +116,7 @@ module _ (v : View) (start a b : ℕ) where
       units,
       own,
       (λ o lo hi. absurd (omega arith)),
-      two_words (shown w) start a b (ap (λ (o : Option ℕ). unwrap_or o (rest start)) first_there) (ap (λ (o : Option ℕ). unwrap_or o (rest (start + 1))) second_there),
+      two_words (shown_word w) start a b (ap (λ (o : Option ℕ). unwrap_or o (rest start)) first_there) (ap (λ (o : Option ℕ). unwrap_or o (rest (start + 1))) second_there),
     ),
   )
 

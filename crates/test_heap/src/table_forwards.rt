@@ -3,7 +3,7 @@ ghost use Rattle.std.specs.Prelude.{◌≡◌, ◌<◌, ◌^◌, ℕ, false, IfS
 ghost use Rattle.js_header.specs.declared.form.Form.TheVariants.{Flat};
 ghost use Rattle.heap_rule.specs.HeaderMoves.{MayThin};
 ghost use Rattle.heap_rule.specs.Maps.{Has, HasKey};
-ghost use Rattle.heap_rule.specs.Views.{IsKnown};
+ghost use Rattle.heap_rule.specs.Views.{MayUse};
 ghost use Rattle.heap_table.specs.Agents.{Belongs, size_of, view_of};
 ghost use Rattle.test_heap.specs.Ropes.{KeepsUnits, bytes_of};
 

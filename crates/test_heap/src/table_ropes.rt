@@ -2,7 +2,7 @@
 ghost use Rattle.std.specs.Prelude.{◌≡◌, ℕ, List, ◌++◌, IfSome};
 ghost use Rattle.heap_rule.specs.Forms.{IsCons};
 ghost use Rattle.heap_rule.specs.Maps.{Has, HasKey};
-ghost use Rattle.heap_rule.specs.Views.{IsKnown};
+ghost use Rattle.heap_rule.specs.Views.{MayUse};
 ghost use Rattle.heap_table.specs.Agents.{Belongs, view_of};
 ghost use Rattle.test_heap.specs.Ropes.{IsLost, KeepsUnits, bytes_of};
 

@@ -5,11 +5,11 @@ use Rattle.std.specs.Prelude.{Contains, IsSome, length}
 use Rattle.heap_rule.specs.Paths.{Calls, StartsWith}
 use Rattle.heap_rule.specs.declared.view.View.{View}
 use Rattle.heap_table.specs.declared.heap.Heap.{Heap}
-use Rattle.js_store.specs.Faults.{Step, Uses}
+use Rattle.js_store.specs.Faults.{StoreStep, Uses}
 use Rattle.js_store.specs.declared.faults.StoreFault.{StoreFault}
 use Rattle.js_store.specs.State.{IsKnown, State}
 use Rattle.heap_intern.specs.Sessions.{SessionFrame, state_by}
-use Rattle.heap_intern.specs.Shares.{IsJoined, IsOf, MayJoin, left_by, right_by, total_by}
+use Rattle.heap_intern.specs.Shares.{IsSessionJoined, IsOf, MayJoinSession, giver_after, right_by, total_by}
 use Rattle.test_strings.specs.Sessions.{GoesOn, HasGoneOn, IsPlayed, IsSplit}
 use Rattle.test_strings.specs.Turns as there
 use Rattle.atomic_table.specs.Seated.{TableId}
@@ -29,7 +29,7 @@ goes_trans a b c g h = let r = g.history in let s = h.history in record {
 pub goes_uses : (a b : State SessionFrame) (f : Option StoreFault) (i w : ℕ) → Uses a b f i w → GoesOn a b
 goes_uses a b f i w u = let g = u.step.grows in record { known = g.known; frame = g.frame; sizes = g.sizes; limit = g.limit; history = ([], u.history ∙ sym (append-nil a.history)) }
 
-pub goes_interned : (a b : State SessionFrame) (f : Option StoreFault) (i w : ℕ) (us : List ℕ) (n : ℕ) → Step a b f i w → b.history ≡ a.history ++ (us, n) ∷ [] → GoesOn a b
+pub goes_interned : (a b : State SessionFrame) (f : Option StoreFault) (i w : ℕ) (us : List ℕ) (n : ℕ) → StoreStep a b f i w → b.history ≡ a.history ++ (us, n) ∷ [] → GoesOn a b
 goes_interned a b f i w us n s e = record { known = s.grows.known; frame = s.grows.frame; sizes = s.grows.sizes; limit = s.grows.limit; history = ((us, n) ∷ [], e) }
 
 pub goes_total : (a b : State SessionFrame) → b ≡ total_by a → GoesOn a b
@@ -75,14 +75,14 @@ starts h [] e = (h, refl)
 starts h (x ∷ xs) e = absurd (omega arith)
 
 -- v was split into l and r, and each went on
-module _ (v l r a b : State SessionFrame) (give : ℕ) (left : l ≡ left_by v give) (right : r ≡ right_by v give) (ga : GoesOn l a) (gb : GoesOn r b) where
-  frame_of_left : a.frame ≡ (left_by v give).frame
+module _ (v l r a b : State SessionFrame) (give : ℕ) (left : l ≡ giver_after v give) (right : r ≡ right_by v give) (ga : GoesOn l a) (gb : GoesOn r b) where
+  frame_of_left : a.frame ≡ (giver_after v give).frame
   frame_of_left = ga.frame ∙ ap (λ (x : State SessionFrame). x.frame) left
 
   frame_of_right : b.frame ≡ (right_by v give).frame
   frame_of_right = gb.frame ∙ ap (λ (x : State SessionFrame). x.frame) right
 
-  pub may_join : length v.frame.seen ≡ 0 → MayJoin a b
+  pub may_join : length v.frame.seen ≡ 0 → MayJoinSession a b
   may_join none = let s = starts v.history v.frame.seen none in record {
     table = ap (λ (f : SessionFrame). f.table) frame_of_right ∙ sym (ap (λ (f : SessionFrame). f.table) frame_of_left);
     sizes = (gb.sizes ∙ ap (λ (x : State SessionFrame). x.sizes) right) ∙ sym (ga.sizes ∙ ap (λ (x : State SessionFrame). x.sizes) left);
@@ -108,7 +108,7 @@ pub played_there : (v u : View) (l : ℕ) (t : TableId) (h : Heap) (n : ℕ) (w 
 played_there v u l t h n w ids e p = subst (λ (x : View). there.IsPlayed x n ids) (sym e) record { known = p.known; agents_are = p.agents_are }
 
 -- the strings are known to both of two sessions
-pub played_left : (v l : State SessionFrame) (h : Heap) (n : ℕ) (w : Bool) (ids : List ℕ) → l ≡ left_by v 1 → IsPlayed v h n w ids → IsPlayed l h n false ids
+pub played_left : (v l : State SessionFrame) (h : Heap) (n : ℕ) (w : Bool) (ids : List ℕ) → l ≡ giver_after v 1 → IsPlayed v h n w ids → IsPlayed l h n false ids
 played_left v l h n w ids e p = subst (λ (s : State SessionFrame). IsPlayed s h n false ids) (sym e) record { known = p.known; of = p.of; agents_are = p.agents_are; whole_is = λ f. absurd (cc); none_seen = λ f. absurd (cc) }
 
 pub played_right : (v r : State SessionFrame) (h : Heap) (n : ℕ) (w : Bool) (more none lent ids : List ℕ) → r ≡ right_by v 1 → none ≡ [] → lent ≡ ids → ((i : ℕ) → Contains more i → Contains none i ⊎ Contains lent i) → IsPlayed v h n w ids → IsPlayed r h n false more
@@ -121,7 +121,7 @@ played_right v r h n w more none lent ids e d f some p = subst (λ (s : State Se
 }
 
 -- two sessions that become one
-pub played_joined : (a b c : State SessionFrame) (h k : Heap) (n m : ℕ) (w x : Bool) (ids lent others more : List ℕ) → MayJoin a b → IsJoined a b c → a.frame.share + b.frame.share ≡ a.frame.agents → length a.frame.seen ≡ 0 → IsPlayed a h n w ids → IsPlayed b k m x others
+pub played_joined : (a b c : State SessionFrame) (h k : Heap) (n m : ℕ) (w x : Bool) (ids lent others more : List ℕ) → MayJoinSession a b → IsSessionJoined a b c → a.frame.share + b.frame.share ≡ a.frame.agents → length a.frame.seen ≡ 0 → IsPlayed a h n w ids → IsPlayed b k m x others
     → lent ≡ others → ((i : ℕ) → Contains more i → Contains ids i ⊎ Contains lent i) → IsPlayed c h n true more
 played_joined a b c h k n m w x ids lent others more may j all none p q e some = record {
   known = λ i d. ⊎_elim (λ (y : Contains ids i). subst (λ (o : Option (List ℕ)). IsSome o) (sym (j.known i (p.known i y))) (p.known i y))

@@ -13,11 +13,11 @@ use Rattle.heap_read.specs.declared.string.JsStr.{JsStr}
 use Rattle.heap_text.specs.declared.faults.TextFull.{TextFull}
 use Rattle.heap_text.proofs.Settled.{ok_then}
 use Rattle.heap_read.specs.Readers.{Moves, view_in}
-use Rattle.heap_read.specs.Reads.{Continues, Reads}
+use Rattle.heap_read.specs.Reads.{Continues, OnlyLoads}
 use Rattle.heap_read.proofs.Loaded.{key_kept, known_refl, known_trans}
 use Rattle.heap_intern.specs.declared.table.faults.TableFull.{TableFull}
-use Rattle.heap_intern.specs.Answers.{Finds, Interns, Plan}
-use Rattle.heap_intern.specs.Goes.{Goes}
+use Rattle.heap_intern.specs.Answers.{Finds, IsInternAnswer, HeaderPlan}
+use Rattle.heap_intern.specs.Goes.{AddsCalls}
 use Rattle.heap_rule.specs.Agents.{MayJoin, left_after_split, right_after_split}
 use Rattle.test_strings.specs.Turns.{HasGoneOn, IsPlayed, Turns}
 
@@ -41,13 +41,13 @@ turns_trans u v w a b = record {
 pub turns_continues : (v w : View) → Continues v w → Turns v w
 turns_continues v w c = record { known = c.known; agents = c.agents; live = c.live; share = c.share; seen = c.seen; calls = []; mine = c.mine ∙ sym (append-nil v.mine) }
 
-pub turns_reads : (v w : View) → Reads v w → Turns v w
+pub turns_reads : (v w : View) → OnlyLoads v w → Turns v w
 turns_reads v w c = record { known = c.known; agents = c.agents; live = c.live; share = c.share; seen = c.seen; calls = []; mine = c.mine ∙ sym (append-nil v.mine) }
 
-pub turns_goes : (v w : View) (calls : Calls) → Goes v w calls → Turns v w
+pub turns_goes : (v w : View) (calls : Calls) → AddsCalls v w calls → Turns v w
 turns_goes v w calls g = record { known = g.known; agents = g.agents; live = g.live; share = g.share; seen = g.seen; calls = calls; mine = g.mine }
 
-pub turns_interns : (v w : View) (us : List ℕ) (plan : Plan) (r : Result ℕ TableFull) → Interns v w us plan r → Turns v w
+pub turns_interns : (v w : View) (us : List ℕ) (plan : HeaderPlan) (r : Result ℕ TableFull) → IsInternAnswer v w us plan r → Turns v w
 turns_interns v w us plan (Ok i) h = turns_goes v w ((us, i) ∷ []) h.0
 turns_interns v w us plan (Err f) h = turns_goes v w [] h.0
 
@@ -68,7 +68,7 @@ moves_trans a b c g h = record { heap = h.heap ∙ g.heap; view = turns_trans (v
 pub moves_continues : (a b : Reader) → b.heap ≡ a.heap → Continues (view_in a) (view_in b) → Moves Turns a b
 moves_continues a b e c = record { heap = e; view = turns_continues (view_in a) (view_in b) c }
 
-pub moves_reads : (a b : Reader) → b.heap ≡ a.heap → Reads (view_in a) (view_in b) → Moves Turns a b
+pub moves_reads : (a b : Reader) → b.heap ≡ a.heap → OnlyLoads (view_in a) (view_in b) → Moves Turns a b
 moves_reads a b e c = record { heap = e; view = turns_reads (view_in a) (view_in b) c }
 
 -- strings that were made stay known
@@ -132,6 +132,6 @@ pub cut_known : (v w : View) (i from count : ℕ) (r : Result JsStr TextFull) (u
 cut_known v w i from count r us h u = ok_then r (λ t. (vs : List ℕ) → Has v.units i vs → Has w.units t.id (part from count vs)) (λ t. HasKey w.units t.id) (λ t k. key_of w.units t.id (part from count us) (k us h)) u
 
 -- what a string is interned as is known
-pub answer_known : (v w : View) (us : List ℕ) (plan : Plan) (r : Result ℕ TableFull) → Interns v w us plan r → IfOk r (λ i. HasKey w.units i)
+pub answer_known : (v w : View) (us : List ℕ) (plan : HeaderPlan) (r : Result ℕ TableFull) → IsInternAnswer v w us plan r → IfOk r (λ i. HasKey w.units i)
 answer_known v w us plan (Ok i) h = key_of w.units i us h.3.1
 answer_known v w us plan (Err f) h = tt

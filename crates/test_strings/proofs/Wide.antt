@@ -9,7 +9,7 @@ use Rattle.heap_rule.specs.declared.size.Counter.TheVariants.{Ids, Words}
 use Rattle.heap_rule.specs.Births.{MayBear, born, stored_length, stored_word, units_for}
 use Rattle.heap_rule.specs.Claims.{won_claim}
 use Rattle.heap_rule.specs.Maps.{HasKey}
-use Rattle.heap_rule.specs.Views.{IsSettled}
+use Rattle.heap_rule.specs.Views.{IsSeenSettled}
 use Rattle.heap_rule.proofs.MapLemmas.{insert_same, key_of}
 
 pub word_own : (v : View) (start : ℕ) → HasKey (won_claim v Words start 1).own_words start
@@ -37,5 +37,5 @@ wide_fits v start word id l = (
 pub wide_known : (v : View) (id : ℕ) (f : Form) → HasKey (born v id f).units id
 wide_known v id f = key_of (insert v.units id (units_for v (unwrap_or (get v.own_ids id) 0) f)) id (units_for v (unwrap_or (get v.own_ids id) 0) f) (insert_same v.units id (units_for v (unwrap_or (get v.own_ids id) 0) f))
 
-pub wide_settled : (v : View) (id start : ℕ) → IsSettled (born v id (Flat true start false)) id
+pub wide_settled : (v : View) (id start : ℕ) → IsSeenSettled (born v id (Flat true start false)) id
 wide_settled v id start = (Flat true start false, insert_same v.forms id (Flat true start false), λ x. x)

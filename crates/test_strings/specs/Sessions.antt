@@ -3,7 +3,7 @@ use Rattle.std.specs.Prelude.{◌≡◌, ℕ, ◌≤◌, Bool, true, List, Conta
 use Rattle.heap_rule.specs.Paths.{StartsWith}
 use Rattle.heap_table.specs.declared.heap.Heap.{Heap}
 use Rattle.heap_intern.specs.Sessions.{SessionFrame}
-use Rattle.heap_intern.specs.Shares.{IsOf, IsWhole, left_by, right_by}
+use Rattle.heap_intern.specs.Shares.{IsOf, IsWhole, giver_after, right_by}
 use Rattle.js_store.specs.State.{State, IsKnown}
 
 -- what it knew it knows, its frame, sizes and limit stay, and its history goes on
@@ -29,7 +29,7 @@ pub record IsPlayed (s : State SessionFrame) (h : Heap) (agents : ℕ) (whole : 
 
 -- a session with the whole share of two or more gave one of them to another session
 pub record IsSplit (v l r : State SessionFrame) : Type 0 where
-  pub left : l ≡ left_by v 1
+  pub left : l ≡ giver_after v 1
   pub right : r ≡ right_by v 1
   pub whole : IsWhole v
   pub two : 2 ≤ v.frame.share

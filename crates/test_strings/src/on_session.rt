@@ -3,7 +3,7 @@ ghost use Rattle.std.specs.Prelude.{◌≡◌, ◌+◌, ◌≤◌, None, IfOk, I
 ghost use Rattle.js_store.specs.Faults.{Uses};
 ghost use Rattle.js_store.specs.State.{IsKnown, IsSettled, text};
 ghost use Rattle.heap_intern.specs.Sessions.{state_in};
-ghost use Rattle.heap_intern.specs.Shares.{IsOf, IsWhole, MayJoin};
+ghost use Rattle.heap_intern.specs.Shares.{IsOf, IsWhole, MayJoinSession};
 ghost use Rattle.test_strings.specs.Sessions.{GoesOn, HasGoneOn, IsPlayed, IsSplit};
 
 use crate::lines::{Told, Words, behind, fault, step_of, units_of, wrong, yes_if};
@@ -327,7 +327,7 @@ impl<'h> OnSession<'h> {
 
     // Takes over what another session of the heap knows, and the strings that it made after so many.
     fn join(&mut self, other: OnSession<'h>, count: usize)
-        requires may { MayJoin (state_in self.old.session) (state_in other.session) }
+        requires may { MayJoinSession (state_in self.old.session) (state_in other.session) }
         requires all { (state_in self.old.session).frame.share + (state_in other.session).frame.share
             ≡ (state_in self.old.session).frame.agents }
         requires none_seen { length (state_in self.old.session).frame.seen ≡ 0 }

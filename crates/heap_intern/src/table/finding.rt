@@ -4,7 +4,7 @@ ghost use Rattle.js_units.specs.Lanes.{hash_of};
 ghost use Rattle.heap_rule.specs.Layout.{MAX};
 ghost use Rattle.heap_rule.specs.Maps.{Has};
 ghost use Rattle.heap_table.specs.Agents.{size_of};
-ghost use Rattle.heap_intern.specs.Answers.{Finds, StandsAt};
+ghost use Rattle.heap_intern.specs.Answers.{Finds, StandsInSlot};
 ghost use Rattle.heap_intern.specs.SlotLoads.{LoadsSlots, loads_at};
 ghost use Rattle.heap_intern.specs.Visits.{Looked, LoadsOne, entries_seen};
 ghost use Rattle.heap_intern.specs.Wanted.{IsWanted, wanted_plan};
@@ -81,7 +81,7 @@ pub fn find_units_counted<L: Ledger>(
     ensures heap { reader.new.heap ≡ reader.old.heap }
     ensures finds { Finds (view_in reader.old) (view_in reader.new) units.now result }
     ensures again { (i : ℕ) → Has (view_in reader.old).units i units.now
-        → StandsAt (view_in reader.old) units.now i → result ≡ Some i }
+        → StandsInSlot (view_in reader.old) units.now i → result ≡ Some i }
     ensures forms { HoldsForms (view_in reader.old) (view_in reader.new) }
     ensures loads { LoadsSlots (view_in reader.old) (view_in reader.new) result steps.old steps.new }
     ensures few { (k : ℕ) → loads_at (view_in reader.new) k ≤ loads_at (view_in reader.old) k + 2 }
@@ -100,7 +100,7 @@ fn find_units_by<L: Ledger>(reader: &mut Reader, units: &[u16], blank: Blank) ->
     ensures heap { reader.new.heap ≡ reader.old.heap }
     ensures finds { Finds (view_in reader.old) (view_in reader.new) units.now result }
     ensures again { (i : ℕ) → Has (view_in reader.old).units i units.now
-        → StandsAt (view_in reader.old) units.now i → result ≡ Some i }
+        → StandsInSlot (view_in reader.old) units.now i → result ≡ Some i }
     ensures forms { HoldsForms (view_in reader.old) (view_in reader.new) }
     ensures few { (k : ℕ) → loads_at (view_in reader.new) k ≤ loads_at (view_in reader.old) k + 2 }
 {
@@ -117,7 +117,7 @@ pub fn find_units(reader: &mut Reader, units: &[u16]) -> Option<u32>
     ensures heap { reader.new.heap ≡ reader.old.heap }
     ensures finds { Finds (view_in reader.old) (view_in reader.new) units.now result }
     ensures again { (i : ℕ) → Has (view_in reader.old).units i units.now
-        → StandsAt (view_in reader.old) units.now i → result ≡ Some i }
+        → StandsInSlot (view_in reader.old) units.now i → result ≡ Some i }
     ensures forms { HoldsForms (view_in reader.old) (view_in reader.new) }
     ensures few { (k : ℕ) → loads_at (view_in reader.new) k ≤ loads_at (view_in reader.old) k + 2 }
 {

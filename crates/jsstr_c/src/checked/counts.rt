@@ -5,7 +5,7 @@ ghost use Rattle.heap_rule.specs.Claims.{loaded_counter};
 ghost use Rattle.heap_rule.specs.Views.{history};
 ghost use Rattle.heap_intern.specs.Counting.{different};
 ghost use Rattle.heap_intern.specs.Goes.{Looks};
-ghost use Rattle.heap_agents.specs.Ready.{HasWhole, IsBeside, IsReady, MarksStay, share_in, view_in};
+ghost use Rattle.heap_agents.specs.Ready.{HasWhole, IsBeside, IsReady, MarksStay, share_in, handle_view};
 ghost use Rattle.jsstr_c.specs.Handles.{IsHandle};
 ghost use Rattle.jsstr_c.specs.Reports as reports;
 
@@ -49,11 +49,13 @@ pub extern "C" fn jsstr_totals(alloc: Global, agent: &mut JsAgent) -> JsTotals
     ensures unchanged { result.status ≡ reports.BAD_ARGUMENT → agent.new.at.value ≡ agent.old.at.value }
     ensures same { result.status ≡ reports.DONE → IsBeside agent.old.at.value agent.new.at.value }
     ensures marks { result.status ≡ reports.DONE → MarksStay agent.old.at.value agent.new.at.value }
-    ensures view { result.status ≡ reports.DONE → view_in agent.new.at.value
-        ≡ loaded_counter (loaded_counter (view_in agent.old.at.value) counter.Ids result.ids) counter.Words
+    ensures view { result.status ≡ reports.DONE → handle_view agent.new.at.value
+        ≡ loaded_counter (loaded_counter (handle_view agent.old.at.value) counter.Ids result.ids)
+        counter.Words
         result.words }
-    ensures ids { result.status ≡ reports.DONE → result.ids ≡ (view_in agent.old.at.value).used.ids }
-    ensures words { result.status ≡ reports.DONE → result.words ≡ (view_in agent.old.at.value).used.words }
+    ensures ids { result.status ≡ reports.DONE → result.ids ≡ (handle_view agent.old.at.value).used.ids }
+    ensures words { result.status ≡ reports.DONE → result.words
+        ≡ (handle_view agent.old.at.value).used.words }
 {
     if !agent.has_whole(alloc) {
         return JsTotals {
@@ -81,9 +83,9 @@ pub extern "C" fn jsstr_count_interned(alloc: Global, agent: &mut JsAgent) -> Js
     ensures same { result.status ≡ reports.DONE → IsBeside agent.old.at.value agent.new.at.value }
     ensures marks { result.status ≡ reports.DONE → MarksStay agent.old.at.value agent.new.at.value }
     ensures looks { result.status ≡ reports.DONE
-        → Looks (view_in agent.old.at.value) (view_in agent.new.at.value) }
+        → Looks (handle_view agent.old.at.value) (handle_view agent.new.at.value) }
     ensures count { result.status ≡ reports.DONE
-        → result.value ≡ different (history (view_in agent.old.at.value)) }
+        → result.value ≡ different (history (handle_view agent.old.at.value)) }
 {
     if !agent.has_whole(alloc) {
         return JsNumber {

@@ -3,7 +3,7 @@ ghost use Rattle.std.specs.Prelude.{◌≡◌, ◌≢◌, ◌↔◌, ◌⊎◌, 
 ghost use Rattle.std.specs.Str.{IsUtf8};
 ghost use Rattle.heap_rule.specs.Layout.{MAX};
 ghost use Rattle.heap_agents.specs.Ready.{IsReady};
-ghost use Rattle.jsstr_c.specs.Decoded.{IsUndecoded, decoded};
+ghost use Rattle.jsstr_c.specs.Decoded.{IsUndecoded, utf8_decoded};
 ghost use Rattle.jsstr_c.specs.Handles.{IsHandle};
 ghost use Rattle.jsstr_c.specs.Keys.{IsFinding, IsInterning};
 ghost use Rattle.jsstr_c.specs.Reports as reports;
@@ -68,7 +68,7 @@ pub extern "C" fn jsstr_intern_utf8(alloc: Global, agent: &mut JsAgent, bytes: &
     ensures interns { result.status ≢ reports.BAD_ARGUMENT
         → (IsUndecoded bytes.now result × (agent.new.at.value ≡ agent.old.at.value))
         ⊎ (IsUtf8 bytes.now
-        × IsInterning agent.old.at.value agent.new.at.value (decoded bytes.now) result) }
+        × IsInterning agent.old.at.value agent.new.at.value (utf8_decoded bytes.now) result) }
 {
     if agent.is_empty() || bytes.len() > MAX as usize {
         return bad_argument();
@@ -127,7 +127,7 @@ pub extern "C" fn jsstr_find_utf8(alloc: Global, agent: &mut JsAgent, bytes: &[u
     ensures finds { result.status ≢ reports.BAD_ARGUMENT
         → (IsUndecoded bytes.now result × (agent.new.at.value ≡ agent.old.at.value))
         ⊎ (IsUtf8 bytes.now
-        × IsFinding agent.old.at.value agent.new.at.value (decoded bytes.now) result) }
+        × IsFinding agent.old.at.value agent.new.at.value (utf8_decoded bytes.now) result) }
 {
     if agent.is_empty() || bytes.len() > MAX as usize {
         return bad_argument();

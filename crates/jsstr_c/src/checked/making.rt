@@ -5,12 +5,12 @@ ghost use Rattle.heap_read.specs.declared.string.JsStr as js_str;
 ghost use Rattle.heap_rule.specs.Births.{part};
 ghost use Rattle.heap_rule.specs.Layout.{MAX};
 ghost use Rattle.heap_rule.specs.Maps.{Has};
-ghost use Rattle.heap_rule.specs.Views.{IsSettled};
+ghost use Rattle.heap_rule.specs.Views.{IsSeenSettled};
 ghost use Rattle.heap_text.specs.declared.faults.JoinFault as join_fault;
 ghost use Rattle.heap_text.specs.declared.faults.TextFull as text_full;
 ghost use Rattle.heap_text.specs.Joins.{IsJoined};
-ghost use Rattle.heap_text.specs.Texts.{Told, Uses};
-ghost use Rattle.heap_agents.specs.Ready.{Goes, IsReady, Knows, limit_in, size_in, view_in};
+ghost use Rattle.heap_text.specs.Texts.{Told, UsesExactly};
+ghost use Rattle.heap_agents.specs.Ready.{HandleLeaves, IsReady, HandleKnows, handle_limit, size_in, handle_view};
 ghost use Rattle.jsstr_c.specs.Checked.{Follows, IsCutIn, IsUnsettled, Reaches};
 ghost use Rattle.jsstr_c.specs.Handles.{IsHandle};
 ghost use Rattle.jsstr_c.specs.Reports.{join_answer, text_report};
@@ -37,17 +37,18 @@ pub extern "C" fn jsstr_from_units(alloc: Global, agent: &mut JsAgent, units: &[
     ensures unchanged { result.status ≡ reports.BAD_ARGUMENT
         → (result ≡ reports.bad_argument) × (agent.new.at.value ≡ agent.old.at.value) }
     ensures whole { result.status ≡ reports.DONE → result ≡ reports.done result.id }
-    ensures goes { result.status ≢ reports.BAD_ARGUMENT → Goes agent.old.at.value agent.new.at.value }
-    ensures marked { result.status ≡ reports.DONE → Knows agent.new.at.value result.id }
+    ensures goes { result.status ≢ reports.BAD_ARGUMENT → HandleLeaves agent.old.at.value agent.new.at.value }
+    ensures marked { result.status ≡ reports.DONE → HandleKnows agent.new.at.value result.id }
     ensures units { result.status ≡ reports.DONE
-        → Has (view_in agent.new.at.value).units result.id units.now }
-    ensures settled { result.status ≡ reports.DONE → IsSettled (view_in agent.new.at.value) result.id }
+        → Has (handle_view agent.new.at.value).units result.id units.now }
+    ensures settled { result.status ≡ reports.DONE
+        → IsSeenSettled (handle_view agent.new.at.value) result.id }
     ensures used { result.status ≡ reports.DONE
-        → Uses (view_in agent.old.at.value) (view_in agent.new.at.value) 1
+        → UsesExactly (handle_view agent.old.at.value) (handle_view agent.new.at.value) 1
         (words_over (is_wide units.now) (length units.now)) }
     ensures refused { result.status ≢ reports.DONE → result.status ≢ reports.BAD_ARGUMENT
         → (f : text_full.TextFull) × (result ≡ text_report f)
-        × Told (view_in agent.new.at.value) (size_in agent.old.at.value)
+        × Told (handle_view agent.new.at.value) (size_in agent.old.at.value)
         (words_over (is_wide units.now) (length units.now)) f }
 {
     if agent.is_empty() || units.len() > MAX as usize {
@@ -67,18 +68,19 @@ pub extern "C" fn jsstr_from_latin1(alloc: Global, agent: &mut JsAgent, bytes: &
         → (result ≡ reports.bad_argument) × (agent.new.at.value ≡ agent.old.at.value) }
     ensures memory { result.status ≡ reports.NO_MEMORY → agent.new.at.value ≡ agent.old.at.value }
     ensures whole { result.status ≡ reports.DONE → result ≡ reports.done result.id }
-    ensures goes { result.status ≢ reports.BAD_ARGUMENT → Goes agent.old.at.value agent.new.at.value }
-    ensures marked { result.status ≡ reports.DONE → Knows agent.new.at.value result.id }
+    ensures goes { result.status ≢ reports.BAD_ARGUMENT → HandleLeaves agent.old.at.value agent.new.at.value }
+    ensures marked { result.status ≡ reports.DONE → HandleKnows agent.new.at.value result.id }
     ensures units { result.status ≡ reports.DONE
-        → Has (view_in agent.new.at.value).units result.id bytes.now }
-    ensures settled { result.status ≡ reports.DONE → IsSettled (view_in agent.new.at.value) result.id }
+        → Has (handle_view agent.new.at.value).units result.id bytes.now }
+    ensures settled { result.status ≡ reports.DONE
+        → IsSeenSettled (handle_view agent.new.at.value) result.id }
     ensures used { result.status ≡ reports.DONE
-        → Uses (view_in agent.old.at.value) (view_in agent.new.at.value) 1
+        → UsesExactly (handle_view agent.old.at.value) (handle_view agent.new.at.value) 1
         (words_over (is_wide bytes.now) (length bytes.now)) }
     ensures refused { result.status ≢ reports.DONE → result.status ≢ reports.BAD_ARGUMENT
         → (result ≡ reports.no_memory)
         ⊎ ((f : text_full.TextFull) × (result ≡ text_report f)
-        × Told (view_in agent.new.at.value) (size_in agent.old.at.value)
+        × Told (handle_view agent.new.at.value) (size_in agent.old.at.value)
         (words_over (is_wide bytes.now) (length bytes.now)) f) }
 {
     if agent.is_empty() || bytes.len() > MAX as usize {
@@ -93,20 +95,21 @@ pub extern "C" fn jsstr_concat(alloc: Global, agent: &mut JsAgent, a: u32, b: u3
     requires { IsHandle agent.old }
     ensures handle { IsHandle agent.new }
     ensures bad { result.status ≡ reports.BAD_ARGUMENT
-        ↔ ¬ (Knows agent.old.at.value a × Knows agent.old.at.value b) }
+        ↔ ¬ (HandleKnows agent.old.at.value a × HandleKnows agent.old.at.value b) }
     ensures unchanged { result.status ≡ reports.BAD_ARGUMENT → agent.new.at.value ≡ agent.old.at.value }
-    ensures goes { result.status ≢ reports.BAD_ARGUMENT → Goes agent.old.at.value agent.new.at.value }
-    ensures marked { result.status ≡ reports.DONE → Knows agent.new.at.value result.id }
+    ensures goes { result.status ≢ reports.BAD_ARGUMENT → HandleLeaves agent.old.at.value agent.new.at.value }
+    ensures marked { result.status ≡ reports.DONE → HandleKnows agent.new.at.value result.id }
     ensures units { result.status ≡ reports.DONE
-        → (us vs : List ℕ) → Has (view_in agent.old.at.value).units a us
-        → Has (view_in agent.old.at.value).units b vs
-        → Has (view_in agent.new.at.value).units result.id (us ++ vs) }
+        → (us vs : List ℕ) → Has (handle_view agent.old.at.value).units a us
+        → Has (handle_view agent.old.at.value).units b vs
+        → Has (handle_view agent.new.at.value).units result.id (us ++ vs) }
     ensures joined { result.status ≢ reports.BAD_ARGUMENT
-        → (us vs : List ℕ) → Has (view_in agent.old.at.value).units a us
-        → Has (view_in agent.old.at.value).units b vs
+        → (us vs : List ℕ) → Has (handle_view agent.old.at.value).units a us
+        → Has (handle_view agent.old.at.value).units b vs
         → (r : Result js_str.JsStr join_fault.JoinFault) × (result ≡ join_answer r)
-        × IsJoined (view_in agent.old.at.value) (view_in agent.new.at.value) (size_in agent.old.at.value)
-        (limit_in agent.old.at.value) (record { id = a }) (record { id = b }) us vs r }
+        × IsJoined (handle_view agent.old.at.value) (handle_view agent.new.at.value)
+        (size_in agent.old.at.value)
+        (handle_limit agent.old.at.value) (record { id = a }) (record { id = b }) us vs r }
 {
     if !agent.knows(alloc, a) || !agent.knows(alloc, b) {
         return bad_argument();
@@ -126,15 +129,16 @@ pub extern "C" fn jsstr_slice(
     requires { IsHandle agent.old }
     ensures handle { IsHandle agent.new }
     ensures bad { result.status ≡ reports.BAD_ARGUMENT ↔ ¬ ((from ≤ to) × Reaches agent.old.at.value s to) }
-    ensures unchanged { ¬ (Knows agent.old.at.value s) → agent.new.at.value ≡ agent.old.at.value }
+    ensures unchanged { ¬ (HandleKnows agent.old.at.value s) → agent.new.at.value ≡ agent.old.at.value }
     ensures left { result.status ≡ reports.BAD_ARGUMENT
         → Follows agent.old.at.value agent.new.at.value }
-    ensures goes { result.status ≢ reports.BAD_ARGUMENT → Goes agent.old.at.value agent.new.at.value }
-    ensures marked { result.status ≡ reports.DONE → Knows agent.new.at.value result.id }
+    ensures goes { result.status ≢ reports.BAD_ARGUMENT → HandleLeaves agent.old.at.value agent.new.at.value }
+    ensures marked { result.status ≡ reports.DONE → HandleKnows agent.new.at.value result.id }
     ensures units { result.status ≡ reports.DONE
-        → (us : List ℕ) → Has (view_in agent.old.at.value).units s us
-        → Has (view_in agent.new.at.value).units result.id (part from (to - from) us) }
-    ensures settled { result.status ≡ reports.DONE → IsSettled (view_in agent.new.at.value) result.id }
+        → (us : List ℕ) → Has (handle_view agent.old.at.value).units s us
+        → Has (handle_view agent.new.at.value).units result.id (part from (to - from) us) }
+    ensures settled { result.status ≡ reports.DONE
+        → IsSeenSettled (handle_view agent.new.at.value) result.id }
     ensures cut { result.status ≢ reports.BAD_ARGUMENT
         → IsUnsettled agent.old.at.value agent.new.at.value s result
         ⊎ IsCutIn agent.old.at.value agent.new.at.value s from to result }

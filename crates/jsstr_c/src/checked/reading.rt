@@ -1,11 +1,11 @@
 // Reading strings: their lengths and units.
 ghost use Rattle.std.specs.Prelude.{◌≡◌, ◌≢◌, ◌↔◌, ℕ, ◌+◌, ◌≤◌, List, Bool, IsTrue, length, slice_range};
 ghost use Rattle.heap_rule.specs.Maps.{Has, HasKey};
-ghost use Rattle.heap_rule.specs.Views.{IsSettled};
+ghost use Rattle.heap_rule.specs.Views.{IsSeenSettled};
 ghost use Rattle.heap_text.specs.declared.faults.TextFull as text_full;
-ghost use Rattle.heap_read.specs.Reads.{Reads};
+ghost use Rattle.heap_read.specs.Reads.{OnlyLoads};
 ghost use Rattle.heap_text.specs.Settling.{IsNoRoom};
-ghost use Rattle.heap_agents.specs.Ready.{Goes, IsReady, Knows, size_in, view_in};
+ghost use Rattle.heap_agents.specs.Ready.{HandleLeaves, IsReady, HandleKnows, size_in, handle_view};
 ghost use Rattle.heap_agents.specs.Words.{AreShown, AreThere};
 ghost use Rattle.jsstr_c.specs.declared.answer.JsAnswer as answer;
 ghost use Rattle.jsstr_c.specs.Checked.{Follows, IsUnsettled, Reaches};
@@ -25,15 +25,15 @@ use std::alloc::Global;
 pub extern "C" fn jsstr_length(alloc: Global, agent: &mut JsAgent, s: u32) -> JsNumber
     requires { IsHandle agent.old }
     ensures handle { IsHandle agent.new }
-    ensures bad { result.status ≡ reports.BAD_ARGUMENT ↔ ¬ (Knows agent.old.at.value s) }
+    ensures bad { result.status ≡ reports.BAD_ARGUMENT ↔ ¬ (HandleKnows agent.old.at.value s) }
     ensures status { result.status ≢ reports.BAD_ARGUMENT → result.status ≡ reports.DONE }
-    ensures known { result.status ≡ reports.DONE → Knows agent.old.at.value s }
-    ensures unchanged { ¬ (Knows agent.old.at.value s) → agent.new.at.value ≡ agent.old.at.value }
-    ensures goes { Knows agent.old.at.value s → Goes agent.old.at.value agent.new.at.value }
-    ensures reads { Knows agent.old.at.value s
-        → Reads (view_in agent.old.at.value) (view_in agent.new.at.value) }
+    ensures known { result.status ≡ reports.DONE → HandleKnows agent.old.at.value s }
+    ensures unchanged { ¬ (HandleKnows agent.old.at.value s) → agent.new.at.value ≡ agent.old.at.value }
+    ensures goes { HandleKnows agent.old.at.value s → HandleLeaves agent.old.at.value agent.new.at.value }
+    ensures reads { HandleKnows agent.old.at.value s
+        → OnlyLoads (handle_view agent.old.at.value) (handle_view agent.new.at.value) }
     ensures length { result.status ≡ reports.DONE → (us : List ℕ)
-        → Has (view_in agent.old.at.value).units s us → result.value ≡ length us }
+        → Has (handle_view agent.old.at.value).units s us → result.value ≡ length us }
 {
     if !agent.knows(alloc, s) {
         return JsNumber {
@@ -53,12 +53,12 @@ pub(crate) fn reaches(alloc: Global, agent: &mut JsAgent, s: u32, from: u32, roo
     requires { IsHandle agent.old }
     ensures handle { IsHandle agent.new }
     ensures reaches { IsTrue result ↔ Reaches agent.old.at.value s (from + room) }
-    ensures unchanged { ¬ (Knows agent.old.at.value s) → agent.new.at.value ≡ agent.old.at.value }
+    ensures unchanged { ¬ (HandleKnows agent.old.at.value s) → agent.new.at.value ≡ agent.old.at.value }
     ensures left { Follows agent.old.at.value agent.new.at.value }
-    ensures goes { IsTrue result → Goes agent.old.at.value agent.new.at.value }
+    ensures goes { IsTrue result → HandleLeaves agent.old.at.value agent.new.at.value }
     ensures ready { IsTrue result → IsReady agent.new.at.value }
-    ensures key { IsTrue result → HasKey (view_in agent.new.at.value).units s }
-    ensures long { IsTrue result → (us : List ℕ) → Has (view_in agent.new.at.value).units s us
+    ensures key { IsTrue result → HasKey (handle_view agent.new.at.value).units s }
+    ensures long { IsTrue result → (us : List ℕ) → Has (handle_view agent.new.at.value).units s us
         → from + room ≤ length us }
 {
     if !agent.knows(alloc, s) {
@@ -77,15 +77,16 @@ pub(crate) fn reaches(alloc: Global, agent: &mut JsAgent, s: u32, from: u32, roo
 pub extern "C" fn jsstr_settle(alloc: Global, agent: &mut JsAgent, s: u32) -> JsAnswer
     requires { IsHandle agent.old }
     ensures handle { IsHandle agent.new }
-    ensures bad { result.status ≡ reports.BAD_ARGUMENT ↔ ¬ (Knows agent.old.at.value s) }
+    ensures bad { result.status ≡ reports.BAD_ARGUMENT ↔ ¬ (HandleKnows agent.old.at.value s) }
     ensures unchanged { result.status ≡ reports.BAD_ARGUMENT → agent.new.at.value ≡ agent.old.at.value }
-    ensures goes { result.status ≢ reports.BAD_ARGUMENT → Goes agent.old.at.value agent.new.at.value }
+    ensures goes { result.status ≢ reports.BAD_ARGUMENT → HandleLeaves agent.old.at.value agent.new.at.value }
     ensures settled { result.status ≡ reports.DONE
-        → (result.id ≡ s) × IsSettled (view_in agent.new.at.value) s }
+        → (result.id ≡ s) × IsSeenSettled (handle_view agent.new.at.value) s }
     ensures refused { result.status ≢ reports.DONE → result.status ≢ reports.BAD_ARGUMENT
-        → (us : List ℕ) → Has (view_in agent.old.at.value).units s us
+        → (us : List ℕ) → Has (handle_view agent.old.at.value).units s us
         → (f : text_full.TextFull) × (wide : Bool) × (result ≡ text_report f)
-        × IsNoRoom (view_in agent.old.at.value) (view_in agent.new.at.value) (size_in agent.old.at.value)
+        × IsNoRoom (handle_view agent.old.at.value) (handle_view agent.new.at.value)
+        (size_in agent.old.at.value)
         us f wide }
 {
     if !agent.knows(alloc, s) {
@@ -106,10 +107,10 @@ pub extern "C" fn jsstr_read(
     requires { IsHandle agent.old }
     ensures handle { IsHandle agent.new }
     ensures bad { result ≡ reports.BAD_ARGUMENT ↔ ¬ (Reaches agent.old.at.value s (from + length out.old)) }
-    ensures unchanged { ¬ (Knows agent.old.at.value s) → agent.new.at.value ≡ agent.old.at.value }
+    ensures unchanged { ¬ (HandleKnows agent.old.at.value s) → agent.new.at.value ≡ agent.old.at.value }
     ensures left { result ≡ reports.BAD_ARGUMENT → Follows agent.old.at.value agent.new.at.value }
-    ensures goes { result ≢ reports.BAD_ARGUMENT → Goes agent.old.at.value agent.new.at.value }
-    ensures units { result ≡ reports.DONE → (us : List ℕ) → Has (view_in agent.old.at.value).units s us
+    ensures goes { result ≢ reports.BAD_ARGUMENT → HandleLeaves agent.old.at.value agent.new.at.value }
+    ensures units { result ≡ reports.DONE → (us : List ℕ) → Has (handle_view agent.old.at.value).units s us
         → out.new ≡ slice_range us from (from + length out.old) }
     ensures unread { result ≢ reports.DONE → out.new ≡ out.old }
     ensures refused { result ≢ reports.DONE → result ≢ reports.BAD_ARGUMENT → (r : answer.JsAnswer)
@@ -138,21 +139,22 @@ pub extern "C" fn jsstr_window(
 ) -> JsWords
     requires { IsHandle agent.old }
     ensures handle { IsHandle agent.new }
-    ensures bad { result.status ≡ reports.BAD_ARGUMENT ↔ ¬ (Knows agent.old.at.value s) }
+    ensures bad { result.status ≡ reports.BAD_ARGUMENT ↔ ¬ (HandleKnows agent.old.at.value s) }
     ensures unchanged { result.status ≡ reports.BAD_ARGUMENT → agent.new.at.value ≡ agent.old.at.value }
-    ensures goes { result.status ≢ reports.BAD_ARGUMENT → Goes agent.old.at.value agent.new.at.value }
+    ensures goes { result.status ≢ reports.BAD_ARGUMENT → HandleLeaves agent.old.at.value agent.new.at.value }
     ensures shown { result.status ≡ reports.DONE → (us : List ℕ)
-        → Has (view_in agent.old.at.value).units s us
+        → Has (handle_view agent.old.at.value).units s us
         → AreShown us at out.old out.new (shown_by result) }
     ensures there { result.status ≡ reports.DONE → (us : List ℕ)
-        → Has (view_in agent.old.at.value).units s us
-        → AreThere (view_in agent.new.at.value) us (shown_by result) }
+        → Has (handle_view agent.old.at.value).units s us
+        → AreThere (handle_view agent.new.at.value) us (shown_by result) }
     ensures unread { result.status ≢ reports.DONE → out.new ≡ out.old }
     ensures nothing { result.status ≢ reports.DONE → result ≡ no_words result.status }
     ensures refused { result.status ≢ reports.DONE → result.status ≢ reports.BAD_ARGUMENT
-        → (us : List ℕ) → Has (view_in agent.old.at.value).units s us
+        → (us : List ℕ) → Has (handle_view agent.old.at.value).units s us
         → (f : text_full.TextFull) × (wide : Bool) × (result ≡ no_words (text_report f).status)
-        × IsNoRoom (view_in agent.old.at.value) (view_in agent.new.at.value) (size_in agent.old.at.value)
+        × IsNoRoom (handle_view agent.old.at.value) (handle_view agent.new.at.value)
+        (size_in agent.old.at.value)
         us f wide }
 {
     if !agent.knows(alloc, s) {

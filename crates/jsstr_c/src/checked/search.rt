@@ -4,9 +4,9 @@ ghost use Rattle.std.specs.declared.cmp.Ordering as ordering;
 ghost use Rattle.heap_rule.specs.Maps.{Has};
 ghost use Rattle.js_search.specs.Order.{units_cmp};
 ghost use Rattle.js_search.specs.Places.{IsFirst, IsLast, Stands, first, last, stands};
-ghost use Rattle.heap_agents.specs.Ready.{Knows, view_in};
+ghost use Rattle.heap_agents.specs.Ready.{HandleKnows, handle_view};
 ghost use Rattle.heap_agents.specs.Searched.{IsOrder};
-ghost use Rattle.jsstr_c.specs.Checked.{Follows, IsRefused, Reaches, Sought};
+ghost use Rattle.jsstr_c.specs.Checked.{Follows, IsPairRefused, Reaches, Sought};
 ghost use Rattle.jsstr_c.specs.Handles.{IsHandle};
 ghost use Rattle.jsstr_c.specs.Reports.{order_number, place_answer};
 ghost use Rattle.jsstr_c.specs.Reports as reports;
@@ -28,18 +28,18 @@ pub extern "C" fn jsstr_compare(alloc: Global, agent: &mut JsAgent, a: u32, b: u
     requires { IsHandle agent.old }
     ensures handle { IsHandle agent.new }
     ensures bad { result.status ≡ reports.BAD_ARGUMENT
-        ↔ ¬ (Knows agent.old.at.value a × Knows agent.old.at.value b) }
+        ↔ ¬ (HandleKnows agent.old.at.value a × HandleKnows agent.old.at.value b) }
     ensures unchanged { result.status ≡ reports.BAD_ARGUMENT → agent.new.at.value ≡ agent.old.at.value }
     ensures sought { result.status ≡ reports.DONE → Sought agent.old.at.value agent.new.at.value }
     ensures refused { result.status ≢ reports.DONE → result.status ≢ reports.BAD_ARGUMENT
-        → IsRefused agent.old.at.value agent.new.at.value a b result.status }
+        → IsPairRefused agent.old.at.value agent.new.at.value a b result.status }
     ensures order { result.status ≡ reports.DONE → (us vs : List ℕ)
-        → Has (view_in agent.old.at.value).units a us
-        → Has (view_in agent.old.at.value).units b vs
+        → Has (handle_view agent.old.at.value).units a us
+        → Has (handle_view agent.old.at.value).units b vs
         → result.order ≡ order_number (units_cmp us vs) }
     ensures means { result.status ≡ reports.DONE → (us vs : List ℕ)
-        → Has (view_in agent.old.at.value).units a us
-        → Has (view_in agent.old.at.value).units b vs
+        → Has (handle_view agent.old.at.value).units a us
+        → Has (handle_view agent.old.at.value).units b vs
         → (o : ordering.Ordering) × (result.order ≡ order_number o) × IsOrder us vs o }
 {
     let status = settle_both(alloc, agent, a, b);
@@ -59,14 +59,14 @@ pub extern "C" fn jsstr_equal(alloc: Global, agent: &mut JsAgent, a: u32, b: u32
     requires { IsHandle agent.old }
     ensures handle { IsHandle agent.new }
     ensures bad { result.status ≡ reports.BAD_ARGUMENT
-        ↔ ¬ (Knows agent.old.at.value a × Knows agent.old.at.value b) }
+        ↔ ¬ (HandleKnows agent.old.at.value a × HandleKnows agent.old.at.value b) }
     ensures unchanged { result.status ≡ reports.BAD_ARGUMENT → agent.new.at.value ≡ agent.old.at.value }
     ensures sought { result.status ≡ reports.DONE → Sought agent.old.at.value agent.new.at.value }
     ensures refused { result.status ≢ reports.DONE → result.status ≢ reports.BAD_ARGUMENT
-        → IsRefused agent.old.at.value agent.new.at.value a b result.status }
+        → IsPairRefused agent.old.at.value agent.new.at.value a b result.status }
     ensures value { result.status ≡ reports.DONE → (us vs : List ℕ)
-        → Has (view_in agent.old.at.value).units a us
-        → Has (view_in agent.old.at.value).units b vs
+        → Has (handle_view agent.old.at.value).units a us
+        → Has (handle_view agent.old.at.value).units b vs
         → IsTrue result.holds ↔ (us ≡ vs) }
 {
     let status = settle_both(alloc, agent, a, b);
@@ -95,18 +95,18 @@ pub extern "C" fn jsstr_starts_with(
     requires { IsHandle agent.old }
     ensures handle { IsHandle agent.new }
     ensures bad { result.status ≡ reports.BAD_ARGUMENT
-        ↔ ¬ (Knows agent.old.at.value hay × Knows agent.old.at.value needle) }
+        ↔ ¬ (HandleKnows agent.old.at.value hay × HandleKnows agent.old.at.value needle) }
     ensures unchanged { result.status ≡ reports.BAD_ARGUMENT → agent.new.at.value ≡ agent.old.at.value }
     ensures sought { result.status ≡ reports.DONE → Sought agent.old.at.value agent.new.at.value }
     ensures refused { result.status ≢ reports.DONE → result.status ≢ reports.BAD_ARGUMENT
-        → IsRefused agent.old.at.value agent.new.at.value hay needle result.status }
+        → IsPairRefused agent.old.at.value agent.new.at.value hay needle result.status }
     ensures stands { result.status ≡ reports.DONE → (us vs : List ℕ)
-        → Has (view_in agent.old.at.value).units hay us
-        → Has (view_in agent.old.at.value).units needle vs
+        → Has (handle_view agent.old.at.value).units hay us
+        → Has (handle_view agent.old.at.value).units needle vs
         → IsTrue result.holds ↔ Stands us vs at }
     ensures test { result.status ≡ reports.DONE → (us vs : List ℕ)
-        → Has (view_in agent.old.at.value).units hay us
-        → Has (view_in agent.old.at.value).units needle vs
+        → Has (handle_view agent.old.at.value).units hay us
+        → Has (handle_view agent.old.at.value).units needle vs
         → result.holds ≡ stands us vs at }
 {
     let status = settle_both(alloc, agent, hay, needle);
@@ -135,13 +135,13 @@ pub extern "C" fn jsstr_last_index_of(
     requires { IsHandle agent.old }
     ensures handle { IsHandle agent.new }
     ensures bad { result.status ≡ reports.BAD_ARGUMENT
-        ↔ ¬ (Knows agent.old.at.value hay × Knows agent.old.at.value needle) }
+        ↔ ¬ (HandleKnows agent.old.at.value hay × HandleKnows agent.old.at.value needle) }
     ensures unchanged { result.status ≡ reports.BAD_ARGUMENT → agent.new.at.value ≡ agent.old.at.value }
     ensures found { result.status ≢ reports.BAD_ARGUMENT
-        → IsRefused agent.old.at.value agent.new.at.value hay needle result.status
+        → IsPairRefused agent.old.at.value agent.new.at.value hay needle result.status
         ⊎ (Sought agent.old.at.value agent.new.at.value × ((us vs : List ℕ)
-        → Has (view_in agent.old.at.value).units hay us
-        → Has (view_in agent.old.at.value).units needle vs
+        → Has (handle_view agent.old.at.value).units hay us
+        → Has (handle_view agent.old.at.value).units needle vs
         → (result ≡ place_answer (last us vs limit))
         × ((r : Option ℕ) × (result ≡ place_answer r) × IsLast us vs limit r))) }
 {
@@ -164,16 +164,16 @@ pub extern "C" fn jsstr_index_of(
     requires { IsHandle agent.old }
     ensures handle { IsHandle agent.new }
     ensures bad { result.status ≡ reports.BAD_ARGUMENT
-        ↔ ¬ (Reaches agent.old.at.value hay from × Knows agent.old.at.value needle) }
-    ensures unchanged { ¬ (Knows agent.old.at.value hay × Knows agent.old.at.value needle)
+        ↔ ¬ (Reaches agent.old.at.value hay from × HandleKnows agent.old.at.value needle) }
+    ensures unchanged { ¬ (HandleKnows agent.old.at.value hay × HandleKnows agent.old.at.value needle)
         → agent.new.at.value ≡ agent.old.at.value }
     ensures left { result.status ≡ reports.BAD_ARGUMENT
         → Follows agent.old.at.value agent.new.at.value }
     ensures found { result.status ≢ reports.BAD_ARGUMENT
-        → IsRefused agent.old.at.value agent.new.at.value hay needle result.status
+        → IsPairRefused agent.old.at.value agent.new.at.value hay needle result.status
         ⊎ (Sought agent.old.at.value agent.new.at.value × ((us vs : List ℕ)
-        → Has (view_in agent.old.at.value).units hay us
-        → Has (view_in agent.old.at.value).units needle vs
+        → Has (handle_view agent.old.at.value).units hay us
+        → Has (handle_view agent.old.at.value).units needle vs
         → (result ≡ place_answer (first us vs from))
         × ((r : Option ℕ) × (result ≡ place_answer r) × IsFirst us vs from r))) }
 {

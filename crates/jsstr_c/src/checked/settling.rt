@@ -1,8 +1,8 @@
 // Two strings made ready for a search.
 ghost use Rattle.std.specs.Prelude.{◌≡◌, ◌≢◌, ◌↔◌};
-ghost use Rattle.heap_agents.specs.Ready.{Goes, IsReady, Knows, view_in};
+ghost use Rattle.heap_agents.specs.Ready.{HandleLeaves, IsReady, HandleKnows, handle_view};
 ghost use Rattle.heap_agents.specs.Searched.{IsReadable};
-ghost use Rattle.jsstr_c.specs.Checked.{IsRefused};
+ghost use Rattle.jsstr_c.specs.Checked.{IsPairRefused};
 ghost use Rattle.jsstr_c.specs.Handles.{IsHandle};
 ghost use Rattle.jsstr_c.specs.Reports as reports;
 
@@ -16,14 +16,14 @@ pub(crate) fn settle_both(alloc: Global, agent: &mut JsAgent, a: u32, b: u32) ->
     requires { IsHandle agent.old }
     ensures handle { IsHandle agent.new }
     ensures bad { result ≡ reports.BAD_ARGUMENT
-        ↔ ¬ (Knows agent.old.at.value a × Knows agent.old.at.value b) }
+        ↔ ¬ (HandleKnows agent.old.at.value a × HandleKnows agent.old.at.value b) }
     ensures unchanged { result ≡ reports.BAD_ARGUMENT → agent.new.at.value ≡ agent.old.at.value }
-    ensures goes { result ≢ reports.BAD_ARGUMENT → Goes agent.old.at.value agent.new.at.value }
+    ensures goes { result ≢ reports.BAD_ARGUMENT → HandleLeaves agent.old.at.value agent.new.at.value }
     ensures ready { result ≡ reports.DONE → IsReady agent.new.at.value }
-    ensures left { result ≡ reports.DONE → IsReadable (view_in agent.new.at.value) a }
-    ensures right { result ≡ reports.DONE → IsReadable (view_in agent.new.at.value) b }
+    ensures left { result ≡ reports.DONE → IsReadable (handle_view agent.new.at.value) a }
+    ensures right { result ≡ reports.DONE → IsReadable (handle_view agent.new.at.value) b }
     ensures refused { result ≢ reports.DONE → result ≢ reports.BAD_ARGUMENT
-        → IsRefused agent.old.at.value agent.new.at.value a b result }
+        → IsPairRefused agent.old.at.value agent.new.at.value a b result }
 {
     if !agent.knows(alloc, a) || !agent.knows(alloc, b) {
         return BAD_ARGUMENT;

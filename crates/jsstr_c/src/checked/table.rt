@@ -3,7 +3,7 @@ ghost use Rattle.std.specs.Prelude.{◌≡◌, ◌≢◌, ◌↔◌, ◌⊎◌, 
 ghost use Rattle.heap_rule.specs.Maps.{Has};
 ghost use Rattle.heap_table.specs.Known.{KeepsKnown};
 ghost use Rattle.heap_agents.specs.Interned.{IsEntered, KeepsCalls};
-ghost use Rattle.heap_agents.specs.Ready.{HasInterned, IsBeside, IsReady, Knows, MarksStay, view_in};
+ghost use Rattle.heap_agents.specs.Ready.{HasInterned, IsBeside, IsReady, HandleKnows, MarksStay, handle_view};
 ghost use Rattle.jsstr_c.specs.Checked.{IsEnteredIn, IsUnsettled};
 ghost use Rattle.jsstr_c.specs.Handles.{IsHandle};
 ghost use Rattle.jsstr_c.specs.Reports as reports;
@@ -19,18 +19,18 @@ use std::alloc::Global;
 pub extern "C" fn jsstr_intern(alloc: Global, agent: &mut JsAgent, s: u32) -> JsAnswer
     requires { IsHandle agent.old }
     ensures handle { IsHandle agent.new }
-    ensures bad { result.status ≡ reports.BAD_ARGUMENT ↔ ¬ (Knows agent.old.at.value s) }
+    ensures bad { result.status ≡ reports.BAD_ARGUMENT ↔ ¬ (HandleKnows agent.old.at.value s) }
     ensures unchanged { result.status ≡ reports.BAD_ARGUMENT → agent.new.at.value ≡ agent.old.at.value }
     ensures same { result.status ≢ reports.BAD_ARGUMENT → IsBeside agent.old.at.value agent.new.at.value }
     ensures marks { result.status ≢ reports.BAD_ARGUMENT → MarksStay agent.old.at.value agent.new.at.value }
     ensures known { result.status ≢ reports.BAD_ARGUMENT
-        → KeepsKnown (view_in agent.old.at.value) (view_in agent.new.at.value) }
+        → KeepsKnown (handle_view agent.old.at.value) (handle_view agent.new.at.value) }
     ensures calls { result.status ≢ reports.BAD_ARGUMENT
-        → KeepsCalls (view_in agent.old.at.value) (view_in agent.new.at.value) }
+        → KeepsCalls (handle_view agent.old.at.value) (handle_view agent.new.at.value) }
     ensures marked { result.status ≡ reports.DONE
-        → Knows agent.new.at.value result.id × HasInterned agent.new.at.value result.id }
+        → HandleKnows agent.new.at.value result.id × HasInterned agent.new.at.value result.id }
     ensures entered { result.status ≡ reports.DONE
-        → IsEntered (view_in agent.old.at.value) (view_in agent.new.at.value) s result.id }
+        → IsEntered (handle_view agent.old.at.value) (handle_view agent.new.at.value) s result.id }
     ensures interns { result.status ≢ reports.BAD_ARGUMENT
         → IsUnsettled agent.old.at.value agent.new.at.value s result
         ⊎ IsEnteredIn agent.old.at.value agent.new.at.value s result }
@@ -79,8 +79,8 @@ pub extern "C" fn jsstr_same(alloc: Global, agent: &mut JsAgent, a: u32, b: u32)
     ensures status { result.status ≢ reports.BAD_ARGUMENT → result.status ≡ reports.DONE }
     ensures numbers { result.status ≡ reports.DONE → IsTrue result.holds ↔ (a ≡ b) }
     ensures units { result.status ≡ reports.DONE → (us vs : List ℕ)
-        → Has (view_in agent.old.at.value).units a us
-        → Has (view_in agent.old.at.value).units b vs → IsTrue result.holds ↔ (us ≡ vs) }
+        → Has (handle_view agent.old.at.value).units a us
+        → Has (handle_view agent.old.at.value).units b vs → IsTrue result.holds ↔ (us ≡ vs) }
 {
     if !agent.has_interned(alloc, a) || !agent.has_interned(alloc, b) {
         return JsTruth {

@@ -5,7 +5,7 @@ ghost use Rattle.heap_rule.specs.Claims.{loaded_counter};
 ghost use Rattle.heap_rule.specs.Views.{history};
 ghost use Rattle.heap_intern.specs.Counting.{different};
 ghost use Rattle.heap_intern.specs.Goes.{Looks};
-ghost use Rattle.heap_agents.specs.Ready.{IsBeside, IsReady, MarksStay, share_in, view_in};
+ghost use Rattle.heap_agents.specs.Ready.{IsBeside, IsReady, MarksStay, share_in, handle_view};
 ghost use Rattle.jsstr_c.specs.Handles.{IsHandle};
 
 use crate::agent::JsAgent;
@@ -30,16 +30,17 @@ pub extern "C" fn jsstr_share_unchecked(alloc: Global, agent: &mut JsAgent) -> u
 #[unsafe(no_mangle)]
 pub extern "C" fn jsstr_totals_unchecked(alloc: Global, agent: &mut JsAgent) -> JsUse
     requires ready { IsReady agent.old.at.value }
-    requires whole { (view_in agent.old.at.value).share ≡ (view_in agent.old.at.value).agents }
+    requires whole { (handle_view agent.old.at.value).share ≡ (handle_view agent.old.at.value).agents }
     ensures handle { IsHandle agent.new }
     ensures ready { IsReady agent.new.at.value }
     ensures same { IsBeside agent.old.at.value agent.new.at.value }
     ensures marks { MarksStay agent.old.at.value agent.new.at.value }
-    ensures view { view_in agent.new.at.value
-        ≡ loaded_counter (loaded_counter (view_in agent.old.at.value) counter.Ids result.ids) counter.Words
+    ensures view { handle_view agent.new.at.value
+        ≡ loaded_counter (loaded_counter (handle_view agent.old.at.value) counter.Ids result.ids)
+        counter.Words
         result.words }
-    ensures ids { result.ids ≡ (view_in agent.old.at.value).used.ids }
-    ensures words { result.words ≡ (view_in agent.old.at.value).used.words }
+    ensures ids { result.ids ≡ (handle_view agent.old.at.value).used.ids }
+    ensures words { result.words ≡ (handle_view agent.old.at.value).used.words }
 {
     let mut held = agent.take(alloc);
     let (ids, words) = held.totals();
@@ -51,13 +52,13 @@ pub extern "C" fn jsstr_totals_unchecked(alloc: Global, agent: &mut JsAgent) -> 
 #[unsafe(no_mangle)]
 pub extern "C" fn jsstr_count_interned_unchecked(alloc: Global, agent: &mut JsAgent) -> u32
     requires ready { IsReady agent.old.at.value }
-    requires whole { (view_in agent.old.at.value).share ≡ (view_in agent.old.at.value).agents }
+    requires whole { (handle_view agent.old.at.value).share ≡ (handle_view agent.old.at.value).agents }
     ensures handle { IsHandle agent.new }
     ensures ready { IsReady agent.new.at.value }
     ensures same { IsBeside agent.old.at.value agent.new.at.value }
     ensures marks { MarksStay agent.old.at.value agent.new.at.value }
-    ensures looks { Looks (view_in agent.old.at.value) (view_in agent.new.at.value) }
-    ensures count { result ≡ different (history (view_in agent.old.at.value)) }
+    ensures looks { Looks (handle_view agent.old.at.value) (handle_view agent.new.at.value) }
+    ensures count { result ≡ different (history (handle_view agent.old.at.value)) }
 {
     let mut held = agent.take(alloc);
     let answer = held.count_interned();

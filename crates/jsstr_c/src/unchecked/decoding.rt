@@ -4,11 +4,11 @@ ghost use Rattle.std.specs.Str.{IsUtf8, IsValidUpTo};
 ghost use Rattle.js_units.specs.Lanes.{is_wide, words_over};
 ghost use Rattle.heap_rule.specs.Layout.{MAX};
 ghost use Rattle.heap_rule.specs.Maps.{Has};
-ghost use Rattle.heap_rule.specs.Views.{IsSettled};
+ghost use Rattle.heap_rule.specs.Views.{IsSeenSettled};
 ghost use Rattle.heap_text.specs.declared.faults.TextFull as text_full;
-ghost use Rattle.heap_text.specs.Texts.{Told, Uses};
-ghost use Rattle.heap_agents.specs.Ready.{Goes, IsReady, Knows, size_in, view_in};
-ghost use Rattle.jsstr_c.specs.Decoded.{decoded};
+ghost use Rattle.heap_text.specs.Texts.{Told, UsesExactly};
+ghost use Rattle.heap_agents.specs.Ready.{HandleLeaves, IsReady, HandleKnows, size_in, handle_view};
+ghost use Rattle.jsstr_c.specs.Decoded.{utf8_decoded};
 ghost use Rattle.jsstr_c.specs.Handles.{IsHandle};
 ghost use Rattle.jsstr_c.specs.Reports.{text_report};
 ghost use Rattle.jsstr_c.specs.Reports as reports;
@@ -30,24 +30,25 @@ pub extern "C" fn jsstr_from_utf8_unchecked(
     requires ready { IsReady agent.old.at.value }
     requires short { length bytes.now ≤ MAX }
     ensures handle { IsHandle agent.old → IsHandle agent.new }
-    ensures goes { Goes agent.old.at.value agent.new.at.value }
-    ensures marked { result.status ≡ reports.DONE → Knows agent.new.at.value result.id }
+    ensures goes { HandleLeaves agent.old.at.value agent.new.at.value }
+    ensures marked { result.status ≡ reports.DONE → HandleKnows agent.new.at.value result.id }
     ensures told { result.status ≢ reports.BAD_ARGUMENT }
     ensures unchanged { result.status ≡ reports.NO_MEMORY → agent.new.at.value ≡ agent.old.at.value }
     ensures whole { result.status ≡ reports.DONE → result ≡ reports.done result.id }
     ensures utf8 { result.status ≡ reports.DONE → IsUtf8 bytes.now }
     ensures units { result.status ≡ reports.DONE
-        → Has (view_in agent.new.at.value).units result.id (decoded bytes.now) }
-    ensures settled { result.status ≡ reports.DONE → IsSettled (view_in agent.new.at.value) result.id }
+        → Has (handle_view agent.new.at.value).units result.id (utf8_decoded bytes.now) }
+    ensures settled { result.status ≡ reports.DONE
+        → IsSeenSettled (handle_view agent.new.at.value) result.id }
     ensures used { result.status ≡ reports.DONE
-        → Uses (view_in agent.old.at.value) (view_in agent.new.at.value) 1
-        (words_over (is_wide (decoded bytes.now)) (length (decoded bytes.now))) }
+        → UsesExactly (handle_view agent.old.at.value) (handle_view agent.new.at.value) 1
+        (words_over (is_wide (utf8_decoded bytes.now)) (length (utf8_decoded bytes.now))) }
     ensures malformed { ¬ (IsUtf8 bytes.now) → (n : ℕ) × (result ≡ reports.not_utf8 n)
         × IsValidUpTo bytes.now n × (agent.new.at.value ≡ agent.old.at.value) }
     ensures refused { IsUtf8 bytes.now → result.status ≢ reports.DONE → (result ≡ reports.no_memory)
         ⊎ ((f : text_full.TextFull) × (result ≡ text_report f)
-        × Told (view_in agent.new.at.value) (size_in agent.old.at.value)
-        (words_over (is_wide (decoded bytes.now)) (length (decoded bytes.now))) f) }
+        × Told (handle_view agent.new.at.value) (size_in agent.old.at.value)
+        (words_over (is_wide (utf8_decoded bytes.now)) (length (utf8_decoded bytes.now))) f) }
 {
     match utf8_units(alloc, bytes) {
         Ok(units) => jsstr_from_units_unchecked(alloc, agent, units.as_slice()),

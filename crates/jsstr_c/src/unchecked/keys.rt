@@ -3,7 +3,7 @@ ghost use Rattle.std.specs.Prelude.{◌≡◌, ◌≢◌, ◌⊎◌, ◌≤◌, 
 ghost use Rattle.std.specs.Str.{IsUtf8};
 ghost use Rattle.heap_rule.specs.Layout.{MAX};
 ghost use Rattle.heap_agents.specs.Ready.{IsReady};
-ghost use Rattle.jsstr_c.specs.Decoded.{IsUndecoded, decoded};
+ghost use Rattle.jsstr_c.specs.Decoded.{IsUndecoded, utf8_decoded};
 ghost use Rattle.jsstr_c.specs.Handles.{IsHandle};
 ghost use Rattle.jsstr_c.specs.Keys.{IsFinding, IsInterning};
 ghost use Rattle.jsstr_c.specs.Reports as reports;
@@ -67,7 +67,7 @@ pub extern "C" fn jsstr_intern_utf8_unchecked(
     ensures told { result.status ≢ reports.BAD_ARGUMENT }
     ensures interns { (IsUndecoded bytes.now result × (agent.new.at.value ≡ agent.old.at.value))
         ⊎ (IsUtf8 bytes.now
-        × IsInterning agent.old.at.value agent.new.at.value (decoded bytes.now) result) }
+        × IsInterning agent.old.at.value agent.new.at.value (utf8_decoded bytes.now) result) }
 {
     match utf8_units(alloc, bytes) {
         Ok(units) => jsstr_intern_units_unchecked(alloc, agent, units.as_slice()),
@@ -129,7 +129,7 @@ pub extern "C" fn jsstr_find_utf8_unchecked(
     ensures told { result.status ≢ reports.BAD_ARGUMENT }
     ensures finds { (IsUndecoded bytes.now result × (agent.new.at.value ≡ agent.old.at.value))
         ⊎ (IsUtf8 bytes.now
-        × IsFinding agent.old.at.value agent.new.at.value (decoded bytes.now) result) }
+        × IsFinding agent.old.at.value agent.new.at.value (utf8_decoded bytes.now) result) }
 {
     match utf8_units(alloc, bytes) {
         Ok(units) => jsstr_find_units_unchecked(alloc, agent, units.as_slice()),

@@ -1,9 +1,9 @@
 // How heaps and agents are made and given back.
 ghost use Rattle.std.specs.Prelude.{ℕ, ◌≡◌, ◌≢◌, ◌⊎◌, ◌+◌, ◌≤◌, ◌<◌, None, Err};
-ghost use Rattle.heap_rule.specs.Agents.{MayJoin, first_view, joined, left_after_split, right_after_split};
+ghost use Rattle.heap_rule.specs.Agents.{MayJoin, first_view, joined_view, left_after_split, right_after_split};
 ghost use Rattle.heap_rule.specs.Layout.{MAX};
 ghost use Rattle.heap_table.specs.MayMake.{MayMake};
-ghost use Rattle.heap_agents.specs.Ready.{HasInterned, IsBeside, IsReady, Knows, MarksStay, giver_in, limit_in, number_in, share_in, view_in};
+ghost use Rattle.heap_agents.specs.Ready.{HasInterned, IsBeside, IsReady, HandleKnows, MarksStay, giver_in, handle_limit, handle_number, share_in, handle_view};
 ghost use Rattle.jsstr_c.specs.Handles.{IsHandle};
 ghost use Rattle.jsstr_c.specs.Reports.{size_for};
 ghost use Rattle.jsstr_c.specs.Reports as reports;
@@ -26,10 +26,10 @@ pub extern "C" fn jsstr_make_unchecked(
 ) -> u32
     requires empty { out.old.at.value ≡ None }
     ensures ready { result ≡ reports.DONE → IsReady out.new.at.value }
-    ensures view { result ≡ reports.DONE → view_in out.new.at.value ≡ first_view (size_for size) agents }
+    ensures view { result ≡ reports.DONE → handle_view out.new.at.value ≡ first_view (size_for size) agents }
     ensures lawful { result ≡ reports.DONE → MayMake (size_for size) agents × (limit ≤ MAX) }
     ensures refused { result ≡ reports.BAD_SIZE → ¬ (MayMake (size_for size) agents × (limit ≤ MAX)) }
-    ensures limit { result ≡ reports.DONE → limit_in out.new.at.value ≡ limit }
+    ensures limit { result ≡ reports.DONE → handle_limit out.new.at.value ≡ limit }
     ensures unmade { result ≢ reports.DONE → out.new.at.value ≡ None }
     ensures statuses { (result ≡ reports.DONE) ⊎ ((result ≡ reports.BAD_SIZE) ⊎ (result ≡ reports.NO_MEMORY)) }
     ensures told { result ≢ reports.BAD_ARGUMENT }
@@ -75,18 +75,18 @@ pub extern "C" fn jsstr_split_unchecked(
     ensures out_ready { result ≡ reports.DONE
         → IsReady out.new.at.value × IsBeside agent.old.at.value out.new.at.value }
     ensures left { result ≡ reports.DONE
-        → view_in agent.new.at.value ≡ left_after_split (view_in agent.old.at.value) give }
+        → handle_view agent.new.at.value ≡ left_after_split (handle_view agent.old.at.value) give }
     ensures right { result ≡ reports.DONE
-        → view_in out.new.at.value ≡ right_after_split (view_in agent.old.at.value) give }
+        → handle_view out.new.at.value ≡ right_after_split (handle_view agent.old.at.value) give }
     ensures shares { result ≡ reports.DONE
         → (share_in agent.new.at.value + give ≡ share_in agent.old.at.value)
         × (share_in out.new.at.value ≡ give) }
     ensures marks { MarksStay agent.old.at.value agent.new.at.value }
     ensures known { result ≡ reports.DONE
-        → (i : ℕ) → Knows agent.old.at.value i → Knows out.new.at.value i }
+        → (i : ℕ) → HandleKnows agent.old.at.value i → HandleKnows out.new.at.value i }
     ensures interned { result ≡ reports.DONE
         → (i : ℕ) → HasInterned agent.old.at.value i → HasInterned out.new.at.value i }
-    ensures giver { result ≡ reports.DONE → giver_in out.new.at.value ≡ number_in agent.old.at.value }
+    ensures giver { result ≡ reports.DONE → giver_in out.new.at.value ≡ handle_number agent.old.at.value }
     ensures out_handle { IsHandle out.old → IsHandle out.new }
     ensures told { result ≢ reports.BAD_ARGUMENT }
     ensures statuses { (result ≡ reports.DONE) ⊎ (result ≡ reports.NO_MEMORY) }
@@ -111,15 +111,15 @@ pub extern "C" fn jsstr_join_unchecked(alloc: Global, agent: &mut JsAgent, other
     requires ready { IsReady agent.old.at.value }
     requires other { IsReady other.old.at.value }
     requires beside { IsBeside agent.old.at.value other.old.at.value }
-    requires may { MayJoin (view_in agent.old.at.value) (view_in other.old.at.value) }
+    requires may { MayJoin (handle_view agent.old.at.value) (handle_view other.old.at.value) }
     ensures handle { IsHandle agent.new }
     ensures ready { IsReady agent.new.at.value }
     ensures same { IsBeside agent.old.at.value agent.new.at.value }
-    ensures view { view_in agent.new.at.value
-        ≡ joined (view_in agent.old.at.value) (view_in other.old.at.value) }
+    ensures view { handle_view agent.new.at.value
+        ≡ joined_view (handle_view agent.old.at.value) (handle_view other.old.at.value) }
     ensures share { share_in agent.new.at.value ≡ share_in agent.old.at.value + share_in other.old.at.value }
     ensures marks { MarksStay agent.old.at.value agent.new.at.value }
-    ensures known { (i : ℕ) → Knows other.old.at.value i → Knows agent.new.at.value i }
+    ensures known { (i : ℕ) → HandleKnows other.old.at.value i → HandleKnows agent.new.at.value i }
     ensures interned { (i : ℕ) → HasInterned other.old.at.value i → HasInterned agent.new.at.value i }
     ensures gone { other.new.at.value ≡ None }
     ensures other_handle { IsHandle other.new }

@@ -5,12 +5,12 @@ ghost use Rattle.heap_read.specs.declared.string.JsStr as js_str;
 ghost use Rattle.heap_rule.specs.Births.{part};
 ghost use Rattle.heap_rule.specs.Layout.{MAX};
 ghost use Rattle.heap_rule.specs.Maps.{Has, HasKey};
-ghost use Rattle.heap_rule.specs.Views.{IsSettled};
+ghost use Rattle.heap_rule.specs.Views.{IsSeenSettled};
 ghost use Rattle.heap_text.specs.declared.faults.JoinFault as join_fault;
 ghost use Rattle.heap_text.specs.declared.faults.TextFull as text_full;
 ghost use Rattle.heap_text.specs.Joins.{IsCut, IsJoined};
-ghost use Rattle.heap_text.specs.Texts.{Told, Uses};
-ghost use Rattle.heap_agents.specs.Ready.{Goes, IsReady, Knows, limit_in, size_in, view_in};
+ghost use Rattle.heap_text.specs.Texts.{Told, UsesExactly};
+ghost use Rattle.heap_agents.specs.Ready.{HandleLeaves, IsReady, HandleKnows, handle_limit, size_in, handle_view};
 ghost use Rattle.jsstr_c.specs.Handles.{IsHandle};
 ghost use Rattle.jsstr_c.specs.Reports.{join_answer, text_answer, text_report};
 ghost use Rattle.jsstr_c.specs.Reports as reports;
@@ -31,20 +31,21 @@ pub extern "C" fn jsstr_from_units_unchecked(
     requires ready { IsReady agent.old.at.value }
     requires short { length units.now ≤ MAX }
     ensures handle { IsHandle agent.new }
-    ensures goes { Goes agent.old.at.value agent.new.at.value }
-    ensures marked { result.status ≡ reports.DONE → Knows agent.new.at.value result.id }
+    ensures goes { HandleLeaves agent.old.at.value agent.new.at.value }
+    ensures marked { result.status ≡ reports.DONE → HandleKnows agent.new.at.value result.id }
     ensures told { result.status ≢ reports.BAD_ARGUMENT }
     ensures memory { result.status ≢ reports.NO_MEMORY }
     ensures whole { result.status ≡ reports.DONE → result ≡ reports.done result.id }
     ensures units { result.status ≡ reports.DONE
-        → Has (view_in agent.new.at.value).units result.id units.now }
-    ensures settled { result.status ≡ reports.DONE → IsSettled (view_in agent.new.at.value) result.id }
+        → Has (handle_view agent.new.at.value).units result.id units.now }
+    ensures settled { result.status ≡ reports.DONE
+        → IsSeenSettled (handle_view agent.new.at.value) result.id }
     ensures used { result.status ≡ reports.DONE
-        → Uses (view_in agent.old.at.value) (view_in agent.new.at.value) 1
+        → UsesExactly (handle_view agent.old.at.value) (handle_view agent.new.at.value) 1
         (words_over (is_wide units.now) (length units.now)) }
     ensures refused { result.status ≢ reports.DONE
         → (f : text_full.TextFull) × (result ≡ text_report f)
-        × Told (view_in agent.new.at.value) (size_in agent.old.at.value)
+        × Told (handle_view agent.new.at.value) (size_in agent.old.at.value)
         (words_over (is_wide units.now) (length units.now)) f }
 {
     let mut held = agent.take(alloc);
@@ -63,20 +64,21 @@ pub extern "C" fn jsstr_from_latin1_unchecked(
     requires ready { IsReady agent.old.at.value }
     requires short { length bytes.now ≤ MAX }
     ensures handle { IsHandle agent.new }
-    ensures goes { Goes agent.old.at.value agent.new.at.value }
-    ensures marked { result.status ≡ reports.DONE → Knows agent.new.at.value result.id }
+    ensures goes { HandleLeaves agent.old.at.value agent.new.at.value }
+    ensures marked { result.status ≡ reports.DONE → HandleKnows agent.new.at.value result.id }
     ensures told { result.status ≢ reports.BAD_ARGUMENT }
     ensures unchanged { result.status ≡ reports.NO_MEMORY → agent.new.at.value ≡ agent.old.at.value }
     ensures whole { result.status ≡ reports.DONE → result ≡ reports.done result.id }
     ensures units { result.status ≡ reports.DONE
-        → Has (view_in agent.new.at.value).units result.id bytes.now }
-    ensures settled { result.status ≡ reports.DONE → IsSettled (view_in agent.new.at.value) result.id }
+        → Has (handle_view agent.new.at.value).units result.id bytes.now }
+    ensures settled { result.status ≡ reports.DONE
+        → IsSeenSettled (handle_view agent.new.at.value) result.id }
     ensures used { result.status ≡ reports.DONE
-        → Uses (view_in agent.old.at.value) (view_in agent.new.at.value) 1
+        → UsesExactly (handle_view agent.old.at.value) (handle_view agent.new.at.value) 1
         (words_over (is_wide bytes.now) (length bytes.now)) }
     ensures refused { result.status ≢ reports.DONE → (result ≡ reports.no_memory)
         ⊎ ((f : text_full.TextFull) × (result ≡ text_report f)
-        × Told (view_in agent.new.at.value) (size_in agent.old.at.value)
+        × Told (handle_view agent.new.at.value) (size_in agent.old.at.value)
         (words_over (is_wide bytes.now) (length bytes.now)) f) }
 {
     let mut held = agent.take(alloc);
@@ -102,21 +104,22 @@ pub extern "C" fn jsstr_concat_unchecked(
     b: u32,
 ) -> JsAnswer
     requires ready { IsReady agent.old.at.value }
-    requires known { HasKey (view_in agent.old.at.value).units a
-        × HasKey (view_in agent.old.at.value).units b }
+    requires known { HasKey (handle_view agent.old.at.value).units a
+        × HasKey (handle_view agent.old.at.value).units b }
     ensures handle { IsHandle agent.new }
-    ensures goes { Goes agent.old.at.value agent.new.at.value }
-    ensures marked { result.status ≡ reports.DONE → Knows agent.new.at.value result.id }
+    ensures goes { HandleLeaves agent.old.at.value agent.new.at.value }
+    ensures marked { result.status ≡ reports.DONE → HandleKnows agent.new.at.value result.id }
     ensures told { result.status ≢ reports.BAD_ARGUMENT }
     ensures units { result.status ≡ reports.DONE
-        → (us vs : List ℕ) → Has (view_in agent.old.at.value).units a us
-        → Has (view_in agent.old.at.value).units b vs
-        → Has (view_in agent.new.at.value).units result.id (us ++ vs) }
-    ensures joined { (us vs : List ℕ) → Has (view_in agent.old.at.value).units a us
-        → Has (view_in agent.old.at.value).units b vs
+        → (us vs : List ℕ) → Has (handle_view agent.old.at.value).units a us
+        → Has (handle_view agent.old.at.value).units b vs
+        → Has (handle_view agent.new.at.value).units result.id (us ++ vs) }
+    ensures joined { (us vs : List ℕ) → Has (handle_view agent.old.at.value).units a us
+        → Has (handle_view agent.old.at.value).units b vs
         → (r : Result js_str.JsStr join_fault.JoinFault) × (result ≡ join_answer r)
-        × IsJoined (view_in agent.old.at.value) (view_in agent.new.at.value) (size_in agent.old.at.value)
-        (limit_in agent.old.at.value) (record { id = a }) (record { id = b }) us vs r }
+        × IsJoined (handle_view agent.old.at.value) (handle_view agent.new.at.value)
+        (size_in agent.old.at.value)
+        (handle_limit agent.old.at.value) (record { id = a }) (record { id = b }) us vs r }
 {
     let mut held = agent.take(alloc);
     let answer = held.concat(JsStr { id: a }, JsStr { id: b });
@@ -134,20 +137,21 @@ pub extern "C" fn jsstr_slice_unchecked(
     to: u32,
 ) -> JsAnswer
     requires ready { IsReady agent.old.at.value }
-    requires settled { IsSettled (view_in agent.old.at.value) s }
-    requires within { (us : List ℕ) × Has (view_in agent.old.at.value).units s us × (from ≤ to)
+    requires settled { IsSeenSettled (handle_view agent.old.at.value) s }
+    requires within { (us : List ℕ) × Has (handle_view agent.old.at.value).units s us × (from ≤ to)
         × (to ≤ length us) }
     ensures handle { IsHandle agent.new }
-    ensures goes { Goes agent.old.at.value agent.new.at.value }
-    ensures marked { result.status ≡ reports.DONE → Knows agent.new.at.value result.id }
+    ensures goes { HandleLeaves agent.old.at.value agent.new.at.value }
+    ensures marked { result.status ≡ reports.DONE → HandleKnows agent.new.at.value result.id }
     ensures told { result.status ≢ reports.BAD_ARGUMENT }
     ensures units { result.status ≡ reports.DONE
-        → (us : List ℕ) → Has (view_in agent.old.at.value).units s us
-        → Has (view_in agent.new.at.value).units result.id (part from (to - from) us) }
-    ensures settled { result.status ≡ reports.DONE → IsSettled (view_in agent.new.at.value) result.id }
-    ensures cut { (us : List ℕ) → Has (view_in agent.old.at.value).units s us
+        → (us : List ℕ) → Has (handle_view agent.old.at.value).units s us
+        → Has (handle_view agent.new.at.value).units result.id (part from (to - from) us) }
+    ensures settled { result.status ≡ reports.DONE
+        → IsSeenSettled (handle_view agent.new.at.value) result.id }
+    ensures cut { (us : List ℕ) → Has (handle_view agent.old.at.value).units s us
         → (r : Result js_str.JsStr text_full.TextFull) × (result ≡ text_answer r)
-        × IsCut (view_in agent.old.at.value) (view_in agent.new.at.value) (size_in agent.old.at.value)
+        × IsCut (handle_view agent.old.at.value) (handle_view agent.new.at.value) (size_in agent.old.at.value)
         (record { id = s }) from to us r }
 {
     let mut held = agent.take(alloc);

@@ -1,11 +1,11 @@
 // Reading strings: their lengths and units.
 ghost use Rattle.std.specs.Prelude.{◌≡◌, ◌≢◌, ℕ, ◌+◌, ◌≤◌, List, length, slice_range, Bool};
 ghost use Rattle.heap_rule.specs.Maps.{Has, HasKey};
-ghost use Rattle.heap_rule.specs.Views.{IsSettled};
+ghost use Rattle.heap_rule.specs.Views.{IsSeenSettled};
 ghost use Rattle.heap_text.specs.declared.faults.TextFull as text_full;
-ghost use Rattle.heap_read.specs.Reads.{Reads};
+ghost use Rattle.heap_read.specs.Reads.{OnlyLoads};
 ghost use Rattle.heap_text.specs.Settling.{IsNoRoom};
-ghost use Rattle.heap_agents.specs.Ready.{Goes, IsReady, Knows, size_in, view_in};
+ghost use Rattle.heap_agents.specs.Ready.{HandleLeaves, IsReady, HandleKnows, size_in, handle_view};
 ghost use Rattle.heap_agents.specs.Words.{AreShown, AreThere};
 ghost use Rattle.jsstr_c.specs.Handles.{IsHandle};
 ghost use Rattle.jsstr_c.specs.Reports.{shown_by, text_report};
@@ -20,11 +20,11 @@ use std::alloc::Global;
 #[unsafe(no_mangle)]
 pub extern "C" fn jsstr_length_unchecked(alloc: Global, agent: &mut JsAgent, s: u32) -> u32
     requires ready { IsReady agent.old.at.value }
-    requires known { HasKey (view_in agent.old.at.value).units s }
+    requires known { HasKey (handle_view agent.old.at.value).units s }
     ensures handle { IsHandle agent.new }
-    ensures goes { Goes agent.old.at.value agent.new.at.value }
-    ensures reads { Reads (view_in agent.old.at.value) (view_in agent.new.at.value) }
-    ensures length { (us : List ℕ) → Has (view_in agent.old.at.value).units s us → result ≡ length us }
+    ensures goes { HandleLeaves agent.old.at.value agent.new.at.value }
+    ensures reads { OnlyLoads (handle_view agent.old.at.value) (handle_view agent.new.at.value) }
+    ensures length { (us : List ℕ) → Has (handle_view agent.old.at.value).units s us → result ≡ length us }
 {
     let mut held = agent.take(alloc);
     let answer = held.length(JsStr { id: s });
@@ -37,17 +37,18 @@ pub extern "C" fn jsstr_length_unchecked(alloc: Global, agent: &mut JsAgent, s: 
 #[unsafe(no_mangle)]
 pub extern "C" fn jsstr_settle_unchecked(alloc: Global, agent: &mut JsAgent, s: u32) -> JsAnswer
     requires ready { IsReady agent.old.at.value }
-    requires known { HasKey (view_in agent.old.at.value).units s }
+    requires known { HasKey (handle_view agent.old.at.value).units s }
     ensures handle { IsHandle agent.new }
-    ensures goes { Goes agent.old.at.value agent.new.at.value }
-    ensures marked { result.status ≡ reports.DONE → Knows agent.new.at.value result.id }
+    ensures goes { HandleLeaves agent.old.at.value agent.new.at.value }
+    ensures marked { result.status ≡ reports.DONE → HandleKnows agent.new.at.value result.id }
     ensures told { result.status ≢ reports.BAD_ARGUMENT }
     ensures settled { result.status ≡ reports.DONE
-        → (result.id ≡ s) × IsSettled (view_in agent.new.at.value) s }
+        → (result.id ≡ s) × IsSeenSettled (handle_view agent.new.at.value) s }
     ensures refused { result.status ≢ reports.DONE
-        → (us : List ℕ) → Has (view_in agent.old.at.value).units s us
+        → (us : List ℕ) → Has (handle_view agent.old.at.value).units s us
         → (f : text_full.TextFull) × (wide : Bool) × (result ≡ text_report f)
-        × IsNoRoom (view_in agent.old.at.value) (view_in agent.new.at.value) (size_in agent.old.at.value)
+        × IsNoRoom (handle_view agent.old.at.value) (handle_view agent.new.at.value)
+        (size_in agent.old.at.value)
         us f wide }
 {
     let mut held = agent.take(alloc);
@@ -69,13 +70,13 @@ pub extern "C" fn jsstr_read_unchecked(
     out: &mut [u16],
 )
     requires ready { IsReady agent.old.at.value }
-    requires settled { IsSettled (view_in agent.old.at.value) s }
-    requires within { (us : List ℕ) × Has (view_in agent.old.at.value).units s us
+    requires settled { IsSeenSettled (handle_view agent.old.at.value) s }
+    requires within { (us : List ℕ) × Has (handle_view agent.old.at.value).units s us
         × (from + length out.old ≤ length us) }
     ensures handle { IsHandle agent.new }
-    ensures goes { Goes agent.old.at.value agent.new.at.value }
-    ensures reads { Reads (view_in agent.old.at.value) (view_in agent.new.at.value) }
-    ensures units { (us : List ℕ) → Has (view_in agent.old.at.value).units s us
+    ensures goes { HandleLeaves agent.old.at.value agent.new.at.value }
+    ensures reads { OnlyLoads (handle_view agent.old.at.value) (handle_view agent.new.at.value) }
+    ensures units { (us : List ℕ) → Has (handle_view agent.old.at.value).units s us
         → out.new ≡ slice_range us from (from + length out.old) }
 {
     let mut held = agent.take(alloc);
@@ -94,16 +95,16 @@ pub extern "C" fn jsstr_window_unchecked(
     out: &mut [u64],
 ) -> JsWords
     requires ready { IsReady agent.old.at.value }
-    requires known { HasKey (view_in agent.old.at.value).units s }
-    requires settled { IsSettled (view_in agent.old.at.value) s }
+    requires known { HasKey (handle_view agent.old.at.value).units s }
+    requires settled { IsSeenSettled (handle_view agent.old.at.value) s }
     ensures handle { IsHandle agent.new }
-    ensures goes { Goes agent.old.at.value agent.new.at.value }
-    ensures reads { Reads (view_in agent.old.at.value) (view_in agent.new.at.value) }
+    ensures goes { HandleLeaves agent.old.at.value agent.new.at.value }
+    ensures reads { OnlyLoads (handle_view agent.old.at.value) (handle_view agent.new.at.value) }
     ensures told { result.status ≡ reports.DONE }
-    ensures shown { (us : List ℕ) → Has (view_in agent.old.at.value).units s us
+    ensures shown { (us : List ℕ) → Has (handle_view agent.old.at.value).units s us
         → AreShown us at out.old out.new (shown_by result) }
-    ensures there { (us : List ℕ) → Has (view_in agent.old.at.value).units s us
-        → AreThere (view_in agent.new.at.value) us (shown_by result) }
+    ensures there { (us : List ℕ) → Has (handle_view agent.old.at.value).units s us
+        → AreThere (handle_view agent.new.at.value) us (shown_by result) }
 {
     let mut held = agent.take(alloc);
     let shown = held.window(JsStr { id: s }, at, out);

@@ -4,7 +4,7 @@ ghost use Rattle.std.specs.declared.cmp.Ordering as ordering;
 ghost use Rattle.heap_rule.specs.Maps.{Has};
 ghost use Rattle.js_search.specs.Order.{units_cmp};
 ghost use Rattle.js_search.specs.Places.{IsFirst, IsLast, Stands, first, last, stands};
-ghost use Rattle.heap_agents.specs.Ready.{IsReady, Searches, view_in};
+ghost use Rattle.heap_agents.specs.Ready.{IsReady, Searches, handle_view};
 ghost use Rattle.heap_agents.specs.Searched.{IsOrder, IsReadable};
 ghost use Rattle.jsstr_c.specs.Handles.{IsHandle};
 ghost use Rattle.jsstr_c.specs.Reports.{order_number, place_answer};
@@ -20,15 +20,15 @@ use std::alloc::Global;
 #[unsafe(no_mangle)]
 pub extern "C" fn jsstr_compare_unchecked(alloc: Global, agent: &mut JsAgent, a: u32, b: u32) -> i32
     requires ready { IsReady agent.old.at.value }
-    requires left { IsReadable (view_in agent.old.at.value) a }
-    requires right { IsReadable (view_in agent.old.at.value) b }
+    requires left { IsReadable (handle_view agent.old.at.value) a }
+    requires right { IsReadable (handle_view agent.old.at.value) b }
     ensures handle { IsHandle agent.new }
     ensures searches { Searches agent.old.at.value agent.new.at.value }
-    ensures order { (us vs : List ℕ) → Has (view_in agent.old.at.value).units a us
-        → Has (view_in agent.old.at.value).units b vs
+    ensures order { (us vs : List ℕ) → Has (handle_view agent.old.at.value).units a us
+        → Has (handle_view agent.old.at.value).units b vs
         → result ≡ order_number (units_cmp us vs) }
-    ensures means { (us vs : List ℕ) → Has (view_in agent.old.at.value).units a us
-        → Has (view_in agent.old.at.value).units b vs
+    ensures means { (us vs : List ℕ) → Has (handle_view agent.old.at.value).units a us
+        → Has (handle_view agent.old.at.value).units b vs
         → (o : ordering.Ordering) × (result ≡ order_number o) × IsOrder us vs o }
 {
     let mut held = agent.take(alloc);
@@ -41,12 +41,12 @@ pub extern "C" fn jsstr_compare_unchecked(alloc: Global, agent: &mut JsAgent, a:
 #[unsafe(no_mangle)]
 pub extern "C" fn jsstr_equal_unchecked(alloc: Global, agent: &mut JsAgent, a: u32, b: u32) -> bool
     requires ready { IsReady agent.old.at.value }
-    requires left { IsReadable (view_in agent.old.at.value) a }
-    requires right { IsReadable (view_in agent.old.at.value) b }
+    requires left { IsReadable (handle_view agent.old.at.value) a }
+    requires right { IsReadable (handle_view agent.old.at.value) b }
     ensures handle { IsHandle agent.new }
     ensures searches { Searches agent.old.at.value agent.new.at.value }
-    ensures value { (us vs : List ℕ) → Has (view_in agent.old.at.value).units a us
-        → Has (view_in agent.old.at.value).units b vs
+    ensures value { (us vs : List ℕ) → Has (handle_view agent.old.at.value).units a us
+        → Has (handle_view agent.old.at.value).units b vs
         → IsTrue result ↔ (us ≡ vs) }
 {
     let mut held = agent.take(alloc);
@@ -66,15 +66,15 @@ pub extern "C" fn jsstr_starts_with_unchecked(
     at: u32,
 ) -> bool
     requires ready { IsReady agent.old.at.value }
-    requires left { IsReadable (view_in agent.old.at.value) hay }
-    requires right { IsReadable (view_in agent.old.at.value) needle }
+    requires left { IsReadable (handle_view agent.old.at.value) hay }
+    requires right { IsReadable (handle_view agent.old.at.value) needle }
     ensures handle { IsHandle agent.new }
     ensures searches { Searches agent.old.at.value agent.new.at.value }
-    ensures stands { (us vs : List ℕ) → Has (view_in agent.old.at.value).units hay us
-        → Has (view_in agent.old.at.value).units needle vs
+    ensures stands { (us vs : List ℕ) → Has (handle_view agent.old.at.value).units hay us
+        → Has (handle_view agent.old.at.value).units needle vs
         → IsTrue result ↔ Stands us vs at }
-    ensures test { (us vs : List ℕ) → Has (view_in agent.old.at.value).units hay us
-        → Has (view_in agent.old.at.value).units needle vs
+    ensures test { (us vs : List ℕ) → Has (handle_view agent.old.at.value).units hay us
+        → Has (handle_view agent.old.at.value).units needle vs
         → result ≡ stands us vs at }
 {
     let mut held = agent.take(alloc);
@@ -94,17 +94,17 @@ pub extern "C" fn jsstr_index_of_unchecked(
     from: u32,
 ) -> JsPlace
     requires ready { IsReady agent.old.at.value }
-    requires left { IsReadable (view_in agent.old.at.value) hay }
-    requires right { IsReadable (view_in agent.old.at.value) needle }
-    requires within { (us : List ℕ) × Has (view_in agent.old.at.value).units hay us × (from ≤ length us) }
+    requires left { IsReadable (handle_view agent.old.at.value) hay }
+    requires right { IsReadable (handle_view agent.old.at.value) needle }
+    requires within { (us : List ℕ) × Has (handle_view agent.old.at.value).units hay us × (from ≤ length us) }
     ensures handle { IsHandle agent.new }
     ensures searches { Searches agent.old.at.value agent.new.at.value }
     ensures told { result.status ≢ reports.BAD_ARGUMENT }
-    ensures least { (us vs : List ℕ) → Has (view_in agent.old.at.value).units hay us
-        → Has (view_in agent.old.at.value).units needle vs
+    ensures least { (us vs : List ℕ) → Has (handle_view agent.old.at.value).units hay us
+        → Has (handle_view agent.old.at.value).units needle vs
         → (r : Option ℕ) × (result ≡ place_answer r) × IsFirst us vs from r }
-    ensures place { (us vs : List ℕ) → Has (view_in agent.old.at.value).units hay us
-        → Has (view_in agent.old.at.value).units needle vs
+    ensures place { (us vs : List ℕ) → Has (handle_view agent.old.at.value).units hay us
+        → Has (handle_view agent.old.at.value).units needle vs
         → result ≡ place_answer (first us vs from) }
 {
     let mut held = agent.take(alloc);
@@ -124,16 +124,16 @@ pub extern "C" fn jsstr_last_index_of_unchecked(
     limit: u32,
 ) -> JsPlace
     requires ready { IsReady agent.old.at.value }
-    requires left { IsReadable (view_in agent.old.at.value) hay }
-    requires right { IsReadable (view_in agent.old.at.value) needle }
+    requires left { IsReadable (handle_view agent.old.at.value) hay }
+    requires right { IsReadable (handle_view agent.old.at.value) needle }
     ensures handle { IsHandle agent.new }
     ensures searches { Searches agent.old.at.value agent.new.at.value }
     ensures told { result.status ≢ reports.BAD_ARGUMENT }
-    ensures greatest { (us vs : List ℕ) → Has (view_in agent.old.at.value).units hay us
-        → Has (view_in agent.old.at.value).units needle vs
+    ensures greatest { (us vs : List ℕ) → Has (handle_view agent.old.at.value).units hay us
+        → Has (handle_view agent.old.at.value).units needle vs
         → (r : Option ℕ) × (result ≡ place_answer r) × IsLast us vs limit r }
-    ensures place { (us vs : List ℕ) → Has (view_in agent.old.at.value).units hay us
-        → Has (view_in agent.old.at.value).units needle vs
+    ensures place { (us vs : List ℕ) → Has (handle_view agent.old.at.value).units hay us
+        → Has (handle_view agent.old.at.value).units needle vs
         → result ≡ place_answer (last us vs limit) }
 {
     let mut held = agent.take(alloc);

@@ -1,12 +1,12 @@
 // The string table.
 ghost use Rattle.std.specs.Prelude.{◌≡◌, ◌≢◌, ◌↔◌, ℕ, List, Result, IsTrue, Contains};
 ghost use Rattle.heap_rule.specs.Maps.{Has, HasKey};
-ghost use Rattle.heap_rule.specs.Views.{IsSettled, history};
+ghost use Rattle.heap_rule.specs.Views.{IsSeenSettled, history};
 ghost use Rattle.heap_intern.specs.declared.table.faults.TableFull as table_full;
-ghost use Rattle.heap_intern.specs.Answers.{Interns, IsForwarded, IsPlan, Plan};
+ghost use Rattle.heap_intern.specs.Answers.{IsInternAnswer, IsForwarded, IsPlan, HeaderPlan};
 ghost use Rattle.heap_table.specs.Known.{KeepsKnown};
 ghost use Rattle.heap_agents.specs.Interned.{IsEntered, KeepsCalls};
-ghost use Rattle.heap_agents.specs.Ready.{HasInterned, IsBeside, IsReady, Knows, MarksStay, view_in};
+ghost use Rattle.heap_agents.specs.Ready.{HasInterned, IsBeside, IsReady, HandleKnows, MarksStay, handle_view};
 ghost use Rattle.jsstr_c.specs.Handles.{IsHandle};
 ghost use Rattle.jsstr_c.specs.Reports.{table_answer};
 ghost use Rattle.jsstr_c.specs.Reports as reports;
@@ -19,24 +19,25 @@ use std::alloc::Global;
 #[unsafe(no_mangle)]
 pub extern "C" fn jsstr_intern_unchecked(alloc: Global, agent: &mut JsAgent, s: u32) -> JsAnswer
     requires ready { IsReady agent.old.at.value }
-    requires known { HasKey (view_in agent.old.at.value).units s }
-    requires settled { IsSettled (view_in agent.old.at.value) s }
+    requires known { HasKey (handle_view agent.old.at.value).units s }
+    requires settled { IsSeenSettled (handle_view agent.old.at.value) s }
     ensures handle { IsHandle agent.new }
     ensures ready { IsReady agent.new.at.value }
     ensures same { IsBeside agent.old.at.value agent.new.at.value }
     ensures marks { MarksStay agent.old.at.value agent.new.at.value }
     ensures marked { result.status ≡ reports.DONE
-        → Knows agent.new.at.value result.id × HasInterned agent.new.at.value result.id }
+        → HandleKnows agent.new.at.value result.id × HasInterned agent.new.at.value result.id }
     ensures told { result.status ≢ reports.BAD_ARGUMENT }
-    ensures known { KeepsKnown (view_in agent.old.at.value) (view_in agent.new.at.value) }
-    ensures calls { KeepsCalls (view_in agent.old.at.value) (view_in agent.new.at.value) }
+    ensures known { KeepsKnown (handle_view agent.old.at.value) (handle_view agent.new.at.value) }
+    ensures calls { KeepsCalls (handle_view agent.old.at.value) (handle_view agent.new.at.value) }
     ensures entered { result.status ≡ reports.DONE
-        → IsEntered (view_in agent.old.at.value) (view_in agent.new.at.value) s result.id }
-    ensures interns { (us : List ℕ) → Has (view_in agent.old.at.value).units s us
-        → (plan : Plan) × (r : Result ℕ table_full.TableFull) × (result ≡ table_answer r)
-        × IsPlan (view_in agent.old.at.value) (view_in agent.new.at.value) s us plan
-        × Interns (view_in agent.old.at.value) (view_in agent.new.at.value) us plan r }
-    ensures forwards { result.status ≡ reports.DONE → IsForwarded (view_in agent.new.at.value) s result.id }
+        → IsEntered (handle_view agent.old.at.value) (handle_view agent.new.at.value) s result.id }
+    ensures interns { (us : List ℕ) → Has (handle_view agent.old.at.value).units s us
+        → (plan : HeaderPlan) × (r : Result ℕ table_full.TableFull) × (result ≡ table_answer r)
+        × IsPlan (handle_view agent.old.at.value) (handle_view agent.new.at.value) s us plan
+        × IsInternAnswer (handle_view agent.old.at.value) (handle_view agent.new.at.value) us plan r }
+    ensures forwards { result.status ≡ reports.DONE
+        → IsForwarded (handle_view agent.new.at.value) s result.id }
 {
     let mut held = agent.take(alloc);
     let answer = held.intern(s);
@@ -62,11 +63,11 @@ pub extern "C" fn jsstr_is_interned_unchecked(alloc: Global, agent: &mut JsAgent
 #[unsafe(no_mangle)]
 pub extern "C" fn jsstr_same_unchecked(_agent: &JsAgent, a: u32, b: u32) -> bool
     requires ready { IsReady _agent.now.at.value }
-    requires left { (u : List ℕ) × Contains (history (view_in _agent.now.at.value)) (u, a) }
-    requires right { (u : List ℕ) × Contains (history (view_in _agent.now.at.value)) (u, b) }
+    requires left { (u : List ℕ) × Contains (history (handle_view _agent.now.at.value)) (u, a) }
+    requires right { (u : List ℕ) × Contains (history (handle_view _agent.now.at.value)) (u, b) }
     ensures numbers { IsTrue result ↔ (a ≡ b) }
-    ensures units { (us vs : List ℕ) → Has (view_in _agent.now.at.value).units a us
-        → Has (view_in _agent.now.at.value).units b vs → IsTrue result ↔ (us ≡ vs) }
+    ensures units { (us vs : List ℕ) → Has (handle_view _agent.now.at.value).units a us
+        → Has (handle_view _agent.now.at.value).units b vs → IsTrue result ↔ (us ≡ vs) }
 {
     a == b
 }

@@ -4,7 +4,7 @@ use Rattle.js_item.specs.declared.item.Item.{Item}
 use Rattle.eval_values.specs.declared.value.Stop.{Stop}
 use Rattle.eval_members.specs.Building.{concat_call}
 use Rattle.eval_values.specs.Seen.{all_seen, AllFine}
-use Rattle.eval_values.specs.Does.{Does}
+use Rattle.eval_values.specs.Does.{GivesValue}
 use Rattle.eval_members.proofs.building.call_concat.Given as goal
 
 -- whatever completes what is left, completes the whole
@@ -18,6 +18,6 @@ invariant-loop-value g l =
       fine : AllFine (state l.store) number l.args;
       known : IsKnown (state l.store) (number l.text);
       completes : (c : State g.S.Strings.Frame) (r : Result (Item g.row.S-Ref.Denot) Stop) →
-          Does number (state l.store) c r (concat_call a.limit (text (state l.store) (number l.text)) (all_seen a number (drop l.value-index l.args))) →
-          Does number a c r (concat_call a.limit (text a (number l.fn.s)) (all_seen a number l.args));
+          GivesValue number (state l.store) c r (concat_call a.limit (text (state l.store) (number l.text)) (all_seen a number (drop l.value-index l.args))) →
+          GivesValue number a c r (concat_call a.limit (text a (number l.fn.s)) (all_seen a number l.args));
     }

@@ -6,7 +6,7 @@ use Rattle.eval_values.specs.Conversions.{to_string, all_units, first_text_units
 use Rattle.eval_values.specs.Need.{reads}
 use Rattle.eval_values.specs.Arguments.{first_of}
 use Rattle.eval_values.specs.Stops.{converted_of}
-use Rattle.eval_members.specs.Searching.{found}
+use Rattle.eval_members.specs.Searching.{search_answer}
 use Rattle.eval_members.specs.Members.{search_of}
 use Rattle.eval_values.specs.Seen.{all_seen}
 use Rattle.eval_values.proofs.TextArguments.{text_fails}
@@ -24,7 +24,7 @@ returns-in_err-w-clause-did g c =
     let u = text b (number c.args.s) in
     let v = c.second_number-place.ensures.value in
     let p = err_from_is_err_and c.from_residual.result c.from_residual.ensures.1 in
-    rw (p.1, p.2, ← v) (search_after number (state c.args.store.now) b (state c.first_text.new.store) c.args.s c.args.args.now (Err c.in_err-w.field-0.0) (search_of c.args.search) (converted_of c.second_number-place.result) o.uses.step o.uses.history c.requires.known c.requires.args (text_fails number (reads (length u + all_units vs)) b (state c.first_text.new.store) c.in_err-w.field-0.0 (to_string b.limit (first_of vs)) (λ x. found (length u + first_text_units vs) (search_of c.args.search u x) (converted_of c.second_number-place.result)) c.in_err-w.ensures.did))
+    rw (p.1, p.2, ← v) (search_after number (state c.args.store.now) b (state c.first_text.new.store) c.args.s c.args.args.now (Err c.in_err-w.field-0.0) (search_of c.args.search) (converted_of c.second_number-place.result) o.uses.step o.uses.history c.requires.known c.requires.args (text_fails number (reads (length u + all_units vs)) b (state c.first_text.new.store) c.in_err-w.field-0.0 (to_string b.limit (first_of vs)) (λ x. search_answer (length u + first_text_units vs) (search_of c.args.search u x) (converted_of c.second_number-place.result)) c.in_err-w.ensures.did))
 
 pub returns-clause-did : goal.returns-clause-did
 returns-clause-did g c =

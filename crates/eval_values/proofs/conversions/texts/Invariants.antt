@@ -3,7 +3,7 @@ use Rattle.js_store.specs.State.{State, Grows}
 use Rattle.eval_values.specs.declared.value.Stop.{Stop}
 use Rattle.eval_values.specs.Outcome.{each}
 use Rattle.eval_values.specs.Conversions.{to_string}
-use Rattle.js_texts.specs.Texts.{texts as texts_seen, AllKnown, settle_most}
+use Rattle.js_texts.specs.Texts.{known_texts as texts_seen, AllKnown, settle_most}
 use Rattle.js_item.specs.Seen.{seen}
 use Rattle.eval_values.specs.Seen.{all_seen, AllFine}
 use Rattle.eval_values.specs.Does.{GivesTexts, string_words}

@@ -1,6 +1,6 @@
 use Rattle.std.proofs.Common.{◌≡◌, ℕ, List, Option, Some, sym, subst}
 use Rattle.heap_rule.specs.Maps.{Has}
-use Rattle.heap_intern.specs.Answers.{Finds, StandsAt}
+use Rattle.heap_intern.specs.Answers.{Finds, StandsInSlot}
 use Rattle.heap_table.specs.Agents.{view_of}
 use Rattle.heap_table.specs.declared.agent.Agent.{Agent}
 use Rattle.heap_agents.specs.Members.{view_if}
@@ -14,5 +14,5 @@ returns-clause-finds c = let us : List ℕ = c.args.units.now in let r = c.find_
 
 pub returns-clause-again : goal.returns-clause-again
 returns-clause-again c = let us : List ℕ = c.args.units.now in let r = c.find_units_by-answer.result in
-    subst (λ (o : Option Agent). (i : ℕ) → Has (view_if o).units i us → StandsAt (view_if o) us i → r ≡ Some i) (sym c.take_agent-agent.ensures.agent)
-    (subst (λ (a : Agent). (i : ℕ) → Has (view_of a).units i us → StandsAt (view_of a) us i → r ≡ Some i) c.new-reader.ensures.agent c.find_units_by-answer.ensures.again)
+    subst (λ (o : Option Agent). (i : ℕ) → Has (view_if o).units i us → StandsInSlot (view_if o) us i → r ≡ Some i) (sym c.take_agent-agent.ensures.agent)
+    (subst (λ (a : Agent). (i : ℕ) → Has (view_of a).units i us → StandsInSlot (view_of a) us i → r ≡ Some i) c.new-reader.ensures.agent c.find_units_by-answer.ensures.again)

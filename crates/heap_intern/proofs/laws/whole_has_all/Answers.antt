@@ -1,7 +1,7 @@
 use Rattle.js_store.specs.Limits.{limit_units}
-use Rattle.heap_intern.specs.Sessions.{table_of, view_in}
+use Rattle.heap_intern.specs.Sessions.{table_of, session_view}
 use Rattle.heap_intern.proofs.Whole.{whole_all}
 use Rattle.heap_intern.proofs.laws.whole_has_all.Goals as goal
 
 pub returns : goal.returns
-returns c whole = let s = c.args._session.now in whole_all (view_in s) (limit_units s.limit) (table_of s.text.reader.heap.now) s.text.reader.belongs.5 whole
+returns c whole = let s = c.args._session.now in whole_all (session_view s) (limit_units s.limit) (table_of s.text.reader.heap.now) s.text.reader.belongs.5 whole

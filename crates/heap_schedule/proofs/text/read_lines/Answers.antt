@@ -1,5 +1,5 @@
 use Rattle.std.proofs.Common.{rules, ◌≡◌, ◌<◌, ◌+◌, ◌∙◌, arith, ap, length, map, List, [], ◌∷◌, ◌++◌, Some, None, Err, sym, take, subst}
-use Rattle.heap_schedule.specs.Fields.{Gives}
+use Rattle.heap_schedule.specs.Fields.{GivesReading}
 use Rattle.heap_schedule.specs.Lines.{named}
 use Rattle.heap_schedule.specs.Text.{refused, turn_in}
 use Rattle.heap_schedule.proofs.Turns.{lines_bad, lines_end, lines_more, lines_open}
@@ -16,7 +16,7 @@ pub returns-in-Refused : goal.returns-in-Refused
 returns-in-Refused c =
     let n = c.piece_len-end.result in
     let is : turn_in (take n c.lines.rest.now) ≡ None =
-    subst (λ s. Gives named (Err s) (turn_in (take n c.lines.rest.now))) c.in-Refused.is c.in-Err.ensures in
+    subst (λ s. GivesReading named (Err s) (turn_in (take n c.lines.rest.now))) c.in-Refused.is c.in-Err.ensures in
     let less : n < length c.lines.rest.now = search rules in
     let k : length c.lines.lines.items ≡ c.len-in-Refused.result = search rules in
     sym c.lines.invariant ∙ lines_bad (map named c.lines.lines.items) (length c.lines.lines.items + 2) c.lines.rest.now n

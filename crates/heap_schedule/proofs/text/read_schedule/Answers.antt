@@ -1,5 +1,5 @@
 use Rattle.std.proofs.Common.{rules, ◌≡◌, ◌<◌, length, map, Some, None, Err, sym, take, subst}
-use Rattle.heap_schedule.specs.Fields.{Gives, pieces}
+use Rattle.heap_schedule.specs.Fields.{GivesReading, fields_between}
 use Rattle.heap_schedule.specs.Lines.{named}
 use Rattle.heap_schedule.specs.Text.{lines_from, making_in, schedule_of, turns}
 use Rattle.heap_schedule.proofs.Turns.{first_bad, first_made, first_open, lines_stop, lines_whole}
@@ -13,7 +13,7 @@ returns-in-Ok-read_lines c =
     let n = c.piece_len-end.result in
     let made : making_in (take n c.args.text.now) ≡ Some c.in-Ok.making = c.in-Ok.ensures.read in
     let less : n < length c.args.text.now = search rules in
-    lines_whole (schedule_of c.args.text.now) c.in-Ok.making (lines_from 2 (pieces 10 c.behind.result.now)) (map named c.in-Ok-read_lines.lines.items)
+    lines_whole (schedule_of c.args.text.now) c.in-Ok.making (lines_from 2 (fields_between 10 c.behind.result.now)) (map named c.in-Ok-read_lines.lines.items)
     (first_made c.args.text.now c.behind.result.now n c.in-Ok.making (sym c.piece_len-end.ensures.value) less c.behind.ensures.rest made) c.in-Ok-read_lines.ensures
 
 pub returns-in-Err-read_lines : goal.returns-in-Err-read_lines
@@ -21,13 +21,13 @@ returns-in-Err-read_lines c =
     let n = c.piece_len-end.result in
     let made : making_in (take n c.args.text.now) ≡ Some c.in-Ok.making = c.in-Ok.ensures.read in
     let less : n < length c.args.text.now = search rules in
-    lines_stop (schedule_of c.args.text.now) c.in-Ok.making (lines_from 2 (pieces 10 c.behind.result.now)) c.in-Err-read_lines.stop
+    lines_stop (schedule_of c.args.text.now) c.in-Ok.making (lines_from 2 (fields_between 10 c.behind.result.now)) c.in-Err-read_lines.stop
     (first_made c.args.text.now c.behind.result.now n c.in-Ok.making (sym c.piece_len-end.ensures.value) less c.behind.ensures.rest made) c.in-Err-read_lines.ensures
 
 pub returns-in-Refused : goal.returns-in-Refused
 returns-in-Refused c =
     let n = c.piece_len-end.result in
     let none : making_in (take n c.args.text.now) ≡ None =
-    subst (λ s. Gives (λ m. m) (Err s) (making_in (take n c.args.text.now))) c.in-Refused.is c.in-Err.ensures.read in
+    subst (λ s. GivesReading (λ m. m) (Err s) (making_in (take n c.args.text.now))) c.in-Refused.is c.in-Err.ensures.read in
     let less : n < length c.args.text.now = search rules in
     first_bad c.args.text.now n (sym c.piece_len-end.ensures.value) less none

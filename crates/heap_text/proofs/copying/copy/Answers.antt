@@ -7,7 +7,7 @@ use Rattle.heap_rule.specs.Births.{MayBear, born, stored_length}
 use Rattle.heap_rule.specs.Claims.{won_claim}
 use Rattle.heap_rule.proofs.MapLemmas.{insert_same, key_of}
 use Rattle.heap_table.specs.Known.{KeepsKnown}
-use Rattle.heap_read.specs.Sources.{listed}
+use Rattle.heap_read.specs.Sources.{source_units}
 use Rattle.heap_text.specs.declared.faults.TextFull.TheVariants as fault
 use Rattle.heap_read.specs.Reads.{Continues}
 use Rattle.heap_text.specs.Texts.{IsSpared, KeepsOwn}
@@ -30,7 +30,7 @@ store_length-requires-clause-may c = let w : View = c.write.new.self.agent.seat.
 
 pub birth-requires-clause-fits : goal.birth-requires-clause-fits
 birth-requires-clause-fits c = let v : View = c.args.reader.now.agent.seat.me.0 in let w : View = c.write.new.self.agent.seat.me.0 in let x : View = c.claim_id.new.self.seat.me.0 in let y : View = c.store_length.new.self.seat.me.0 in
-    let id = c.in-Ok-claim_id.id in let n = c.args.n in let wide = c.has_wide-wide.result in let start = c.in-Ok.start in let us : List ℕ = listed v c.args.source.now in
+    let id = c.in-Ok-claim_id.id in let n = c.args.n in let wide = c.has_wide-wide.result in let start = c.in-Ok.start in let us : List ℕ = source_units v c.args.source.now in
     let is : y ≡ stored_length (won_claim w Ids id 1) id n = c.store_length.ensures.view ∙ ap (λ (a : View). stored_length a id n) c.in-Ok-claim_id.ensures.view in
     let here : IsWritten w wide start us = subst (λ (xs : List ℕ). IsWritten w wide start xs) c.has_wide-wide.ensures.listed c.in-Ok.ensures.ok.0 in
     let there : IsWritten y wide start us = subst (λ (a : View). IsWritten a wide start us) (sym is) (written_still w id n wide start us here) in
@@ -50,7 +50,7 @@ returns-clause-continues c = let v : View = c.args.reader.now.agent.seat.me.0 in
 
 pub returns-clause-units : goal.returns-clause-units
 returns-clause-units c = let v : View = c.args.reader.now.agent.seat.me.0 in let w : View = c.write.new.self.agent.seat.me.0 in let x : View = c.claim_id.new.self.seat.me.0 in let y : View = c.store_length.new.self.seat.me.0 in
-    let id = c.in-Ok-claim_id.id in let n = c.args.n in let wide = c.has_wide-wide.result in let start = c.in-Ok.start in let us : List ℕ = listed v c.args.source.now in
+    let id = c.in-Ok-claim_id.id in let n = c.args.n in let wide = c.has_wide-wide.result in let start = c.in-Ok.start in let us : List ℕ = source_units v c.args.source.now in
     let is : y ≡ stored_length (won_claim w Ids id 1) id n = c.store_length.ensures.view ∙ ap (λ (a : View). stored_length a id n) c.in-Ok-claim_id.ensures.view in
     let here : IsWritten w wide start us = subst (λ (xs : List ℕ). IsWritten w wide start xs) c.has_wide-wide.ensures.listed c.in-Ok.ensures.ok.0 in
     let there : IsWritten y wide start us = subst (λ (a : View). IsWritten a wide start us) (sym is) (written_still w id n wide start us here) in
@@ -60,7 +60,7 @@ returns-clause-units c = let v : View = c.args.reader.now.agent.seat.me.0 in let
 pub returns-clause-form : goal.returns-clause-form
 returns-clause-form c = let y : View = c.store_length.new.self.seat.me.0 in let id = c.in-Ok-claim_id.id in let start = c.in-Ok.start in (
   start,
-  subst (λ (a : View). Has a.forms id (Flat (is_wide (listed c.args.reader.now.agent.seat.me.0 c.args.source.now)) start false)) (sym c.birth.ensures.view)
+  subst (λ (a : View). Has a.forms id (Flat (is_wide (source_units c.args.reader.now.agent.seat.me.0 c.args.source.now)) start false)) (sym c.birth.ensures.view)
       (subst (λ (b : Bool). Has (born y id (Flat c.has_wide-wide.result start false)).forms id (Flat b start false)) c.has_wide-wide.ensures.wide (born_form y id c.has_wide-wide.result start)),
 )
 
@@ -70,7 +70,7 @@ returns-in-Err-clause-spared c = let v : View = c.args.reader.now.agent.seat.me.
 
 pub returns-in-Err-claim_id-clause-spared : goal.returns-in-Err-claim_id-clause-spared
 returns-in-Err-claim_id-clause-spared c = let v : View = c.args.reader.now.agent.seat.me.0 in let u : View = c.has_wide-wide.new.self.agent.seat.me.0 in let w : View = c.write.new.self.agent.seat.me.0 in let x : View = c.claim_id.new.self.seat.me.0 in
-    let e = c.write.ensures in let f = c.in-Err-claim_id.ensures.refused in let ok = c.in-Ok.ensures.ok in let n = c.args.n in let wide = c.has_wide-wide.result in let us : List ℕ = listed u c.args.source.now in
+    let e = c.write.ensures in let f = c.in-Err-claim_id.ensures.refused in let ok = c.in-Ok.ensures.ok in let n = c.args.n in let wide = c.has_wide-wide.result in let us : List ℕ = source_units u c.args.source.now in
     let long : length us ≡ n = ap length c.has_wide-wide.ensures.listed ∙ c.requires.count in
     let own : (q : ℕ) → q < words_over wide n → HasKey w.own_words (c.in-Ok.start + q) = λ q l. let t = ok.0.words.each q (subst (λ (m : ℕ). q < words_over wide m) (sym long) l) in key_of w.own_words (c.in-Ok.start + q) t.0 t.1 in
     subst (λ (b : Bool). IsSpared v x (words_over b n) (fault.Ids c.in-Err-claim_id.full)) c.has_wide-wide.ensures.wide

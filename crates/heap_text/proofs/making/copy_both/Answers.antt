@@ -7,7 +7,7 @@ use Rattle.heap_rule.proofs.MapLemmas.{key_of}
 use Rattle.heap_table.specs.Agents.{size_of}
 use Rattle.heap_read.specs.declared.source.UnitSource.TheVariants as source
 use Rattle.heap_text.specs.Joins.{IsCopied}
-use Rattle.heap_read.specs.Sources.{listed}
+use Rattle.heap_read.specs.Sources.{source_units}
 use Rattle.heap_read.proofs.Going.{continues_reads, continues_trans}
 use Rattle.heap_text.proofs.Owned.{own_reads, own_trans}
 use Rattle.heap_text.proofs.Leading.{short_solid}
@@ -69,7 +69,7 @@ returns-clause-copied c us vs h k = let v : View = c.args.reader.now.agent.seat.
     let r2 = c.side_forms-left.ensures.reads.view in let w5 : View = c.copy.new.reader.agent.seat.me.0 in
     let r3 = reads_trans v w2 w3 r2 c.solid_window-front.ensures.reads.view in let r4 = reads_trans v w3 w4 r3 c.solid_window-back.ensures.reads.view in let e = c.copy.ensures in
     let a = c.solid_window-front.ensures.shows us (r2.known.units c.args.a.id us h) in let b = c.solid_window-back.ensures.shows vs (r3.known.units c.args.b.id vs k) in
-    let xs : List ℕ = listed w4 (source.Pieces (record { of = c.args.a; from = 0; window = c.solid_window-front.result }) (record { of = c.args.b; from = 0; window = c.solid_window-back.result })) in
+    let xs : List ℕ = source_units w4 (source.Pieces (record { of = c.args.a; from = 0; window = c.solid_window-front.result }) (record { of = c.args.b; from = 0; window = c.solid_window-back.result })) in
     let all : xs ≡ us ++ vs = (λ i. whole_is w4 c.args.a us (r4.known.units c.args.a.id us h) c.solid_window-front.result a.1 i ++ whole_is w4 c.args.b vs (r4.known.units c.args.b.id vs k) c.solid_window-back.result b.1 i) in
     let kn = c.requires.known in let a0 = c.solid_window-front.ensures.shows kn.0 (r2.known.units c.args.a.id kn.0 kn.2) in let b0 = c.solid_window-back.ensures.shows kn.1 (r3.known.units c.args.b.id kn.1 kn.3) in let sum = length-append us vs in
     let count : c.args.n ≡ length (us ++ vs) = omega (arith, sum, a.1, b.1, a0.1, b0.1, kn.6) in

@@ -10,7 +10,7 @@ use Rattle.heap_rule.proofs.Possible.{possible_long, possible_short}
 use Rattle.heap_table.specs.Agents.{size_of}
 use Rattle.heap_read.specs.declared.string.Window.{Window}
 use Rattle.heap_read.specs.declared.source.UnitSource.TheVariants as source
-use Rattle.heap_read.specs.Sources.{listed}
+use Rattle.heap_read.specs.Sources.{source_units}
 use Rattle.heap_text.specs.Texts.{Told}
 use Rattle.heap_read.proofs.Going.{continues_reads, continues_trans}
 use Rattle.heap_text.proofs.Owned.{own_reads, own_trans}
@@ -46,7 +46,7 @@ returns-clause-copied c us h = let v : View = c.args.reader.now.agent.seat.me.0 
     let known = c.window_on-window.ensures.reads.view.known.units c.args.s.id us h in let n : ℕ = c.args.n in
     let same_units : t.0 ≡ us = (let both : Some t.0 ≡ Some us = sym t.1 ∙ h in cc) in let room : c.args.from + n ≤ length us = subst (λ (xs : List ℕ). c.args.from + n ≤ length xs) same_units t.2 in
     let window : Window = record { wide = c.window_on-window.result.wide; start = c.window_on-window.result.start; offset = c.window_on-window.result.offset + c.args.from; len = n } in
-    let xs : List ℕ = listed w (source.Piece (record { of = c.args.s; from = c.args.from; window = window })) in
+    let xs : List ℕ = source_units w (source.Piece (record { of = c.args.s; from = c.args.from; window = window })) in
     let all : xs ≡ part c.args.from n us = piece_is w c.args.s us known c.args.from window in
     let count : n ≡ length (part c.args.from n us) = sym (length_part c.args.from n us room) in
     let same : size_of c.window_on-window.new.self.heap.now ≡ size_of c.args.reader.now.heap.now = ap (λ y. size_of y.now) c.window_on-window.ensures.reads.heap in let e = c.copy.ensures in

@@ -13,7 +13,7 @@ use Rattle.eval_scopes.specs.Bindings.{meant}
 use Rattle.js_eval.specs.Expression.{expr_out, steps_out}
 use Rattle.js_item.specs.Fine.{IsFine}
 use Rattle.js_eval.specs.Seen.{scope_of}
-use Rattle.eval_values.specs.Does.{GivesAll}
+use Rattle.eval_values.specs.Does.{GivesValues}
 use Rattle.eval_values.proofs.Compose.{ran_free}
 use Rattle.eval_values.proofs.Each.{each_turn, each_halt, each_full, fine_turn}
 use Rattle.js_eval.proofs.Leaves.{tree_of_literal, tree_of_number}
@@ -188,7 +188,7 @@ exprs-loop-e-init g t c =
       grows = grows_refl a;
       context = c.requires;
       fine = rw e tt;
-      completes = λ z r f. subst (λ (o : Out (List Val)). GivesAll number a z r o) (sym (exprs_are c.args.list.now (scope_of a number c.args.context.now))) (rw e at f);
+      completes = λ z r f. subst (λ (o : Out (List Val)). GivesValues number a z r o) (sym (exprs_are c.args.list.now (scope_of a number c.args.context.now))) (rw e at f);
     }
 
 pub exprs-loop-e-preserved : goal.exprs-loop-e-preserved

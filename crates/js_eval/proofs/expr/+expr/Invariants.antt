@@ -11,7 +11,7 @@ use Rattle.js_item.specs.Fine.{strings_of, IsFine, FineFields}
 use Rattle.eval_values.specs.Seen.{all_seen, AllFine}
 use Rattle.js_eval.specs.Paid.{entries_paid, Makes}
 use Rattle.js_eval.specs.Seen.{ContextFine, scope_of}
-use Rattle.eval_values.specs.Does.{Does, GivesAll}
+use Rattle.eval_values.specs.Does.{GivesValue, GivesValues}
 use Rattle.eval_values.proofs.Each.{each_behind}
 use Rattle.js_eval.proofs.expr.+expr.Given as goal
 
@@ -25,8 +25,8 @@ invariant-links-loop-link g l =
       context : ContextFine (state l.store) number l.context;
       fine : IsFine (state l.store) number l.value;
       completes : (c : State g.S.Strings.Frame) (r : Result (Item g.row.S-Ref.Denot) Stop) →
-          Does number (state l.store) c r (links_out (links_tree (drop l.link-index l.rest)) (scope_of (state l.fn.store) number l.context) (seen (state l.store) number l.value)) →
-          Does number (state l.fn.store) c r (links_out (links_tree l.rest) (scope_of (state l.fn.store) number l.context) (seen (state l.fn.store) number l.fn.first));
+          GivesValue number (state l.store) c r (links_out (links_tree (drop l.link-index l.rest)) (scope_of (state l.fn.store) number l.context) (seen (state l.store) number l.value)) →
+          GivesValue number (state l.fn.store) c r (links_out (links_tree l.rest) (scope_of (state l.fn.store) number l.context) (seen (state l.fn.store) number l.fn.first));
     }
 
 abbrev pub invariant-steps-loop-step : goal.invariant-steps-loop-step
@@ -38,8 +38,8 @@ invariant-steps-loop-step g l =
       context : ContextFine (state l.store) number l.context;
       fine : IsFine (state l.store) number (unwrap_or l.value l.first);
       completes : (c : State g.S.Strings.Frame) (r : Result (Item g.row.S-Ref.Denot) Stop) →
-          Does number (state l.store) c r (steps_out (steps_tree (drop l.step-index l.rest)) (scope_of (state l.fn.store) number l.context) (seen (state l.store) number (unwrap_or l.value l.first))) →
-          Does number (state l.fn.store) c r (steps_out (steps_tree l.rest) (scope_of (state l.fn.store) number l.context) (seen (state l.fn.store) number l.first));
+          GivesValue number (state l.store) c r (steps_out (steps_tree (drop l.step-index l.rest)) (scope_of (state l.fn.store) number l.context) (seen (state l.store) number (unwrap_or l.value l.first))) →
+          GivesValue number (state l.fn.store) c r (steps_out (steps_tree l.rest) (scope_of (state l.fn.store) number l.context) (seen (state l.fn.store) number l.first));
     }
 
 abbrev pub invariant-exprs-loop-e : goal.invariant-exprs-loop-e
@@ -52,8 +52,8 @@ invariant-exprs-loop-e g l =
       context : ContextFine (state l.store) number l.context;
       fine : AllFine (state l.store) number l.values.items;
       completes : (c : State g.S.Strings.Frame) (r : Result (Vec (Item g.row.S-Ref.Denot) Global) Stop) →
-          GivesAll number (state l.store) c r (each_behind (λ e. expr_out (expr_tree e) meant) (drop l.e-index l.list) (all_seen (state l.store) number l.values.items)) →
-          GivesAll number (state l.fn.store) c r (exprs_out (exprs_tree l.list) meant);
+          GivesValues number (state l.store) c r (each_behind (λ e. expr_out (expr_tree e) meant) (drop l.e-index l.list) (all_seen (state l.store) number l.values.items)) →
+          GivesValues number (state l.fn.store) c r (exprs_out (exprs_tree l.list) meant);
     }
 
 abbrev pub invariant-members_of-loop-member : goal.invariant-members_of-loop-member

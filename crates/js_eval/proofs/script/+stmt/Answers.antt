@@ -7,7 +7,7 @@ use Rattle.eval_tree.proofs.Trees.{tree_of_block, tree_of_let, tree_of_const, tr
 use Rattle.js_item.specs.Seen.{seen}
 use Rattle.js_eval.specs.Script.{Flow, block_flow, turn_flow, turns}
 use Rattle.js_eval.specs.Seen.{context_bindings, scope_of}
-use Rattle.js_eval.specs.Flows.{Went}
+use Rattle.js_eval.specs.Flows.{FollowsFlow}
 use Rattle.js_eval.proofs.Assigned.{memory_went}
 use Rattle.js_eval.proofs.Flows.{leaves_went, turns_none, turns_turn, turns_halt}
 use Rattle.js_eval.proofs.Statements.{block_went, turn_went, turn_after, body_turn, body_halt, arms_turn, arms_take, arms_halt}
@@ -169,8 +169,8 @@ turns-returns-clause-went g t c =
     let go = turn_flow c.args.name.now (block_tree c.args.body.now) (scope_of (state c.args.store.now) number c.args.context.now) in
     let none : c.args.bound - l.i ≡ 0 = omega arith in
     l.invariant.completes b l.lines (Ok tt) bs
-    (subst (λ (q : ℕ). Went b b l.lines l.lines (Ok tt) bs (turns go l.i q bs)) (sym none)
-    (subst (λ (q : Flow). Went b b l.lines l.lines (Ok tt) bs q) (sym (turns_none go l.i bs))
+    (subst (λ (q : ℕ). FollowsFlow b b l.lines l.lines (Ok tt) bs (turns go l.i q bs)) (sym none)
+    (subst (λ (q : Flow). FollowsFlow b b l.lines l.lines (Ok tt) bs q) (sym (turns_none go l.i bs))
     (leaves_went b l.lines bs)))
 
 -- the arms of an `if`

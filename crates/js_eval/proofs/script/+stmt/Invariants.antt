@@ -7,7 +7,7 @@ use Rattle.js_item.specs.Seen.{Val}
 use Rattle.eval_scopes.specs.Bindings.{Bindings}
 use Rattle.js_eval.specs.Script.{stmts_flow, block_flow, arms_flow, turn_flow, turns}
 use Rattle.js_eval.specs.Seen.{ContextFine, context_bindings, scope_of}
-use Rattle.js_eval.specs.Flows.{Went}
+use Rattle.js_eval.specs.Flows.{FollowsFlow}
 use Rattle.js_eval.proofs.script.+stmt.Given as goal
 
 -- whatever completes what is left, completes the whole
@@ -20,8 +20,8 @@ invariant-arms-loop-arm g l =
       fine : ContextFine (state l.store) number l.context;
       literals : l.context.literals ≡ l.fn.context.literals;
       completes : (c : State g.S.Strings.Frame) (z : List ℕ) (r : Result (Unit {0}) Stop) (bs : Bindings Val) →
-          Went (state l.store) c l.lines z r bs (arms_flow (arms (map arm_tree (drop l.arm-index l.list))) (λ q. block_flow (block_tree l.rest) q) (scope_of (state l.store) number l.context)) →
-          Went (state l.fn.store) c l.fn.lines z r bs (arms_flow (arms (map arm_tree l.list)) (λ q. block_flow (block_tree l.rest) q) (scope_of (state l.fn.store) number l.fn.context));
+          FollowsFlow (state l.store) c l.lines z r bs (arms_flow (arms (map arm_tree (drop l.arm-index l.list))) (λ q. block_flow (block_tree l.rest) q) (scope_of (state l.store) number l.context)) →
+          FollowsFlow (state l.fn.store) c l.fn.lines z r bs (arms_flow (arms (map arm_tree l.list)) (λ q. block_flow (block_tree l.rest) q) (scope_of (state l.fn.store) number l.fn.context));
     }
 
 abbrev pub invariant-statements-loop-s : goal.invariant-statements-loop-s
@@ -33,8 +33,8 @@ invariant-statements-loop-s g l =
       fine : ContextFine (state l.store) number l.context;
       literals : l.context.literals ≡ l.fn.context.literals;
       completes : (c : State g.S.Strings.Frame) (z : List ℕ) (r : Result (Unit {0}) Stop) (bs : Bindings Val) →
-          Went (state l.store) c l.lines z r bs (stmts_flow (stmts_tree (drop l.s-index l.body)) (scope_of (state l.store) number l.context)) →
-          Went (state l.fn.store) c l.fn.lines z r bs (stmts_flow (stmts_tree l.body) (scope_of (state l.fn.store) number l.fn.context));
+          FollowsFlow (state l.store) c l.lines z r bs (stmts_flow (stmts_tree (drop l.s-index l.body)) (scope_of (state l.store) number l.context)) →
+          FollowsFlow (state l.fn.store) c l.fn.lines z r bs (stmts_flow (stmts_tree l.body) (scope_of (state l.fn.store) number l.fn.context));
     }
 
 abbrev pub invariant-turns-loop-i : goal.invariant-turns-loop-i
@@ -47,8 +47,8 @@ invariant-turns-loop-i g l =
       fine : ContextFine (state l.store) number l.context;
       literals : l.context.literals ≡ l.fn.context.literals;
       completes : (c : State g.S.Strings.Frame) (z : List ℕ) (r : Result (Unit {0}) Stop) (bs : Bindings Val) →
-          Went (state l.store) c l.lines z r bs (turns (turn_flow l.name (block_tree l.body) first) l.i (l.bound - l.i) (context_bindings (state l.store) number l.context)) →
-          Went (state l.fn.store) c l.fn.lines z r bs (turns (turn_flow l.name (block_tree l.body) first) 0 l.bound (context_bindings (state l.fn.store) number l.fn.context));
+          FollowsFlow (state l.store) c l.lines z r bs (turns (turn_flow l.name (block_tree l.body) first) l.i (l.bound - l.i) (context_bindings (state l.store) number l.context)) →
+          FollowsFlow (state l.fn.store) c l.fn.lines z r bs (turns (turn_flow l.name (block_tree l.body) first) 0 l.bound (context_bindings (state l.fn.store) number l.fn.context));
     }
 
 -- a block, its statements, one of them, and its blocks; the arms of an `if` are as deep as the deepest of them and of the rest

@@ -1,6 +1,6 @@
 use Rattle.std.proofs.Common.{◌≡◌, ◌<◌, ap, arith}
 use Rattle.js_item.specs.Contents.{count, count_in}
-use Rattle.js_item.specs.Views.{content, fields_of}
+use Rattle.js_item.specs.Views.{content_of, fields_of}
 use Rattle.js_item.proofs.Members.{count_at, copy_turn}
 use Rattle.js_item.proofs.item.+copy.Goals as goal
 
@@ -8,7 +8,7 @@ pub Object::copy-copy-requires : goal.Object::copy-copy-requires
 Object::copy-copy-requires g t c κs within =
     let items = c.members-member-items.result.now in
     let m = c.member-item.result in
-    let below : count_in (content m.value) < count (fields_of items) = count_at items c.loop-member.member-index m c.loop-member-test.true c.member-item.is in
+    let below : count_in (content_of m.value) < count (fields_of items) = count_at items c.loop-member.member-index m c.loop-member-test.true c.member-item.is in
     let whole : count (fields_of items) ≡ count c.args.self.now = ap count {y = c.args.self.now} c.members-member-items.ensures.fields in
     (omega (arith, below, whole, c.decreases), within)
 

@@ -1,11 +1,11 @@
 use Rattle.std.proofs.Common.{◌≡◌, ◌+◌, ◌*◌, ◌≤◌, take}
 use Rattle.js_item.specs.Contents.{count, count_in}
 use Rattle.js_item.specs.Fine.{depth}
-use Rattle.js_item.specs.Views.{content, fields_of}
+use Rattle.js_item.specs.Views.{content_of, fields_of}
 use Rattle.js_item.proofs.item.+spend.Given as goal
 
 abbrev pub decreases-Item::spend : goal.decreases-Item::spend
-decreases-Item::spend g l = 2 * count_in (content l.self.now) + 1
+decreases-Item::spend g l = 2 * count_in (content_of l.self.now) + 1
 
 abbrev pub decreases-Object::spend : goal.decreases-Object::spend
 decreases-Object::spend g l = 2 * count l.self.now

@@ -4,7 +4,7 @@ use Rattle.js_units.specs.Text.{utf8}
 use Rattle.js_store.specs.State.{IsKnown, text}
 use Rattle.js_store.proofs.Laws.{grows_trans, known_still, text_still}
 use Rattle.js_json.specs.Printing.{line_rest}
-use Rattle.js_texts.specs.Texts.{texts}
+use Rattle.js_texts.specs.Texts.{known_texts}
 use Rattle.js_texts.proofs.Lists.{every_at, every_map, settle_front, settled_turn}
 use Rattle.js_texts.proofs.Delimited.{kept_trans, rest_front, text_turn}
 use Rattle.js_json.proofs.printing.append_rest.Goals as goal
@@ -35,8 +35,8 @@ loop-s-preserved g c =
       ids = let done = i.ids in omega (arith, ids, done);
       words = omega (arith, front, words, before);
       bytes =
-          text_turn utf8 32 10 c.loop-s.line.items c.push_byte.new.line.items c.append_string.new.line.items (utf8 (text b (number r))) (line_rest (texts a number (drop (k + 1) rest))) c.in_ok-push_byte.ensures.added e.added
-          ∙ ap (λ t. c.loop-s.line.items ++ (32 ∷ utf8 t ++ line_rest (texts a number (drop (k + 1) rest)))) same
+          text_turn utf8 32 10 c.loop-s.line.items c.push_byte.new.line.items c.append_string.new.line.items (utf8 (text b (number r))) (line_rest (known_texts a number (drop (k + 1) rest))) c.in_ok-push_byte.ensures.added e.added
+          ∙ ap (λ t. c.loop-s.line.items ++ (32 ∷ utf8 t ++ line_rest (known_texts a number (drop (k + 1) rest)))) same
           ∙ ap (λ w. c.loop-s.line.items ++ w) (sym (rest_front utf8 32 10 number a rest k r c.loop-s-test.true c.s-item.is))
           ∙ i.bytes;
       kept =

@@ -1,7 +1,7 @@
 use Rattle.std.proofs.Common.{◌≡◌, ◌+◌, ◌≤◌, ◌++◌, drop, length, take}
 use Rattle.js_store.specs.State.{Grows}
 use Rattle.js_json.specs.Printing.{line_rest}
-use Rattle.js_texts.specs.Texts.{texts, AllKnown, AllSettled, settle_most}
+use Rattle.js_texts.specs.Texts.{known_texts, AllKnown, AllSettled, settle_most}
 use Rattle.js_json.proofs.printing.append_rest.Given as goal
 
 -- what was settled and used, and what is left to settle; the line so far, what is left of it and what stood before it
@@ -16,6 +16,6 @@ invariant-loop-s g l =
       settled : AllSettled (state l.store) number (take l.s-index l.rest);
       ids : (state l.store).used_ids ≤ (state l.fn.store).used_ids;
       words : (state l.store).used_words + settle_most (state l.store) number (drop l.s-index l.rest) ≤ (state l.fn.store).used_words + settle_most (state l.fn.store) number l.rest;
-      bytes : l.line.items ++ line_rest (texts (state l.fn.store) number (drop l.s-index l.rest)) ≡ l.fn.line.items ++ line_rest (texts (state l.fn.store) number l.rest);
+      bytes : l.line.items ++ line_rest (known_texts (state l.fn.store) number (drop l.s-index l.rest)) ≡ l.fn.line.items ++ line_rest (known_texts (state l.fn.store) number l.rest);
       kept : take (length l.fn.line.items) l.line.items ≡ l.fn.line.items;
     }

@@ -1,7 +1,7 @@
 use Rattle.std.proofs.Common.{◌≡◌, ◌+◌, ◌-◌, drop, length, reverse}
 use Rattle.std.specs.Prelude.{None}
 use Rattle.js_store.specs.State.{text}
-use Rattle.js_store.specs.Faults.{Step}
+use Rattle.js_store.specs.Faults.{StoreStep}
 use Rattle.js_methods.specs.Trimming.{blanks}
 use Rattle.js_methods.proofs.trimming.end_of_rest.Given as goal
 
@@ -12,6 +12,6 @@ invariant-loop-i g l =
     let back = reverse (drop l.from units) in
     record {
       rest : blanks back ≡ (length units - l.i) + blanks (drop (length units - l.i) back);
-      step : Step (state l.fn.store) (state l.store) None 0 0;
+      step : StoreStep (state l.fn.store) (state l.store) None 0 0;
       history : (state l.store).history ≡ (state l.fn.store).history;
     }

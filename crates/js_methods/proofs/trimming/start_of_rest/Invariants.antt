@@ -1,7 +1,7 @@
 use Rattle.std.proofs.Common.{◌≡◌, ◌+◌, drop}
 use Rattle.std.specs.Prelude.{None}
 use Rattle.js_store.specs.State.{text}
-use Rattle.js_store.specs.Faults.{Step}
+use Rattle.js_store.specs.Faults.{StoreStep}
 use Rattle.js_methods.specs.Trimming.{blanks}
 use Rattle.js_methods.proofs.trimming.start_of_rest.Given as goal
 
@@ -11,6 +11,6 @@ invariant-loop-i g l =
     let units = text (state l.fn.store) (g.S.Strings.number l.s) in
     record {
       rest : blanks units ≡ l.i + blanks (drop l.i units);
-      step : Step (state l.fn.store) (state l.store) None 0 0;
+      step : StoreStep (state l.fn.store) (state l.store) None 0 0;
       history : (state l.store).history ≡ (state l.fn.store).history;
     }

@@ -1,7 +1,7 @@
 use Rattle.std.proofs.Common.{◌≡◌, ◌≤◌, ◌+◌, ◌*◌, ◌++◌, drop, take}
 use Rattle.js_store.specs.State.{Grows}
 use Rattle.js_item.specs.Contents.{count, count_in}
-use Rattle.js_item.specs.Views.{content}
+use Rattle.js_item.specs.Views.{content_of}
 use Rattle.js_object.specs.Json.{braced}
 use Rattle.js_item.specs.Seen.{says}
 use Rattle.js_object.proofs.Texts.{lent_shown}
@@ -11,7 +11,7 @@ use Rattle.js_object.proofs.Uses.{lent_settle}
 use Rattle.js_object.proofs.json.+json.Given as goal
 
 abbrev pub decreases-append_item : goal.decreases-append_item
-decreases-append_item g l = 2 * count_in (content l.item.now) + 1
+decreases-append_item g l = 2 * count_in (content_of l.item.now) + 1
 
 abbrev pub decreases-append_object : goal.decreases-append_object
 decreases-append_object g l = 2 * count l.of.now

@@ -2,7 +2,7 @@ use Rattle.std.proofs.Common.{◌≡◌, ◌∙◌, arith, sym, map}
 use Rattle.std.proofs.lemmas.Result.{err_from_is_err_and}
 use Rattle.js_store.proofs.Laws.{grows_trans}
 use Rattle.js_item.specs.Fine.{strings_of}
-use Rattle.js_object.specs.Keys.{index_in, ordered, entries, lent_entry}
+use Rattle.js_object.specs.Keys.{index_in, ordered, key_values, lent_entry}
 use Rattle.js_item.specs.Seen.{says}
 use Rattle.js_object.proofs.Readable.{readable_keys}
 use Rattle.js_object.proofs.Texts.{key_fine, item_ready, item_smaller}
@@ -19,7 +19,7 @@ object_len-key_len-requires g t c =
     let state = g.S.Strings.state in
     let ms = c.deref-member-items.result.now in
     let a = state c.args.store.now in
-    let order : map lent_entry ms ≡ ordered (index_in a g.S.Strings.number) (entries c.args.of.now) = rw c.deref-member-items.ensures.value c.in_ok-members.ensures.value in
+    let order : map lent_entry ms ≡ ordered (index_in a g.S.Strings.number) (key_values c.args.of.now) = rw c.deref-member-items.ensures.value c.in_ok-members.ensures.value in
     key_fine a (state c.loop-member.store) g.S.Strings.number c.loop-member.invariant.grows c.args.of.now c.requires.readable ms order c.loop-member.member-index c.member-item.result c.loop-member-test.true c.member-item.is
 
 pub object_len-item_len-requires : goal.object_len-item_len-requires
@@ -29,7 +29,7 @@ object_len-item_len-requires g t c κs within =
     let a = state c.args.store.now in
     let d = state c.key_len.new.store in
     let grows = grows_trans c.loop-member.invariant.grows c.in_ok-key.ensures.uses.step.grows in
-    let order : map lent_entry ms ≡ ordered (index_in a g.S.Strings.number) (entries c.args.of.now) = rw c.deref-member-items.ensures.value c.in_ok-members.ensures.value in
+    let order : map lent_entry ms ≡ ordered (index_in a g.S.Strings.number) (key_values c.args.of.now) = rw c.deref-member-items.ensures.value c.in_ok-members.ensures.value in
     let smaller = item_smaller a d g.S.Strings.number grows c.args.of.now c.requires.readable ms order c.loop-member.member-index c.member-item.result c.loop-member-test.true c.member-item.is in
     let ready = item_ready a d g.S.Strings.number grows c.args.of.now c.requires.readable ms order c.loop-member.member-index c.member-item.result c.loop-member-test.true c.member-item.is in
     (omega (arith, smaller, c.decreases), (within.0, (within.1, (ready, omega (arith, smaller, c.requires.many)))))
@@ -41,7 +41,7 @@ object_len-overflow_add-len-then-is_shown-2 g t c =
     let a = state c.args.store.now in
     let b = state c.loop-member.store in
     let d = state c.key_len.new.store in
-    let order : map lent_entry ms ≡ ordered (index_in a g.S.Strings.number) (entries c.args.of.now) = rw c.deref-member-items.ensures.value c.in_ok-members.ensures.value in
+    let order : map lent_entry ms ≡ ordered (index_in a g.S.Strings.number) (key_values c.args.of.now) = rw c.deref-member-items.ensures.value c.in_ok-members.ensures.value in
     let fits = len_fits a b d g.S.Strings.number c.loop-member.invariant.grows (grows_trans c.loop-member.invariant.grows c.in_ok-key.ensures.uses.step.grows) c.args.of.now c.requires.readable ms order c.loop-member.member-index c.member-item.result c.loop-member-test.true c.member-item.is
     c.loop-member.len c.loop-member.invariant.most c.in_ok-key.key c.in_ok-value.value c.requires.many c.in_ok-key.ensures.most c.in_ok-value.ensures.most in
     omega (arith, fits)
@@ -53,7 +53,7 @@ object_len-overflow_add-len-then-is_shown g t c =
     let a = state c.args.store.now in
     let b = state c.loop-member.store in
     let d = state c.key_len.new.store in
-    let order : map lent_entry ms ≡ ordered (index_in a g.S.Strings.number) (entries c.args.of.now) = rw c.deref-member-items.ensures.value c.in_ok-members.ensures.value in
+    let order : map lent_entry ms ≡ ordered (index_in a g.S.Strings.number) (key_values c.args.of.now) = rw c.deref-member-items.ensures.value c.in_ok-members.ensures.value in
     let fits = len_fits a b d g.S.Strings.number c.loop-member.invariant.grows (grows_trans c.loop-member.invariant.grows c.in_ok-key.ensures.uses.step.grows) c.args.of.now c.requires.readable ms order c.loop-member.member-index c.member-item.result c.loop-member-test.true c.member-item.is
     c.loop-member.len c.loop-member.invariant.most c.in_ok-key.key c.in_ok-value.value c.requires.many c.in_ok-key.ensures.most c.in_ok-value.ensures.most in
     omega (arith, fits)
@@ -66,7 +66,7 @@ object_len-loop-member-preserved g t c =
     let a = state c.args.store.now in
     let b = state c.loop-member.store in
     let i = c.loop-member.invariant in
-    let order : map lent_entry ms ≡ ordered (index_in a number) (entries c.args.of.now) = rw c.deref-member-items.ensures.value c.in_ok-members.ensures.value in
+    let order : map lent_entry ms ≡ ordered (index_in a number) (key_values c.args.of.now) = rw c.deref-member-items.ensures.value c.in_ok-members.ensures.value in
     elim c.if-is_shown.branch [
       | object_len-then-is_shown+in_ok-key+in_ok-value w ↦ rw w.store-is (
           let k = w.in_ok-key.ensures in
@@ -101,7 +101,7 @@ object_len-returns-clause-value g t c =
     let a = g.S.Strings.state c.args.store.now in
     let say = says a g.S.Strings.number in
     let ms = c.deref-member-items.result.now in
-    let order : map lent_entry ms ≡ ordered (index_in a g.S.Strings.number) (entries c.args.of.now) = rw c.deref-member-items.ensures.value c.in_ok-members.ensures.value in
+    let order : map lent_entry ms ≡ ordered (index_in a g.S.Strings.number) (key_values c.args.of.now) = rw c.deref-member-items.ensures.value c.in_ok-members.ensures.value in
     elim c.if-len-lt2.branch [
       | object_len-then-len-lt2 w ↦ w.result-is ∙ len_none say c.args.of.now ms c.loop-member.member-index c.loop-member.len order c.loop-member-test.false c.loop-member.invariant.units w.if-len-lt2.true
       | object_len-else-len-lt2 w ↦ w.result-is ∙ len_some say c.args.of.now ms c.loop-member.member-index c.loop-member.len order c.loop-member-test.false c.loop-member.invariant.units w.if-len-lt2.false
@@ -111,7 +111,7 @@ pub object_len-returns-clause-most : goal.object_len-returns-clause-most
 object_len-returns-clause-most g t c =
     let a = g.S.Strings.state c.args.store.now in
     let ms = c.deref-member-items.result.now in
-    let order : map lent_entry ms ≡ ordered (index_in a g.S.Strings.number) (entries c.args.of.now) = rw c.deref-member-items.ensures.value c.in_ok-members.ensures.value in
+    let order : map lent_entry ms ≡ ordered (index_in a g.S.Strings.number) (key_values c.args.of.now) = rw c.deref-member-items.ensures.value c.in_ok-members.ensures.value in
     let weighs = lent_weighs (index_in a g.S.Strings.number) c.args.of.now ms order in
     elim c.if-len-lt2.branch [
       | object_len-then-len-lt2 w ↦ omega (arith, w.result-is)
@@ -125,7 +125,7 @@ object_len-returns-in_err-key-clause-uses g t c =
     let a = state c.args.store.now in
     let b = state c.loop-member.store in
     let i = c.loop-member.invariant in
-    let order : map lent_entry ms ≡ ordered (index_in a g.S.Strings.number) (entries c.args.of.now) = rw c.deref-member-items.ensures.value c.in_ok-members.ensures.value in
+    let order : map lent_entry ms ≡ ordered (index_in a g.S.Strings.number) (key_values c.args.of.now) = rw c.deref-member-items.ensures.value c.in_ok-members.ensures.value in
     let p = err_from_is_err_and c.from_residual-in_err-key.result c.from_residual-in_err-key.ensures.1 in
     let e = c.in_err-key.ensures.uses in
     rw (p.1, p.2) (record {
@@ -141,7 +141,7 @@ object_len-returns-in_err-value-clause-uses g t c =
     let a = state c.args.store.now in
     let b = state c.loop-member.store in
     let i = c.loop-member.invariant in
-    let order : map lent_entry ms ≡ ordered (index_in a g.S.Strings.number) (entries c.args.of.now) = rw c.deref-member-items.ensures.value c.in_ok-members.ensures.value in
+    let order : map lent_entry ms ≡ ordered (index_in a g.S.Strings.number) (key_values c.args.of.now) = rw c.deref-member-items.ensures.value c.in_ok-members.ensures.value in
     let k = c.in_ok-key.ensures.uses in
     let p = err_from_is_err_and c.from_residual-in_err-value.result c.from_residual-in_err-value.ensures.1 in
     let e = c.in_err-value.ensures.uses in
@@ -158,7 +158,7 @@ object_len-returns-clause-uses g t c =
     let a = state c.args.store.now in
     let b = state c.loop-member.store in
     let i = c.loop-member.invariant in
-    let order : map lent_entry ms ≡ ordered (index_in a g.S.Strings.number) (entries c.args.of.now) = rw c.deref-member-items.ensures.value c.in_ok-members.ensures.value in
+    let order : map lent_entry ms ≡ ordered (index_in a g.S.Strings.number) (key_values c.args.of.now) = rw c.deref-member-items.ensures.value c.in_ok-members.ensures.value in
     record {
       step = all_uses a b g.S.Strings.number c.args.of.now ms _ order i.grows i.ids i.words;
       no_slots = tt;

@@ -1,7 +1,7 @@
 use Rattle.std.proofs.Common.{◌≡◌, ◌+◌, ◌*◌, ◌≤◌, drop}
 use Rattle.js_store.specs.State.{Grows}
 use Rattle.js_item.specs.Contents.{count, count_in}
-use Rattle.js_item.specs.Views.{content}
+use Rattle.js_item.specs.Views.{content_of}
 use Rattle.js_item.specs.Seen.{says}
 use Rattle.js_object.proofs.Texts.{lent_shown}
 use Rattle.js_object.proofs.Lengths.{lent_weight, units_of}
@@ -9,7 +9,7 @@ use Rattle.js_object.proofs.Uses.{lent_settle}
 use Rattle.js_object.proofs.json_len.+json_len.Given as goal
 
 abbrev pub decreases-item_len : goal.decreases-item_len
-decreases-item_len g l = 2 * count_in (content l.item.now) + 1
+decreases-item_len g l = 2 * count_in (content_of l.item.now) + 1
 
 abbrev pub decreases-object_len : goal.decreases-object_len
 decreases-object_len g l = 2 * count l.of.now

@@ -2,7 +2,7 @@ use Rattle.std.proofs.Common.{◌≡◌, ◌++◌, [], ◌∙◌, map, take, ap,
 use Rattle.std.proofs.lemmas.Result.{IfOk-weaker}
 use Rattle.std.specs.BTreeMap.{values}
 use Rattle.js_store.proofs.Laws.{step_trans}
-use Rattle.js_object.specs.Keys.{index_in, ordered, entries, member_entry, lent_entry, indexes, others}
+use Rattle.js_object.specs.Keys.{index_in, ordered, key_values, member_entry, lent_entry, indexes, others}
 use Rattle.js_item.proofs.Finding.{now_fine, first_fine}
 use Rattle.js_object.proofs.Ordered.{index_still, indexes_turn, others_turn, ordered_end, entries_take, entries_all}
 use Rattle.js_object.proofs.Orders.{members_order}
@@ -58,8 +58,8 @@ returns-clause-value g c =
     let a = g.S.Strings.state c.args.store.now in
     let index = index_in a g.S.Strings.number in
     let i = c.loop-member.member-index in
-    let all : map member_entry (take i c.members-member-items.result.now) ≡ entries c.args.of.now = entries_all c.members-member-items.result.now c.args.of.now i c.members-member-items.ensures.fields c.loop-member-test.false c.loop-member.auto.member-index-end in
-    let e : map lent_entry (values c.loop-member.indexes ++ c.deref.result.now) ≡ ordered index (entries c.args.of.now) = ordered_end lent_entry index c.loop-member.indexes.entries c.loop-member.others.items c.deref.result.now (entries c.args.of.now)
+    let all : map member_entry (take i c.members-member-items.result.now) ≡ key_values c.args.of.now = entries_all c.members-member-items.result.now c.args.of.now i c.members-member-items.ensures.fields c.loop-member-test.false c.loop-member.auto.member-index-end in
+    let e : map lent_entry (values c.loop-member.indexes ++ c.deref.result.now) ≡ ordered index (key_values c.args.of.now) = ordered_end lent_entry index c.loop-member.indexes.entries c.loop-member.others.items c.deref.result.now (key_values c.args.of.now)
     (c.loop-member.invariant.indexes ∙ ap (λ es. indexes index es []) all) (c.loop-member.invariant.others ∙ ap (λ es. others index es) all) c.deref.ensures.value in
     IfOk-weaker c.listed.result _ _ (λ ks k. ap (map lent_entry) k ∙ e) c.listed.ensures
 

@@ -1,7 +1,7 @@
 use Rattle.std.proofs.Common.{◌≡◌, ◌+◌, ◌-◌, ◌≤◌, ◌++◌, max, length}
 use Rattle.std.specs.Prelude.{None}
 use Rattle.js_store.specs.State.{text}
-use Rattle.js_store.specs.Faults.{Step}
+use Rattle.js_store.specs.Faults.{StoreStep}
 use Rattle.js_replace.specs.Matches.{first_matches}
 use Rattle.js_replace.proofs.matching.found_places.Given as goal
 
@@ -13,7 +13,7 @@ invariant-loop-turn g l =
     let u = text (state l.fn.store) (number l.s) in
     let w = text (state l.fn.store) (number l.w) in
     record {
-      step : Step (state l.fn.store) (state l.store) None 0 0;
+      step : StoreStep (state l.fn.store) (state l.store) None 0 0;
       history : (state l.store).history ≡ (state l.fn.store).history;
       places : l.places.items ++ first_matches (l.most - l._turn) u w l.from ≡ first_matches l.most u w 0;
       from : l.from ≤ length u + 1;

@@ -1,9 +1,10 @@
 use Rattle.std.proofs.Common.{◌≡◌, None, map, refl}
 use Rattle.std.specs.String.{string_bytes}
 use Rattle.run_command.specs.Words.{request_for, request_of}
-use Rattle.js_run.specs.Moment.{ended, moment, sinks}
+use Rattle.js_run.specs.Moment.{ended, moment}
 use Rattle.js_run.proofs.Becoming.{lawful_outcome, memory_outcome, refused_outcome}
 use Rattle.js_run.proofs.run.run.Goals as goal
+use Rattle.js_io.specs.Report.{sinks}
 
 pub returns-in-Ok : goal.returns-in-Ok
 returns-in-Ok g c =

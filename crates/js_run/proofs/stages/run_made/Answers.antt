@@ -3,9 +3,10 @@ use Rattle.std.proofs.lemmas.List.{length-map}
 use Rattle.run_sources.specs.Texts.{generated, named_for}
 use Rattle.run_sources.specs.Answers.{source_for, sources_for}
 use Rattle.run_sources.specs.Program.{program_from}
-use Rattle.js_run.specs.Moment.{ended, sinks}
+use Rattle.js_run.specs.Moment.{ended}
 use Rattle.js_run.proofs.Becoming.{made_scripts, memory_stopped}
 use Rattle.js_run.proofs.stages.run_made.Goals as goal
+use Rattle.js_io.specs.Report.{sinks}
 
 pub run_sources-requires-clause-few : goal.run_sources-requires-clause-few
 run_sources-requires-clause-few g c = λ κs lives.

@@ -1,9 +1,10 @@
 use Rattle.std.proofs.Common.{arith}
 use Rattle.std.proofs.lemmas.List.{length-map}
 use Rattle.run_sources.specs.Answers.{source_for, sources_for}
-use Rattle.js_run.specs.Moment.{ended, sinks}
+use Rattle.js_run.specs.Moment.{ended}
 use Rattle.js_run.proofs.Becoming.{file_stopped, files_became, read_length}
 use Rattle.js_run.proofs.stages.run_named_files.Goals as goal
+use Rattle.js_io.specs.Report.{sinks}
 
 pub returns-in-Ok-clause-becomes : goal.returns-in-Ok-clause-becomes
 returns-in-Ok-clause-becomes g c =

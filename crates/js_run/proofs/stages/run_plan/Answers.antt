@@ -1,8 +1,9 @@
 use Rattle.std.proofs.Common.{◌∙◌, map, option_map, ap, sym}
 use Rattle.run_command.specs.Words.{asked_for, files, request_for}
-use Rattle.js_run.specs.Moment.{ended, sinks}
+use Rattle.js_run.specs.Moment.{ended}
 use Rattle.js_run.proofs.Becoming.{made_became, still_quiet}
 use Rattle.js_run.proofs.stages.run_plan.Goals as goal
+use Rattle.js_io.specs.Report.{sinks}
 
 pub returns-in-Files-clause-becomes : goal.returns-in-Files-clause-becomes
 returns-in-Files-clause-becomes g c =

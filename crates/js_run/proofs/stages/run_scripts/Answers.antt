@@ -3,9 +3,10 @@ use Rattle.std.proofs.lemmas.List.{length-map}
 use Rattle.eval_tree.specs.Tree.{Tree, tree_of}
 use Rattle.run_sources.specs.Answers.{source_for, sources_for, trees_for}
 use Rattle.run_program.specs.Ran.{IsRan, trees_of}
-use Rattle.js_run.specs.Moment.{ended, sinks}
+use Rattle.js_run.specs.Moment.{ended}
 use Rattle.js_run.proofs.Becoming.{memory_stopped, named, program_length, program_ran, tree_same}
 use Rattle.js_run.proofs.stages.run_scripts.Goals as goal
+use Rattle.js_io.specs.Report.{sinks}
 
 pub run_program-requires-clause-few : goal.run_program-requires-clause-few
 run_program-requires-clause-few g c = λ κs lives.

@@ -1,7 +1,8 @@
 use Rattle.run_sources.specs.Answers.{sources_for}
-use Rattle.js_run.specs.Moment.{ended, sinks}
+use Rattle.js_run.specs.Moment.{ended}
 use Rattle.js_run.proofs.Becoming.{script_stopped}
 use Rattle.js_run.proofs.stages.run_sources.Goals as goal
+use Rattle.js_io.specs.Report.{sinks}
 
 pub returns-in-Err : goal.returns-in-Err
 returns-in-Err g c =

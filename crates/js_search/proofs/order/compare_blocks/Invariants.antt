@@ -1,7 +1,7 @@
 use Rattle.std.proofs.Common.{◌≡◌, ◌-◌, ◌≤◌, drop}
 use Rattle.std.specs.Prelude.{None}
 use Rattle.js_store.specs.State.{text}
-use Rattle.js_store.specs.Faults.{Step}
+use Rattle.js_store.specs.Faults.{StoreStep}
 use Rattle.js_search.specs.Order.{units_cmp}
 use Rattle.js_search.proofs.order.compare_blocks.Given as goal
 
@@ -14,7 +14,7 @@ invariant-loop-done g l =
       low : l.from ≤ l.done;
       most : l.done ≤ l.size;
       rest : units_cmp (drop l.done left) (drop l.done right) ≡ units_cmp (drop l.from left) (drop l.from right);
-      step : Step (state l.fn.store) (state l.store) None 0 0;
+      step : StoreStep (state l.fn.store) (state l.store) None 0 0;
       history : (state l.store).history ≡ (state l.fn.store).history;
     }
 

@@ -1,7 +1,7 @@
 use Rattle.std.proofs.Common.{◌≡◌, ℕ, ◌<◌, ◌≤◌}
 use Rattle.std.specs.Prelude.{None}
 use Rattle.js_store.specs.State.{text}
-use Rattle.js_store.specs.Faults.{Step}
+use Rattle.js_store.specs.Faults.{StoreStep}
 use Rattle.js_search.specs.Blocks.{IsPart}
 use Rattle.js_search.specs.Pairs.{HasPair}
 use Rattle.js_search.proofs.pairs.previous_pair.Given as goal
@@ -14,7 +14,7 @@ invariant-loop-left g l =
       high : l.left ≤ l.end;
       none : (k : ℕ) → l.left ≤ k → k < l.end → HasPair hay l.pair k → ⊥;
       part : IsPart hay l.block;
-      step : Step (state l.fn.store) (state l.store) None 0 0;
+      step : StoreStep (state l.fn.store) (state l.store) None 0 0;
       history : (state l.store).history ≡ (state l.fn.store).history;
     }
 

@@ -1,7 +1,7 @@
 use Rattle.std.proofs.Common.{arith, ◌++◌, ap, sym, ◌∙◌, drop, ◌+◌}
 use Rattle.js_store.specs.State.{IsKnown, text as text_of}
 use Rattle.js_store.proofs.Laws.{grows_trans, known_still, text_still}
-use Rattle.js_texts.specs.Texts.{texts}
+use Rattle.js_texts.specs.Texts.{known_texts}
 use Rattle.js_texts.proofs.Lists.{every_at, every_map, settle_front, settled_turn}
 use Rattle.js_texts.specs.Joined.{with_each}
 use Rattle.js_texts.proofs.Separators.{each_front, each_turn}
@@ -26,7 +26,7 @@ loop-s-preserved g c =
     let ids = e.uses.step.within_ids in
     let known = every_at (λ q. IsKnown a (number q)) rest k r c.requires c.loop-s-test.true c.s-item.is in
     let same = text_still i.grows (number r) known in
-    let left = with_each sep (texts a number (drop (k + 1) rest)) in
+    let left = with_each sep (known_texts a number (drop (k + 1) rest)) in
     record {
       grows = grows_trans i.grows e.uses.step.grows;
       history = e.uses.history ∙ i.history;

@@ -1,6 +1,6 @@
 use Rattle.std.proofs.Common.{◌≡◌, ◌+◌, ◌≤◌, ◌++◌, take, drop}
 use Rattle.js_store.specs.State.{Grows}
-use Rattle.js_texts.specs.Texts.{texts, AllKnown, AllSettled, settle_most}
+use Rattle.js_texts.specs.Texts.{known_texts, AllKnown, AllSettled, settle_most}
 use Rattle.js_texts.specs.Joined.{with_each}
 use Rattle.js_texts.proofs.joining.append_rest.Given as goal
 
@@ -16,5 +16,5 @@ invariant-loop-s g l =
       settled : AllSettled (state l.store) number (take l.s-index l.rest);
       ids : (state l.store).used_ids ≤ (state l.fn.store).used_ids;
       words : (state l.store).used_words + settle_most (state l.store) number (drop l.s-index l.rest) ≤ (state l.fn.store).used_words + settle_most (state l.fn.store) number l.rest;
-      units : l.text ++ with_each l.sep (texts (state l.fn.store) number (drop l.s-index l.rest)) ≡ l.fn.text ++ with_each l.sep (texts (state l.fn.store) number l.rest);
+      units : l.text ++ with_each l.sep (known_texts (state l.fn.store) number (drop l.s-index l.rest)) ≡ l.fn.text ++ with_each l.sep (known_texts (state l.fn.store) number l.rest);
     }

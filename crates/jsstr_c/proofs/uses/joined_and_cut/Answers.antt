@@ -1,7 +1,7 @@
 use Rattle.std.proofs.Common.{◌≡◌, ◌++◌, ◌-◌, ℕ, length, subst, arith}
 use Rattle.heap_rule.specs.Births.{part}
 use Rattle.heap_rule.specs.Maps.{Has}
-use Rattle.heap_agents.specs.Ready.{view_in}
+use Rattle.heap_agents.specs.Ready.{handle_view}
 use Rattle.jsstr_c.proofs.Going.{goes_units}
 use Rattle.jsstr_c.proofs.uses.joined_and_cut.Goals as goal
 
@@ -14,4 +14,4 @@ returns-clause-units c = let us = c.args.first.now in let vs = c.args.second.now
     let kept = goes_units left.new.agent.at.value right.new.agent.at.value (right.ensures.goes (λ (e : right.result.status ≡ 9). absurd (omega (arith, e, two)))) left.result.id us (left.ensures.units one) in
     let all = both.ensures.units three us vs kept (right.ensures.units two) in
     let long : length us - 0 ≡ length us = omega arith in
-    subst (λ (n : ℕ). Has (view_in front.new.agent.at.value).units front.result.id (part 0 n (us ++ vs))) long (front.ensures.units four (us ++ vs) all)
+    subst (λ (n : ℕ). Has (handle_view front.new.agent.at.value).units front.result.id (part 0 n (us ++ vs))) long (front.ensures.units four (us ++ vs) all)

@@ -1,6 +1,6 @@
 use Rattle.std.proofs.Common.{◌≡◌, ℕ, length, ◌+◌, ◌*◌, map}
 use Rattle.parse_syntax.specs.Tables.{tables_of}
-use Rattle.parse_syntax.specs.Lang.{second_of}
+use Rattle.parse_syntax.specs.Lang.{keep_second}
 use Rattle.parse_syntax.specs.Reader.{and_then, one_of, all_of, heads, with_front}
 use Rattle.eval_tree.specs.Tree.{expr_tree, step_tree, link_tree, entry_tree}
 use Rattle.parse_syntax.specs.Terminals.{comma}
@@ -69,7 +69,7 @@ abbrev pub decreases-expression : goal.decreases-expression
 decreases-expression l = 32 * l.room + 17
 
 abbrev pub invariant-args-loop-after : goal.invariant-args-loop-after
-invariant-args-loop-after l = with_front (map expr_tree l.items.items) (all_of (heads comma) (and_then second_of (one_of comma) (inner (tables_of l.tables) l.room Whole)) l.rest) ≡ with_front (map expr_tree l.initial.items.items) (all_of (heads comma) (and_then second_of (one_of comma) (inner (tables_of l.tables) l.room Whole)) l.initial.rest)
+invariant-args-loop-after l = with_front (map expr_tree l.items.items) (all_of (heads comma) (and_then keep_second (one_of comma) (inner (tables_of l.tables) l.room Whole)) l.rest) ≡ with_front (map expr_tree l.initial.items.items) (all_of (heads comma) (and_then keep_second (one_of comma) (inner (tables_of l.tables) l.room Whole)) l.initial.rest)
 
 abbrev pub decreases-args-loop-after : goal.decreases-args-loop-after
 decreases-args-loop-after l = length l.rest

@@ -1,6 +1,6 @@
 use Rattle.std.proofs.Common.{◌-◌, ◌≤◌, length}
 use Rattle.std.specs.Str.{IsCharBoundary}
-use Rattle.js_lex.specs.Tokens.{Fails}
+use Rattle.js_lex.specs.Tokens.{FailsFrom}
 use Rattle.js_lex.specs.declared.token.LexFault.{LexFault}
 use Rattle.parse_tokens.specs.Steps.{Agrees, Goes, before_at}
 use Rattle.parse_tokens.proofs.read.scan.Given as goal
@@ -14,7 +14,7 @@ invariant-tokens l = record {
   keys : length l.script.keys.items ≤ l.at;
   agrees : Agrees l.numbers l.script.names.items;
   goes : Goes l.fn.text l.at l.script.tokens.items l.opened (before_at l.script.tokens.items l.script.literals.items l.script.names.items l.script.keys.items l.at);
-  fails : (fault : LexFault) → Fails l.fn.text l.at fault → Fails l.fn.text 0 fault;
+  fails : (fault : LexFault) → FailsFrom l.fn.text l.at fault → FailsFrom l.fn.text 0 fault;
 }
 
 abbrev pub decreases-tokens : goal.decreases-tokens

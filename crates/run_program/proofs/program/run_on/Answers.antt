@@ -3,7 +3,7 @@ use Rattle.js_store.specs.Limits.{limit_units}
 use Rattle.js_store.specs.State.{State}
 use Rattle.heap_rule.specs.declared.view.View.{View}
 use Rattle.heap_table.specs.Agents.{view_of}
-use Rattle.heap_intern.specs.Sessions.{SessionFrame, state_by, state_in, table_of, view_in}
+use Rattle.heap_intern.specs.Sessions.{SessionFrame, state_by, state_in, table_of, session_view}
 use Rattle.run_program.specs.Ran.{tree_if}
 use Rattle.run_program.specs.Stages.{IsTold, job_trees}
 use Rattle.run_program.proofs.Telling.{begun, kept_limit, kept_of, kept_told, same_state}
@@ -26,6 +26,6 @@ returns-clause-told g c = let h = c.args.heap.now in let setup = c.args.setup in
     let limit = kept_limit setup h prelude trees f.result os k.result a b t d
     is c.requires.size f.ensures.grows f.ensures.ran c.whole_has_all.ensures c.totals.ensures.state k.ensures.uses.step k.ensures.uses.history k.ensures.count in
     subst (λ (x : State SessionFrame). IsTold setup x prelude trees f.result os k.result)
-    (same_state (view_in s) (view_of c.into_agent.result) (limit_units s.limit) (limit_units setup.limit) (table_of s.text.reader.heap.now) (table_of h) (sym c.into_agent.ensures.view) limit of.0)
+    (same_state (session_view s) (view_of c.into_agent.result) (limit_units s.limit) (limit_units setup.limit) (table_of s.text.reader.heap.now) (table_of h) (sym c.into_agent.ensures.view) limit of.0)
     (kept_told setup h prelude trees f.result os k.result a b t d
     is c.requires.size f.ensures.grows f.ensures.ran c.whole_has_all.ensures c.totals.ensures.state k.ensures.uses.step k.ensures.uses.history k.ensures.count)

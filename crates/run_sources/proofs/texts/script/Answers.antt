@@ -1,6 +1,6 @@
 use Rattle.std.proofs.Common.{rules, ◌≡◌, ◌++◌, ◌*◌, ℕ, List, codes, sym, ap, ◌∙◌}
 use Rattle.std.specs.String.{string_bytes}
-use Rattle.run_sources.specs.Draws.{after}
+use Rattle.run_sources.specs.Draws.{state_after}
 use Rattle.run_sources.specs.Texts.{drawn_line}
 use Rattle.run_sources.proofs.Rounds.{after_none, each_none, lines_more, rounds_more}
 use Rattle.run_sources.proofs.texts.script.Goals as goal
@@ -9,7 +9,7 @@ pub loop-line-init : goal.loop-line-init
 loop-line-init c =
     let x = c.args.draws.now.state in
     record {
-      text = c.in_ok-text.ensures.ok ∙ ap (λ (rest : List ℕ). codes "let acc = '';\nlet n = 0;\n" ++ rest) (sym (each_none (λ k. drawn_line (after (4 * k) x))));
+      text = c.in_ok-text.ensures.ok ∙ ap (λ (rest : List ℕ). codes "let acc = '';\nlet n = 0;\n" ++ rest) (sym (each_none (λ k. drawn_line (state_after (4 * k) x))));
       state = sym (after_none x);
     }
 

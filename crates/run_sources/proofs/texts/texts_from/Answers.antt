@@ -1,5 +1,5 @@
 use Rattle.std.proofs.Common.{rules, ◌≡◌, ◌++◌, ◌∷◌, [], ap, arith, codes, sym, ◌∙◌}
-use Rattle.run_sources.specs.Draws.{listed}
+use Rattle.run_sources.specs.Draws.{list_up_to}
 use Rattle.run_sources.specs.Texts.{Named, before, named_script, prelude}
 use Rattle.run_sources.specs.declared.texts.GeneratedText.{GeneratedText}
 use Rattle.run_sources.proofs.Rounds.{after_none, first_text, next_text, rounds_more}
@@ -32,5 +32,5 @@ returns-clause-small c =
     let n = c.args.n in
     let start : Named = record { name = codes "gen-prelude"; text = prelude n } in
     let whole : c.loop-j.j ≡ 32 = omega (arith, c.loop-j-test.false, c.loop-j.auto.j-end) in
-    let is = c.loop-j.invariant.texts ∙ ap (λ k. start ∷ listed (named_script n) k) whole in
+    let is = c.loop-j.invariant.texts ∙ ap (λ k. start ∷ list_up_to (named_script n) k) whole in
     rw (is) (generated_small n)

@@ -1,11 +1,11 @@
 use Rattle.std.proofs.Common.{◌≡◌}
 use Rattle.std.specs.String.{string_bytes}
-use Rattle.run_sources.specs.Draws.{after, each, next}
+use Rattle.run_sources.specs.Draws.{state_after, joined_up_to, next}
 use Rattle.run_sources.specs.Texts.{letter}
 use Rattle.run_sources.proofs.texts.word.Given as goal
 
 abbrev pub invariant-loop-letter : goal.invariant-loop-letter
 invariant-loop-letter l = record {
-  text : string_bytes l.text ≡ each (letter (next l.fn.draws.state)) l._letter;
-  state : l.draws.state ≡ after l._letter (next l.fn.draws.state);
+  text : string_bytes l.text ≡ joined_up_to (letter (next l.fn.draws.state)) l._letter;
+  state : l.draws.state ≡ state_after l._letter (next l.fn.draws.state);
 }

@@ -1,6 +1,6 @@
 use Rattle.std.proofs.Common.{ap, ℕ, ◌<◌, sym, subst}
 use Rattle.heap_rule.specs.declared.view.View.{View}
-use Rattle.heap_agents.specs.Held.{size_by}
+use Rattle.heap_agents.specs.Held.{held_size}
 use Rattle.heap_agents.proofs.Marks.{below, joined_held, same_ids}
 use Rattle.heap_agents.proofs.held.Held.join.Goals as goal
 
@@ -11,10 +11,10 @@ returns-clause-held c = let j = c.join_member.ensures in
 
 pub returns-clause-known : goal.returns-clause-known
 returns-clause-known c i h = let x = c.args.self.now in let o = c.args.other in
-    c.add_all.ensures.there (size_by x).ids i c.requires.held.marked.room
+    c.add_all.ensures.there (held_size x).ids i c.requires.held.marked.room
     (subst (λ (n : ℕ). i < n) (sym (same_ids x.member o.member c.requires.beside)) (below o c.requires.other i (c.requires.other.marked.known i h))) h
 
 pub returns-clause-interned : goal.returns-clause-interned
 returns-clause-interned c i h = let x = c.args.self.now in let o = c.args.other in
-    c.add_all-2.ensures.there (size_by x).ids i c.requires.held.marked.calls_room
+    c.add_all-2.ensures.there (held_size x).ids i c.requires.held.marked.calls_room
     (subst (λ (n : ℕ). i < n) (sym (same_ids x.member o.member c.requires.beside)) (c.requires.other.marked.calls_below i h)) h

@@ -1,4 +1,4 @@
-use Rattle.heap_agents.specs.Held.{size_by}
+use Rattle.heap_agents.specs.Held.{held_size}
 use Rattle.heap_agents.proofs.Marks.{below, interned_held}
 use Rattle.heap_agents.proofs.held.Held.mark_interned.Goals as goal
 
@@ -9,8 +9,8 @@ returns-clause-held c = let a = c.add.ensures in let b = c.add-2.ensures in
 pub returns-clause-marked : goal.returns-clause-marked
 returns-clause-marked c = let x = c.args.self.now in let a = c.add.ensures in let b = c.add-2.ensures in
     let low = below x c.requires.held c.args.id c.requires.known in record {
-      known = a.there (size_by x).ids c.requires.held.marked.room low;
-      interned = b.there (size_by x).ids c.requires.held.marked.calls_room low;
+      known = a.there (held_size x).ids c.requires.held.marked.room low;
+      interned = b.there (held_size x).ids c.requires.held.marked.calls_room low;
       only = a.only;
       only_interned = b.only;
     }

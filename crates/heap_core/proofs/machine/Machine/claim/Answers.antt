@@ -1,6 +1,6 @@
 use Rattle.std.proofs.Common.{◌≡◌, ◌∙◌, ◌+◌, ◌<◌, ℕ, Ok, sym, ap, subst, get_or, arith}
 use Rattle.heap_rule.specs.declared.view.View.{View}
-use Rattle.heap_rule.specs.Layout.{counter_at, count_in}
+use Rattle.heap_rule.specs.Layout.{counter_at, counter_value}
 use Rattle.heap_rule.specs.Claims.{loaded_counter, MayClaim, won_claim}
 use Rattle.heap_rule.proofs.ListLemmas.{at_index}
 use Rattle.heap_core.specs.declared.event.Event.TheVariants.{Claim}
@@ -27,8 +27,8 @@ claim-requires-clause-used c = let s : Core = (core_of c.args.self.now) in let l
     let sound : IsSoundCore s = sound_of s c.args.view (λ (v : View). MayClaim v c.args.counter c.args.at c.args.want) c.requires.core live in
     let l = used_within s c.args.view live.0 c.args.counter sound live.1 live.2 in let e = end_small s c.args.view live.0 c.args.counter sound live.1 live.2 in let m = live.3.1 in
     let found : get_or c.args.self.now.words.items (counter_at c.args.counter) 0 ≡ c.args.at = sym (ap (λ (q : ℕ). get_or c.args.self.now.words.items q 0) c.place.ensures) ∙ (sym c.word-found.ensures ∙ (c.if-found-from.false ∙ c.from.ensures)) in
-    let goal : count_in live.0.used c.args.counter + c.args.want < 4294967296 = omega arith in
-    subst (λ (v : View). count_in v.used c.args.counter + c.args.want < 4294967296) (sym (c.index_mut-2.ensures.value ∙ at_index c.args.self.now.views.items c.args.view live.0 c.index_mut-2.result.now live.1)) goal
+    let goal : counter_value live.0.used c.args.counter + c.args.want < 4294967296 = omega arith in
+    subst (λ (v : View). counter_value v.used c.args.counter + c.args.want < 4294967296) (sym (c.index_mut-2.ensures.value ∙ at_index c.args.self.now.views.items c.args.view live.0 c.index_mut-2.result.now live.1)) goal
 
 pub claim-requires-clause-end : goal.claim-requires-clause-end
 claim-requires-clause-end c = let s : Core = core_of c.args.self.now in let live : LiveIn c.args.self.now.views.items c.args.view (λ (v : View). MayClaim v c.args.counter c.args.at c.args.want) = c.requires.can in

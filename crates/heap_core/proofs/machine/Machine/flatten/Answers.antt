@@ -1,7 +1,7 @@
 use Rattle.std.proofs.Common.{◌≡◌, ◌<◌, ◌∙◌, ℕ, Some, length, sym, subst}
 use Rattle.js_header.specs.Form.{form_of, word_of}
 use Rattle.heap_rule.specs.declared.view.View.{View}
-use Rattle.heap_rule.specs.Layout.{IsLawful, form_at, form}
+use Rattle.heap_rule.specs.Layout.{IsLawfulSize, form_at, form}
 use Rattle.heap_rule.specs.Agents.{spent}
 use Rattle.heap_core_views.specs.Loading.{loaded_by}
 use Rattle.heap_rule.proofs.ListLemmas.{at_index}
@@ -39,7 +39,7 @@ pub learn-requires-clause-room : goal.learn-requires-clause-room
 learn-requires-clause-room c = let can = c.requires.can in let t : LiveIn c.args.self.now.views.items c.args.view (λ (v : View). MayFlatten v c.args.id c.args.old c.args.new) = (can.0, can.1, can.2, can.3.0) in move_room (core_of c.args.self.now) c.requires.core c.args.view c.args.id (λ (v : View). MayFlatten v c.args.id c.args.old c.args.new) (λ (v : View) (x : ℕ). flattened v c.args.id c.args.old c.args.new x) (flatten_turns (core_of c.args.self.now) c.requires.core c.args.view c.args.id c.args.old c.args.new) c.flattening-load.result c.header-stands.result.0 (view_at (core_of c.args.self.now) c.args.view) t (at_index c.args.self.now.views.items c.args.view t.0 spent t.1) c.header-stands.ensures.form (subst (λ (v : View). loaded_by v c.flattening-load.result ≡ flattened v c.args.id c.args.old c.args.new (word_of c.header-stands.result.0)) c.view.ensures c.flattening-load.ensures.view)
 
 pub exchange-requires-clause-inside : goal.exchange-requires-clause-inside
-exchange-requires-clause-inside c = let can = c.requires.can in let t : LiveIn c.args.self.now.views.items c.args.view (λ (v : View). MayFlatten v c.args.id c.args.old c.args.new) = (can.0, can.1, can.2, can.3.0) in subst (λ (u : Core). IsLawful u.size × (c.args.id < u.size.ids) × (form_at u.size c.args.id < length u.words)) (sym c.in_ok-learn.ensures.ok) (move_inside (core_of c.args.self.now) c.requires.core c.args.view c.args.id c.args.old (flatten_live c.args.self.now.views.items c.args.view c.args.id c.args.old c.args.new t))
+exchange-requires-clause-inside c = let can = c.requires.can in let t : LiveIn c.args.self.now.views.items c.args.view (λ (v : View). MayFlatten v c.args.id c.args.old c.args.new) = (can.0, can.1, can.2, can.3.0) in subst (λ (u : Core). IsLawfulSize u.size × (c.args.id < u.size.ids) × (form_at u.size c.args.id < length u.words)) (sym c.in_ok-learn.ensures.ok) (move_inside (core_of c.args.self.now) c.requires.core c.args.view c.args.id c.args.old (flatten_live c.args.self.now.views.items c.args.view c.args.id c.args.old c.args.new t))
 
 pub exchange-requires-clause-stands : goal.exchange-requires-clause-stands
 exchange-requires-clause-stands c = let can = c.requires.can in let t : LiveIn c.args.self.now.views.items c.args.view (λ (v : View). MayFlatten v c.args.id c.args.old c.args.new) = (can.0, can.1, can.2, can.3.0) in subst (λ (u : Core). form_of (form u.size u.words c.args.id) ≡ Some c.header-stands.result.0) (sym c.in_ok-learn.ensures.ok) c.header-stands.ensures.form

@@ -1,7 +1,7 @@
 use Rattle.std.proofs.Common.{◌∙◌, ◌+◌, ◌<◌, ◌^◌, Ok, length, get_or, ap, sym, subst, arith}
 use Rattle.std.proofs.lemmas.List.{length-set}
 use Rattle.heap_rule.specs.declared.view.View.{View}
-use Rattle.heap_rule.specs.Agents.{spent, MayJoin, joined}
+use Rattle.heap_rule.specs.Agents.{spent, MayJoin, joined_view}
 use Rattle.heap_core.specs.declared.event.Event.TheVariants.{Join}
 use Rattle.heap_core.specs.Core.{Core, core_of}
 use Rattle.heap_core.specs.Events.{LiveIn, looked, Made}
@@ -32,4 +32,4 @@ look-requires-2 c = let l = view_inside c.args.self.now.views.items c.args.other
 pub returns : goal.returns
 returns c = subst (λ (t : Core). Made (core_of c.args.self.now) (Join c.args.view c.args.other) t (Ok c.word.result)) (sym (c.look-2.ensures ∙ ap (λ (u : Core). looked u c.args.other c.spent.result) c.look.ensures))
     (join_done (core_of c.args.self.now) c.args.view c.args.other c.word.result spent spent c.in_ok-joined.joined c.spent.result c.requires.can (c.word.ensures ∙ ap (λ (u : Core). get_or u.words 0 0) (c.look-2.ensures ∙ ap (λ (u : Core). looked u c.args.other c.spent.result) c.look.ensures))
-    (c.in_ok-joined.ensures ∙ (λ i. joined (c.view.ensures i) (c.view-2.ensures i))) c.spent.ensures)
+    (c.in_ok-joined.ensures ∙ (λ i. joined_view (c.view.ensures i) (c.view-2.ensures i))) c.spent.ensures)

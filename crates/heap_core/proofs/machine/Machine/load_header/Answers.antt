@@ -1,5 +1,5 @@
 use Rattle.heap_rule.specs.declared.view.View.{View}
-use Rattle.heap_rule.specs.Views.{IsKnown}
+use Rattle.heap_rule.specs.Views.{MayUse}
 use Rattle.heap_core.specs.Core.{core_of}
 use Rattle.heap_core.proofs.StateLemmas.{view_inside}
 use Rattle.heap_core.proofs.LoadSteps.{header_run, known_stands, known_inside, header_room, header_became}
@@ -15,7 +15,7 @@ pub header_load-requires-clause-born : goal.header_load-requires-clause-born
 header_load-requires-clause-born c = (known_stands (core_of c.args.self.now) c.requires.core c.args.view c.args.id c.requires.can.0).1
 
 pub learn-requires-clause-inside : goal.learn-requires-clause-inside
-learn-requires-clause-inside c = view_inside c.args.self.now.views.items c.args.view (λ (v : View). IsKnown v c.args.id) c.requires.can.0
+learn-requires-clause-inside c = view_inside c.args.self.now.views.items c.args.view (λ (v : View). MayUse v c.args.id) c.requires.can.0
 
 pub learn-requires-clause-room : goal.learn-requires-clause-room
 learn-requires-clause-room c = header_room (core_of c.args.self.now) c.requires.core c.args.view c.args.id c.args.length c.header_load.result c.requires.can.0 c.header_load.ensures

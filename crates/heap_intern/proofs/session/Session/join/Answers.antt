@@ -4,7 +4,7 @@ use Rattle.js_store.specs.Limits.{limit_units}
 use Rattle.heap_rule.specs.declared.view.View.{View}
 use Rattle.heap_table.specs.Known.{KeepsKnown}
 use Rattle.heap_intern.specs.Sessions.{state_by, table_of}
-use Rattle.heap_intern.specs.Shares.{IsJoined}
+use Rattle.heap_intern.specs.Shares.{IsSessionJoined}
 use Rattle.heap_intern.proofs.Shares.{belongs_here, sizes_are, state_joined}
 use Rattle.heap_intern.proofs.Lately.{kept_by}
 use Rattle.heap_intern.proofs.OneUnit.{singles_by}
@@ -21,7 +21,7 @@ join-requires-clause-may c = let m = c.requires.may in (c.args.other.text.reader
 pub returns-clause-joined : goal.returns-clause-joined
 returns-clause-joined c = let s = c.args.self.now in let o = c.args.other in let m = c.requires.may in let v : View = s.text.reader.agent.seat.me.0 in let b : View = o.text.reader.agent.seat.me.0 in let e = c.join.ensures in
     let l = limit_units s.limit in let t = table_of s.text.reader.heap.now in let same : table_of c.join.new.self.reader.heap.now ≡ t = ap (λ x. table_of x.now) e.kept.heap in
-    subst (λ (x : TableId). IsJoined (state_by v l t) (state_by b (limit_units o.limit) (table_of o.text.reader.heap.now)) (state_by c.join.new.self.reader.agent.seat.me.0 l x)) (sym same) (subst (λ (w : View). IsJoined (state_by v l t) (state_by b (limit_units o.limit) (table_of o.text.reader.heap.now)) (state_by w l t)) (sym e.view)
+    subst (λ (x : TableId). IsSessionJoined (state_by v l t) (state_by b (limit_units o.limit) (table_of o.text.reader.heap.now)) (state_by c.join.new.self.reader.agent.seat.me.0 l x)) (sym same) (subst (λ (w : View). IsSessionJoined (state_by v l t) (state_by b (limit_units o.limit) (table_of o.text.reader.heap.now)) (state_by w l t)) (sym e.view)
     (state_joined v b l (limit_units o.limit) t (table_of o.text.reader.heap.now) s.text.reader.belongs.5 o.text.reader.belongs.5 (subst (KeepsKnown v) e.view e.known.0) (subst (KeepsKnown b) e.view e.known.1) (sizes_are b.sizes v.sizes m.sizes)))
 
 pub invariant_of-self-clause-last_kept : goal.invariant_of-self-clause-last_kept

@@ -4,7 +4,7 @@ use Rattle.heap_rule.specs.declared.view.View.{View}
 use Rattle.heap_intern.specs.Sessions.{state_by, table_of}
 use Rattle.heap_intern.proofs.Shares.{state_left, state_right}
 use Rattle.heap_intern.proofs.Lately.{kept_none}
-use Rattle.heap_intern.specs.Lately.{IsKept}
+use Rattle.heap_intern.specs.Lately.{IsWordKept}
 use Rattle.heap_intern.specs.Singles.{AreSingles}
 use Rattle.heap_intern.specs.Recent.{AreRecent}
 use Rattle.heap_intern.proofs.session.Session.split.Goals as goal
@@ -27,10 +27,10 @@ returns-clause-right c = let s = c.args.self.now in let v : View = s.text.reader
     (λ i. state_by (c.split.ensures.right i) l (table_of (c.split.ensures.alike.0 i))) ∙ state_right v c.args.give l (table_of s.text.reader.heap.now)
 
 pub invariant_of-self-clause-last_kept : goal.invariant_of-self-clause-last_kept
-invariant_of-self-clause-last_kept c = let s = c.args.self.now in subst (λ (w : View). IsKept w s.last) (sym c.split.ensures.left) s.last_kept
+invariant_of-self-clause-last_kept c = let s = c.args.self.now in subst (λ (w : View). IsWordKept w s.last) (sym c.split.ensures.left) s.last_kept
 
 pub invariant_of-self-clause-older_kept : goal.invariant_of-self-clause-older_kept
-invariant_of-self-clause-older_kept c = let s = c.args.self.now in subst (λ (w : View). IsKept w s.older) (sym c.split.ensures.left) s.older_kept
+invariant_of-self-clause-older_kept c = let s = c.args.self.now in subst (λ (w : View). IsWordKept w s.older) (sym c.split.ensures.left) s.older_kept
 
 pub invariant_of-self-clause-singles_kept : goal.invariant_of-self-clause-singles_kept
 invariant_of-self-clause-singles_kept c = let s = c.args.self.now in subst (λ (w : View). AreSingles w s.singles.ids) (sym c.split.ensures.left) s.singles_kept

@@ -3,7 +3,7 @@ use Rattle.js_store.specs.Limits.{limit_units}
 use Rattle.heap_rule.specs.declared.view.View.{View}
 use Rattle.heap_intern.specs.Sessions.{state_by, table_of}
 use Rattle.heap_intern.proofs.Shares.{state_total}
-use Rattle.heap_intern.specs.Lately.{IsKept}
+use Rattle.heap_intern.specs.Lately.{IsWordKept}
 use Rattle.heap_intern.specs.Singles.{AreSingles}
 use Rattle.heap_intern.specs.Recent.{AreRecent}
 use Rattle.std.proofs.Common.{subst, sym}
@@ -16,10 +16,10 @@ returns-clause-state c = let s = c.args.self.now in let v : View = s.text.reader
     ∙ state_total v (limit_units s.limit) (table_of s.text.reader.heap.now) c.totals.result.0 c.totals.result.1 e.used.0 e.used.1
 
 pub invariant_of-self-clause-last_kept : goal.invariant_of-self-clause-last_kept
-invariant_of-self-clause-last_kept c = let s = c.args.self.now in subst (λ (w : View). IsKept w s.last) (sym c.totals.ensures.view) s.last_kept
+invariant_of-self-clause-last_kept c = let s = c.args.self.now in subst (λ (w : View). IsWordKept w s.last) (sym c.totals.ensures.view) s.last_kept
 
 pub invariant_of-self-clause-older_kept : goal.invariant_of-self-clause-older_kept
-invariant_of-self-clause-older_kept c = let s = c.args.self.now in subst (λ (w : View). IsKept w s.older) (sym c.totals.ensures.view) s.older_kept
+invariant_of-self-clause-older_kept c = let s = c.args.self.now in subst (λ (w : View). IsWordKept w s.older) (sym c.totals.ensures.view) s.older_kept
 
 pub invariant_of-self-clause-singles_kept : goal.invariant_of-self-clause-singles_kept
 invariant_of-self-clause-singles_kept c = let s = c.args.self.now in subst (λ (w : View). AreSingles w s.singles.ids) (sym c.totals.ensures.view) s.singles_kept

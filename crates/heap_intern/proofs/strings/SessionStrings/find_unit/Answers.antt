@@ -3,7 +3,7 @@ use Rattle.heap_rule.specs.declared.view.View.{View}
 use Rattle.heap_rule.proofs.MapLemmas.{has_key}
 use Rattle.heap_read.proofs.Loaded.{reads_trans}
 use Rattle.js_store.specs.Limits.{limit_units}
-use Rattle.js_store.specs.Units.{IsFirstUnit}
+use Rattle.js_units.specs.Units.{IsFirstUnit}
 use Rattle.heap_intern.specs.Sessions.{table_of}
 use Rattle.heap_intern.proofs.Lately.{kept_by}
 use Rattle.heap_intern.proofs.OneUnit.{singles_by}

@@ -10,7 +10,7 @@ use Rattle.heap_rule.proofs.Steps.{possible_within}
 use Rattle.heap_table.specs.Known.{KeepsKnown}
 use Rattle.heap_read.specs.Filling.{IsFilled, IsPlaced, own_word}
 use Rattle.heap_read.specs.Reads.{Writes}
-use Rattle.heap_read.specs.Sources.{listed}
+use Rattle.heap_read.specs.Sources.{source_units}
 use Rattle.heap_read.proofs.Going.{known_stored}
 use Rattle.heap_read.proofs.Listing.{listed_same, shows_kept}
 use Rattle.heap_read.proofs.Placing.{IsStored, filled_none, filled_on, lane_small, placed_filled}
@@ -19,7 +19,7 @@ use Rattle.heap_read.proofs.Storing.{word_put, writes_reads, writes_refl, writes
 use Rattle.heap_read.proofs.reader.Reader.copy_lanes.Goals as goal
 
 pub loop-done-init : goal.loop-done-init
-loop-done-init c = let v : View = c.args.self.now.agent.seat.me.0 in let us : List ℕ = listed v c.args.source.now in record {
+loop-done-init c = let v : View = c.args.self.now.agent.seat.me.0 in let us : List ℕ = source_units v c.args.source.now in record {
   heap = refl;
   writes = writes_refl v;
   below = λ q y l h. h;
@@ -51,7 +51,7 @@ overflow_add-to-in-loop-done c = let u : View = c.loop-done.self.agent.seat.me.0
 pub loop-done-preserved : goal.loop-done-preserved
 loop-done-preserved c = let v : View = c.args.self.now.agent.seat.me.0 in let u : View = c.loop-done.self.agent.seat.me.0 in let p : View = c.patched-word.new.self.agent.seat.me.0 in let w : View = c.store_word.new.self.seat.me.0 in
     let i = c.loop-done.invariant in let e = c.patched-word.ensures in let f = c.store_word.ensures in let wide = c.args.to.wide in let start = c.args.to.start in let done = c.loop-done.done in let count = c.min-count.result in let o : ℕ = c.args.at + done in
-    let us : List ℕ = listed v c.args.source.now in let number = c.word_and_lane-number.result.0 in let low = c.word_and_lane-number.result.1 in let x = c.patched-word.result in let is = c.word_and_lane-number.ensures in
+    let us : List ℕ = source_units v c.args.source.now in let number = c.word_and_lane-number.result.0 in let low = c.word_and_lane-number.result.1 in let x = c.patched-word.result in let is = c.word_and_lane-number.ensures in
     let known : KeepsKnown p w = subst (KeepsKnown p) (sym f.view) (known_stored p (start + number) x) in
     let stored : IsStored (own_word u.own_words) (own_word w.own_words) (start + o / lane_count wide) x =
     subst (λ (n : ℕ). IsStored (own_word u.own_words) (own_word w.own_words) (start + n) x) is.0

@@ -2,7 +2,7 @@ use Rattle.std.proofs.Common.{◌≡◌, ◌-◌, ◌≤◌, get_or}
 use Rattle.heap_read.specs.Filling.{IsFilled, own_word}
 use Rattle.heap_read.specs.Readers.{view_in}
 use Rattle.heap_read.specs.Reads.{KeepsBelow, KeepsForms, Writes}
-use Rattle.heap_read.specs.Sources.{Shows, listed}
+use Rattle.heap_read.specs.Sources.{ShowsSource, source_units}
 use Rattle.heap_read.proofs.reader.Reader.copy_lanes.Given as goal
 
 abbrev pub invariant-loop-done : goal.invariant-loop-done
@@ -11,9 +11,9 @@ invariant-loop-done l = record {
   writes : Writes (view_in l.fn.self) (view_in l.self);
   below : KeepsBelow l.to.start (view_in l.fn.self) (view_in l.self);
   forms : KeepsForms (view_in l.fn.self) (view_in l.self);
-  shows : Shows (view_in l.self) l.source;
-  same : listed (view_in l.self) l.source ≡ listed (view_in l.fn.self) l.source;
-  filled : IsFilled l.to.wide l.to.start (own_word (view_in l.fn.self).own_words) (own_word (view_in l.self).own_words) l.at l.done (λ k. get_or (listed (view_in l.fn.self) l.source) k 0);
+  shows : ShowsSource (view_in l.self) l.source;
+  same : source_units (view_in l.self) l.source ≡ source_units (view_in l.fn.self) l.source;
+  filled : IsFilled l.to.wide l.to.start (own_word (view_in l.fn.self).own_words) (own_word (view_in l.self).own_words) l.at l.done (λ k. get_or (source_units (view_in l.fn.self) l.source) k 0);
   within : l.done ≤ l.n;
 }
 

@@ -1,6 +1,6 @@
 use Rattle.std.proofs.Common.{◌≡◌, ℕ, ◌-◌, ◌<◌, ◌≤◌, List, get_or}
 use Rattle.heap_read.specs.Readers.{view_in}
-use Rattle.heap_read.specs.Reads.{KeepsForms, Reads}
+use Rattle.heap_read.specs.Reads.{KeepsForms, OnlyLoads}
 use Rattle.heap_read.specs.Windows.{IsWindow}
 use Rattle.heap_read.proofs.reader.Reader.find_unit.Given as goal
 
@@ -10,7 +10,7 @@ invariant-loop-i l = record {
   most : l.i ≤ l.w.len;
   none : (us : List ℕ) → IsWindow (view_in l.fn.self) l.w us → (k : ℕ) → l.from ≤ k → k < l.i → get_or us k 0 ≡ l.unit → ⊥;
   heap : l.self.heap ≡ l.fn.self.heap;
-  reads : Reads (view_in l.fn.self) (view_in l.self);
+  reads : OnlyLoads (view_in l.fn.self) (view_in l.self);
   forms : KeepsForms (view_in l.fn.self) (view_in l.self);
 }
 

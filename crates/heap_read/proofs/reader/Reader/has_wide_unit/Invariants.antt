@@ -1,6 +1,6 @@
 use Rattle.std.proofs.Common.{◌≡◌, ◌-◌, ◌<◌, ◌≤◌, ℕ, List, get_or}
 use Rattle.heap_read.specs.Readers.{view_in}
-use Rattle.heap_read.specs.Reads.{KeepsForms, Reads}
+use Rattle.heap_read.specs.Reads.{KeepsForms, OnlyLoads}
 use Rattle.heap_read.specs.Windows.{IsWindow}
 use Rattle.heap_read.proofs.reader.Reader.has_wide_unit.Given as goal
 
@@ -8,7 +8,7 @@ abbrev pub invariant-loop-i : goal.invariant-loop-i
 invariant-loop-i l = record {
   most : l.i ≤ l.w.len;
   heap : l.self.heap ≡ l.fn.self.heap;
-  reads : Reads (view_in l.fn.self) (view_in l.self);
+  reads : OnlyLoads (view_in l.fn.self) (view_in l.self);
   forms : KeepsForms (view_in l.fn.self) (view_in l.self);
   narrow : (us : List ℕ) → IsWindow (view_in l.fn.self) l.w us → (q : ℕ) → q < l.i → get_or us q 0 ≤ 255;
 }

@@ -5,7 +5,7 @@ use Rattle.js_units.specs.Lanes.{lane_of}
 use Rattle.heap_rule.specs.declared.view.View.{View}
 use Rattle.heap_rule.specs.Maps.{HasKey}
 use Rattle.heap_read.specs.Filling.{IsPlaced, own_word}
-use Rattle.heap_read.specs.Sources.{listed}
+use Rattle.heap_read.specs.Sources.{source_units}
 use Rattle.heap_read.proofs.Listing.{listed_same, shows_kept}
 use Rattle.heap_read.proofs.Loaded.{reads_word}
 use Rattle.heap_read.proofs.Placing.{whole_placed}
@@ -15,7 +15,7 @@ use Rattle.heap_read.proofs.Storing.{shown_own}
 use Rattle.heap_read.proofs.reader.Reader.patched.Goals as goal
 
 pub returns-then-patch-lanes-clause-placed : goal.returns-then-patch-lanes-clause-placed
-returns-then-patch-lanes-clause-placed c = let v : View = c.args.self.now.agent.seat.me.0 in let us : List ℕ = listed v c.args.source.now in let p = c.args.patch in
+returns-then-patch-lanes-clause-placed c = let v : View = c.args.self.now.agent.seat.me.0 in let us : List ℕ = source_units v c.args.source.now in let p = c.args.patch in
     whole_placed p.wide (own_word v.own_words c.args.at) c.word_of.result p.low p.count (λ k. get_or us (p.first + k) 0) (c.if-patch-lanes.true ∙ c.lanes.ensures) c.requires.lanes
     (λ k l. c.word_of.ensures.word.each k (subst (λ (n : ℕ). k < n) (sym (c.if-patch-lanes.true ∙ c.lanes.ensures)) l))
 
@@ -34,5 +34,5 @@ returns-clause-placed c = let v : View = c.args.self.now.agent.seat.me.0 in let 
     let word : x ≡ own_word v.own_words at = e.shown ∙ (shown_own w at own ∙ ap (λ (m : FinMap nat_cmp ℕ). own_word m at) r.own_words) in
     let same = listed_same v w c.args.source.now e.known c.requires.shows in
     subst (λ (xs : List ℕ). IsPlaced p.wide (own_word v.own_words at) y p.low p.count (λ k. get_or xs (p.first + k) 0)) same
-    (subst (λ (n : ℕ). IsPlaced p.wide n y p.low p.count (λ k. get_or (listed w c.args.source.now) (p.first + k) 0)) word
-    (placed_as p.wide x y p.low p.count (lane_of p.wide c.word_of-part.result) (λ k. get_or (listed w c.args.source.now) (p.first + k) 0) c.replaced.ensures c.word_of-part.ensures.word.each))
+    (subst (λ (n : ℕ). IsPlaced p.wide n y p.low p.count (λ k. get_or (source_units w c.args.source.now) (p.first + k) 0)) word
+    (placed_as p.wide x y p.low p.count (lane_of p.wide c.word_of-part.result) (λ k. get_or (source_units w c.args.source.now) (p.first + k) 0) c.replaced.ensures c.word_of-part.ensures.word.each))

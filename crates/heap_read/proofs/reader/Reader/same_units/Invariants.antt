@@ -1,7 +1,7 @@
 use Rattle.std.proofs.Common.{◌≡◌, ℕ, ◌+◌, ◌-◌, ◌<◌, ◌≤◌, List, get_or}
 use Rattle.heap_read.specs.Frozen.{HasLane, IsLearned}
 use Rattle.heap_read.specs.Readers.{view_in}
-use Rattle.heap_read.specs.Reads.{KeepsForms, Reads}
+use Rattle.heap_read.specs.Reads.{KeepsForms, OnlyLoads}
 use Rattle.heap_read.specs.Windows.{IsWindow}
 use Rattle.heap_read.proofs.reader.Reader.same_units.Given as goal
 
@@ -9,7 +9,7 @@ abbrev pub invariant-loop-i : goal.invariant-loop-i
 invariant-loop-i l = record {
   most : l.i ≤ l.a.len;
   heap : l.self.heap ≡ l.fn.self.heap;
-  reads : Reads (view_in l.fn.self) (view_in l.self);
+  reads : OnlyLoads (view_in l.fn.self) (view_in l.self);
   forms : KeepsForms (view_in l.fn.self) (view_in l.self);
   learned : IsLearned (view_in l.self);
   same : (us : List ℕ) → IsWindow (view_in l.fn.self) l.a us → (k : ℕ) → k < l.i → HasLane (view_in l.self) l.b.wide l.b.start (l.b.offset + k) (get_or us k 0);

@@ -2,7 +2,7 @@ use Rattle.std.proofs.Common.{◌+◌, ◌/◌, ◌^◌, ◌<◌, ℕ, true, fal
 use Rattle.js_units.specs.Lanes.{lane_count}
 use Rattle.heap_rule.specs.declared.view.View.{View}
 use Rattle.heap_rule.specs.Maps.{HasKey}
-use Rattle.heap_rule.specs.Views.{IsFrozen, shown}
+use Rattle.heap_rule.specs.Views.{IsFrozen, shown_word}
 use Rattle.heap_read.proofs.Loaded.{has_loaded, reads_word}
 use Rattle.heap_read.proofs.Showing.{eight_lanes, forms_held, four_lanes, lane_here, place_frozen, place_small, window_kept, window_unit, word_small}
 use Rattle.heap_read.proofs.Storing.{forms_word}
@@ -21,7 +21,7 @@ overflow_add-w c = let w = c.args.w in let o : ℕ = w.offset + c.args.i in let 
 
 pub returns-then-w-clause-lane : goal.returns-then-w-clause-lane
 returns-then-w-clause-lane c = let w = c.args.w in let o : ℕ = w.offset + c.args.i in
-    lane_here (shown c.load_word-word.new.self.seat.me.0) w.wide true w.start o 4 c.load_word-word.result c.lane.result c.if-w.true (four_lanes w.wide c.if-w.true) c.load_word-word.ensures.shown c.lane.ensures
+    lane_here (shown_word c.load_word-word.new.self.seat.me.0) w.wide true w.start o 4 c.load_word-word.result c.lane.result c.if-w.true (four_lanes w.wide c.if-w.true) c.load_word-word.ensures.shown c.lane.ensures
 
 pub returns-then-w-clause-unit : goal.returns-then-w-clause-unit
 returns-then-w-clause-unit c us h = let w = c.args.w in let o : ℕ = w.offset + c.args.i in let u : View = c.args.self.now.agent.seat.me.0 in let v : View = c.load_word-word.new.self.seat.me.0 in let e = c.load_word-word.ensures in
@@ -35,7 +35,7 @@ overflow_add-w-else-w c = let w = c.args.w in let o : ℕ = w.offset + c.args.i 
 
 pub returns-else-w-clause-lane : goal.returns-else-w-clause-lane
 returns-else-w-clause-lane c = let w = c.args.w in let o : ℕ = w.offset + c.args.i in
-    lane_here (shown c.load_word-word-else-w.new.self.seat.me.0) w.wide false w.start o 8 c.load_word-word-else-w.result c.lane-else-w.result c.if-w.false (eight_lanes w.wide c.if-w.false) c.load_word-word-else-w.ensures.shown c.lane-else-w.ensures
+    lane_here (shown_word c.load_word-word-else-w.new.self.seat.me.0) w.wide false w.start o 8 c.load_word-word-else-w.result c.lane-else-w.result c.if-w.false (eight_lanes w.wide c.if-w.false) c.load_word-word-else-w.ensures.shown c.lane-else-w.ensures
 
 pub returns-else-w-clause-unit : goal.returns-else-w-clause-unit
 returns-else-w-clause-unit c us h = let w = c.args.w in let o : ℕ = w.offset + c.args.i in let u : View = c.args.self.now.agent.seat.me.0 in let v : View = c.load_word-word-else-w.new.self.seat.me.0 in let e = c.load_word-word-else-w.ensures in

@@ -2,7 +2,7 @@ use Rattle.std.proofs.Common.{◌≡◌, ◌∙◌, ℕ, ◌+◌, ◌-◌, ◌*�
 use Rattle.js_units.specs.Lanes.{lane_count}
 use Rattle.heap_rule.specs.declared.view.View.{View}
 use Rattle.heap_rule.specs.Maps.{HasKey}
-use Rattle.heap_rule.specs.Views.{shown}
+use Rattle.heap_rule.specs.Views.{shown_word}
 use Rattle.heap_read.proofs.Holding.{shows_on}
 use Rattle.heap_read.proofs.Loaded.{has_loaded, reads_word}
 use Rattle.heap_read.proofs.Showing.{forms_held, window_kept, word_small}
@@ -39,7 +39,7 @@ returns-clause-word c us h =
     let has : HasKey x.own_words at ⊎ HasKey x.frozen at = subst (λ (y : View). HasKey y.own_words at ⊎ HasKey y.frozen at) (sym e.view) (has_loaded v at c.load_word.result) in
     shows_on x w us i ((w.offset + i) / lane_count w.wide) c.load_word.result e.belongs.5 (window_kept v x (forms_held v x e.forms) w us e.known h)
     (first_within w.wide c.args.j w.offset w.len c.requires.some c.requires.within) refl
-    (subst (λ (q : ℕ). HasKey x.own_words q ⊎ HasKey x.frozen q) same has) (e.shown ∙ ap (shown x) same)
+    (subst (λ (q : ℕ). HasKey x.own_words q ⊎ HasKey x.frozen q) same has) (e.shown ∙ ap (shown_word x) same)
 
 pub returns-clause-reads : goal.returns-clause-reads
 returns-clause-reads c = let e = c.load_word.ensures in record { heap = cc; view = reads_word c.args.self.now.agent.seat.me.0 c.load_word.new.self.seat.me.0 _ c.load_word.result e.known e.view }

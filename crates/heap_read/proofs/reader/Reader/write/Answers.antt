@@ -8,7 +8,7 @@ use Rattle.heap_rule.specs.Maps.{Has, HasKey}
 use Rattle.heap_table.specs.Known.{KeepsKnown}
 use Rattle.heap_rule.proofs.MapLemmas.{insert_other, key_of}
 use Rattle.heap_read.specs.Reads.{Continues}
-use Rattle.heap_read.specs.Sources.{listed}
+use Rattle.heap_read.specs.Sources.{source_units}
 use Rattle.heap_read.specs.Written.{AreWords}
 use Rattle.heap_read.proofs.Going.{continues_reads, continues_stored, continues_trans, continues_words, known_stored, known_words, run_below, run_kept, run_keys, words_stored}
 use Rattle.heap_read.proofs.Loaded.{key_more}
@@ -37,7 +37,7 @@ loop-at-init c = let v : View = c.args.self.now.agent.seat.me.0 in let w : View 
 pub loop-at-preserved : goal.loop-at-preserved
 loop-at-preserved c = let v : View = c.args.self.now.agent.seat.me.0 in let u : View = c.loop-at.self.agent.seat.me.0 in let p : View = c.pack-word.new.self.agent.seat.me.0 in let w : View = c.store_word.new.self.seat.me.0 in
     let i = c.loop-at.invariant in let e = c.pack-word.ensures in let f = c.store_word.ensures in let start = c.in_ok-start.start in let at = c.loop-at.at in let word = c.pack-word.result in
-    let us : List ℕ = listed v c.args.source.now in let known : KeepsKnown p w = subst (KeepsKnown p) (sym f.view) (known_stored p (start + at) word) in
+    let us : List ℕ = source_units v c.args.source.now in let known : KeepsKnown p w = subst (KeepsKnown p) (sym f.view) (known_stored p (start + at) word) in
     let done : AreWords p c.args.wide start us at = record { each = λ q l. let t = i.done.each q l in (t.0, subst (λ (m : FinMap nat_cmp ℕ). Has m (start + q) t.0) (sym e.reads.view.own_words) t.1, t.2) } in
     let next : suc at ≡ at + 1 = omega arith in let is : IsWordOf c.args.wide us at word = subst (λ (xs : List ℕ). IsWordOf c.args.wide xs at word) i.same e.word in record {
       heap = e.reads.heap ∙ i.heap;

@@ -1,6 +1,6 @@
 use Rattle.std.proofs.Common.{◌≡◌, take, None}
 use Rattle.js_store.specs.State.{text}
-use Rattle.js_store.specs.Faults.{Step}
+use Rattle.js_store.specs.Faults.{StoreStep}
 use Rattle.js_item.specs.Puts.{has_units, place_by}
 use Rattle.js_item.specs.Views.{fields_of}
 use Rattle.js_item.proofs.item.Object.find_one_by_one.Given as goal
@@ -12,6 +12,6 @@ invariant-loop-i g l =
     let a = state l.fn.store in
     record {
       none : place_by (has_units a number (text a (number l.key))) (fields_of (take l.i l.member-items)) ≡ None;
-      step : Step a (state l.store) None 0 0;
+      step : StoreStep a (state l.store) None 0 0;
       history : (state l.store).history ≡ a.history;
     }

@@ -1,6 +1,6 @@
 use Rattle.std.proofs.Common.{◌≡◌, ◌<◌, Some, ap, sym, ◌∙◌, arith}
 use Rattle.js_item.specs.Puts.{width, names_key, place_by, value_by}
-use Rattle.js_item.specs.Views.{content, fields_of}
+use Rattle.js_item.specs.Views.{content_of, fields_of}
 use Rattle.js_item.specs.declared.item.Member.{Member}
 use Rattle.js_item.proofs.Finding.{place_within, value_there, no_value}
 use Rattle.js_item.proofs.item.Object.get.Goals as goal
@@ -25,7 +25,7 @@ returns-in-Some-clause-value g c =
     let at : place_by is (fields_of ms) ≡ Some c.in-Some.place = ap (place_by is) c.members.ensures.fields ∙ sym c.in-Some.ensures.place in
     sym (ap (value_by is) c.members.ensures.fields)
     ∙ value_there is ms c.in-Some.place m at c.index-members-place.is
-    ∙ ap (λ (q : Member _). Some (content q.value)) c.index-members-place.is
+    ∙ ap (λ (q : Member _). Some (content_of q.value)) c.index-members-place.is
 
 pub returns-in-None-clause-value : goal.returns-in-None-clause-value
 returns-in-None-clause-value g c =

@@ -1,6 +1,6 @@
 use Rattle.std.proofs.Common.{inr, arith}
 use Rattle.heap_rule.proofs.MapLemmas.{has_key}
-use Rattle.heap_agents.specs.Ready.{view_in}
+use Rattle.heap_agents.specs.Ready.{handle_view}
 use Rattle.jsstr_c.proofs.Going.{goes_trans, goes_units}
 use Rattle.jsstr_c.proofs.checked.making.jsstr_slice.Goals as goal
 
@@ -10,7 +10,7 @@ returns-then-settled-ne-DONE-clause-goes c = λ told. let one = c.reaches in let
 
 pub jsstr_slice_unchecked-requires-clause-within : goal.jsstr_slice_unchecked-requires-clause-within
 jsstr_slice_unchecked-requires-clause-within c = let one = c.reaches in let two = c.jsstr_settle_unchecked-settled in let t = c.if-not-reaches.false in
-    let u = has_key (view_in one.new.agent.at.value).units c.args.s (one.ensures.key t) in let long = one.ensures.long t u.0 u.1 in let low = c.if-to-from.false in
+    let u = has_key (handle_view one.new.agent.at.value).units c.args.s (one.ensures.key t) in let long = one.ensures.long t u.0 u.1 in let low = c.if-to-from.false in
     (u.0, goes_units one.new.agent.at.value two.new.agent.at.value two.ensures.goes c.args.s u.0 u.1, omega (arith, low), omega (arith, long, low))
 
 pub returns-clause-goes : goal.returns-clause-goes

@@ -2,9 +2,9 @@ use Rattle.std.specs.Prelude.{Option, Some}
 use Rattle.std.proofs.Common.{ap, subst, sym, ◌∙◌}
 use Rattle.heap_rule.specs.Maps.{Has}
 use Rattle.heap_agents.specs.declared.held.Held.{Held}
-use Rattle.heap_agents.specs.Ready.{view_in}
+use Rattle.heap_agents.specs.Ready.{handle_view}
 use Rattle.jsstr_c.proofs.unchecked.search.jsstr_starts_with_unchecked.Goals as goal
 
 pub returns-clause-stands : goal.returns-clause-stands
 returns-clause-stands c us vs h k = let taken = c.take-held.ensures.taken ∙ ap Some (sym c.deref_mut.ensures.value) in c.starts_with-answer.ensures.stands us vs
-    (subst (λ (o : Option Held). Has (view_in o).units c.args.hay us) taken h) (subst (λ (o : Option Held). Has (view_in o).units c.args.needle vs) taken k)
+    (subst (λ (o : Option Held). Has (handle_view o).units c.args.hay us) taken h) (subst (λ (o : Option Held). Has (handle_view o).units c.args.needle vs) taken k)

@@ -1,9 +1,22 @@
--- The status, and what the sinks received.
+-- What is reported of a call: its status, and what two sinks receive.
 use Rattle.std.specs.Prelude.{◌≡◌, ◌⊎◌, ℕ, ◌≤◌, List, []}
 use Rattle.js_io.specs.Counts.{next_count}
 use Rattle.js_io.specs.SinkState.{SinkState, Takes, TakesPrefix}
-use Rattle.js_run.specs.Moment.{Sinks}
-use Rattle.js_run.specs.Verdict.{Report, Refusal, Printed}
+
+-- what both sinks have received, and how many of their writes failed
+pub record Sinks : Type 0 where
+  pub out : SinkState
+  pub err : SinkState
+
+abbrev pub sinks : SinkState → SinkState → Sinks
+sinks out err = record { out = out; err = err }
+
+-- what is reported of a call
+pub data Report : Type 0 where
+  -- nothing was run: a status, and a line for err
+  Refusal : (status : ℕ) (line : List ℕ) → Report
+  -- a status, the bytes for out and those for err
+  Printed : (status : ℕ) (written : List ℕ) (told : List ℕ) → Report
 
 -- the sink received all of these bytes, and no write failed
 pub record TakesAll (old new : SinkState) (bytes : List ℕ) : Type 0 where
@@ -23,7 +36,7 @@ pub record IsTold (wanted : ℕ) (line : List ℕ) (code : ℕ) (old new : Sinks
   pub told : TakesAll old.err new.err line ⊎ TakesUntil old.err new.err line
 
 -- everything was written
-pub record IsWhole (wanted : ℕ) (written told : List ℕ) (code : ℕ) (old new : Sinks) : Type 0 where
+pub record IsAllWritten (wanted : ℕ) (written told : List ℕ) (code : ℕ) (old new : Sinks) : Type 0 where
   pub status : code ≡ wanted
   pub out : TakesAll old.out new.out written
   pub err : TakesAll old.err new.err told
@@ -44,5 +57,5 @@ pub record IsCutAtErr (written told : List ℕ) (code : ℕ) (old new : Sinks) :
 -- the status of a run is 7
 abbrev pub IsEnd : Report → ℕ → Sinks → Sinks → Type 0
 IsEnd (Refusal status line) code old new = IsTold status line code old new
-IsEnd (Printed status written told) code old new = IsWhole status written told code old new
+IsEnd (Printed status written told) code old new = IsAllWritten status written told code old new
     ⊎ (IsCutAtOut written code old new ⊎ IsCutAtErr written told code old new)
