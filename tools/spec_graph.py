@@ -16,6 +16,8 @@ BLOCK = re.compile(r"^( *)(?:module _.*where|mutual|abbrev mutual|unfoldable mut
 USE = re.compile(r"^ *(?:ghost )?use (base\S*|Rattle\.[\w.-]+?)(?:\.\{(.*)\}| as ([\w-]+))?;?\s*$")
 TYPE_HEAD = re.compile(r"^(?:pub(?:\([^)]*\))? )?(struct|enum|trait|type|const|union) (\w+)")
 FN_HEAD = re.compile(r"^( *)((?:pub(?:\([^)]*\))? )?(?:const )?(?:unsafe )?(?:extern \"C\" )?)fn (\w+)")
+# The first line of a file of specs/ whose definitions no public contract reaches.
+HELPERS = "-- Helpers: no public contract reaches these definitions."
 FIXITY = re.compile(r"^ *infix[lr]? \d+ ")
 
 
@@ -448,6 +450,20 @@ class Graph:
             found += self.contracts(path, lambda head, around: is_public(head, around, names, is_shown))
             found += self.members(source, names, is_shown)
         return found
+
+    def unreached(self):
+        """The files of specs/ that no public contract reaches."""
+        reached = {it.path for it in closure(self.public())}
+        return [path for path, source in sorted(self.specs.items()) if source.items and path not in reached]
+
+    def head_faults(self):
+        """What is wrong with the first lines of files of specs/: those that no public contract reaches say so, and no others."""
+        helpers = set(self.unreached())
+        for path, source in sorted(self.specs.items()):
+            if path in helpers and source.lines[0] != HELPERS:
+                yield f"{path}: no public contract reaches it, so its first line is {HELPERS}"
+            if path not in helpers and HELPERS in source.lines:
+                yield f"{path}: a public contract reaches it, so it has no line {HELPERS}"
 
     def members(self, source, names, is_shown):
         """The ghost members of the trait impls of types that a crate gives out."""

@@ -1,3 +1,4 @@
+-- Helpers: no public contract reaches these definitions.
 -- What agents that read one string at once ask.
 use Rattle.std.specs.Prelude.{ℕ, ◌≤◌}
 use Rattle.heap_rule.specs.Maps.{HasKey}

@@ -1,3 +1,4 @@
+-- Helpers: no public contract reaches these definitions.
 -- Numbers that a function of the String constructor uses, by the code's names of these functions.
 use Rattle.std.specs.Prelude.{◌≡◌, ℕ, true, List, map}
 use Rattle.js_number.specs.declared.Num.{Num}

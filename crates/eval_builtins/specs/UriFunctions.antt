@@ -1,3 +1,4 @@
+-- Helpers: no public contract reaches these definitions.
 -- The URI handling functions by the code's names of them.
 use Rattle.std.specs.Prelude.{List, ℕ}
 use Rattle.js_uri.specs.Outcome.{UriOutcome}

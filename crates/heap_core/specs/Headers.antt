@@ -1,3 +1,4 @@
+-- Helpers: no public contract reaches these definitions.
 -- What the machine reads in a header word.
 use Rattle.std.specs.Prelude.{◌≡◌, ℕ, Bool, true, false, List, Some}
 use Rattle.js_header.specs.Form.{form_of}

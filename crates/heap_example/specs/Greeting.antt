@@ -1,3 +1,4 @@
+-- Helpers: no public contract reaches these definitions.
 -- What a thread makes.
 use Rattle.std.specs.Prelude.{ℕ, List, ◌++◌}
 use Rattle.heap_rule.specs.declared.view.View.{View}

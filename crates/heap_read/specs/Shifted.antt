@@ -1,3 +1,4 @@
+-- Helpers: no public contract reaches these definitions.
 -- Words whose lowest lanes hold units.
 use Rattle.std.specs.Prelude.{◌≡◌, ℕ, ◌<◌, ◌^◌, Bool, true, false}
 use Rattle.js_units.specs.Lanes.{lane_base, lane_of}

@@ -1,3 +1,4 @@
+-- Helpers: no public contract reaches these definitions.
 -- The units of a string, and of the sides of a Cons.
 use Rattle.std.specs.Prelude.{◌≡◌, ℕ, ◌-◌, ◌<◌, ◌++◌, Bool, List, [], length, unwrap_or}
 use Rattle.std.specs.FinMap.{get}

@@ -1,3 +1,4 @@
+-- Helpers: no public contract reaches these definitions.
 -- What a thread leaves of the agent that it had, as one fact.
 use Rattle.heap_rule.specs.declared.view.View.{View}
 use Rattle.heap_table.specs.declared.agent.Agent.{Agent}

@@ -1,3 +1,4 @@
+-- Helpers: no public contract reaches these definitions.
 -- The members of an object literal where each pays its share of what the literal needs. The sum of these
 -- shares is at most the row of the literal, so an evaluation of the members in this form is one in the form
 -- of the meaning (`proofs/Paying.antt`).

@@ -1,5 +1,5 @@
--- What the reading of an open file gives, by the bytes that it had left, where these are known. No public
--- contract cites it.
+-- Helpers: no public contract reaches these definitions.
+-- What the reading of an open file gives, by the bytes that it had left, where these are known.
 use Rattle.std.specs.Prelude.{◌≡◌, ℕ, ◌<◌, ◌≤◌, List, length, None, Some, ⊤}
 use Rattle.std.specs.declared.option.Option.{Option}
 use Rattle.js_io.specs.declared.files.TheConstants.{FILE_MAX}

@@ -1,5 +1,5 @@
--- How the code finds the longest mark, for the contracts of private functions. No public contract cites this
--- file.
+-- Helpers: no public contract reaches these definitions.
+-- How the code finds the longest mark, for the contracts of private functions.
 use Rattle.std.specs.Prelude.{ℕ, List, [], ◌∷◌, Option, Some, None, ◌==◌, Bool, ◌&&◌, ◌||◌, if◌then◌else◌, option_map}
 use Rattle.std.specs.Str.{chars}
 use Rattle.js_lex.specs.declared.token.Mark.{Mark}

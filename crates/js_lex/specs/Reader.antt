@@ -1,5 +1,5 @@
--- What the code reads at the front of a text, for the contracts of private functions. No public contract
--- cites this file.
+-- Helpers: no public contract reaches these definitions.
+-- What the code reads at the front of a text, for the contracts of private functions.
 use Rattle.std.specs.Prelude.{ℕ, List, [], ◌∷◌, Option, Some, None, ◌==◌, if◌then◌else◌}
 use Rattle.std.specs.Str.{chars}
 use Rattle.js_literal.specs.Literal.{is_quote}

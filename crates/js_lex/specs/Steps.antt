@@ -1,4 +1,5 @@
--- The code's steps, for the contracts of private functions. No public contract cites this file.
+-- Helpers: no public contract reaches these definitions.
+-- The code's steps, for the contracts of private functions.
 use Rattle.std.specs.Prelude.{◌≡◌, ◌⊎◌, ℕ, ◌<◌, ◌≤◌, List, length, Result, Ok, Err}
 use Rattle.std.specs.Str.{IsCharBoundary}
 use Rattle.js_lex.specs.Tokens.{End, Skip, TokenOf, Fault, ElementAt}

@@ -1,4 +1,5 @@
--- The code's faults of numbers, for the contracts of private functions. No public contract cites this file.
+-- Helpers: no public contract reaches these definitions.
+-- The code's faults of numbers, for the contracts of private functions.
 use Rattle.js_literal.specs.Number.{NumberKind, Fraction, OtherForm, TooLarge}
 use Rattle.js_literal.specs.declared.number.DigitsFault.{DigitsFault}
 use Rattle.js_literal.specs.declared.number.DigitsFault.TheVariants as refusal

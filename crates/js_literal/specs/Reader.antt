@@ -1,5 +1,5 @@
--- What the code reads at the front of a string literal's inside, for the contracts of private functions. No
--- public contract cites this file.
+-- Helpers: no public contract reaches these definitions.
+-- What the code reads at the front of a string literal's inside, for the contracts of private functions.
 use Rattle.std.specs.Prelude.{ℕ, ◌+◌, ◌*◌, List, [], ◌∷◌, Option, Some, None, Bool, nat_le, ◌==◌, not, ◌&&◌, ◌||◌, if◌then◌else◌}
 use Rattle.std.specs.Str.{chars}
 use Rattle.js_units.specs.Text.{utf16_of}

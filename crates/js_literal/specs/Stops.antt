@@ -1,5 +1,5 @@
--- Why the inside of a string literal isn't read, for the contracts of private functions. No public contract
--- cites this file.
+-- Helpers: no public contract reaches these definitions.
+-- Why the inside of a string literal isn't read, for the contracts of private functions.
 use Rattle.std.specs.Prelude.{◌≡◌, ℕ, List, length, encode_utf8_all}
 use Rattle.js_literal.specs.Literal.{IsBroken}
 use Rattle.js_literal.specs.Reader.{kind_of}

@@ -1,3 +1,4 @@
+-- Helpers: no public contract reaches these definitions.
 -- The well-formed list while it is made unit by unit.
 use Rattle.std.specs.Prelude.{◌≡◌, ℕ, true, List, ◌∷◌, Option, Some, None}
 use Rattle.js_units.specs.Text.{is_lead, well}

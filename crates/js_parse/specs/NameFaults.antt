@@ -1,4 +1,5 @@
--- All faults of names in source order, as they are read. No public contract cites this file.
+-- Helpers: no public contract reaches these definitions.
+-- All faults of names in source order, as they are read.
 use Rattle.std.specs.Prelude.{ℕ, List, [], ◌∷◌, ◌++◌, Bool, true, false, Option, Some, None, if◌then◌else◌, nat_lt}
 use Rattle.std.specs.List.{list_any}
 use Rattle.std.specs.Str.{bytes_eq}

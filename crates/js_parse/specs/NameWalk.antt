@@ -1,4 +1,5 @@
--- What the private functions give. No public contract cites this file.
+-- Helpers: no public contract reaches these definitions.
+-- What the private functions give.
 use Rattle.std.specs.Prelude.{◌≡◌, ℕ, List, Option, option_map, map}
 use Rattle.std.specs.Ordering.{nat_cmp}
 use Rattle.std.specs.Cmp.Lexicographic.{slice_cmp}

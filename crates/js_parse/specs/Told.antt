@@ -1,4 +1,5 @@
--- How faults of tokens and of the grammar are reported. No public contract cites this file.
+-- Helpers: no public contract reaches these definitions.
+-- How faults of tokens and of the grammar are reported.
 use Rattle.std.specs.Prelude.{◌≡◌, ◌⊎◌, ℕ, List, Option, None}
 use Rattle.js_lex.specs.declared.token.LexFault.{LexFault}
 use Rattle.js_lex.specs.declared.token.LexFault.TheVariants as lexical

@@ -1,3 +1,4 @@
+-- Helpers: no public contract reaches these definitions.
 -- What the pieces of a template expand to, into which the code cuts it, and how many units they have together.
 use Rattle.std.specs.Prelude.{◌≡◌, ℕ, ◌+◌, ◌-◌, ◌*◌, ◌≤◌, List, [], ◌∷◌, length, take, drop}
 use Rattle.js_replace.specs.declared.pieces.Piece.{Piece}

@@ -1,4 +1,5 @@
--- What the parts of a call answer in the code, and what that reports. No public contract cites it.
+-- Helpers: no public contract reaches these definitions.
+-- What the parts of a call answer in the code, and what that reports.
 use Rattle.std.specs.Prelude.{◌≡◌, ◌≤◌, ⊤, List, Option, None, Some, length, map}
 use Rattle.js_eval.specs.declared.ending.End.{End}
 use Rattle.run_program.specs.declared.job.Outcome.{Outcome}

@@ -1,3 +1,4 @@
+-- Helpers: no public contract reaches these definitions.
 -- Where two units of a needle occur in a list of units.
 use Rattle.std.specs.Prelude.{◌≡◌, ℕ, ◌+◌, ◌<◌, ◌≤◌, List, length, slice_index, Option, Some, None}
 use Rattle.js_search.specs.declared.pairs.Pair.{Pair}

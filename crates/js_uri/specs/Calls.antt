@@ -1,3 +1,4 @@
+-- Helpers: no public contract reaches these definitions.
 -- The four URI functions.
 use Rattle.std.specs.Prelude.{ℕ, Bool, List}
 use Rattle.js_uri.specs.declared.sets.UriPart.{UriPart}

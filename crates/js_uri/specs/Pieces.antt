@@ -1,3 +1,4 @@
+-- Helpers: no public contract reaches these definitions.
 -- The pieces that decoding goes by, as parts of the units.
 use Rattle.std.specs.Prelude.{ℕ, List, take, length}
 use Rattle.js_units.specs.Text.{utf16_of}

@@ -1,3 +1,4 @@
+-- Helpers: no public contract reaches these definitions.
 -- What a handle that C holds owns: where it has a value, the same as a `Box<Held>`, and else nothing.
 use base.Fml.{Fml, ftrue}
 use base.Stored.{Coded}

@@ -1,3 +1,4 @@
+-- Helpers: no public contract reaches these definitions.
 -- How a call ended: its status, and what both sinks received.
 use Rattle.std.specs.Prelude.{◌≡◌}
 use Rattle.jsstr_cases.specs.declared.case.Ending.{Ending}

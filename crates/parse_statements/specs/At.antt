@@ -1,3 +1,4 @@
+-- Helpers: no public contract reaches these definitions.
 -- The readers with room for so many that are open, as the parser's functions give them.
 use Rattle.std.specs.Prelude.{ℕ, zero, suc, Bool, true, false, List, Option, None}
 use Rattle.parse_syntax.specs.Lang.{keep_second}

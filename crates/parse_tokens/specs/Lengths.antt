@@ -1,5 +1,5 @@
--- The identifiers that can't be names, by their length, for the contracts of private functions. No public contract
--- cites this file.
+-- Helpers: no public contract reaches these definitions.
+-- The identifiers that can't be names, by their length, for the contracts of private functions.
 use Rattle.std.specs.Prelude.{ℕ, Bool, true, false, List, [], ◌∷◌, ◌++◌, length, nat_eq, filter, if◌then◌else◌}
 use Rattle.parse_tokens.specs.Words.{reserved_words, kept_words}
 

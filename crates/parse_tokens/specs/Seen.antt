@@ -1,3 +1,4 @@
+-- Helpers: no public contract reaches these definitions.
 -- Entries in order, seen as a finite map from lists of letters.
 use Rattle.std.specs.Prelude.{ℕ, List, map}
 use Rattle.std.specs.Ordering.{nat_cmp}

@@ -1,4 +1,5 @@
--- What the stages of a run leave. No public contract cites these.
+-- Helpers: no public contract reaches these definitions.
+-- What the stages of a run leave.
 use Rattle.std.specs.Prelude.{◌≡◌, ℕ, ◌+◌, ◌≤◌, List, [], ◌∷◌, map, Option}
 use Rattle.js_store.specs.State.{State, StoreSizes}
 use Rattle.eval_tree.specs.Tree.{Tree, tree_of}

@@ -1,3 +1,4 @@
+-- Helpers: no public contract reaches these definitions.
 -- What the helpers of the tests make and keep.
 use Rattle.std.specs.Prelude.{ℕ, false, List}
 use Rattle.heap_rule.specs.declared.view.View.{View}

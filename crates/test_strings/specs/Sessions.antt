@@ -1,3 +1,4 @@
+-- Helpers: no public contract reaches these definitions.
 -- What is left of a session that made strings, interned and read them.
 use Rattle.std.specs.Prelude.{◌≡◌, ℕ, ◌≤◌, Bool, true, List, Contains, IsSome, length}
 use Rattle.heap_rule.specs.Paths.{StartsWith}

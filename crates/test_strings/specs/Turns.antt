@@ -1,3 +1,4 @@
+-- Helpers: no public contract reaches these definitions.
 -- What is left of an agent that made strings, interned and read them.
 use Rattle.std.specs.Prelude.{◌≡◌, ℕ, ◌++◌, List, Contains}
 use Rattle.heap_rule.specs.declared.view.View.{View}
