@@ -1,0 +1,2 @@
+mod Productions
+mod Methods
