@@ -1,0 +1,3 @@
+'use strict';
+const names = ['pear', 'fig'];
+print(names.length);
