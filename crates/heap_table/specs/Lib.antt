@@ -8,3 +8,4 @@ pub mod Full
 pub mod Slots
 pub mod Headers
 pub mod Moments
+pub mod Closing

@@ -27,6 +27,7 @@ pub struct Heap {
     ghost counted: { table.shared.table_id.words ≡ word_count size },
     ghost sized: { table.shared.key.size ≡ size },
     ghost few: { table.shared.key.agents ≤ 64 },
+    ghost no_slots: { table.shared.table_id.slots ≡ 0 },
     ghost lawful: { IsLawfulSize size },
 }
 

@@ -10,6 +10,7 @@
 
 mod agent;
 mod claims;
+mod closing;
 mod headers;
 mod heap;
 mod laws;
