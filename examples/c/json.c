@@ -216,14 +216,20 @@ static void read_all(jsstr_size size, bool makes_first) {
   jsstr_free(&root->agent);
 }
 
-int main(int count, char **told) {
+static char *documents_of(int count, char **told) {
   const char *what = count > 1 ? told[1] : "5000";
-  bool is_number = !what[strspn(what, "0123456789")];
-  char *text = is_number ? made_documents(strtoul(what, NULL, 10), count > 2 ? (uint32_t)strtoul(told[2], NULL, 10) : 1) : read_file(what);
+  if (what[strspn(what, "0123456789")]) return read_file(what);
+  return made_documents(strtoul(what, NULL, 10), count > 2 ? (uint32_t)strtoul(told[2], NULL, 10) : 1);
+}
+
+int main(int count, char **told) {
+  char *text = documents_of(count, told);
   size_t quotes = 0, lines = 1, bytes = text ? strlen(text) : 0;
+  if (bytes > JSSTR_MAX_LENGTH) bytes = 0;
   for (size_t i = 0; i < bytes; i++) quotes += text[i] == '"', lines += text[i] == '\n';
-  CHECK(text && bytes <= JSSTR_MAX_LENGTH && (documents = malloc(lines * sizeof *documents)) != NULL);
-  for (char *line = strtok(text, "\n"); line; line = strtok(NULL, "\n")) documents[document_count++] = line;
+  CHECK((documents = malloc(lines * sizeof *documents)) != NULL);
+  for (char *line = bytes ? strtok(text, "\n") : NULL; line; line = strtok(NULL, "\n")) documents[document_count++] = line;
+  if (!document_count) return puts("no documents, too many, or no memory"), free(documents), free(text), 1;
   /* A string or a key uses at most two ids, a word for four units, and one more. */
   jsstr_size size = {(uint32_t)quotes + 1, (uint32_t)(bytes / 4 + quotes + 1), SLOTS};
   read_all(size, false);

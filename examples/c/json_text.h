@@ -7,7 +7,7 @@
 #include <stdlib.h>
 #include <string.h>
 
-/* What stands between the quotes of a string; plain where it has no escape. */
+/* What is between the quotes of a string; plain where it has no escape. */
 typedef struct spelling { const char *at; uint32_t length; bool plain; } spelling;
 
 /* The string behind a quote, up to the next one; its `at` is null where there is none. */
@@ -97,18 +97,20 @@ static char *made_documents(size_t count, uint32_t seed) {
   return text;
 }
 
-/* The whole of a file, or null. */
+/* The whole of a file; null where it can't be read, or has a zero byte. */
 static char *read_file(const char *name) {
   FILE *file = fopen(name, "rb");
   char *text = NULL;
-  for (size_t used = 0, got = 1; file && got; used += got) {
+  bool good = file != NULL;
+  for (size_t used = 0, got = 1; good && got; used += got) {
     char *grown = realloc(text, used + 65537);
-    if (!grown) break;
-    text = grown;
-    got = fread(text + used, 1, 65536, file);
-    text[used + got] = 0;
+    if (grown) text = grown;
+    got = grown ? fread(text + used, 1, 65536, file) : 0;
+    good = grown && !ferror(file) && !memchr(text + used, 0, got);
+    if (good) text[used + got] = 0;
   }
   if (file) fclose(file);
-  return text;
+  if (!good) free(text);
+  return good ? text : NULL;
 }
 #endif
