@@ -127,7 +127,9 @@ static void read_items(reader *r, size_t place, char end, int depth) {
 }
 
 static enum kind word_at(const char *at) {
-  return !strncmp(at, "null", 4) ? IS_NULL : !strncmp(at, "false", 5) ? IS_FALSE : !strncmp(at, "true", 4) ? IS_TRUE : IS_NUMBER;
+  if (!strncmp(at, "null", 4)) return IS_NULL;
+  if (!strncmp(at, "false", 5)) return IS_FALSE;
+  return !strncmp(at, "true", 4) ? IS_TRUE : IS_NUMBER;
 }
 
 static void read_value(reader *r, jsstr_id key, spelling key_text, int depth) {
@@ -187,7 +189,7 @@ static void check_values(reader *root, const reader *r, bool *seen, texts *keys,
   }
 }
 
-/* Four readers over a heap of this size; a key that two make at once may be made in vain by each but one. */
+/* Four readers over a heap of this size. Where several intern a new key at once, all but one make it in vain. */
 static void read_all(jsstr_size size, bool makes_first) {
   reader readers[THREADS] = {{.document = 0}}, *root = readers;
   pthread_t threads[THREADS];
@@ -204,7 +206,8 @@ static void read_all(jsstr_size size, bool makes_first) {
   for (size_t i = 1; i < THREADS; i++) CHECK(jsstr_join(&root->agent, &readers[i].agent) == JSSTR_DONE);
   for (size_t i = 0; i < THREADS; i++) check_values(root, &readers[i], seen, &keys, &names, &strings);
   jsstr_used used = jsstr_totals(&root->agent);
-  uint64_t ids = strings.count + (makes_first ? keys.count : 0), words = strings.words + (makes_first ? keys.words : names.words);
+  uint64_t ids = strings.count + (makes_first ? keys.count : 0);
+  uint64_t words = strings.words + (makes_first ? keys.words : names.words);
   CHECK(used.status == JSSTR_DONE && jsstr_count_interned(&root->agent).value == names.count);
   CHECK(ids + names.count <= used.ids && used.ids <= ids + THREADS * names.count);
   CHECK(words <= used.words && used.words <= words + (makes_first ? 0 : (THREADS - 1) * names.words));

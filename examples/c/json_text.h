@@ -80,7 +80,7 @@ static bool skip_number(const char **at) {
 /* A document a line, of eleven keys: ten that all have, one of them spelled in two ways, and one of a thousand. */
 static char *made_documents(size_t count, uint32_t seed) {
   static const char form[] =
-    "{\"id\":%zu,\"%s\":\"user %u\",\"gr\xC3\xB6\xC3\x9F" "e\":%u.%02u,\"tags\":[\"red\",\"tag %u\",\"\"],"
+    "{\"id\":%zu,\"%s\":\"user %u\",\"gr\xC3\xB6\xC3\x9F" "e\":%u.%02u,\"tags\":[\"\xF0\x9F\x94\xB4\",\"tag %u\",\"\"],"
     "\"address\":{\"street\":\"%u Main Street\",\"city\":\"K\\u00f6ln\",\"zip\":null},"
     "\"\xE5\x90\x8D\xE5\x89\x8D\":\"\\ud83d\\ude00 \xF0\x9F\x98\x80\",\"visited page %u\":true,"
     "\"has \\\"quotes\\\"\":[-0.5e3,false,{}]}\n";
