@@ -57,7 +57,8 @@ struct Calls {
   jsstr_answer (*find_units)(jsstr_agent *, const uint16_t *, size_t);
 };
 static const Calls CHECKED = {"checked", jsstr_from_units, jsstr_intern, jsstr_intern_units, jsstr_find_units};
-static const Calls UNCHECKED = {"unchecked", jsstr_from_units_unchecked, jsstr_intern_unchecked, jsstr_intern_units_unchecked, jsstr_find_units_unchecked};
+static const Calls UNCHECKED = {"unchecked", jsstr_from_units_unchecked, jsstr_intern_unchecked, jsstr_intern_units_unchecked,
+  jsstr_find_units_unchecked};
 
 // ns a call of one(t, i) for each i below count: i is thread i % threads's. All begin at once.
 template <typename One> static double timed(uint32_t threads, uint32_t count, One one) {
@@ -173,8 +174,10 @@ static std::vector<Line> lines_of(const Calls &call, Keys &hot, Keys &many) {
       {FIND, [&call, threads, &keys] { return hits<FIND>(call, threads, keys); }},
       {AGAIN, [&call, threads, &keys] { return hits<AGAIN>(call, threads, keys); }}};
   };
-  std::vector<Line> lines = {{in("hit among 256"), of(1, hot), MAKE, 0.5}, {in("hit among 100,000"), of(1, many), MAKE, 0.85}};
-  lines.push_back({in("miss"), {{MAKE, [&] { return misses<MAKE>(call, many); }}, {UNITS, [&] { return misses<UNITS>(call, many); }}}, MAKE, 0.9});
+  std::vector<Line> lines = {{in("hit among 256"), of(1, hot), MAKE, 0.5}};
+  lines.push_back({in("hit among 100,000"), of(1, many), MAKE, 0.85});
+  lines.push_back({in("miss"), {{MAKE, [&] { return misses<MAKE>(call, many); }}}, MAKE, 0.9});
+  lines.back().ways.push_back({UNITS, [&] { return misses<UNITS>(call, many); }});
   lines.push_back({in("hit among 256, 4 threads"), of(4, hot), MAP, 1});
   lines.back().ways.push_back({MAP, [&hot] { return shards(4, hot); }});
   return lines;
