@@ -110,7 +110,7 @@ pub(crate) fn make_zeros(alloc: Global, words: u32) -> Result<u64, NoRoom> {
     }
 }
 
-fn make_strings(text: &mut Text, units: u32, count: u32) -> Result<u64, NoRoom>
+fn make_strings(text: &mut Text<&Heap>, units: u32, count: u32) -> Result<u64, NoRoom>
     requires text { Belongs text.old.reader.agent text.old.reader.heap.now }
     requires units { units ≤ 64 }
 {
@@ -125,7 +125,7 @@ fn make_strings(text: &mut Text, units: u32, count: u32) -> Result<u64, NoRoom>
     Ok(u64::from(made))
 }
 
-fn read_string(text: &mut Text, count: u32) -> Result<u64, NoRoom>
+fn read_string(text: &mut Text<&Heap>, count: u32) -> Result<u64, NoRoom>
     requires text { Belongs text.old.reader.agent text.old.reader.heap.now }
 {
     let units = UNITS;
@@ -139,7 +139,7 @@ fn read_string(text: &mut Text, count: u32) -> Result<u64, NoRoom>
 }
 
 // The sum of so many of the string's units, in turn.
-fn read_units(text: &mut Text, s: JsStr, count: u32) -> u64
+fn read_units(text: &mut Text<&Heap>, s: JsStr, count: u32) -> u64
     requires text { Belongs text.old.reader.agent text.old.reader.heap.now }
     requires settled { IsSeenSettled (view_of text.old.reader.agent) s.id }
     requires known { (us : List ℕ) × Has (view_of text.old.reader.agent).units s.id us × (length us ≡ 64) }

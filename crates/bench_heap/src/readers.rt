@@ -38,7 +38,7 @@ pub(crate) fn read_rope<R: Threads + Sync>(
 }
 
 // The units of a string, once it is settled, added up.
-fn sum_of_units(text: &mut Text, s: JsStr) -> Option<u64>
+fn sum_of_units(text: &mut Text<&Heap>, s: JsStr) -> Option<u64>
     requires text { Belongs text.old.reader.agent text.old.reader.heap.now }
     requires known { HasKey (view_of text.old.reader.agent).units s.id }
 {
@@ -60,7 +60,7 @@ fn added(left: Option<u64>, right: Option<u64>) -> Option<u64> {
 
 // Read by so many agents at once, each in a thread of its own: this one is split until as many are there.
 #[cycle(readers)]
-fn read_by<R: Threads + Sync>(rt: &R, text: &mut Text, s: JsStr, agents: u32) -> Option<u64>
+fn read_by<R: Threads + Sync>(rt: &R, text: &mut Text<&Heap>, s: JsStr, agents: u32) -> Option<u64>
     requires { MayRead text.old.reader.agent text.old.reader.heap.now s.id agents }
 {
     if agents == 1 {
@@ -77,9 +77,9 @@ fn read_by<R: Threads + Sync>(rt: &R, text: &mut Text, s: JsStr, agents: u32) ->
 #[cycle(readers)]
 fn both_halves<R: Threads + Sync>(
     rt: &R,
-    left: &mut Text,
+    left: &mut Text<&Heap>,
     on_left: u32,
-    right: &mut Text,
+    right: &mut Text<&Heap>,
     on_right: u32,
     s: JsStr,
 ) -> Option<u64>

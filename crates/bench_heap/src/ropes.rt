@@ -63,7 +63,7 @@ pub(crate) fn join_ropes(alloc: Global, joins: u32, front: bool) -> Result<u64, 
 }
 
 // Twelve units, to which so many are joined.
-pub(crate) fn make_rope(text: &mut Text, joins: u32, front: bool) -> Result<JsStr, NoRoom>
+pub(crate) fn make_rope(text: &mut Text<&Heap>, joins: u32, front: bool) -> Result<JsStr, NoRoom>
     requires text { Belongs text.old.reader.agent text.old.reader.heap.now }
     ensures text { Belongs text.new.reader.agent text.new.reader.heap.now }
     ensures heap { text.new.reader.heap ≡ text.old.reader.heap }
@@ -81,7 +81,7 @@ pub(crate) fn make_rope(text: &mut Text, joins: u32, front: bool) -> Result<JsSt
 }
 
 fn join_often(
-    text: &mut Text,
+    text: &mut Text<&Heap>,
     mut s: JsStr,
     side: JsStr,
     joins: u32,
@@ -101,7 +101,7 @@ fn join_often(
     Ok(s)
 }
 
-fn join_side(text: &mut Text, s: JsStr, side: JsStr, front: bool) -> Result<JsStr, NoRoom>
+fn join_side(text: &mut Text<&Heap>, s: JsStr, side: JsStr, front: bool) -> Result<JsStr, NoRoom>
     requires text { Belongs text.old.reader.agent text.old.reader.heap.now }
     requires known { HasKey (view_of text.old.reader.agent).units s.id }
     requires side { HasKey (view_of text.old.reader.agent).units side.id }
@@ -157,7 +157,7 @@ pub(crate) fn cut_parts(alloc: Global, count: u32) -> Result<u64, NoRoom> {
     cut_often(&mut text, s, count)
 }
 
-fn cut_often(text: &mut Text, s: JsStr, count: u32) -> Result<u64, NoRoom>
+fn cut_often(text: &mut Text<&Heap>, s: JsStr, count: u32) -> Result<u64, NoRoom>
     requires text { Belongs text.old.reader.agent text.old.reader.heap.now }
     requires settled { IsSeenSettled (view_of text.old.reader.agent) s.id }
     requires known { (us : List ℕ) × Has (view_of text.old.reader.agent).units s.id us

@@ -10,17 +10,14 @@ use Rattle.heap_rule.specs.Paths.{Calls}
 use Rattle.heap_rule.specs.Views.{history}
 use Rattle.heap_rule.proofs.MapLemmas.{has_key, key_of}
 use Rattle.heap_rule.proofs.Steps.{possible_within}
-use Rattle.heap_table.specs.declared.agent.Agent.{Agent}
-use Rattle.heap_table.specs.declared.heap.Heap.{Heap}
 use Rattle.heap_table.specs.Agents.{size_of, view_of}
 use Rattle.heap_table.specs.Known.{KeepsKnown}
 use Rattle.heap_agents.specs.declared.ids.IdSet.{IdSet}
 use Rattle.heap_agents.specs.Sets.{Covers, IsIn}
 use Rattle.heap_agents.specs.declared.held.Held.{Held}
-use Rattle.heap_agents.specs.declared.member.HeapAgent.{HeapAgent}
-use Rattle.heap_agents.specs.Held.{IsHeld, IsMarked, KeepsMarks, Leaves, share_by, held_size, view_by}
+use Rattle.heap_agents.specs.Held.{IsHeld, IsMarked, IsSame, KeepsMarks, Leaves, share_by, held_size, view_by}
 use Rattle.heap_agents.specs.Interned.{KeepsCalls}
-use Rattle.heap_agents.specs.Members.{IsAgentOf, IsSame, IsSoundMember, HeapAgentLeaves, heap_of, share_if, view_if}
+use Rattle.heap_agents.specs.Shared.{IsSameText, IsThere, SharedText, TextLeaves, heap_of, share_if, size_if, view_if}
 use Rattle.heap_agents.proofs.Interned.{continued}
 
 -- what is known and which calls are known stay, so what was marked still may be
@@ -34,38 +31,74 @@ marked_still v w known interned ids m units calls = record {
   calls_room = m.calls_room;
 }
 
-pub same_ids : (x y : HeapAgent) → IsSame x y → (size_of (heap_of x)).ids ≡ (size_of (heap_of y)).ids
-same_ids x y s = λ i. (size_of (sym s.0 i)).ids
+pub same_ids : (x y : Option SharedText) → IsSameText x y → (size_if x).ids ≡ (size_if y).ids
+same_ids None y s = absurd s
+same_ids (Some a) None s = absurd s
+same_ids (Some a) (Some b) s = λ i. (size_of (sym s.0 i)).ids
 
-kept_marks : (x : Held) (y : HeapAgent) → KeepsMarks x (record x { member = y })
+pub same_trans : (x y z : Option SharedText) → IsSameText x y → IsSameText y z → IsSameText x z
+same_trans None y z a b = absurd a
+same_trans (Some r) None z a b = absurd a
+same_trans (Some r) (Some s) None a b = absurd b
+same_trans (Some r) (Some s) (Some t) a b = (b.0 ∙ a.0, b.1 ∙ a.1)
+
+pub kept_marks : (x : Held) (y : Option SharedText) → KeepsMarks x (record x { text = y })
 kept_marks x y = record { known = λ i h. h; interned = λ i h. h; number = λ i. x.number; giver = λ i. x.giver }
 
-module _ (x : Held) (y : HeapAgent) (held : IsHeld x) (whole : IsSoundMember y) (same : IsSame x.member y)
-    (units : (i : ℕ) (us : List ℕ) → Has (view_by x).units i us → Has (view_if y.agent).units i us) (calls : KeepsCalls (view_by x) (view_if y.agent)) (agents : (view_if y.agent).agents ≡ (view_by x).agents) where
-  pub still : IsHeld (record x { member = y })
+module _ (x : Held) (y : Option SharedText) (held : IsHeld x) (there : IsThere y) (same : IsSameText x.text y)
+    (units : (i : ℕ) (us : List ℕ) → Has (view_by x).units i us → Has (view_if y).units i us) (calls : KeepsCalls (view_by x) (view_if y)) (agents : (view_if y).agents ≡ (view_by x).agents) where
+  pub still : IsHeld (record x { text = y })
   still = record {
-    whole = whole;
+    there = there;
     agents = held.agents ∙ sym agents;
-    marked = subst (λ (n : ℕ). IsMarked (view_if y.agent) x.known x.interned n) (same_ids x.member y same)
-        (marked_still (view_by x) (view_if y.agent) x.known x.interned (held_size x).ids held.marked units calls);
+    marked = subst (λ (n : ℕ). IsMarked (view_if y) x.known x.interned n) (same_ids x.text y same)
+        (marked_still (view_by x) (view_if y) x.known x.interned (held_size x).ids held.marked units calls);
   }
 
+-- what a call does from the view of the text t to that of the text u, it does from what a handle with t knows to what one with u knows
+module _ (x : Held) (t u : SharedText) (own : x.text ≡ Some t) (P : View → View → Type 0) (p : P (view_of t.reader.agent) (view_of u.reader.agent)) where
+  pub told : P (view_by x) (view_of u.reader.agent)
+  told = subst (λ (o : Option SharedText). P (view_if o) (view_of u.reader.agent)) (sym own) p
+
+  pub told_by : (y : Held) → y.text ≡ Some u → P (view_by x) (view_by y)
+  told_by y is = subst (λ (o : Option SharedText). P (view_by x) (view_if o)) (sym is) told
+
+-- after a call that leaves the text u of the text t
+module _ (x : Held) (t u : SharedText) (own : x.text ≡ Some t) (heap : heap_of u ≡ heap_of t) (limit : u.limit ≡ t.limit) where
+  pub same_text : IsSameText x.text (Some u)
+  same_text = subst (λ (o : Option SharedText). IsSameText o (Some u)) (sym own) (heap, limit)
+
+  pub held_on : IsHeld x → KeepsKnown (view_of t.reader.agent) (view_of u.reader.agent) → KeepsCalls (view_of t.reader.agent) (view_of u.reader.agent)
+      → (view_of u.reader.agent).agents ≡ (view_of t.reader.agent).agents → IsHeld (record x { text = Some u })
+  held_on held known calls agents = still x (Some u) held tt same_text
+      (λ i us h. known.units i us (subst (λ (o : Option SharedText). Has (view_if o).units i us) own h))
+      (record { calls = λ us i h. calls.calls us i (subst (λ (o : Option SharedText). Contains (history (view_if o)) (us, i)) own h) })
+      (agents ∙ sym (ap (λ (o : Option SharedText). (view_if o).agents) own))
+
+  -- the same where the view has become w
+  pub held_counted : (w : View) → IsHeld x → view_of u.reader.agent ≡ w → ((i : ℕ) (us : List ℕ) → Has (view_of t.reader.agent).units i us → Has w.units i us)
+      → ((us : List ℕ) (i : ℕ) → Contains (history (view_of t.reader.agent)) (us, i) → Contains (history w) (us, i)) → w.agents ≡ (view_of t.reader.agent).agents → IsHeld (record x { text = Some u })
+  held_counted w held e units calls agents = still x (Some u) held tt same_text
+      (λ i us h. subst (λ (z : View). Has z.units i us) (sym e) (units i us (subst (λ (o : Option SharedText). Has (view_if o).units i us) own h)))
+      (record { calls = λ us i h. subst (λ (z : View). Contains (history z) (us, i)) (sym e) (calls us i (subst (λ (o : Option SharedText). Contains (history (view_if o)) (us, i)) own h)) })
+      (ap (λ (z : View). z.agents) e ∙ (agents ∙ sym (ap (λ (o : Option SharedText). (view_if o).agents) own)))
+
 -- a call on strings with the marks left alone
-pub moved : (x : Held) (y : HeapAgent) → IsHeld x → HeapAgentLeaves x.member y → Leaves x (record x { member = y })
+pub moved : (x : Held) (y : Option SharedText) → IsHeld x → TextLeaves x.text y → Leaves x (record x { text = y })
 moved x y held l = record {
-  held = still x y held l.whole l.same l.continues.known.units (continued (view_by x) (view_if y.agent) l.continues) l.continues.agents;
+  held = still x y held l.there l.same l.continues.known.units (continued (view_by x) (view_if y) l.continues) l.continues.agents;
   same = l.same;
   continues = l.continues;
   marks = kept_marks x y;
 }
 
 -- an id that is known has its place in a set of marks
-below_in : (h : Heap) (a : Option Agent) → IsAgentOf h a → (i : ℕ) → HasKey (view_if a).units i → i < (size_of h).ids
-below_in h None of i k = absurd of
-below_in h (Some a) of i k = subst (λ (z : HeapSize). i < z.ids) of.1 ((possible_within (view_of a) of.5).known i (inl k))
+below_in : (t : Option SharedText) → IsThere t → (i : ℕ) → HasKey (view_if t).units i → i < (size_if t).ids
+below_in None there i k = absurd there
+below_in (Some t) there i k = let of = t.reader.belongs in subst (λ (z : HeapSize). i < z.ids) of.1 ((possible_within (view_of t.reader.agent) of.5).known i (inl k))
 
 pub below : (x : Held) → IsHeld x → (i : ℕ) → HasKey (view_by x).units i → i < (held_size x).ids
-below x held i k = below_in (heap_of x.member) x.member.agent held.whole.0 i k
+below x held i k = below_in x.text held.there i k
 
 -- a string that is made of known ones is known
 pub joined_known : (v w : View) (a b s : ℕ) → HasKey v.units a × HasKey v.units b
@@ -82,44 +115,44 @@ taken_over v b w may h u i c = subst (λ (m : Calls). Contains m (u, i)) (sym h)
 stays : (v b w : View) → history w ≡ history v ++ b.mine → (u : List ℕ) (i : ℕ) → Contains (history v) (u, i) → Contains (history w) (u, i)
 stays v b w h u i c = subst (λ (m : Calls). Contains m (u, i)) (sym h) (Contains-append_left (history v) b.mine (u, i) c)
 
-module _ (x o : Held) (y : HeapAgent) (held : IsHeld x) (theirs : IsHeld o) (whole : IsSoundMember y) (same : IsSame x.member y) (beside : IsSame x.member o.member) (may : MayJoin (view_by x) (view_by o))
-    (ours : KeepsKnown (view_by x) (view_if y.agent)) (others : KeepsKnown (view_by o) (view_if y.agent)) (calls : history (view_if y.agent) ≡ history (view_by x) ++ (view_by o).mine)
+module _ (x o : Held) (y : Option SharedText) (held : IsHeld x) (theirs : IsHeld o) (there : IsThere y) (same : IsSameText x.text y) (beside : IsSame x o) (may : MayJoin (view_by x) (view_by o))
+    (ours : KeepsKnown (view_by x) (view_if y)) (others : KeepsKnown (view_by o) (view_if y)) (calls : history (view_if y) ≡ history (view_by x) ++ (view_by o).mine)
     (known interned : IdSet) (room : (n : ℕ) → Covers x.known n → Covers known n) (only : (i : ℕ) → IsIn known i → IsIn x.known i ⊎ IsIn o.known i)
     (calls_room : (n : ℕ) → Covers x.interned n → Covers interned n) (only_calls : (i : ℕ) → IsIn interned i → IsIn x.interned i ⊎ IsIn o.interned i) where
-  pub joined_held : (view_if y.agent).agents ≡ (view_by x).agents → IsHeld (record x { member = y; known = known; interned = interned })
+  pub joined_held : (view_if y).agents ≡ (view_by x).agents → IsHeld (record x { text = y; known = known; interned = interned })
   joined_held agents = record {
-    whole = whole;
+    there = there;
     agents = held.agents ∙ sym agents;
-    marked = subst (λ (n : ℕ). IsMarked (view_if y.agent) known interned n) (same_ids x.member y same) (record {
+    marked = subst (λ (n : ℕ). IsMarked (view_if y) known interned n) (same_ids x.text y same) (record {
       known = λ i h. ⊎_elim
-          (λ (a : IsIn x.known i). let u = has_key (view_by x).units i (held.marked.known i a) in key_of (view_if y.agent).units i u.0 (ours.units i u.0 u.1))
-          (λ (a : IsIn o.known i). let u = has_key (view_by o).units i (theirs.marked.known i a) in key_of (view_if y.agent).units i u.0 (others.units i u.0 u.1)) (only i h);
+          (λ (a : IsIn x.known i). let u = has_key (view_by x).units i (held.marked.known i a) in key_of (view_if y).units i u.0 (ours.units i u.0 u.1))
+          (λ (a : IsIn o.known i). let u = has_key (view_by o).units i (theirs.marked.known i a) in key_of (view_if y).units i u.0 (others.units i u.0 u.1)) (only i h);
       calls = λ i h. ⊎_elim
-          (λ (a : IsIn x.interned i). let u = held.marked.calls i a in (u.0, stays (view_by x) (view_by o) (view_if y.agent) calls u.0 i u.1))
-          (λ (a : IsIn o.interned i). let u = theirs.marked.calls i a in (u.0, taken_over (view_by x) (view_by o) (view_if y.agent) may calls u.0 i u.1)) (only_calls i h);
+          (λ (a : IsIn x.interned i). let u = held.marked.calls i a in (u.0, stays (view_by x) (view_by o) (view_if y) calls u.0 i u.1))
+          (λ (a : IsIn o.interned i). let u = theirs.marked.calls i a in (u.0, taken_over (view_by x) (view_by o) (view_if y) may calls u.0 i u.1)) (only_calls i h);
       calls_below = λ i h. ⊎_elim (λ (a : IsIn x.interned i). held.marked.calls_below i a)
-          (λ (a : IsIn o.interned i). subst (λ (n : ℕ). i < n) (sym (same_ids x.member o.member beside)) (theirs.marked.calls_below i a)) (only_calls i h);
+          (λ (a : IsIn o.interned i). subst (λ (n : ℕ). i < n) (sym (same_ids x.text o.text beside)) (theirs.marked.calls_below i a)) (only_calls i h);
       room = room (held_size x).ids held.marked.room;
       calls_room = calls_room (held_size x).ids held.marked.calls_room;
     });
   }
 
 -- what a split leaves to both
-module _ (x : Held) (y : HeapAgent) (give : ℕ) (held : IsHeld x) (whole : IsSoundMember y) (same : IsSame x.member y) where
-  pub left_held : view_if y.agent ≡ left_after_split (view_by x) give → IsHeld (record x { member = y })
-  left_held e = still x y held whole same (λ i us h. subst (λ (v : View). Has v.units i us) (sym e) h)
+module _ (x : Held) (y : Option SharedText) (give : ℕ) (held : IsHeld x) (there : IsThere y) (same : IsSameText x.text y) where
+  pub left_held : view_if y ≡ left_after_split (view_by x) give → IsHeld (record x { text = y })
+  left_held e = still x y held there same (λ i us h. subst (λ (v : View). Has v.units i us) (sym e) h)
       (record { calls = λ u i h. subst (λ (v : View). Contains (history v) (u, i)) (sym e) h }) (ap (λ (v : View). v.agents) e)
 
-  pub right_held : view_if y.agent ≡ right_after_split (view_by x) give → (o z : Held) → ((i : ℕ) → IsIn o.known i ↔ IsIn x.known i) → ((i : ℕ) → IsIn o.interned i ↔ IsIn x.interned i)
-      → ((n : ℕ) → Covers x.known n → Covers o.known n) → ((n : ℕ) → Covers x.interned n → Covers o.interned n) → z.member ≡ y → z.agents ≡ x.agents → z.known ≡ o.known → z.interned ≡ o.interned
-      → IsHeld z × IsSame x.member z.member
+  pub right_held : view_if y ≡ right_after_split (view_by x) give → (o z : Held) → ((i : ℕ) → IsIn o.known i ↔ IsIn x.known i) → ((i : ℕ) → IsIn o.interned i ↔ IsIn x.interned i)
+      → ((n : ℕ) → Covers x.known n → Covers o.known n) → ((n : ℕ) → Covers x.interned n → Covers o.interned n) → z.text ≡ y → z.agents ≡ x.agents → z.known ≡ o.known → z.interned ≡ o.interned
+      → IsHeld z × IsSame x z
   right_held e o z known interned room calls_room member agents marks calls = (
     record {
-      whole = subst (λ (m : HeapAgent). IsSoundMember m) (sym member) whole;
-      agents = agents ∙ (held.agents ∙ sym (ap (λ (m : HeapAgent). (view_if m.agent).agents) member ∙ ap (λ (v : View). v.agents) e));
-      marked = subst (λ (m : HeapAgent). IsMarked (view_if m.agent) z.known z.interned (size_of (heap_of m)).ids) (sym member)
-          (subst (λ (s : IdSet). IsMarked (view_if y.agent) s z.interned (size_of (heap_of y)).ids) (sym marks) (subst (λ (s : IdSet). IsMarked (view_if y.agent) o.known s (size_of (heap_of y)).ids) (sym calls)
-          (subst (λ (n : ℕ). IsMarked (view_if y.agent) o.known o.interned n) (same_ids x.member y same) (record {
+      there = subst (λ (m : Option SharedText). IsThere m) (sym member) there;
+      agents = agents ∙ (held.agents ∙ sym (ap (λ (m : Option SharedText). (view_if m).agents) member ∙ ap (λ (v : View). v.agents) e));
+      marked = subst (λ (m : Option SharedText). IsMarked (view_if m) z.known z.interned (size_if m).ids) (sym member)
+          (subst (λ (s : IdSet). IsMarked (view_if y) s z.interned (size_if y).ids) (sym marks) (subst (λ (s : IdSet). IsMarked (view_if y) o.known s (size_if y).ids) (sym calls)
+          (subst (λ (n : ℕ). IsMarked (view_if y) o.known o.interned n) (same_ids x.text y same) (record {
             known = λ i h. subst (λ (v : View). HasKey v.units i) (sym e) (held.marked.known i ((known i).0 h));
             calls = λ i h. let u = held.marked.calls i ((interned i).0 h) in (u.0, subst (λ (v : View). Contains (history v) (u.0, i)) (sym e) (Contains-append_left (history (view_by x)) [] (u.0, i) u.1));
             calls_below = λ i h. held.marked.calls_below i ((interned i).0 h);
@@ -127,7 +160,7 @@ module _ (x : Held) (y : HeapAgent) (give : ℕ) (held : IsHeld x) (whole : IsSo
             calls_room = calls_room (held_size x).ids held.marked.calls_room;
           }))));
     },
-    subst (λ (m : HeapAgent). IsSame x.member m) (sym member) same,
+    subst (λ (m : Option SharedText). IsSameText x.text m) (sym member) same,
   )
 
 -- an answer of the string table, marked as both
@@ -135,7 +168,7 @@ pub interned_held : (x : Held) (i : ℕ) (known interned : IdSet) → IsHeld x �
     → ((n : ℕ) → Covers x.known n → Covers known n) → ((j : ℕ) → IsIn known j → (j ≡ i) ⊎ IsIn x.known j)
     → ((n : ℕ) → Covers x.interned n → Covers interned n) → ((j : ℕ) → IsIn interned j → (j ≡ i) ⊎ IsIn x.interned j) → IsHeld (record x { known = known; interned = interned })
 interned_held x i known interned held key call room only calls_room only_calls = record {
-  whole = held.whole;
+  there = held.there;
   agents = held.agents;
   marked = record {
     known = λ j h. ⊎_elim (λ (e : j ≡ i). subst (λ (k : ℕ). HasKey (view_by x).units k) (sym e) key) (λ (a : IsIn x.known j). held.marked.known j a) (only j h);
@@ -146,9 +179,9 @@ interned_held x i known interned held key call room only calls_room only_calls =
   };
 }
 
-share_in_view : (h : Heap) (a : Option Agent) → IsAgentOf h a → (view_if a).share ≡ share_if a
-share_in_view h None of = absurd of
-share_in_view h (Some a) of = of.4
+share_in_view : (t : Option SharedText) → IsThere t → (view_if t).share ≡ share_if t
+share_in_view None there = absurd there
+share_in_view (Some t) there = t.reader.belongs.4
 
 pub share_is : (x : Held) → IsHeld x → (view_by x).share ≡ share_by x
-share_is x held = share_in_view (heap_of x.member) x.member.agent held.whole.0
+share_is x held = share_in_view x.text held.there

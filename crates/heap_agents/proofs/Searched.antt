@@ -1,6 +1,7 @@
 -- What a search through a session leaves of what an agent knows, and what it says of the strings.
-use Rattle.std.proofs.Common.{◌≡◌, ◌↔◌, ℕ, ◌≤◌, List, refl, sym, ◌∙◌, subst, arith, Option, Some, None}
-use Rattle.std.specs.Prelude.{IsSome}
+use Rattle.std.proofs.Common.{◌≡◌, ◌↔◌, ℕ, List, refl, sym, ◌∙◌, subst, arith, Option, Some, None}
+use Rattle.std.specs.Prelude.{Contains, IsSome}
+use Rattle.heap_rule.specs.Paths.{Calls}
 use Rattle.std.specs.declared.cmp.Ordering.{Ordering}
 use Rattle.std.specs.declared.cmp.Ordering.TheVariants.{Less, Equal, Greater}
 use Rattle.std.specs.FinMap.{get}
@@ -9,7 +10,6 @@ use Rattle.js_store.specs.Faults.{Uses}
 use Rattle.js_store.specs.Limits.{limit_units}
 use Rattle.js_store.specs.State as store
 use Rattle.heap_rule.specs.declared.view.View.{View}
-use Rattle.heap_rule.specs.Layout.{MAX}
 use Rattle.heap_rule.specs.Maps.{Has}
 use Rattle.heap_table.specs.declared.agent.Agent.{Agent}
 use Rattle.heap_table.specs.declared.heap.Heap.{Heap}
@@ -19,61 +19,67 @@ use Rattle.heap_intern.specs.Sessions.{state_by, state_in, table_of, session_vie
 use Rattle.heap_intern.specs.Shares.{BelongsAs}
 use Rattle.heap_intern.proofs.States.{settled_test, test_settled, text_is}
 use Rattle.js_search.specs.Order.{Precedes}
-use Rattle.heap_agents.specs.declared.member.HeapAgent.{HeapAgent}
-use Rattle.heap_agents.specs.Members.{IsSoundMember, heap_of, view_if}
-use Rattle.heap_agents.specs.Searched.{IsOrder, KeepsStrings, HeapAgentSearched}
+use Rattle.heap_read.specs.declared.heap_ref.HeapRef.{Ghosts}
+use Rattle.heap_agents.specs.declared.held.Held.{Held}
+use Rattle.heap_agents.specs.Held.{IsHeld, Searched, view_by}
+use Rattle.heap_agents.specs.Shared.{IsSameText, SharedText, heap_of, view_if}
+use Rattle.heap_agents.specs.Searched.{IsOrder, KeepsStrings}
+use Rattle.heap_agents.proofs.Marks.{kept_marks, still}
 
 is_some : (o : Option (List ℕ)) (us : List ℕ) → o ≡ Some us → IsSome o
 is_some o us e = subst (λ (p : Option (List ℕ)). IsSome p) (sym e) refl
 
 -- by what a store's callers see
-strings : (s t : Session) → Uses (state_in s) (state_in t) None 0 0 → KeepsStrings (session_view s) (session_view t)
-strings s t u = let p = u.step in let g = p.grows in let v : View = session_view s in let w : View = session_view t in let a = g.used_ids in let b = g.used_words in let c = p.within_ids in let d = p.within_words in record {
-  units = λ i us k. g.known i (is_some (get v.units i) us k) ∙ k;
-  settled = λ i k. test_settled w i (g.settled i (settled_test v i k));
-  sizes = λ i. record { ids = (g.sizes i).ids; words = (g.sizes i).words; slots = (g.sizes i).slots };
-  agents = λ i. (g.frame i).agents;
-  share = λ i. (g.frame i).share;
-  used_ids = omega arith;
-  used_words = omega arith;
-  low_ids = g.low_ids;
-  low_words = g.low_words;
-  seen = λ i. (g.frame i).seen;
-  calls = u.history;
-}
+module _ {H : Type 0} {g : Ghosts H} where
+  strings : (s t : Session H g) → Uses (state_in s) (state_in t) None 0 0 → KeepsStrings (session_view s) (session_view t)
+  strings s t u = let p = u.step in let o = p.grows in let v : View = session_view s in let w : View = session_view t in let a = o.used_ids in let b = o.used_words in let c = p.within_ids in let d = p.within_words in record {
+    units = λ i us k. o.known i (is_some (get v.units i) us k) ∙ k;
+    settled = λ i k. test_settled w i (o.settled i (settled_test v i k));
+    sizes = λ i. record { ids = (o.sizes i).ids; words = (o.sizes i).words; slots = (o.sizes i).slots };
+    agents = λ i. (o.frame i).agents;
+    share = λ i. (o.frame i).share;
+    used_ids = omega arith;
+    used_words = omega arith;
+    low_ids = o.low_ids;
+    low_words = o.low_words;
+    seen = λ i. (o.frame i).seen;
+    calls = u.history;
+  }
 
-belongs : (h : Heap) (a b : Agent) (s t : Session) → Belongs a h → state_in s ≡ state_by (view_of a) (limit_units Bits64) (table_of h) → Uses (state_in s) (state_in t) None 0 0 → BelongsAs (state_in t) b → Belongs b h
-belongs h a b s t is e u of = let k = u.step in of h (
-  (λ i. (k.grows.frame i).table) ∙ (λ i. (e i).frame.table),
-  k.grows.sizes ∙ (λ i. (e i).sizes) ∙ (λ i. record { ids = (is.1 i).ids; words = (is.1 i).words; slots = (is.1 i).slots }),
-)
+  pub belongs : (h : Heap) (a b : Agent) (s t : Session H g) → Belongs a h → state_in s ≡ state_by (view_of a) (limit_units Bits64) (table_of h) → Uses (state_in s) (state_in t) None 0 0 → BelongsAs (state_in t) b → Belongs b h
+  belongs h a b s t is e u of = let k = u.step in of h (
+    (λ i. (k.grows.frame i).table) ∙ (λ i. (e i).frame.table),
+    k.grows.sizes ∙ (λ i. (e i).sizes) ∙ (λ i. record { ids = (is.1 i).ids; words = (is.1 i).words; slots = (is.1 i).slots }),
+  )
 
 pub order_of : (us vs : List ℕ) (o : Ordering) → (o ≡ Less) ↔ Precedes us vs → (o ≡ Equal) ↔ (us ≡ vs) → (o ≡ Greater) ↔ Precedes vs us → IsOrder us vs o
 order_of us vs Less a b d = a.0 refl
 order_of us vs Equal a b d = b.0 refl
 order_of us vs Greater a b d = d.0 refl
 
--- the agent a of x looks through the session s
-module _ (x : HeapAgent) (a : Agent) (s : Session) (own : x.agent ≡ Some a) (same : session_view s ≡ view_of a) where
-  units_in : (n : ℕ) (us : List ℕ) → Has (view_if x.agent).units n us → Has (session_view s).units n us
-  units_in n us h = subst (λ (v : View). Has v.units n us) (sym same) (subst (λ (o : Option Agent). Has (view_if o).units n us) own h)
+-- the agent of x looks through the session s
+module _ {H : Type 0} {g : Ghosts H} (x : Held) (t : SharedText) (s : Session H g) (own : x.text ≡ Some t) (same : session_view s ≡ view_of t.reader.agent) where
+  units_in : (n : ℕ) (us : List ℕ) → Has (view_by x).units n us → Has (session_view s).units n us
+  units_in n us h = subst (λ (v : View). Has v.units n us) (sym same) (subst (λ (o : Option SharedText). Has (view_if o).units n us) own h)
 
-  text_in : (n : ℕ) (us : List ℕ) → Has (view_if x.agent).units n us → store.text (state_in s) n ≡ us
+  text_in : (n : ℕ) (us : List ℕ) → Has (view_by x).units n us → store.text (state_in s) n ≡ us
   text_in n us h = text_is (session_view s).units n us (units_in n us h)
 
   -- what is said of the texts of two strings holds of their units
   pub said : (P : List ℕ → List ℕ → Type 0) (m n : ℕ) → P (store.text (state_in s) m) (store.text (state_in s) n)
-      → (us vs : List ℕ) → Has (view_if x.agent).units m us → Has (view_if x.agent).units n vs → P us vs
+      → (us vs : List ℕ) → Has (view_by x).units m us → Has (view_by x).units n vs → P us vs
   said P m n p us vs h k = subst (λ (l : List ℕ). P l vs) (text_in m us h) (subst (λ (l : List ℕ). P (store.text (state_in s) m) l) (text_in n vs k) p)
 
-  -- and the agent b is what the session is afterwards
-  pub searched : (z : HeapAgent) (h : Heap) (b : Agent) (t : Session) → IsSoundMember x → z.heap ≡ x.heap → z.limit ≡ x.limit → Belongs a (heap_of z) → h ≡ heap_of z
-      → state_in s ≡ state_by (view_of a) (limit_units Bits64) (table_of h) → Uses (state_in s) (state_in t) None 0 0
-      → view_of b ≡ session_view t → BelongsAs (state_in t) b → HeapAgentSearched x (record z { agent = Some b })
-  searched z h b t whole heap limit is there e u view of = record {
-    whole = (belongs (heap_of z) a b s t is (e ∙ (λ i. state_by (view_of a) (limit_units Bits64) (table_of (there i)))) u of, subst (λ (n : ℕ). n ≤ MAX) (sym limit) whole.1);
-    same = (λ i. heap_of (record z { heap = heap i }), limit);
-    strings = subst (λ (o : Option Agent). KeepsStrings (view_if o) (view_of b)) (sym own)
-        (subst (λ (v : View). KeepsStrings v (view_of b)) same (subst (λ (w : View). KeepsStrings (session_view s) w) (sym view)
-        (strings s t u)));
-  }
+  -- and the text z has the agent that the session leaves
+  pub searched : (r : Session H g) (z : SharedText) → IsHeld x → heap_of z ≡ heap_of t → z.limit ≡ t.limit
+      → Uses (state_in s) (state_in r) None 0 0 → view_of z.reader.agent ≡ session_view r → Searched x (record x { text = Some z })
+  searched r z held heap limit u view =
+      let kept : KeepsStrings (view_by x) (view_of z.reader.agent) = subst (λ (o : Option SharedText). KeepsStrings (view_if o) (view_of z.reader.agent)) (sym own)
+      (subst (λ (v : View). KeepsStrings v (view_of z.reader.agent)) same (subst (λ (w : View). KeepsStrings (session_view s) w) (sym view) (strings s r u))) in
+      let one : IsSameText x.text (Some z) = subst (λ (o : Option SharedText). IsSameText o (Some z)) (sym own) (heap, limit) in record {
+        held = still x (Some z) held tt one kept.units (record { calls = λ v i h. subst (λ (m : Calls). Contains m (v, i)) (sym kept.calls) h }) kept.agents;
+        same = one;
+        strings = kept;
+        marks = kept_marks x (Some z);
+        marked = (refl, refl);
+      }

@@ -1,28 +1,38 @@
 -- What is kept at run time beside an agent: which ids it may use, which of them are answers of the string table, and the
 -- numbers by which a join is known to be valid.
-use Rattle.std.specs.Prelude.{◌≡◌, ◌⊎◌, ℕ, ◌<◌, List, Contains, Result, Ok, Err}
+use Rattle.std.specs.Prelude.{◌≡◌, ◌⊎◌, ℕ, ◌<◌, List, Contains, Result, Ok, Err, None}
 use Rattle.heap_rule.specs.Maps.{HasKey}
 use Rattle.heap_rule.specs.Views.{history}
 use Rattle.heap_rule.specs.declared.size.HeapSize.{HeapSize}
 use Rattle.heap_rule.specs.declared.view.View.{View}
-use Rattle.heap_table.specs.Agents.{size_of}
 use Rattle.heap_read.specs.Reads.{Continues}
 use Rattle.heap_read.specs.declared.string.JsStr.{JsStr}
 use Rattle.heap_agents.specs.declared.ids.IdSet.{IdSet}
 use Rattle.heap_agents.specs.Sets.{Covers, IsIn}
 use Rattle.heap_agents.specs.declared.held.Held.{Held}
-use Rattle.heap_agents.specs.Members.{IsSame, IsSoundMember, heap_of, share_if, view_if}
+use Rattle.heap_agents.specs.Shared.{IsSameText, IsThere, limit_if, share_if, size_if, view_if}
 use Rattle.heap_agents.specs.Searched.{KeepsStrings}
 
--- what its agent knows, its share, and the sizes of its heap
+-- what its agent knows, its share, the sizes of its heap, and the limit of the strings that it joins
 abbrev pub view_by : Held → View
-view_by x = view_if x.member.agent
+view_by x = view_if x.text
 
 abbrev pub share_by : Held → ℕ
-share_by x = share_if x.member.agent
+share_by x = share_if x.text
 
 abbrev pub held_size : Held → HeapSize
-held_size x = size_of (heap_of x.member)
+held_size x = size_if x.text
+
+abbrev pub limit_by : Held → ℕ
+limit_by x = limit_if x.text
+
+-- the same while its text is away
+abbrev pub without_text : Held → Held
+without_text x = record x { text = None }
+
+-- one heap, and one limit
+abbrev pub IsSame : Held → Held → Type 0
+IsSame x y = IsSameText x.text y.text
 
 -- each marked id is known to the agent, and each that is marked as interned is in a known call of the string table
 pub record IsMarked (v : View) (usable answered : IdSet) (ids : ℕ) : Type 0 where
@@ -33,7 +43,7 @@ pub record IsMarked (v : View) (usable answered : IdSet) (ids : ℕ) : Type 0 wh
   pub calls_room : Covers answered ids
 
 pub record IsHeld (x : Held) : Type 0 where
-  pub whole : IsSoundMember x.member
+  pub there : IsThere x.text
   pub agents : x.agents ≡ (view_by x).agents
   pub marked : IsMarked (view_by x) x.known x.interned (held_size x).ids
 
@@ -47,7 +57,7 @@ pub record KeepsMarks (x y : Held) : Type 0 where
 -- what a call on strings leaves
 pub record Leaves (x y : Held) : Type 0 where
   pub held : IsHeld y
-  pub same : IsSame x.member y.member
+  pub same : IsSame x y
   pub continues : Continues (view_by x) (view_by y)
   pub marks : KeepsMarks x y
 
@@ -81,7 +91,7 @@ MarksSettled x y s (Err e) = MarksNothing x y
 -- what a search leaves
 pub record Searched (x y : Held) : Type 0 where
   pub held : IsHeld y
-  pub same : IsSame x.member y.member
+  pub same : IsSame x y
   pub strings : KeepsStrings (view_by x) (view_by y)
   pub marks : KeepsMarks x y
   pub marked : MarksNothing x y

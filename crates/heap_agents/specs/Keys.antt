@@ -5,8 +5,7 @@ use Rattle.heap_table.specs.Known.{KeepsKnown}
 use Rattle.heap_intern.specs.declared.table.faults.TableFull.{TableFull}
 use Rattle.heap_intern.specs.Answers.{Finds, IsInternAnswer, IsFoundAgain, StandsInSlot, copy_plan}
 use Rattle.heap_agents.specs.declared.held.Held.{Held}
-use Rattle.heap_agents.specs.Members.{IsSame}
-use Rattle.heap_agents.specs.Held.{IsHeld, KeepsMarks, MarksNothing, MarksOnlyKey, view_by}
+use Rattle.heap_agents.specs.Held.{IsHeld, IsSame, KeepsMarks, MarksNothing, MarksOnlyKey, view_by}
 use Rattle.heap_agents.specs.Interned.{HasEntered, KeepsCalls}
 
 -- the answer gets both marks; a refusal marks nothing
@@ -22,7 +21,7 @@ MarksFound x y None = MarksNothing x y
 -- The units us were interned, with r as the answer. Where their string was seen at its place in the table, it is answered, and nothing used.
 pub record InternedUnits (x y : Held) (us : List ℕ) (r : Result ℕ TableFull) : Type 0 where
   pub held : IsHeld y
-  pub same : IsSame x.member y.member
+  pub same : IsSame x y
   pub marks : KeepsMarks x y
   pub marked : MarksAnswer x y r
   pub known : KeepsKnown (view_by x) (view_by y)
@@ -34,7 +33,7 @@ pub record InternedUnits (x y : Held) (us : List ℕ) (r : Result ℕ TableFull)
 -- The units us were looked for, with r as the answer, and nothing was used. Where their string was seen at its place in the table, it is found.
 pub record FoundUnits (x y : Held) (us : List ℕ) (r : Option ℕ) : Type 0 where
   pub held : IsHeld y
-  pub same : IsSame x.member y.member
+  pub same : IsSame x y
   pub marks : KeepsMarks x y
   pub marked : MarksFound x y r
   pub known : KeepsKnown (view_by x) (view_by y)

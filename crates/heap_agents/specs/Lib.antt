@@ -1,5 +1,5 @@
 pub mod Sets
-pub mod Members
+pub mod Shared
 pub mod Interned
 pub mod Searched
 pub mod Words

@@ -5,8 +5,7 @@ use Rattle.heap_rule.specs.declared.size.HeapSize.{HeapSize}
 use Rattle.heap_rule.specs.declared.view.View.{View}
 use Rattle.heap_agents.specs.Sets.{IsIn}
 use Rattle.heap_agents.specs.declared.held.Held.{Held}
-use Rattle.heap_agents.specs.Held.{IsHeld, KeepsMarks, Leaves, Searched, share_by, held_size, view_by}
-use Rattle.heap_agents.specs.Members.{IsSame}
+use Rattle.heap_agents.specs.Held.{IsHeld, IsSame, KeepsMarks, Leaves, Searched, limit_by, share_by, held_size, view_by}
 
 -- a handle that a call may be made with
 abbrev pub IsReady : Option Held → Type 0
@@ -29,7 +28,7 @@ size_in (Some x) = held_size x
 
 abbrev pub handle_limit : Option Held → ℕ
 handle_limit None = 0
-handle_limit (Some x) = x.member.limit
+handle_limit (Some x) = limit_by x
 
 -- it has the whole share
 abbrev pub HasWhole : Option Held → Type 0
@@ -40,7 +39,7 @@ HasWhole (Some x) = (view_by x).share ≡ (view_by x).agents
 abbrev pub IsBeside : Option Held → Option Held → Type 0
 IsBeside None _ = ⊥
 IsBeside (Some x) None = ⊥
-IsBeside (Some x) (Some y) = IsSame x.member y.member
+IsBeside (Some x) (Some y) = IsSame x y
 
 -- what every call leaves of what is marked
 abbrev pub MarksStay : Option Held → Option Held → Type 0

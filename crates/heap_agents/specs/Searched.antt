@@ -6,8 +6,6 @@ use Rattle.heap_rule.specs.declared.view.View.{View}
 use Rattle.heap_rule.specs.Maps.{Has, HasKey}
 use Rattle.heap_rule.specs.Views.{IsSeenSettled, history}
 use Rattle.js_search.specs.Order.{Precedes}
-use Rattle.heap_agents.specs.declared.member.HeapAgent.{HeapAgent}
-use Rattle.heap_agents.specs.Members.{IsSame, IsSoundMember, view_if}
 
 -- a string that may be searched, and searched for
 abbrev pub IsReadable : View → ℕ → Type 0
@@ -26,11 +24,6 @@ pub record KeepsStrings (v w : View) : Type 0 where
   pub low_words : v.low.words ≤ w.low.words
   pub seen : w.seen ≡ v.seen
   pub calls : history w ≡ history v
-
-pub record HeapAgentSearched (x y : HeapAgent) : Type 0 where
-  pub whole : IsSoundMember y
-  pub same : IsSame x y
-  pub strings : KeepsStrings (view_if x.agent) (view_if y.agent)
 
 -- the units us come before vs, are the same, or come after them
 abbrev pub IsOrder : List ℕ → List ℕ → Ordering → Type 0

@@ -6,17 +6,20 @@ ghost use Rattle.heap_agents.specs.Held.{IsHeld, KeepsMarks, MarksOnly, MarksOnl
 ghost use Rattle.heap_agents.specs.Sets.{IsIn};
 
 use crate::ids::IdSet;
-use crate::member::HeapAgent;
+use heap_table::Heap;
+use heap_text::Text;
 use std::alloc::Global;
 use std::sync::Arc;
 use std::sync::atomic::AtomicU64;
 
-/// An agent of a heap, and beside it how many agents the heap may have, the ids that were answered to
-/// it, those of them that the string table answered, its number and that of the agent that it was split
-/// off from. Numbers are counted by all agents of a heap together.
+/// A text of the heap, which it owns together with the other agents of the heap, and beside it how many
+/// agents the heap may have, the ids that were answered to it, those of them that the string table
+/// answered, its number and that of the agent that it was split off from. Numbers are counted by all
+/// agents of a heap together. The text is missing only while a split makes room for a new agent, and
+/// while strings are searched.
 #[derive(Drop)]
 pub struct Held {
-    pub(crate) member: HeapAgent,
+    pub(crate) text: Option<Text<Arc<Heap, Global>>>,
     pub(crate) agents: u32,
     pub(crate) known: IdSet,
     pub(crate) interned: IdSet,
@@ -45,7 +48,7 @@ impl Held {
         requires held { IsHeld self.old }
         requires known { HasKey (view_by self.old).units id }
         ensures held { IsHeld self.new }
-        ensures member { self.new.member ≡ self.old.member }
+        ensures text { self.new.text ≡ self.old.text }
         ensures marks { KeepsMarks self.old self.new }
         ensures marked { MarksOnly self.old self.new id }
     {
@@ -58,7 +61,7 @@ impl Held {
         requires known { HasKey (view_by self.old).units id }
         requires call { (u : List ℕ) × Contains (history (view_by self.old)) (u, id) }
         ensures held { IsHeld self.new }
-        ensures member { self.new.member ≡ self.old.member }
+        ensures text { self.new.text ≡ self.old.text }
         ensures marks { KeepsMarks self.old self.new }
         ensures marked { MarksOnlyKey self.old self.new id }
     {

@@ -11,7 +11,6 @@ mod ids;
 mod keys;
 mod life;
 mod making;
-mod member;
 mod reading;
 mod search;
 mod table;

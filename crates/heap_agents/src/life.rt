@@ -1,34 +1,33 @@
 // How heaps and agents are made and given back.
-ghost use Rattle.std.specs.Prelude.{◌≡◌, ◌↔◌, ◌++◌, ◌+◌, ◌≤◌, ◌<◌, ℕ, IfOk, IfErr, OnOk, Err};
+ghost use Rattle.std.specs.Prelude.{◌≡◌, ◌↔◌, ◌++◌, ◌+◌, ◌≤◌, ◌<◌, ℕ, IfOk, IfErr, OnOk, Err, None, Some};
 ghost use Rattle.heap_rule.specs.Agents.{MayJoin, first_view, joined_view, left_after_split, right_after_split};
 ghost use Rattle.heap_rule.specs.Layout.{MAX};
 ghost use Rattle.heap_rule.specs.Views.{history};
-ghost use Rattle.heap_table.specs.Agents.{size_of};
+ghost use Rattle.heap_table.specs.Agents.{share_of, size_of, view_of};
 ghost use Rattle.heap_table.specs.Known.{KeepsKnown};
 ghost use Rattle.heap_table.specs.MayMake.{MayMake};
-ghost use Rattle.heap_agents.specs.Held.{IsHeld, KeepsMarks, share_by, view_by};
-ghost use Rattle.heap_agents.specs.Members.{IsSame, IsSoundMember, heap_of, share_if, view_if};
+ghost use Rattle.heap_agents.specs.Held.{IsHeld, IsSame, KeepsMarks, limit_by, share_by, view_by};
+ghost use Rattle.heap_agents.specs.Shared.{IsSameText, IsThere, heap_of, share_if, view_if};
 ghost use Rattle.heap_agents.specs.Sets.{Covers, IsIn};
 
 use crate::held::Held;
 use crate::ids::IdSet;
-use crate::member::HeapAgent;
 use heap_rule::{HeapSize, MAX};
 use heap_table::{Heap, MakeFault};
+use heap_text::Text;
 use std::alloc::{AllocError, Global};
 use std::sync::Arc;
 use std::sync::atomic::{AtomicU64, Ordering};
 
-fn make_member(
+fn make_text(
     alloc: Global,
     size: HeapSize,
     agents: u32,
     limit: u32,
-) -> Result<HeapAgent, MakeFault>
-    ensures whole { IfOk result (λ m. IsSoundMember m) }
-    ensures size { IfOk result (λ m. size_of (heap_of m) ≡ size) }
-    ensures view { IfOk result (λ m. view_if m.agent ≡ first_view size agents) }
-    ensures limit { IfOk result (λ m. m.limit ≡ limit) }
+) -> Result<Text<Arc<Heap, Global>>, MakeFault>
+    ensures size { IfOk result (λ t. size_of (heap_of t) ≡ size) }
+    ensures view { IfOk result (λ t. view_of t.reader.agent ≡ first_view size agents) }
+    ensures limit { IfOk result (λ t. t.limit ≡ limit) }
     ensures lawful { OnOk result (MayMake size agents × (limit ≤ MAX)) }
     ensures refused { result ≡ Err MakeFault.Size → ¬ (MayMake size agents × (limit ≤ MAX)) }
 {
@@ -39,48 +38,51 @@ fn make_member(
     let Ok(heap) = Arc::new(alloc, heap) else {
         return Err(MakeFault::Memory);
     };
-    Ok(HeapAgent {
-        heap,
-        agent: Some(agent),
-        limit,
-    })
+    Ok(Text::new(heap, agent, limit))
 }
 
-fn split_member(member: &mut HeapAgent, other: &mut HeapAgent, give: u32)
-    requires whole { IsSoundMember member.old }
-    requires same { IsSame member.old other.old }
+// The text of a new agent with a part of the share. A refusal changes nothing.
+fn split_text(
+    text: &mut Option<Text<Arc<Heap, Global>>>,
+    give: u32,
+) -> Result<Text<Arc<Heap, Global>>, AllocError>
+    requires there { IsThere text.old }
     requires some { 1 ≤ give }
-    requires less { give < share_if member.old.agent }
-    ensures whole { IsSoundMember member.new × IsSoundMember other.new }
-    ensures same { IsSame member.old member.new × IsSame member.old other.new }
-    ensures left { view_if member.new.agent ≡ left_after_split (view_if member.old.agent) give }
-    ensures right { view_if other.new.agent ≡ right_after_split (view_if member.old.agent) give }
-    ensures shares { (share_if member.new.agent + give ≡ share_if member.old.agent)
-        × (share_if other.new.agent ≡ give) }
+    requires less { give < share_if text.old }
+    ensures there { IsThere text.new }
+    ensures same { IsSameText text.old text.new }
+    ensures other { IfOk result (λ t. IsSameText text.old (Some t)) }
+    ensures left { OnOk result (view_if text.new ≡ left_after_split (view_if text.old) give) }
+    ensures right { IfOk result (λ t. view_of t.reader.agent ≡ right_after_split (view_if text.old) give) }
+    ensures shares { IfOk result (λ t. (share_if text.new + give ≡ share_if text.old)
+        × (share_of t.reader.agent ≡ give)) }
+    ensures refused { IfErr result (λ e. text.new ≡ text.old) }
 {
-    let mut agent = member.take_agent();
-    other.agent = Some(agent.split(&member.heap, give));
-    member.agent = Some(agent);
+    match text {
+        Some(text) => {
+            let heap = Arc::try_clone(&text.reader.heap)?;
+            Ok(text.split_to(heap, give))
+        }
+        None => unreachable!(),
+    }
 }
 
-fn join_member(member: &mut HeapAgent, mut other: HeapAgent)
-    requires whole { IsSoundMember member.old }
-    requires other { IsSoundMember other }
-    requires beside { IsSame member.old other }
-    requires may { MayJoin (view_if member.old.agent) (view_if other.agent) }
-    ensures whole { IsSoundMember member.new }
-    ensures same { IsSame member.old member.new }
-    ensures view { view_if member.new.agent ≡ joined_view (view_if member.old.agent) (view_if other.agent) }
-    ensures known { KeepsKnown (view_if member.old.agent) (view_if member.new.agent) }
-    ensures known_of_other { KeepsKnown (view_if other.agent) (view_if member.new.agent) }
-    ensures history { history (view_if member.new.agent)
-        ≡ history (view_if member.old.agent) ++ (view_if other.agent).mine }
-    ensures share { share_if member.new.agent ≡ share_if member.old.agent + share_if other.agent }
+fn join_text(text: &mut Option<Text<Arc<Heap, Global>>>, other: Option<Text<Arc<Heap, Global>>>)
+    requires beside { IsSameText text.old other }
+    requires may { MayJoin (view_if text.old) (view_if other) }
+    ensures there { IsThere text.new }
+    ensures same { IsSameText text.old text.new }
+    ensures view { view_if text.new ≡ joined_view (view_if text.old) (view_if other) }
+    ensures known { KeepsKnown (view_if text.old) (view_if text.new) }
+    ensures known_of_other { KeepsKnown (view_if other) (view_if text.new) }
+    ensures history { history (view_if text.new)
+        ≡ history (view_if text.old) ++ (view_if other).mine }
+    ensures share { share_if text.new ≡ share_if text.old + share_if other }
 {
-    let theirs = other.take_agent();
-    let mut agent = member.take_agent();
-    agent.join(&member.heap, theirs);
-    member.agent = Some(agent);
+    match (text, other) {
+        (Some(text), Some(other)) => text.join(other),
+        _ => unreachable!(),
+    }
 }
 
 impl Held {
@@ -93,13 +95,13 @@ impl Held {
     ) -> Result<Box<Held>, MakeFault>
         ensures held { IfOk result (λ b. IsHeld b.value) }
         ensures view { IfOk result (λ b. view_by b.value ≡ first_view size agents) }
-        ensures limit { IfOk result (λ b. b.value.member.limit ≡ limit) }
+        ensures limit { IfOk result (λ b. limit_by b.value ≡ limit) }
         ensures lawful { OnOk result (MayMake size agents × (limit ≤ MAX)) }
         ensures refused { result ≡ Err MakeFault.Size → ¬ (MayMake size agents × (limit ≤ MAX)) }
     {
         let ids = size.ids;
-        let member = make_member(alloc, size, agents, limit)?;
-        match Held::first(alloc, member, ids, agents) {
+        let text = make_text(alloc, size, agents, limit)?;
+        match Held::first(alloc, text, ids, agents) {
             Ok(held) => Ok(held),
             Err(_) => Err(MakeFault::Memory),
         }
@@ -108,21 +110,20 @@ impl Held {
     // The first agent of a heap, by itself.
     fn first(
         alloc: Global,
-        member: HeapAgent,
+        text: Text<Arc<Heap, Global>>,
         ids: u32,
         agents: u32,
     ) -> Result<Box<Held>, AllocError>
-        requires whole { IsSoundMember member }
-        requires ids { ids ≡ (size_of (heap_of member)).ids }
-        requires agents { agents ≡ (view_if member.agent).agents }
+        requires ids { ids ≡ (size_of (heap_of text)).ids }
+        requires agents { agents ≡ (view_of text.reader.agent).agents }
         ensures held { IfOk result (λ b. IsHeld b.value) }
-        ensures member { IfOk result (λ b. b.value.member ≡ member) }
+        ensures text { IfOk result (λ b. b.value.text ≡ Some text) }
     {
         let known = IdSet::new(alloc, ids)?;
         let interned = IdSet::new(alloc, ids)?;
         let numbers = Arc::new(alloc, AtomicU64::new(2))?;
         let held = Held {
-            member,
+            text: Some(text),
             agents,
             known,
             interned,
@@ -141,8 +142,8 @@ impl Held {
         requires some { 1 ≤ give }
         requires less { give < share_by self.old }
         ensures held { IsHeld self.new }
-        ensures same { IsSame self.old.member self.new.member }
-        ensures other { IfOk result (λ b. IsHeld b.value × IsSame self.old.member b.value.member) }
+        ensures same { IsSame self.old self.new }
+        ensures other { IfOk result (λ b. IsHeld b.value × IsSame self.old b.value) }
         ensures left { OnOk result (view_by self.new
             ≡ left_after_split (view_by self.old) give) }
         ensures right { IfOk result (λ b. view_by b.value
@@ -157,14 +158,13 @@ impl Held {
         ensures refused { IfErr result (λ e. self.new ≡ self.old) }
     {
         let mut other = self.beside(alloc)?;
-        split_member(&mut self.member, &mut other.member, give);
+        other.text = Some(split_text(&mut self.text, give)?);
         other.number = self.numbers.fetch_add(1, Ordering::SeqCst);
         Ok(other)
     }
 
-    // The heap and the marks once more, with no agent yet.
+    // The marks once more, with no agent yet.
     fn beside(&self, alloc: Global) -> Result<Box<Held>, AllocError>
-        ensures same { IfOk result (λ b. IsSame self.now.member b.value.member) }
         ensures known { IfOk result (λ b. (i : ℕ) → IsIn b.value.known i ↔ IsIn self.now.known i) }
         ensures interned { IfOk result (λ b. (i : ℕ) → IsIn b.value.interned i ↔ IsIn self.now.interned i) }
         ensures room { IfOk result (λ b. (n : ℕ) → Covers self.now.known n → Covers b.value.known n) }
@@ -176,14 +176,8 @@ impl Held {
         let known = self.known.try_clone()?;
         let interned = self.interned.try_clone()?;
         let numbers = Arc::try_clone(&self.numbers)?;
-        let heap = Arc::try_clone(&self.member.heap)?;
-        let member = HeapAgent {
-            heap,
-            agent: None,
-            limit: self.member.limit,
-        };
         let held = Held {
-            member,
+            text: None,
             agents: self.agents,
             known,
             interned,
@@ -199,10 +193,10 @@ impl Held {
     pub fn join(&mut self, other: Held)
         requires held { IsHeld self.old }
         requires other { IsHeld other }
-        requires beside { IsSame self.old.member other.member }
+        requires beside { IsSame self.old other }
         requires may { MayJoin (view_by self.old) (view_by other) }
         ensures held { IsHeld self.new }
-        ensures same { IsSame self.old.member self.new.member }
+        ensures same { IsSame self.old self.new }
         ensures view { view_by self.new
             ≡ joined_view (view_by self.old) (view_by other) }
         ensures share { share_by self.new
@@ -211,7 +205,7 @@ impl Held {
         ensures known { (i : ℕ) → IsIn other.known i → IsIn self.new.known i }
         ensures interned { (i : ℕ) → IsIn other.interned i → IsIn self.new.interned i }
     {
-        join_member(&mut self.member, other.member);
+        join_text(&mut self.text, other.text);
         self.known.add_all(&other.known);
         self.interned.add_all(&other.interned);
     }

@@ -5,86 +5,12 @@ ghost use Rattle.heap_rule.specs.Births.{part};
 ghost use Rattle.heap_rule.specs.Layout.{MAX};
 ghost use Rattle.heap_rule.specs.Maps.{Has, HasKey};
 ghost use Rattle.heap_rule.specs.Views.{IsSeenSettled};
-ghost use Rattle.heap_table.specs.Agents.{size_of};
 ghost use Rattle.heap_text.specs.Joins.{IsCut, IsJoined};
 ghost use Rattle.heap_text.specs.Texts.{IsSpared, KeepsOwn, Told, UsesExactly};
-ghost use Rattle.heap_agents.specs.Held.{IsHeld, Leaves, MarksMade, held_size, view_by};
-ghost use Rattle.heap_agents.specs.Members.{IsSoundMember, HeapAgentLeaves, heap_of, view_if};
+ghost use Rattle.heap_agents.specs.Held.{IsHeld, Leaves, MarksMade, limit_by, held_size, view_by};
 
 use crate::held::Held;
-use crate::member::HeapAgent;
-use heap_text::{JoinFault, JsStr, Text, TextFull};
-
-pub(crate) fn from_units(member: &mut HeapAgent, units: &[u16]) -> Result<JsStr, TextFull>
-    requires whole { IsSoundMember member.old }
-    requires short { length units.now ≤ MAX }
-    ensures leaves { HeapAgentLeaves member.old member.new }
-    ensures own { KeepsOwn (view_if member.old.agent) (view_if member.new.agent) }
-    ensures units { IfOk result (λ s. Has (view_if member.new.agent).units s.id units.now) }
-    ensures settled { IfOk result (λ s. IsSeenSettled (view_if member.new.agent) s.id) }
-    ensures used { IfOk result
-        (λ s. UsesExactly (view_if member.old.agent) (view_if member.new.agent) 1
-        (words_over (is_wide units.now) (length units.now))) }
-    ensures refused { IfErr result
-        (λ f. Told (view_if member.new.agent) (size_of (heap_of member.old))
-        (words_over (is_wide units.now) (length units.now)) f) }
-    ensures spared { IfErr result
-        (λ f. IsSpared (view_if member.old.agent) (view_if member.new.agent)
-        (words_over (is_wide units.now) (length units.now)) f) }
-{
-    let agent = member.take_agent();
-    let mut text = Text::new(&member.heap, agent, member.limit);
-    let answer = text.make_flat(units);
-    let Text { reader, .. } = text;
-    member.agent = Some(reader.into_agent());
-    answer
-}
-
-pub(crate) fn concat(member: &mut HeapAgent, a: JsStr, b: JsStr) -> Result<JsStr, JoinFault>
-    requires whole { IsSoundMember member.old }
-    requires known { HasKey (view_if member.old.agent).units a.id
-        × HasKey (view_if member.old.agent).units b.id }
-    ensures leaves { HeapAgentLeaves member.old member.new }
-    ensures own { KeepsOwn (view_if member.old.agent) (view_if member.new.agent) }
-    ensures units { IfOk result
-        (λ s. (us vs : List ℕ) → Has (view_if member.old.agent).units a.id us
-        → Has (view_if member.old.agent).units b.id vs
-        → Has (view_if member.new.agent).units s.id (us ++ vs)) }
-    ensures joined { (us vs : List ℕ) → Has (view_if member.old.agent).units a.id us
-        → Has (view_if member.old.agent).units b.id vs
-        → IsJoined (view_if member.old.agent) (view_if member.new.agent) (size_of (heap_of member.old))
-        member.old.limit a b us vs result }
-{
-    let agent = member.take_agent();
-    let mut text = Text::new(&member.heap, agent, member.limit);
-    let answer = text.concat(a, b);
-    let Text { reader, .. } = text;
-    member.agent = Some(reader.into_agent());
-    answer
-}
-
-pub(crate) fn slice(member: &mut HeapAgent, s: JsStr, from: u32, to: u32) -> Result<JsStr, TextFull>
-    requires whole { IsSoundMember member.old }
-    requires settled { IsSeenSettled (view_if member.old.agent) s.id }
-    requires within { (us : List ℕ) × Has (view_if member.old.agent).units s.id us × (from ≤ to)
-        × (to ≤ length us) }
-    ensures leaves { HeapAgentLeaves member.old member.new }
-    ensures own { KeepsOwn (view_if member.old.agent) (view_if member.new.agent) }
-    ensures units { IfOk result
-        (λ t. (us : List ℕ) → Has (view_if member.old.agent).units s.id us
-        → Has (view_if member.new.agent).units t.id (part from (to - from) us)) }
-    ensures settled { IfOk result (λ t. IsSeenSettled (view_if member.new.agent) t.id) }
-    ensures cut { (us : List ℕ) → Has (view_if member.old.agent).units s.id us
-        → IsCut (view_if member.old.agent) (view_if member.new.agent) (size_of (heap_of member.old)) s from to
-        us result }
-{
-    let agent = member.take_agent();
-    let mut text = Text::new(&member.heap, agent, member.limit);
-    let answer = text.slice(s, from, to);
-    let Text { reader, .. } = text;
-    member.agent = Some(reader.into_agent());
-    answer
-}
+use heap_text::{JoinFault, JsStr, TextFull};
 
 impl Held {
     /// A new string with these units, settled.
@@ -106,7 +32,11 @@ impl Held {
             (λ f. IsSpared (view_by self.old) (view_by self.new)
             (words_over (is_wide units.now) (length units.now)) f) }
     {
-        let s = from_units(&mut self.member, units)?;
+        let made = match &mut self.text {
+            Some(text) => text.make_flat(units),
+            None => unreachable!(),
+        };
+        let s = made?;
         self.mark(s.id);
         Ok(s)
     }
@@ -126,9 +56,13 @@ impl Held {
         ensures joined { (us vs : List ℕ) → Has (view_by self.old).units a.id us
             → Has (view_by self.old).units b.id vs
             → IsJoined (view_by self.old) (view_by self.new) (held_size self.old)
-            self.old.member.limit a b us vs result }
+            (limit_by self.old) a b us vs result }
     {
-        let s = concat(&mut self.member, a, b)?;
+        let joined = match &mut self.text {
+            Some(text) => text.concat(a, b),
+            None => unreachable!(),
+        };
+        let s = joined?;
         self.mark(s.id);
         Ok(s)
     }
@@ -150,7 +84,11 @@ impl Held {
             → IsCut (view_by self.old) (view_by self.new) (held_size self.old) s from to
             us result }
     {
-        let t = slice(&mut self.member, s, from, to)?;
+        let cut = match &mut self.text {
+            Some(text) => text.slice(s, from, to),
+            None => unreachable!(),
+        };
+        let t = cut?;
         self.mark(t.id);
         Ok(t)
     }

@@ -3,80 +3,22 @@ ghost use Rattle.std.specs.Prelude.{◌≡◌, ℕ, ◌+◌, ◌≤◌, ◌<◌,
 ghost use Rattle.heap_read.specs.Reads.{OnlyLoads};
 ghost use Rattle.heap_rule.specs.Maps.{Has, HasKey};
 ghost use Rattle.heap_rule.specs.Views.{IsSeenSettled};
-ghost use Rattle.heap_table.specs.Agents.{Belongs, size_of, view_of};
+ghost use Rattle.heap_table.specs.Agents.{view_of};
+ghost use Rattle.heap_text.specs.Keeping.{KeepsText};
 ghost use Rattle.heap_text.specs.Settling.{IsBitOf, IsNoRoom, IsSettling};
 ghost use Rattle.heap_text.specs.Texts.{KeepsOwn};
 ghost use Rattle.heap_agents.specs.Held.{IsHeld, Leaves, MarksNothing, MarksSettled, held_size, view_by};
-ghost use Rattle.heap_agents.specs.Members.{IsSoundMember, HeapAgentLeaves, heap_of, view_if};
 
 use crate::held::Held;
-use crate::member::HeapAgent;
+use heap_read::HeapRef;
 use heap_text::{JsStr, Text, TextFull};
 
-pub(crate) fn length(member: &mut HeapAgent, s: JsStr) -> u32
-    requires whole { IsSoundMember member.old }
-    requires known { HasKey (view_if member.old.agent).units s.id }
-    ensures leaves { HeapAgentLeaves member.old member.new }
-    ensures reads { OnlyLoads (view_if member.old.agent) (view_if member.new.agent) }
-    ensures length { (us : List ℕ) → Has (view_if member.old.agent).units s.id us → result ≡ length us }
-{
-    let agent = member.take_agent();
-    let mut text = Text::new(&member.heap, agent, member.limit);
-    let answer = text.len(s);
-    let Text { reader, .. } = text;
-    member.agent = Some(reader.into_agent());
-    answer
-}
-
-pub(crate) fn settle(member: &mut HeapAgent, s: JsStr) -> Result<(), TextFull>
-    requires whole { IsSoundMember member.old }
-    requires known { HasKey (view_if member.old.agent).units s.id }
-    ensures leaves { HeapAgentLeaves member.old member.new }
-    ensures own { KeepsOwn (view_if member.old.agent) (view_if member.new.agent) }
-    ensures settled { IfOk result (λ u. IsSeenSettled (view_if member.new.agent) s.id) }
-    ensures used { IfOk result
-        (λ u. (us : List ℕ) → Has (view_if member.old.agent).units s.id us
-        → IsSettling (view_if member.old.agent) (view_if member.new.agent) s.id us) }
-    ensures again { IsSeenSettled (view_if member.old.agent) s.id
-        → IsOk result × OnlyLoads (view_if member.old.agent) (view_if member.new.agent) }
-    ensures refused { IfErr result
-        (λ f. (us : List ℕ) → Has (view_if member.old.agent).units s.id us
-        → (wide : Bool) × IsBitOf (view_if member.old.agent) s.id wide
-        × IsNoRoom (view_if member.old.agent) (view_if member.new.agent)
-        (size_of (heap_of member.old)) us f wide) }
-{
-    let agent = member.take_agent();
-    let mut text = Text::new(&member.heap, agent, member.limit);
-    let answer = text.settle(s);
-    let Text { reader, .. } = text;
-    member.agent = Some(reader.into_agent());
-    answer
-}
-
-pub(crate) fn read(member: &mut HeapAgent, s: JsStr, from: u32, out: &mut [u16])
-    requires whole { IsSoundMember member.old }
-    requires settled { IsSeenSettled (view_if member.old.agent) s.id }
-    requires within { (us : List ℕ) × Has (view_if member.old.agent).units s.id us
-        × (from + length out.old ≤ length us) }
-    ensures leaves { HeapAgentLeaves member.old member.new }
-    ensures reads { OnlyLoads (view_if member.old.agent) (view_if member.new.agent) }
-    ensures units { (us : List ℕ) → Has (view_if member.old.agent).units s.id us
-        → out.new ≡ slice_range us from (from + length out.old) }
-{
-    let agent = member.take_agent();
-    let mut text = Text::new(&member.heap, agent, member.limit);
-    read_units(&mut text, s, from, out);
-    let Text { reader, .. } = text;
-    member.agent = Some(reader.into_agent());
-}
-
-fn read_units(text: &mut Text, s: JsStr, from: u32, out: &mut [u16])
+// The units of a settled string from unit `from` on, as many as there is room for.
+fn read_units<H: HeapRef>(text: &mut Text<H>, s: JsStr, from: u32, out: &mut [u16])
     requires settled { IsSeenSettled (view_of text.old.reader.agent) s.id }
     requires within { (us : List ℕ) × Has (view_of text.old.reader.agent).units s.id us
         × (from + length out.old ≤ length us) }
-    ensures text { Belongs text.new.reader.agent text.new.reader.heap.now }
-    ensures heap { text.new.reader.heap ≡ text.old.reader.heap }
-    ensures limit { text.new.limit ≡ text.old.limit }
+    ensures kept { KeepsText text.old text.new }
     ensures reads { OnlyLoads (view_of text.old.reader.agent) (view_of text.new.reader.agent) }
     ensures units { (us : List ℕ) → Has (view_of text.old.reader.agent).units s.id us
         → out.new ≡ slice_range us from (from + length out.old) }
@@ -95,7 +37,10 @@ impl Held {
         ensures marked { MarksNothing self.old self.new }
         ensures length { (us : List ℕ) → Has (view_by self.old).units s.id us → result ≡ length us }
     {
-        length(&mut self.member, s)
+        match &mut self.text {
+            Some(text) => text.len(s),
+            None => unreachable!(),
+        }
     }
 
     /// Sees to it that a string is settled, so that it may be cut, read and interned. Only a rope uses
@@ -117,7 +62,11 @@ impl Held {
             → (wide : Bool) × IsBitOf (view_by self.old) s.id wide
             × IsNoRoom (view_by self.old) (view_by self.new) (held_size self.old) us f wide) }
     {
-        settle(&mut self.member, s)?;
+        let answer = match &mut self.text {
+            Some(text) => text.settle(s),
+            None => unreachable!(),
+        };
+        answer?;
         self.mark(s.id);
         Ok(())
     }
@@ -134,6 +83,9 @@ impl Held {
         ensures units { (us : List ℕ) → Has (view_by self.old).units s.id us
             → out.new ≡ slice_range us from (from + length out.old) }
     {
-        read(&mut self.member, s, from, out);
+        match &mut self.text {
+            Some(text) => read_units(text, s, from, out),
+            None => unreachable!(),
+        }
     }
 }

@@ -1,118 +1,34 @@
 // Comparing settled strings, and finding one in another, by the calls of `js_search` on a session.
-ghost use Rattle.std.specs.Prelude.{◌≡◌, ◌↔◌, ℕ, ◌≤◌, List, length, Option, IsTrue};
+ghost use Rattle.std.specs.Prelude.{◌≡◌, Some, ◌↔◌, ℕ, ◌≤◌, List, length, Option, IsTrue};
 ghost use Rattle.heap_rule.specs.Maps.{Has};
 ghost use Rattle.js_search.specs.Order.{units_cmp};
 ghost use Rattle.js_search.specs.Places.{IsFirst, IsLast, Stands, first, last, stands};
-ghost use Rattle.heap_agents.specs.Held.{IsHeld, Searched, view_by};
-ghost use Rattle.heap_agents.specs.Members.{IsSoundMember, view_if};
-ghost use Rattle.heap_agents.specs.Searched.{IsOrder, IsReadable, HeapAgentSearched};
+ghost use Rattle.heap_agents.specs.Held.{IsHeld, Searched, view_by, without_text};
+ghost use Rattle.heap_agents.specs.Searched.{IsOrder, IsReadable};
 
 use crate::held::Held;
-use crate::member::HeapAgent;
 use heap_intern::Session;
-use heap_text::JsStr;
+use heap_read::Reader;
+use heap_table::Heap;
+use heap_text::{JsStr, Text};
 use js_store::Limit;
+use std::alloc::Global;
 use std::cmp::Ordering;
-
-pub(crate) fn compare(member: &mut HeapAgent, a: JsStr, b: JsStr) -> Ordering
-    requires whole { IsSoundMember member.old }
-    requires left { IsReadable (view_if member.old.agent) a.id }
-    requires right { IsReadable (view_if member.old.agent) b.id }
-    ensures searched { HeapAgentSearched member.old member.new }
-    ensures order { (us vs : List ℕ) → Has (view_if member.old.agent).units a.id us
-        → Has (view_if member.old.agent).units b.id vs
-        → result ≡ units_cmp us vs }
-    ensures means { (us vs : List ℕ) → Has (view_if member.old.agent).units a.id us
-        → Has (view_if member.old.agent).units b.id vs
-        → IsOrder us vs result }
-{
-    let agent = member.take_agent();
-    let mut session = Session::new(&member.heap, agent, Limit::Bits64);
-    let answer = js_search::compare(&mut session, a, b);
-    member.agent = Some(session.into_agent());
-    answer
-}
-
-pub(crate) fn equal(member: &mut HeapAgent, a: JsStr, b: JsStr) -> bool
-    requires whole { IsSoundMember member.old }
-    requires left { IsReadable (view_if member.old.agent) a.id }
-    requires right { IsReadable (view_if member.old.agent) b.id }
-    ensures searched { HeapAgentSearched member.old member.new }
-    ensures value { (us vs : List ℕ) → Has (view_if member.old.agent).units a.id us
-        → Has (view_if member.old.agent).units b.id vs
-        → IsTrue result ↔ (us ≡ vs) }
-{
-    let agent = member.take_agent();
-    let mut session = Session::new(&member.heap, agent, Limit::Bits64);
-    let answer = js_search::equal(&mut session, a, b);
-    member.agent = Some(session.into_agent());
-    answer
-}
-
-pub(crate) fn starts_with(member: &mut HeapAgent, hay: JsStr, needle: JsStr, at: u32) -> bool
-    requires whole { IsSoundMember member.old }
-    requires left { IsReadable (view_if member.old.agent) hay.id }
-    requires right { IsReadable (view_if member.old.agent) needle.id }
-    ensures searched { HeapAgentSearched member.old member.new }
-    ensures stands { (us vs : List ℕ) → Has (view_if member.old.agent).units hay.id us
-        → Has (view_if member.old.agent).units needle.id vs
-        → IsTrue result ↔ Stands us vs at }
-    ensures test { (us vs : List ℕ) → Has (view_if member.old.agent).units hay.id us
-        → Has (view_if member.old.agent).units needle.id vs
-        → result ≡ stands us vs at }
-{
-    let agent = member.take_agent();
-    let mut session = Session::new(&member.heap, agent, Limit::Bits64);
-    let answer = js_search::stands_at(&mut session, hay, needle, at);
-    member.agent = Some(session.into_agent());
-    answer
-}
-
-pub(crate) fn index_of(member: &mut HeapAgent, hay: JsStr, needle: JsStr, from: u32) -> Option<u32>
-    requires whole { IsSoundMember member.old }
-    requires left { IsReadable (view_if member.old.agent) hay.id }
-    requires right { IsReadable (view_if member.old.agent) needle.id }
-    requires within { (us : List ℕ) × Has (view_if member.old.agent).units hay.id us × (from ≤ length us) }
-    ensures searched { HeapAgentSearched member.old member.new }
-    ensures least { (us vs : List ℕ) → Has (view_if member.old.agent).units hay.id us
-        → Has (view_if member.old.agent).units needle.id vs
-        → IsFirst us vs from result }
-    ensures place { (us vs : List ℕ) → Has (view_if member.old.agent).units hay.id us
-        → Has (view_if member.old.agent).units needle.id vs
-        → result ≡ first us vs from }
-{
-    let agent = member.take_agent();
-    let mut session = Session::new(&member.heap, agent, Limit::Bits64);
-    let answer = js_search::index_of(&mut session, hay, needle, from);
-    member.agent = Some(session.into_agent());
-    answer
-}
-
-pub(crate) fn last_index_of(
-    member: &mut HeapAgent,
-    hay: JsStr,
-    needle: JsStr,
-    limit: u32,
-) -> Option<u32>
-    requires whole { IsSoundMember member.old }
-    requires left { IsReadable (view_if member.old.agent) hay.id }
-    requires right { IsReadable (view_if member.old.agent) needle.id }
-    ensures searched { HeapAgentSearched member.old member.new }
-    ensures greatest { (us vs : List ℕ) → Has (view_if member.old.agent).units hay.id us
-        → Has (view_if member.old.agent).units needle.id vs
-        → IsLast us vs limit result }
-    ensures place { (us vs : List ℕ) → Has (view_if member.old.agent).units hay.id us
-        → Has (view_if member.old.agent).units needle.id vs
-        → result ≡ last us vs limit }
-{
-    let agent = member.take_agent();
-    let mut session = Session::new(&member.heap, agent, Limit::Bits64);
-    let answer = js_search::last_index_of(&mut session, hay, needle, limit);
-    member.agent = Some(session.into_agent());
-    answer
-}
+use std::sync::Arc;
 
 impl Held {
+    // Its text, which is to be put back.
+    fn take_text(&mut self) -> Text<Arc<Heap, Global>>
+        requires { IsHeld self.old }
+        ensures text { self.old.text ≡ Some result }
+        ensures rest { self.new ≡ without_text self.old }
+    {
+        match self.text.take() {
+            Some(text) => text,
+            None => unreachable!(),
+        }
+    }
+
     /// The order of two settled strings by their units, where a proper prefix comes first.
     pub fn compare(&mut self, a: JsStr, b: JsStr) -> Ordering
         requires held { IsHeld self.old }
@@ -126,7 +42,13 @@ impl Held {
             → Has (view_by self.old).units b.id vs
             → IsOrder us vs result }
     {
-        compare(&mut self.member, a, b)
+        let Text { reader, limit } = self.take_text();
+        let Reader { heap, agent } = reader;
+        let mut session = Session::new(&*heap, agent, Limit::Bits64);
+        let answer = js_search::compare(&mut session, a, b);
+        let agent = session.into_agent();
+        self.text = Some(Text::new(heap, agent, limit));
+        answer
     }
 
     /// Whether two settled strings have the same units.
@@ -139,7 +61,13 @@ impl Held {
             → Has (view_by self.old).units b.id vs
             → IsTrue result ↔ (us ≡ vs) }
     {
-        equal(&mut self.member, a, b)
+        let Text { reader, limit } = self.take_text();
+        let Reader { heap, agent } = reader;
+        let mut session = Session::new(&*heap, agent, Limit::Bits64);
+        let answer = js_search::equal(&mut session, a, b);
+        let agent = session.into_agent();
+        self.text = Some(Text::new(heap, agent, limit));
+        answer
     }
 
     /// Whether the units of `needle` occur in `hay` at place `at`, both settled.
@@ -155,7 +83,13 @@ impl Held {
             → Has (view_by self.old).units needle.id vs
             → result ≡ stands us vs at }
     {
-        starts_with(&mut self.member, hay, needle, at)
+        let Text { reader, limit } = self.take_text();
+        let Reader { heap, agent } = reader;
+        let mut session = Session::new(&*heap, agent, Limit::Bits64);
+        let answer = js_search::stands_at(&mut session, hay, needle, at);
+        let agent = session.into_agent();
+        self.text = Some(Text::new(heap, agent, limit));
+        answer
     }
 
     /// The least place at or after `from` at which `needle` occurs in `hay`, both settled.
@@ -172,7 +106,13 @@ impl Held {
             → Has (view_by self.old).units needle.id vs
             → result ≡ first us vs from }
     {
-        index_of(&mut self.member, hay, needle, from)
+        let Text { reader, limit } = self.take_text();
+        let Reader { heap, agent } = reader;
+        let mut session = Session::new(&*heap, agent, Limit::Bits64);
+        let answer = js_search::index_of(&mut session, hay, needle, from);
+        let agent = session.into_agent();
+        self.text = Some(Text::new(heap, agent, limit));
+        answer
     }
 
     /// The greatest place at most `limit` at which `needle` occurs in `hay`, both settled.
@@ -188,6 +128,15 @@ impl Held {
             → Has (view_by self.old).units needle.id vs
             → result ≡ last us vs limit }
     {
-        last_index_of(&mut self.member, hay, needle, limit)
+        let Text {
+            reader,
+            limit: most,
+        } = self.take_text();
+        let Reader { heap, agent } = reader;
+        let mut session = Session::new(&*heap, agent, Limit::Bits64);
+        let answer = js_search::last_index_of(&mut session, hay, needle, limit);
+        let agent = session.into_agent();
+        self.text = Some(Text::new(heap, agent, most));
+        answer
     }
 }

@@ -5,14 +5,13 @@ ghost use Rattle.heap_read.specs.Reads.{OnlyLoads};
 ghost use Rattle.heap_rule.specs.Layout.{MAX};
 ghost use Rattle.heap_rule.specs.Maps.{Has, HasKey};
 ghost use Rattle.heap_rule.specs.Views.{IsSeenSettled};
-ghost use Rattle.heap_table.specs.Agents.{Belongs, view_of};
+ghost use Rattle.heap_table.specs.Agents.{view_of};
+ghost use Rattle.heap_text.specs.Keeping.{KeepsText};
 ghost use Rattle.heap_agents.specs.Held.{IsHeld, Leaves, MarksNothing, view_by};
-ghost use Rattle.heap_agents.specs.Members.{IsSoundMember, HeapAgentLeaves, view_if};
 ghost use Rattle.heap_agents.specs.Words.{AreShown, AreThere};
 
 use crate::held::Held;
-use crate::member::HeapAgent;
-use heap_read::Window;
+use heap_read::{HeapRef, Window};
 use heap_text::{JsStr, Text};
 use js_units::{word_and_lane, words_for};
 
@@ -54,12 +53,10 @@ fn shown_in(w: Window, at: u32, room: usize) -> Shown
     }
 }
 
-fn show_words(text: &mut Text, s: JsStr, at: u32, into: &mut [u64]) -> Shown
+fn show_words<H: HeapRef>(text: &mut Text<H>, s: JsStr, at: u32, into: &mut [u64]) -> Shown
     requires known { HasKey (view_of text.old.reader.agent).units s.id }
     requires settled { IsSeenSettled (view_of text.old.reader.agent) s.id }
-    ensures text { Belongs text.new.reader.agent text.new.reader.heap.now }
-    ensures heap { text.new.reader.heap ≡ text.old.reader.heap }
-    ensures limit { text.new.limit ≡ text.old.limit }
+    ensures kept { KeepsText text.old text.new }
     ensures reads { OnlyLoads (view_of text.old.reader.agent) (view_of text.new.reader.agent) }
     ensures shown { (us : List ℕ) → Has (view_of text.old.reader.agent).units s.id us
         → AreShown us at into.old into.new result }
@@ -70,25 +67,6 @@ fn show_words(text: &mut Text, s: JsStr, at: u32, into: &mut [u64]) -> Shown
     let shown = shown_in(window, at, into.len());
     text.words_in(window, at, shown.count, into);
     shown
-}
-
-pub(crate) fn show(member: &mut HeapAgent, s: JsStr, at: u32, into: &mut [u64]) -> Shown
-    requires whole { IsSoundMember member.old }
-    requires known { HasKey (view_if member.old.agent).units s.id }
-    requires settled { IsSeenSettled (view_if member.old.agent) s.id }
-    ensures leaves { HeapAgentLeaves member.old member.new }
-    ensures reads { OnlyLoads (view_if member.old.agent) (view_if member.new.agent) }
-    ensures shown { (us : List ℕ) → Has (view_if member.old.agent).units s.id us
-        → AreShown us at into.old into.new result }
-    ensures there { (us : List ℕ) → Has (view_if member.old.agent).units s.id us
-        → AreThere (view_if member.new.agent) us result }
-{
-    let agent = member.take_agent();
-    let mut text = Text::new(&member.heap, agent, member.limit);
-    let answer = show_words(&mut text, s, at, into);
-    let Text { reader, .. } = text;
-    member.agent = Some(reader.into_agent());
-    answer
 }
 
 impl Held {
@@ -106,6 +84,9 @@ impl Held {
         ensures there { (us : List ℕ) → Has (view_by self.old).units s.id us
             → AreThere (view_by self.new) us result }
     {
-        show(&mut self.member, s, at, into)
+        match &mut self.text {
+            Some(text) => show_words(text, s, at, into),
+            None => unreachable!(),
+        }
     }
 }

@@ -45,8 +45,8 @@ pub fn greetings(
 // Each of the two agents makes its greeting, in a thread of its own.
 fn greet_both(
     rt: &impl Threads,
-    left: &mut Text,
-    right: &mut Text,
+    left: &mut Text<&Heap>,
+    right: &mut Text<&Heap>,
     hello: JsStr,
     first: &[u16],
     second: &[u16],
@@ -71,7 +71,7 @@ fn greet_both(
 }
 
 // A new string: the units of `hello`, and then the name.
-fn greet(text: &mut Text, hello: JsStr, name: &[u16]) -> Result<JsStr, ExampleFault>
+fn greet(text: &mut Text<&Heap>, hello: JsStr, name: &[u16]) -> Result<JsStr, ExampleFault>
     requires known { HasKey (view_of text.old.reader.agent).units hello.id }
     requires short { length name.now ≤ MAX }
     ensures heap { text.new.reader.heap ≡ text.old.reader.heap }
@@ -85,7 +85,7 @@ fn greet(text: &mut Text, hello: JsStr, name: &[u16]) -> Result<JsStr, ExampleFa
 }
 
 // The units of a string.
-fn read(alloc: Global, text: &mut Text, s: JsStr) -> Result<Vec<u16>, ExampleFault>
+fn read(alloc: Global, text: &mut Text<&Heap>, s: JsStr) -> Result<Vec<u16>, ExampleFault>
     requires known { HasKey (view_of text.old.reader.agent).units s.id }
     ensures heap { text.new.reader.heap ≡ text.old.reader.heap }
     ensures known { KeepsKnown (view_of text.old.reader.agent) (view_of text.new.reader.agent) }

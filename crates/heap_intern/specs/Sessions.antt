@@ -11,6 +11,7 @@ use Rattle.heap_rule.specs.Views.{history}
 use Rattle.heap_table.specs.declared.heap.Heap.{Heap}
 use Rattle.heap_table.specs.Agents.{view_of}
 use Rattle.heap_intern.specs.Settled.{is_settled}
+use Rattle.heap_read.specs.declared.heap_ref.HeapRef.{Ghosts}
 use Rattle.heap_intern.specs.declared.session.Session.{Session}
 
 -- what every call of a store keeps of a session: the table of its heap, its share, the heap's number of agents, and the history at its split
@@ -41,8 +42,9 @@ state_by v limit table = record {
 abbrev pub table_of : Heap → TableId
 table_of h = h.table.shared.table_id
 
-abbrev pub session_view : Session → View
-session_view s = view_of s.text.reader.agent
+module _ {H : Type 0} {g : Ghosts H} where
+  abbrev pub session_view : Session H g → View
+  session_view s = view_of s.text.reader.agent
 
-abbrev pub state_in : Session → State SessionFrame
-state_in s = state_by (session_view s) (limit_units s.limit) (table_of s.text.reader.heap.now)
+  abbrev pub state_in : Session H g → State SessionFrame
+  state_in s = state_by (session_view s) (limit_units s.limit) (table_of (g.reached s.text.reader.heap))

@@ -12,12 +12,12 @@ ghost use Rattle.heap_intern.specs.Sessions.{state_in, session_view};
 use crate::faults::{table_fault, text_fault};
 use crate::session::Session;
 use crate::table::intern_counted;
-use heap_read::Steps;
+use heap_read::{HeapRef, Steps};
 use heap_text::JsStr;
 use js_store::StoreFault;
 use std::sync::ledger::{Blank, Ledger};
 
-impl<'h> Session<'h> {
+impl<H: HeapRef> Session<H> {
     /// As `intern` of a store, and counts each load of a slot of the string table. No slot is
     /// loaded twice but the one that answers: once more after its units were compared, which
     /// enters the call in the history. The header of `s` then forwards to the answer, unless it is

@@ -9,10 +9,11 @@ ghost use Rattle.heap_intern.specs.Sessions.{state_in, session_view};
 
 use crate::faults::text_fault;
 use crate::session::Session;
+use heap_read::HeapRef;
 use heap_text::JsStr;
 use js_store::{StoreFault, Strings};
 
-impl<'h> Session<'h> {
+impl<H: HeapRef> Session<H> {
     // A new string of these units.
     pub(crate) fn flat_of(&mut self, units: &[u16]) -> Result<JsStr, StoreFault>
         requires { length units.now ≤ (state_in self.old).limit }

@@ -3,9 +3,10 @@ ghost use Rattle.heap_intern.specs.Sessions.{state_in};
 ghost use Rattle.heap_intern.specs.Whole.{WholeHasAll};
 
 use crate::session::Session;
+use heap_read::HeapRef;
 
 /// A session that has the whole share used all that was ever claimed, and every interned string
 /// is in its history.
-pub fn whole_has_all(_session: &Session)
+pub fn whole_has_all<H: HeapRef>(_session: &Session<H>)
     ensures { WholeHasAll (state_in _session.now) }
 {}

@@ -9,6 +9,7 @@ ghost use Rattle.heap_intern.specs.Singles.{AreSingles};
 use crate::kept::KeptWord;
 use crate::recent::Recent;
 use crate::singles::Singles;
+use heap_read::HeapRef;
 use heap_text::Text;
 use js_store::Limit;
 
@@ -20,8 +21,8 @@ use js_store::Limit;
 /// uses an id and a content word once, and 64 of the short strings that it made last, so that
 /// these use nothing when they are made again.
 #[derive(Drop)]
-pub struct Session<'h> {
-    pub(crate) text: Text<'h>,
+pub struct Session<H: HeapRef> {
+    pub text: Text<H>,
     pub(crate) limit: Limit,
     pub(crate) last: KeptWord,
     pub(crate) older: KeptWord,

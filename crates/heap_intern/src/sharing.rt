@@ -15,31 +15,15 @@ use crate::recent::Recent;
 use crate::session::Session;
 use crate::singles::Singles;
 use crate::table::count_interned;
-use heap_read::Reader;
+use heap_read::{HeapRef, Reader};
 use heap_table::{Agent, Heap};
 use heap_text::Text;
 use js_store::Limit;
 
-impl<'h> Session<'h> {
-    /// A session of an agent of this heap. The limit is that of the strings that it makes.
-    pub fn new(heap: &'h Heap, agent: Agent, limit: Limit) -> Session<'h>
-        requires belongs { Belongs agent heap.now }
-        ensures view { session_view result ≡ view_of agent }
-        ensures state { state_in result ≡ state_by (view_of agent) (limit_units limit) (table_of heap.now) }
-    {
-        Session {
-            text: Text::new(heap, agent, limit.units()),
-            limit,
-            last: KeptWord::none(),
-            older: KeptWord::none(),
-            singles: Singles::none(),
-            recent: Recent::none(),
-        }
-    }
-
+impl<'h> Session<&'h Heap> {
     /// A new session with a part of the share, which knows all that this one knows and has used
     /// nothing. Its history is this one's.
-    pub fn split(&mut self, give: u32) -> Session<'h>
+    pub fn split(&mut self, give: u32) -> Session<&'h Heap>
         requires some { 1 ≤ give }
         requires less { give < (state_in self.old).frame.share }
         ensures left_view { session_view self.new ≡ left_after_split (session_view self.old) give }
@@ -56,14 +40,33 @@ impl<'h> Session<'h> {
             recent: Recent::none(),
         }
     }
+}
+
+impl<H: HeapRef> Session<H> {
+    /// A session of an agent of this heap. The limit is that of the strings that it makes.
+    pub fn new(heap: H, agent: Agent, limit: Limit) -> Session<H>
+        requires belongs { Belongs agent (H.reached heap) }
+        ensures view { session_view result ≡ view_of agent }
+        ensures state { state_in result ≡ state_by (view_of agent) (limit_units limit) (table_of (H.reached heap)) }
+    {
+        Session {
+            text: Text::new(heap, agent, limit.units()),
+            limit,
+            last: KeptWord::none(),
+            older: KeptWord::none(),
+            singles: Singles::none(),
+            recent: Recent::none(),
+        }
+    }
 
     /// Takes over all that another session of this heap knows, has and used, and its calls since
     /// its split. That was a split off calls that this session knows by now.
-    pub fn join(&mut self, other: Session<'h>)
+    pub fn join(&mut self, other: Session<H>)
+    where
+        H: Drop,
         requires may { MayJoinSession (state_in self.old) (state_in other) }
-        ensures view { session_view self.new
-            ≡ joined_view (session_view self.old) (session_view other.entry) }
-        ensures joined { IsSessionJoined (state_in self.old) (state_in other.entry) (state_in self.new) }
+        ensures view { session_view self.new ≡ joined_view (session_view self.old) (session_view other) }
+        ensures joined { IsSessionJoined (state_in self.old) (state_in other) (state_in self.new) }
     {
         let Session { text, .. } = other;
         self.text.join(text);
@@ -97,8 +100,10 @@ impl<'h> Session<'h> {
 
     /// Its agent.
     pub fn into_agent(self) -> Agent
-        ensures view { view_of result ≡ session_view self.entry }
-        ensures belongs { BelongsAs (state_in self.entry) result }
+    where
+        H: Drop,
+        ensures view { view_of result ≡ session_view self }
+        ensures belongs { BelongsAs (state_in self) result }
     {
         let Session { text, .. } = self;
         let Text { reader, .. } = text;

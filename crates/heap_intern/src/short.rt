@@ -14,14 +14,14 @@ ghost use Rattle.heap_intern.specs.Sessions.{state_in, session_view};
 
 use crate::recent::Mark;
 use crate::session::Session;
-use heap_read::Window;
+use heap_read::{HeapRef, Window};
 use heap_text::{JsStr, Text};
 use js_store::StoreFault;
 
 // The units of the longest string that is kept.
 pub(crate) const SHORT: usize = 32;
 
-impl<'h> Session<'h> {
+impl<H: HeapRef> Session<H> {
     // A string of few units: the one that was made lately, or else a new one.
     pub(crate) fn short_of(&mut self, units: &[u16]) -> Result<JsStr, StoreFault>
         requires limit { length units.now ≤ (state_in self.old).limit }
@@ -67,7 +67,7 @@ impl<'h> Session<'h> {
 
 // Whether a settled string has these units, by loads.
 #[inline(never)]
-fn has_units(text: &mut Text, s: JsStr, units: &[u16]) -> bool
+fn has_units<H: HeapRef>(text: &mut Text<H>, s: JsStr, units: &[u16]) -> bool
     requires known { maps.HasKey (view_of text.old.reader.agent).units s.id }
     requires settled { views.IsSeenSettled (view_of text.old.reader.agent) s.id }
     requires few { length units.now ≤ 32 }
@@ -87,7 +87,7 @@ fn has_units(text: &mut Text, s: JsStr, units: &[u16]) -> bool
 }
 
 // Whether a window shows these units, which are as many; there is room to read as many.
-fn shows(text: &mut Text, window: Window, units: &[u16], read: &mut [u16]) -> bool
+fn shows<H: HeapRef>(text: &mut Text<H>, window: Window, units: &[u16], read: &mut [u16]) -> bool
     requires window { (us : List ℕ) × IsWindow (view_of text.old.reader.agent) window us }
     requires long { window.len ≡ length units.now }
     requires room { length read.old ≡ length units.now }

@@ -9,9 +9,10 @@ ghost use Rattle.heap_intern.specs.Sessions.{session_view};
 
 use crate::kept::KeptWord;
 use crate::session::Session;
+use heap_read::HeapRef;
 use heap_text::{JsStr, Text};
 
-impl<'h> Session<'h> {
+impl<H: HeapRef> Session<H> {
     // Unit `i` of a settled string, by loads. The word that has it is kept in the place of what was
     // kept of this string, else of the older one.
     #[inline(never)]
@@ -35,7 +36,7 @@ impl<'h> Session<'h> {
 }
 
 // Unit `i` of a settled string, and the word that has it.
-fn word_with(text: &mut Text, s: JsStr, i: u32) -> (KeptWord, u16)
+fn word_with<H: HeapRef>(text: &mut Text<H>, s: JsStr, i: u32) -> (KeptWord, u16)
     requires settled { IsSeenSettled (view_of text.old.reader.agent) s.id }
     requires within { (us : List ℕ) × Has (view_of text.old.reader.agent).units s.id us × (i < length us) }
     ensures heap { text.new.reader.heap ≡ text.old.reader.heap }

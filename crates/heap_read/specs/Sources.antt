@@ -7,6 +7,7 @@ use Rattle.heap_rule.specs.Maps.{HasKey}
 use Rattle.heap_read.specs.declared.source.Piece.{Piece}
 use Rattle.heap_read.specs.declared.source.UnitSource.{UnitSource}
 use Rattle.heap_read.specs.declared.source.UnitSource.TheVariants as source
+use Rattle.heap_read.specs.declared.heap_ref.HeapRef.{Ghosts}
 use Rattle.heap_read.specs.declared.reader.Reader.{Reader}
 use Rattle.heap_read.specs.Readers.{view_in}
 use Rattle.heap_read.specs.Windows.{IsWindow}
@@ -28,8 +29,9 @@ ShowsSource v (source.Units us) = Unit {0}
 ShowsSource v (source.Piece p) = ShowsPiece v p
 ShowsSource v (source.Pieces p q) = ShowsPiece v p × ShowsPiece v q
 
-abbrev pub listed_in : Reader → UnitSource → List ℕ
-listed_in r s = source_units (view_in r) s
+module _ {H : Type 0} {g : Ghosts H} where
+  abbrev pub listed_in : Reader H g → UnitSource → List ℕ
+  listed_in r s = source_units (view_in r) s
 
 -- one-byte lanes are enough for the units, where the lanes are one-byte ones
 abbrev pub FitsLanes : Bool → List ℕ → Type 0

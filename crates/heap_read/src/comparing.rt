@@ -8,11 +8,12 @@ ghost use Rattle.heap_read.specs.Reads.{KeepsForms, OnlyLoads};
 ghost use Rattle.heap_read.specs.Windows.{IsFrozenWindow, IsWindow};
 ghost use Rattle.heap_read.specs.Written.{HasAt, held_unit};
 
+use crate::heap_ref::HeapRef;
 use crate::reader::Reader;
 use crate::source::HeldWord;
 use crate::string::Window;
 
-impl<'h> Reader<'h> {
+impl<H: HeapRef> Reader<H> {
     /// Whether the lanes of the window `b` are the units of the window `a`, which is as long. A word of
     /// each is loaded in turn, and both are compared as words where their lanes lie alike, else lane by
     /// lane. Nothing need be known of the units of `b`.

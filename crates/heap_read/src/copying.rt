@@ -12,6 +12,7 @@ ghost use Rattle.heap_read.specs.Sources.{ShowsSource, listed_in};
 ghost use Rattle.heap_read.specs.Windows.{IsWindow};
 ghost use Rattle.heap_read.specs.Written.{IsWritten};
 
+use crate::heap_ref::HeapRef;
 use crate::reader::Reader;
 use crate::shifting::has_wide_lane;
 use crate::source::UnitSource;
@@ -19,7 +20,7 @@ use crate::string::Window;
 use heap_table::CounterFull;
 use js_units::{lanes, words_for};
 
-impl<'h> Reader<'h> {
+impl<H: HeapRef> Reader<H> {
     /// Whether a unit is over 255.
     pub fn has_wide(&mut self, source: &UnitSource, n: u32) -> bool
         requires shows { ShowsSource (view_in self.old) source.now }
@@ -102,7 +103,7 @@ impl<'h> Reader<'h> {
         ensures ok { IfOk result
             (λ start. IsWritten (view_in self.new) wide start (listed_in self.old source.now)
             × ((view_in self.new).used.words ≡ (view_in self.old).used.words + words_over wide n)) }
-        ensures refused { IfErr result (λ f. IsFull f (words_over wide n) (size_of self.old.heap.now).words
+        ensures refused { IfErr result (λ f. IsFull f (words_over wide n) (size_of (H.reached self.old.heap)).words
             × ((view_in self.new).low.words ≡ f.at)
             × ((view_in self.new).used.words ≡ (view_in self.old).used.words)) }
         ensures forms { KeepsForms (view_in self.old) (view_in self.new) }
@@ -115,10 +116,10 @@ impl<'h> Reader<'h> {
         if want == 0 {
             return Ok(0);
         }
-        let start = self.agent.claim_words(self.heap, want)?;
+        let start = self.agent.claim_words(self.heap.heap(), want)?;
         for at in 0..want {
             let word = self.pack(source, n, wide, at);
-            self.agent.store_word(self.heap, start + at, word);
+            self.agent.store_word(self.heap.heap(), start + at, word);
         }
         Ok(start)
     }

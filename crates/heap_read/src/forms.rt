@@ -12,10 +12,11 @@ ghost use Rattle.heap_read.specs.Readers.{Moves, view_in};
 ghost use Rattle.heap_read.specs.Reads.{OnlyLoads};
 ghost use Rattle.heap_read.specs.Sides.{KnowsSide};
 
+use crate::heap_ref::HeapRef;
 use crate::reader::Reader;
 use js_header::Form;
 
-impl<'h> Reader<'h> {
+impl<H: HeapRef> Reader<H> {
     /// The form of a known string, as it is at this moment, by one load. Where it forwards to
     /// another, the units of that one are known from then on, if its own are.
     pub fn form_now(&mut self, id: u32) -> Form
@@ -35,6 +36,6 @@ impl<'h> Reader<'h> {
         ensures solid { (j : ℕ) (wide : Bool) (offset : ℕ)
             → Has (view_in self.old).forms j (Sliced wide id offset) → IsSolid result }
     {
-        self.agent.load_form(self.heap, id)
+        self.agent.load_form(self.heap.heap(), id)
     }
 }

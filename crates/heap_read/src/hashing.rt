@@ -6,11 +6,12 @@ ghost use Rattle.heap_read.specs.Readers.{Moves, view_in};
 ghost use Rattle.heap_read.specs.Reads.{KeepsForms, OnlyLoads};
 ghost use Rattle.heap_read.specs.Windows.{IsWindow};
 
+use crate::heap_ref::HeapRef;
 use crate::reader::Reader;
 use crate::string::Window;
 use js_units::{hash_units, lanes_from};
 
-impl<'h> Reader<'h> {
+impl<H: HeapRef> Reader<H> {
     /// The hash of a window's units, by one load of each of its words, which are known to be frozen
     /// from then on.
     pub fn hash_in(&mut self, w: Window) -> u32

@@ -8,6 +8,7 @@ ghost use Rattle.heap_read.specs.Readers.{Moves, view_in};
 ghost use Rattle.heap_read.specs.Reads.{KeepsBelow, KeepsForms, OnlyLoads, Writes};
 ghost use Rattle.heap_read.specs.Sources.{FitsLanes, ShowsSource, listed_in};
 
+use crate::heap_ref::HeapRef;
 use crate::reader::Reader;
 use crate::shifting::replaced;
 use crate::source::UnitSource;
@@ -29,7 +30,7 @@ struct Patch {
     first: u32,
 }
 
-impl<'h> Reader<'h> {
+impl<H: HeapRef> Reader<H> {
     // An own word with these lanes changed. Only one that is not written whole is loaded.
     fn patched(&mut self, at: u32, patch: Patch, source: &UnitSource) -> u64
         requires shows { ShowsSource (view_in self.old) source.now }
@@ -48,7 +49,7 @@ impl<'h> Reader<'h> {
         if patch.count == lanes(patch.wide) {
             return self.word_of(source, patch.wide, patch.first, patch.count);
         }
-        let word = self.agent.load_word(self.heap, at);
+        let word = self.agent.load_word(self.heap.heap(), at);
         let part = self.word_of(source, patch.wide, patch.first, patch.count);
         replaced(word, part, patch.wide, patch.low, patch.count)
     }
@@ -79,7 +80,8 @@ impl<'h> Reader<'h> {
                 first: done,
             };
             let word = self.patched(to.start + number, patch, source);
-            self.agent.store_word(self.heap, to.start + number, word);
+            self.agent
+                .store_word(self.heap.heap(), to.start + number, word);
             done += count;
         }
     }

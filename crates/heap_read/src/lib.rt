@@ -10,6 +10,7 @@ mod comparing;
 mod copying;
 mod forms;
 mod hashing;
+mod heap_ref;
 mod lanes;
 mod reader;
 mod reading;
@@ -20,6 +21,7 @@ mod steps;
 mod string;
 mod windows;
 
+pub use heap_ref::HeapRef;
 pub use lanes::Run;
 pub use reader::Reader;
 pub use source::{HeldWord, Piece, UnitSource};

@@ -9,11 +9,12 @@ ghost use Rattle.heap_read.specs.Reads.{KeepsForms, OnlyLoads};
 ghost use Rattle.heap_read.specs.Sides.{LoadsFewForms};
 ghost use Rattle.heap_read.specs.Windows.{IsFrozenWindow, IsWindow, ShowsAll};
 
+use crate::heap_ref::HeapRef;
 use crate::reader::Reader;
 use crate::string::{JsStr, Window};
 use js_units::lane;
 
-impl<'h> Reader<'h> {
+impl<H: HeapRef> Reader<H> {
     /// The length of a string, in units.
     pub fn len(&mut self, s: JsStr) -> u32
         requires known { HasKey (view_in self.old).units s.id }
@@ -21,7 +22,7 @@ impl<'h> Reader<'h> {
         ensures forms { KeepsForms (view_in self.old) (view_in self.new) }
         ensures length { (us : List ℕ) → Has (view_in self.old).units s.id us → result ≡ length us }
     {
-        self.agent.load_length(self.heap, s.id)
+        self.agent.load_length(self.heap.heap(), s.id)
     }
 
     /// A window on the units of a settled string, by at most three loads of a form.
@@ -47,10 +48,10 @@ impl<'h> Reader<'h> {
     {
         let place = w.offset + i;
         if w.wide {
-            let word = self.agent.load_word(self.heap, w.start + place / 4);
+            let word = self.agent.load_word(self.heap.heap(), w.start + place / 4);
             lane(word, true, place % 4)
         } else {
-            let word = self.agent.load_word(self.heap, w.start + place / 8);
+            let word = self.agent.load_word(self.heap.heap(), w.start + place / 8);
             lane(word, false, place % 8)
         }
     }

@@ -10,6 +10,7 @@ ghost use Rattle.heap_read.specs.Sources.{FitsLanes, ShowsSource, listed_in};
 ghost use Rattle.heap_read.specs.Windows.{IsFrozenWindow, IsWindow};
 ghost use Rattle.heap_read.specs.Written.{HasAt, Holds, held_unit};
 
+use crate::heap_ref::HeapRef;
 use crate::reader::Reader;
 use crate::shifting::{lanes_at, narrowed, put_above, widened};
 use crate::string::{JsStr, Window};
@@ -109,7 +110,7 @@ impl HeldWord {
     }
 }
 
-impl<'h> Reader<'h> {
+impl<H: HeapRef> Reader<H> {
     /// The word with unit `i` of a window, by one load, and all units of the window that it shows.
     pub fn hold_in(&mut self, w: Window, i: u32) -> HeldWord
         requires frozen { IsFrozenWindow (view_in self.old) w }
@@ -127,7 +128,7 @@ impl<'h> Reader<'h> {
         let place = w.offset + i;
         let (at, k) = word_and_lane(w.wide, place);
         let back = k.min(i);
-        let word = self.agent.load_word(self.heap, w.start + at);
+        let word = self.agent.load_word(self.heap.heap(), w.start + at);
         HeldWord {
             word,
             wide: w.wide,

@@ -7,12 +7,13 @@ ghost use Rattle.js_units.specs.Units.{IsFirstUnit};
 ghost use Rattle.heap_read.specs.Windows.{IsFrozenWindow, IsWindow};
 ghost use Rattle.heap_read.specs.Written.{ShowsFrom, ShowsOn};
 
+use crate::heap_ref::HeapRef;
 use crate::reader::Reader;
 use crate::string::Window;
 use js_units::{first_from, lanes, lanes_from, word_and_lane};
 use std::simd::prelude::*;
 
-impl<'h> Reader<'h> {
+impl<H: HeapRef> Reader<H> {
     /// Copies the units of a window from place `from` on into `into`, as many as it holds.
     pub fn units_into(&mut self, w: Window, from: u32, into: &mut [u16])
         requires window { (us : List ℕ) × IsWindow (view_in self.old) w us }
@@ -103,7 +104,7 @@ impl<'h> Reader<'h> {
         ensures word { (us : List ℕ) → IsWindow (view_in self.old) w us
             → ShowsOn w us (j * lane_count w.wide - w.offset % lane_count w.wide) result }
     {
-        self.agent.load_word(self.heap, w.start + first + j)
+        self.agent.load_word(self.heap.heap(), w.start + first + j)
     }
 
     // The word with unit `i` of a window, by one load.
@@ -116,7 +117,7 @@ impl<'h> Reader<'h> {
         ensures word { (us : List ℕ) → IsWindow (view_in self.old) w us → ShowsOn w us i result }
     {
         let (at, _) = word_and_lane(w.wide, w.offset + i);
-        self.agent.load_word(self.heap, w.start + at)
+        self.agent.load_word(self.heap.heap(), w.start + at)
     }
 }
 

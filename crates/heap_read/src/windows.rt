@@ -12,12 +12,13 @@ ghost use Rattle.heap_read.specs.Reads.{HoldsForms, KeepsForms, OnlyLoads};
 ghost use Rattle.heap_read.specs.Sides.{KnowsSide, LoadsFewForms, LoadsForms, target_loads};
 ghost use Rattle.heap_read.specs.Windows.{IsLed, IsWindowOf, ShowsAll, StandsFor};
 
+use crate::heap_ref::HeapRef;
 use crate::lanes::Run;
 use crate::reader::Reader;
 use crate::string::{JsStr, Window};
 use js_header::Form;
 
-impl<'h> Reader<'h> {
+impl<H: HeapRef> Reader<H> {
     // A window on all units of a string, which lie behind `before` others in the words of a Flat.
     fn window_over(&mut self, of: JsStr, by: u32, run: Run, before: u32) -> Window
         requires known { HasKey (view_in self.old).units of.id }
@@ -32,7 +33,7 @@ impl<'h> Reader<'h> {
             wide: run.wide,
             start: run.start,
             offset: before,
-            len: self.agent.load_length(self.heap, by),
+            len: self.agent.load_length(self.heap.heap(), by),
         }
     }
 
@@ -143,7 +144,7 @@ impl<'h> Reader<'h> {
                 wide,
                 start,
                 offset: 0,
-                len: self.agent.load_length(self.heap, id),
+                len: self.agent.load_length(self.heap.heap(), id),
             },
             _ => unreachable!(),
         }

@@ -11,12 +11,16 @@ ghost use Rattle.heap_read.specs.Sources.{ShowsSource, listed_in};
 ghost use Rattle.heap_text.specs.Texts.{IsSpared, KeepsOwn, Told, UsesExactly};
 
 use crate::faults::TextFull;
-use heap_read::{JsStr, Reader, UnitSource};
+use heap_read::{HeapRef, JsStr, Reader, UnitSource};
 use js_header::Form;
 
 // A new flat string with the `n` units of a source. The content words come first, then the
 // id.
-pub(crate) fn copy(reader: &mut Reader, source: &UnitSource, n: u32) -> Result<JsStr, TextFull>
+pub(crate) fn copy<H: HeapRef>(
+    reader: &mut Reader<H>,
+    source: &UnitSource,
+    n: u32,
+) -> Result<JsStr, TextFull>
     requires shows { ShowsSource (view_in reader.old) source.now }
     requires count { length (listed_in reader.old source.now) ≡ n }
     requires short { n ≤ MAX }
@@ -32,7 +36,7 @@ pub(crate) fn copy(reader: &mut Reader, source: &UnitSource, n: u32) -> Result<J
         (λ s. UsesExactly (view_in reader.old) (view_in reader.new) 1
         (words_over (is_wide (listed_in reader.old source.now)) n)) }
     ensures refused { IfErr result
-        (λ f. Told (view_in reader.new) (size_of reader.old.heap.now)
+        (λ f. Told (view_in reader.new) (size_of (H.reached reader.old.heap))
         (words_over (is_wide (listed_in reader.old source.now)) n) f) }
     ensures spared { IfErr result
         (λ f. IsSpared (view_in reader.old) (view_in reader.new)
@@ -43,16 +47,16 @@ pub(crate) fn copy(reader: &mut Reader, source: &UnitSource, n: u32) -> Result<J
         Ok(start) => start,
         Err(full) => return Err(TextFull::Words(full)),
     };
-    let id = match reader.agent.claim_id(reader.heap) {
+    let id = match reader.agent.claim_id(reader.heap.heap()) {
         Ok(id) => id,
         Err(full) => return Err(TextFull::Ids(full)),
     };
-    reader.agent.store_length(reader.heap, id, n);
+    reader.agent.store_length(reader.heap.heap(), id, n);
     let form = Form::Flat {
         wide,
         start,
         fixed: false,
     };
-    reader.agent.birth(reader.heap, id, form);
+    reader.agent.birth(reader.heap.heap(), id, form);
     Ok(JsStr { id })
 }

@@ -14,13 +14,13 @@ ghost use Rattle.heap_read.specs.Sides.{KnowsSide, LoadsForms, target_loads};
 ghost use Rattle.heap_read.specs.Windows.{IsWindow, ShowsAll};
 ghost use Rattle.heap_text.specs.Filling.{HoldsAbove, IsBoth, units_at};
 
-use heap_read::{JsStr, Piece, Reader, Run, Steps, UnitSource, Window};
+use heap_read::{HeapRef, JsStr, Piece, Reader, Run, Steps, UnitSource, Window};
 use js_header::Form;
 use std::sync::ledger::Ledger;
 
 // The length of the left side of a string that was seen as a Cons. The units of both sides
 // are known from then on.
-pub(crate) fn left_length(reader: &mut Reader, id: u32, left: u32, right: u32) -> u32
+pub(crate) fn left_length<H: HeapRef>(reader: &mut Reader<H>, id: u32, left: u32, right: u32) -> u32
     requires cons { (wide : Bool) × Has (view_in reader.old).forms id (Cons wide left right) }
     requires known { HasKey (view_in reader.old).units id }
     requires met { MayUse (view_in reader.old) left }
@@ -32,13 +32,13 @@ pub(crate) fn left_length(reader: &mut Reader, id: u32, left: u32, right: u32) -
     ensures sides { IsBoth (units_at (view_in reader.old) id) (units_at (view_in reader.new) left)
         (units_at (view_in reader.new) right) result (length (units_at (view_in reader.old) id)) }
 {
-    reader.agent.load_length(reader.heap, left)
+    reader.agent.load_length(reader.heap.heap(), left)
 }
 
 // A window on all units of a leaf, a string that was seen with another form than Cons. Each
 // load of a form is one step.
-fn leaf_window<L: Ledger>(
-    reader: &mut Reader,
+fn leaf_window<L: Ledger, H: HeapRef>(
+    reader: &mut Reader<H>,
     of: JsStr,
     form: Form,
     steps: &mut Steps<L>,
@@ -66,7 +66,14 @@ fn leaf_window<L: Ledger>(
 }
 
 // Lanes `at` on of a run of own words become the `n` units of a string, which a window shows.
-fn fill_leaf(reader: &mut Reader, of: JsStr, window: Window, at: u32, n: u32, to: Run)
+fn fill_leaf<H: HeapRef>(
+    reader: &mut Reader<H>,
+    of: JsStr,
+    window: Window,
+    at: u32,
+    n: u32,
+    to: Run,
+)
     requires known { HasKey (view_in reader.old).units of.id }
     requires shows { IsWindow (view_in reader.old) window (units_at (view_in reader.old) of.id) }
     requires whole { window.len ≡ n }
@@ -94,8 +101,8 @@ fn fill_leaf(reader: &mut Reader, of: JsStr, window: Window, at: u32, n: u32, to
 // Lanes `at` on of a run of own words become the `n` units of any string. It goes into the shorter
 // side of a Cons and loops on the longer one; each load of a form is one step. A leaf costs three at
 // most.
-pub(crate) fn fill<L: Ledger>(
-    reader: &mut Reader,
+pub(crate) fn fill<L: Ledger, H: HeapRef>(
+    reader: &mut Reader<H>,
     mut id: u32,
     mut at: u32,
     mut n: u32,

@@ -18,13 +18,13 @@ ghost use Rattle.heap_text.specs.Keeping.{KeepsText};
 use crate::copying::copy;
 use crate::faults::{JoinFault, TextFull};
 use crate::text::Text;
-use heap_read::{JsStr, Piece, Reader, UnitSource, Window};
+use heap_read::{HeapRef, JsStr, Piece, Reader, UnitSource, Window};
 use js_header::Form;
 
 // The fewest units of a Cons, and of a Sliced.
 const MIN_CONS: u32 = 13;
 
-impl<'h> Text<'h> {
+impl<H: HeapRef> Text<H> {
     /// A new string with these units: flat, and wide exactly where a unit is over 255. It uses
     /// one id, and the content words that hold the units.
     pub fn make_flat(&mut self, units: &[u16]) -> Result<JsStr, TextFull>
@@ -40,7 +40,7 @@ impl<'h> Text<'h> {
             (λ s. UsesExactly (view_of self.old.reader.agent) (view_of self.new.reader.agent) 1
             (words_over (is_wide units.now) (length units.now))) }
         ensures refused { IfErr result
-            (λ f. Told (view_of self.new.reader.agent) (size_of self.old.reader.heap.now)
+            (λ f. Told (view_of self.new.reader.agent) (size_of (H.reached self.old.reader.heap))
             (words_over (is_wide units.now) (length units.now)) f) }
         ensures spared { IfErr result
             (λ f. IsSpared (view_of self.old.reader.agent) (view_of self.new.reader.agent)
@@ -70,7 +70,7 @@ impl<'h> Text<'h> {
         ensures joined { (us vs : List ℕ) → Has (view_of self.old.reader.agent).units a.id us
             → Has (view_of self.old.reader.agent).units b.id vs
             → IsJoined (view_of self.old.reader.agent) (view_of self.new.reader.agent)
-            (size_of self.old.reader.heap.now) self.old.limit a b us vs result }
+            (size_of (H.reached self.old.reader.heap)) self.old.limit a b us vs result }
     {
         let left = self.reader.len(a);
         let right = self.reader.len(b);
@@ -106,7 +106,7 @@ impl<'h> Text<'h> {
         ensures settled { IfOk result (λ t. IsSeenSettled (view_of self.new.reader.agent) t.id) }
         ensures cut { (us : List ℕ) → Has (view_of self.old.reader.agent).units s.id us
             → IsCut (view_of self.old.reader.agent) (view_of self.new.reader.agent)
-            (size_of self.old.reader.heap.now) s from to us result }
+            (size_of (H.reached self.old.reader.heap)) s from to us result }
     {
         let n = self.reader.len(s);
         if from == 0 && to == n {
@@ -117,14 +117,19 @@ impl<'h> Text<'h> {
 }
 
 // A flat string with the units of two strings that are too short for a Cons.
-fn copy_both(reader: &mut Reader, a: JsStr, b: JsStr, n: u32) -> Result<JsStr, TextFull>
+fn copy_both<H: HeapRef>(
+    reader: &mut Reader<H>,
+    a: JsStr,
+    b: JsStr,
+    n: u32,
+) -> Result<JsStr, TextFull>
     requires known { AreJoinable (view_in reader.old) a b n }
     requires short { n < MIN_CONS }
     ensures continues { Moves Continues reader.old reader.new }
     ensures own { KeepsOwn (view_in reader.old) (view_in reader.new) }
     ensures copied { (us vs : List ℕ) → Has (view_in reader.old).units a.id us
         → Has (view_in reader.old).units b.id vs
-        → IsCopied (view_in reader.old) (view_in reader.new) (size_of reader.old.heap.now)
+        → IsCopied (view_in reader.old) (view_in reader.new) (size_of (H.reached reader.old.heap))
         (us ++ vs) result }
 {
     let (left, right) = side_forms(reader, a, b);
@@ -146,7 +151,7 @@ fn copy_both(reader: &mut Reader, a: JsStr, b: JsStr, n: u32) -> Result<JsStr, T
 }
 
 // The forms of two strings, by one load where they are one string.
-fn side_forms(reader: &mut Reader, a: JsStr, b: JsStr) -> (Form, Form)
+fn side_forms<H: HeapRef>(reader: &mut Reader<H>, a: JsStr, b: JsStr) -> (Form, Form)
     requires known { HasKey (view_in reader.old).units a.id
         × HasKey (view_in reader.old).units b.id }
     ensures reads { Moves OnlyLoads reader.old reader.new }
@@ -164,7 +169,7 @@ fn side_forms(reader: &mut Reader, a: JsStr, b: JsStr) -> (Form, Form)
 }
 
 // Whether a string that was seen with this form is wide; of a Thin its target says so.
-fn is_wide_side(reader: &mut Reader, of: u32, form: Form) -> bool
+fn is_wide_side<H: HeapRef>(reader: &mut Reader<H>, of: u32, form: Form) -> bool
     requires seen { Has (view_in reader.old).forms of form }
     requires side { KnowsSide (view_in reader.old) form }
     ensures reads { Moves OnlyLoads reader.old reader.new }
@@ -178,47 +183,47 @@ fn is_wide_side(reader: &mut Reader, of: u32, form: Form) -> bool
 }
 
 // A Cons of two strings.
-fn link(reader: &mut Reader, a: JsStr, b: JsStr, n: u32) -> Result<JsStr, TextFull>
+fn link<H: HeapRef>(reader: &mut Reader<H>, a: JsStr, b: JsStr, n: u32) -> Result<JsStr, TextFull>
     requires known { AreJoinable (view_in reader.old) a b n }
     requires long { (MIN_CONS ≤ n) × (n ≤ MAX) }
     ensures continues { Moves Continues reader.old reader.new }
     ensures own { KeepsOwn (view_in reader.old) (view_in reader.new) }
     ensures linked { (us vs : List ℕ) → Has (view_in reader.old).units a.id us
         → Has (view_in reader.old).units b.id vs
-        → IsLinked (view_in reader.old) (view_in reader.new) (size_of reader.old.heap.now) a b
+        → IsLinked (view_in reader.old) (view_in reader.new) (size_of (H.reached reader.old.heap)) a b
         (us ++ vs) result }
 {
     let (front, back) = side_forms(reader, a, b);
     let left = is_wide_side(reader, a.id, front);
     let right = is_wide_side(reader, b.id, back);
     let wide = is_either(left, right);
-    let id = match reader.agent.claim_id(reader.heap) {
+    let id = match reader.agent.claim_id(reader.heap.heap()) {
         Ok(id) => id,
         Err(full) => return Err(TextFull::Ids(full)),
     };
-    reader.agent.store_length(reader.heap, id, n);
+    reader.agent.store_length(reader.heap.heap(), id, n);
     let form = Form::Cons {
         wide,
         left: a.id,
         right: b.id,
     };
-    reader.agent.birth(reader.heap, id, form);
+    reader.agent.birth(reader.heap.heap(), id, form);
     Ok(JsStr { id })
 }
 
 // Two strings that are not empty, joined.
-fn join(reader: &mut Reader, a: JsStr, b: JsStr, n: u32) -> Result<JsStr, TextFull>
+fn join<H: HeapRef>(reader: &mut Reader<H>, a: JsStr, b: JsStr, n: u32) -> Result<JsStr, TextFull>
     requires known { AreJoinable (view_in reader.old) a b n }
     requires most { n ≤ MAX }
     ensures continues { Moves Continues reader.old reader.new }
     ensures own { KeepsOwn (view_in reader.old) (view_in reader.new) }
     ensures copied { n < MIN_CONS → (us vs : List ℕ) → Has (view_in reader.old).units a.id us
         → Has (view_in reader.old).units b.id vs
-        → IsCopied (view_in reader.old) (view_in reader.new) (size_of reader.old.heap.now)
+        → IsCopied (view_in reader.old) (view_in reader.new) (size_of (H.reached reader.old.heap))
         (us ++ vs) result }
     ensures linked { MIN_CONS ≤ n → (us vs : List ℕ) → Has (view_in reader.old).units a.id us
         → Has (view_in reader.old).units b.id vs
-        → IsLinked (view_in reader.old) (view_in reader.new) (size_of reader.old.heap.now) a b
+        → IsLinked (view_in reader.old) (view_in reader.new) (size_of (H.reached reader.old.heap)) a b
         (us ++ vs) result }
 {
     if n < MIN_CONS {
@@ -228,14 +233,19 @@ fn join(reader: &mut Reader, a: JsStr, b: JsStr, n: u32) -> Result<JsStr, TextFu
 }
 
 // A flat string with the `n` units of a settled string from `from` on.
-fn copy_part(reader: &mut Reader, s: JsStr, from: u32, n: u32) -> Result<JsStr, TextFull>
+fn copy_part<H: HeapRef>(
+    reader: &mut Reader<H>,
+    s: JsStr,
+    from: u32,
+    n: u32,
+) -> Result<JsStr, TextFull>
     requires settled { IsSeenSettled (view_in reader.old) s.id }
     requires within { (us : List ℕ) × Has (view_in reader.old).units s.id us
         × (from + n ≤ length us) }
     ensures continues { Moves Continues reader.old reader.new }
     ensures own { KeepsOwn (view_in reader.old) (view_in reader.new) }
     ensures copied { (us : List ℕ) → Has (view_in reader.old).units s.id us
-        → IsCopied (view_in reader.old) (view_in reader.new) (size_of reader.old.heap.now)
+        → IsCopied (view_in reader.old) (view_in reader.new) (size_of (H.reached reader.old.heap))
         (part from n us) result }
 {
     let window = reader.window_on(s);
@@ -254,7 +264,12 @@ fn copy_part(reader: &mut Reader, s: JsStr, from: u32, n: u32) -> Result<JsStr, 
 }
 
 // A Sliced of the `n` units of a settled string from `from` on.
-fn link_part(reader: &mut Reader, s: JsStr, from: u32, n: u32) -> Result<JsStr, TextFull>
+fn link_part<H: HeapRef>(
+    reader: &mut Reader<H>,
+    s: JsStr,
+    from: u32,
+    n: u32,
+) -> Result<JsStr, TextFull>
     requires settled { IsSeenSettled (view_in reader.old) s.id }
     requires within { (us : List ℕ) × Has (view_in reader.old).units s.id us
         × (from + n ≤ length us) }
@@ -262,39 +277,39 @@ fn link_part(reader: &mut Reader, s: JsStr, from: u32, n: u32) -> Result<JsStr, 
     ensures continues { Moves Continues reader.old reader.new }
     ensures own { KeepsOwn (view_in reader.old) (view_in reader.new) }
     ensures linked { (us : List ℕ) → Has (view_in reader.old).units s.id us
-        → IsPartCut (view_in reader.old) (view_in reader.new) (size_of reader.old.heap.now) s from
+        → IsPartCut (view_in reader.old) (view_in reader.new) (size_of (H.reached reader.old.heap)) s from
         (part from n us) result }
 {
     let whole = reader.form_now(s.id);
     let wide = is_wide_side(reader, s.id, whole);
     let parent = parent_of(s.id, whole);
     let offset = offset_of(whole) + from;
-    let id = match reader.agent.claim_id(reader.heap) {
+    let id = match reader.agent.claim_id(reader.heap.heap()) {
         Ok(id) => id,
         Err(full) => return Err(TextFull::Ids(full)),
     };
-    reader.agent.store_length(reader.heap, id, n);
+    reader.agent.store_length(reader.heap.heap(), id, n);
     let form = Form::Sliced {
         wide,
         parent,
         offset,
     };
-    reader.agent.birth(reader.heap, id, form);
+    reader.agent.birth(reader.heap.heap(), id, form);
     Ok(JsStr { id })
 }
 
 // A part that is not the whole.
-fn cut(reader: &mut Reader, s: JsStr, from: u32, n: u32) -> Result<JsStr, TextFull>
+fn cut<H: HeapRef>(reader: &mut Reader<H>, s: JsStr, from: u32, n: u32) -> Result<JsStr, TextFull>
     requires settled { IsSeenSettled (view_in reader.old) s.id }
     requires within { (us : List ℕ) × Has (view_in reader.old).units s.id us
         × (from + n ≤ length us) }
     ensures continues { Moves Continues reader.old reader.new }
     ensures own { KeepsOwn (view_in reader.old) (view_in reader.new) }
     ensures copied { n < MIN_CONS → (us : List ℕ) → Has (view_in reader.old).units s.id us
-        → IsCopied (view_in reader.old) (view_in reader.new) (size_of reader.old.heap.now)
+        → IsCopied (view_in reader.old) (view_in reader.new) (size_of (H.reached reader.old.heap))
         (part from n us) result }
     ensures linked { MIN_CONS ≤ n → (us : List ℕ) → Has (view_in reader.old).units s.id us
-        → IsPartCut (view_in reader.old) (view_in reader.new) (size_of reader.old.heap.now) s from
+        → IsPartCut (view_in reader.old) (view_in reader.new) (size_of (H.reached reader.old.heap)) s from
         (part from n us) result }
 {
     if n < MIN_CONS {

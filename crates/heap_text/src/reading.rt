@@ -13,9 +13,9 @@ ghost use Rattle.heap_read.specs.Written.{ShowsFrom};
 ghost use Rattle.heap_text.specs.Keeping.{KeepsText};
 
 use crate::text::Text;
-use heap_read::{JsStr, Window};
+use heap_read::{HeapRef, JsStr, Window};
 
-impl<'h> Text<'h> {
+impl<H: HeapRef> Text<H> {
     /// The length of a string, in units.
     pub fn len(&mut self, s: JsStr) -> u32
         requires known { HasKey (view_of self.old.reader.agent).units s.id }

@@ -15,13 +15,13 @@ ghost use Rattle.heap_text.specs.Keeping.{KeepsText};
 use crate::faults::TextFull;
 use crate::filling::{fill, left_length};
 use crate::text::Text;
-use heap_read::{JsStr, Reader, Run, Steps};
+use heap_read::{HeapRef, JsStr, Reader, Run, Steps};
 use js_header::Form;
 use js_units::words_for;
 use std::marker::Brand;
 use std::sync::ledger::{Blank, Ledger};
 
-impl<'h> Text<'h> {
+impl<H: HeapRef> Text<H> {
     /// Sees to it that the string is settled: its header is no Cons from then on. Where a Cons is
     /// loaded, its units are copied into new content words, and a Flat over these takes its place
     /// by one compare-exchange. Each load of a header's form is one step.
@@ -42,7 +42,7 @@ impl<'h> Text<'h> {
             (λ f. (us : List ℕ) → Has (view_of self.old.reader.agent).units s.id us
             → (wide : Bool) × IsBitOf (view_of self.old.reader.agent) s.id wide
             × IsNoRoom (view_of self.old.reader.agent) (view_of self.new.reader.agent)
-            (size_of self.old.reader.heap.now) us f wide) }
+            (size_of (H.reached self.old.reader.heap)) us f wide) }
         ensures rope { IfErr result (λ f. (us : List ℕ) → Has (view_of self.old.reader.agent).units s.id us
             → HasSides (view_of self.new.reader.agent) s.id us) }
         ensures again { IsSeenSettled (view_of self.old.reader.agent) s.id
@@ -87,7 +87,7 @@ impl<'h> Text<'h> {
             (λ f. (us : List ℕ) → Has (view_of self.old.reader.agent).units s.id us
             → (wide : Bool) × IsBitOf (view_of self.old.reader.agent) s.id wide
             × IsNoRoom (view_of self.old.reader.agent) (view_of self.new.reader.agent)
-            (size_of self.old.reader.heap.now) us f wide) }
+            (size_of (H.reached self.old.reader.heap)) us f wide) }
         ensures rope { IfErr result (λ f. (us : List ℕ) → Has (view_of self.old.reader.agent).units s.id us
             → HasSides (view_of self.new.reader.agent) s.id us) }
         ensures again { IsSeenSettled (view_of self.old.reader.agent) s.id
@@ -116,7 +116,7 @@ impl<'h> Text<'h> {
             (λ f. (us : List ℕ) → Has (view_of self.old.reader.agent).units s.id us
             → (wide : Bool) × IsBitOf (view_of self.old.reader.agent) s.id wide
             × IsNoRoom (view_of self.old.reader.agent) (view_of self.new.reader.agent)
-            (size_of self.old.reader.heap.now) us f wide) }
+            (size_of (H.reached self.old.reader.heap)) us f wide) }
         ensures rope { IfErr result (λ f. (us : List ℕ) → Has (view_of self.old.reader.agent).units s.id us
             → HasSides (view_of self.new.reader.agent) s.id us) }
         ensures again { IsSeenSettled (view_of self.old.reader.agent) s.id
@@ -132,8 +132,8 @@ impl<'h> Text<'h> {
 }
 
 // A string that was seen as a Cons becomes flat.
-fn flatten<L: Ledger>(
-    reader: &mut Reader,
+fn flatten<L: Ledger, H: HeapRef>(
+    reader: &mut Reader<H>,
     s: JsStr,
     wide: bool,
     left: u32,
@@ -152,7 +152,7 @@ fn flatten<L: Ledger>(
     ensures refused { IfErr result
         (λ f. (us : List ℕ) → Has (view_in reader.old).units s.id us
         → IsNoRoom (view_in reader.old) (view_in reader.new)
-        (size_of reader.old.heap.now) us f wide) }
+        (size_of (H.reached reader.old.heap)) us f wide) }
     ensures rope { IfErr result (λ f. (us : List ℕ) → Has (view_in reader.old).units s.id us
         → HasSides (view_in reader.new) s.id us) }
     ensures loads { LoadsForms (view_in reader.old) (view_in reader.new) (steps.new - steps.old) }
@@ -160,9 +160,12 @@ fn flatten<L: Ledger>(
     ensures steps { (us : List ℕ) → Has (view_in reader.old).units s.id us
         → steps.new + 1 ≤ steps.old + 8 * length us }
 {
-    let n = reader.agent.load_length(reader.heap, s.id);
+    let n = reader.agent.load_length(reader.heap.heap(), s.id);
     let m = left_length(reader, s.id, left, right);
-    let start = match reader.agent.claim_words(reader.heap, words_for(n, wide)) {
+    let start = match reader
+        .agent
+        .claim_words(reader.heap.heap(), words_for(n, wide))
+    {
         Ok(start) => start,
         Err(full) => return Err(TextFull::Words(full)),
     };
@@ -175,6 +178,8 @@ fn flatten<L: Ledger>(
         start,
         fixed: false,
     };
-    reader.agent.flatten_step(reader.heap, s.id, old, flat);
+    reader
+        .agent
+        .flatten_step(reader.heap.heap(), s.id, old, flat);
     Ok(())
 }

@@ -7,13 +7,14 @@ ghost use Rattle.heap_table.specs.Known.{KeepsKnown};
 ghost use Rattle.heap_text.specs.Keeping.{KeepsText};
 
 use crate::text::Text;
-use heap_read::Reader;
+use heap_read::{HeapRef, Reader};
 use heap_rule::Counter;
+use heap_table::Heap;
 
-impl<'h> Text<'h> {
+impl<'h> Text<&'h Heap> {
     /// A `Text` of a new agent of the same heap, for another thread: it has a part of the share and the
     /// same limit, knows all that this one knows, and has used nothing.
-    pub fn split(&mut self, give: u32) -> Text<'h>
+    pub fn split(&mut self, give: u32) -> Text<&'h Heap>
         requires some { 1 ≤ give }
         requires less { give < share_of self.old.reader.agent }
         ensures left { view_of self.new.reader.agent ≡ left_after_split (view_of self.old.reader.agent) give }
@@ -24,24 +25,45 @@ impl<'h> Text<'h> {
         ensures alike { (result.reader.heap.now ≡ self.old.reader.heap.now)
             × (result.limit ≡ self.old.limit) }
     {
+        let heap = self.reader.heap;
+        self.split_to(heap, give)
+    }
+}
+
+impl<H: HeapRef> Text<H> {
+    /// A text of a new agent of the same heap, for another thread: it has a part of the share and the
+    /// same limit, knows all that this one knows, and has used nothing.
+    pub fn split_to(&mut self, heap: H, give: u32) -> Text<H>
+        requires heap { H.reached heap ≡ H.reached self.old.reader.heap }
+        requires some { 1 ≤ give }
+        requires less { give < share_of self.old.reader.agent }
+        ensures left { view_of self.new.reader.agent ≡ left_after_split (view_of self.old.reader.agent) give }
+        ensures right { view_of result.reader.agent ≡ right_after_split (view_of self.old.reader.agent) give }
+        ensures shares { (share_of self.new.reader.agent + give ≡ share_of self.old.reader.agent)
+            × (share_of result.reader.agent ≡ give) }
+        ensures kept { KeepsText self.old self.new }
+        ensures alike { ((H.reached result.reader.heap) ≡ (H.reached self.old.reader.heap))
+            × (result.limit ≡ self.old.limit) }
+    {
         let reader = &mut self.reader;
-        let heap = reader.heap;
-        let agent = reader.agent.split(heap, give);
+        let agent = reader.agent.split(reader.heap.heap(), give);
         Text::new(heap, agent, self.limit)
     }
 
     /// Takes over what another agent of this heap owns, used and knows, with its share. It was split off
     /// with calls of the string table that this one knows by now, among which are those that this one
     /// was split off with.
-    pub fn join(&mut self, other: Text<'h>)
-        requires heap { Belongs other.reader.agent self.old.reader.heap.now }
+    pub fn join(&mut self, other: Text<H>)
+    where
+        H: Drop,
+        requires heap { Belongs other.reader.agent (H.reached self.old.reader.heap) }
         requires may { MayJoin (view_of self.old.reader.agent) (view_of other.reader.agent) }
         ensures view { view_of self.new.reader.agent
-            ≡ joined_view (view_of self.old.reader.agent) (view_of other.entry.reader.agent) }
+            ≡ joined_view (view_of self.old.reader.agent) (view_of other.reader.agent) }
         ensures known { KeepsKnown (view_of self.old.reader.agent) (view_of self.new.reader.agent)
-            × KeepsKnown (view_of other.entry.reader.agent) (view_of self.new.reader.agent) }
+            × KeepsKnown (view_of other.reader.agent) (view_of self.new.reader.agent) }
         ensures share { share_of self.new.reader.agent
-            ≡ share_of self.old.reader.agent + share_of other.entry.reader.agent }
+            ≡ share_of self.old.reader.agent + share_of other.reader.agent }
         ensures kept { KeepsText self.old self.new }
     {
         let Text {
@@ -49,7 +71,7 @@ impl<'h> Text<'h> {
             ..
         } = other;
         let reader = &mut self.reader;
-        reader.agent.join(reader.heap, agent);
+        reader.agent.join(reader.heap.heap(), agent);
     }
 
     /// The ids and the content words that were ever claimed on the heap. An agent that has the whole
@@ -63,6 +85,6 @@ impl<'h> Text<'h> {
         ensures kept { KeepsText self.old self.new }
     {
         let reader = &mut self.reader;
-        reader.agent.totals(reader.heap)
+        reader.agent.totals(reader.heap.heap())
     }
 }

@@ -12,6 +12,7 @@ use Rattle.heap_table.specs.Known.{KeepsKnown}
 use Rattle.heap_agents.specs.Interned.{KeepsCalls}
 use Rattle.heap_agents.specs.Searched.{KeepsStrings}
 use Rattle.heap_agents.proofs.Interned.{continued}
+use Rattle.heap_agents.proofs.Marks.{same_trans}
 use Rattle.heap_agents.specs.Ready.{HandleLeaves, Searches, IsReady, HandleKnows, handle_view}
 use Rattle.jsstr_c.specs.declared.answer.JsAnswer.{JsAnswer}
 use Rattle.jsstr_c.specs.Checked.{Follows, IsPairRefused, IsUnsettled, Reaches}
@@ -22,7 +23,7 @@ marks_trans x y z a b = record { known = λ i h. b.known i (a.known i h); intern
 leaves_trans : (x y z : Held) → Leaves x y → Leaves y z → Leaves x z
 leaves_trans x y z a b = record {
   held = b.held;
-  same = (b.same.0 ∙ a.same.0, b.same.1 ∙ a.same.1);
+  same = same_trans x.text y.text z.text a.same b.same;
   continues = continues_trans (view_by x) (view_by y) (view_by z) a.continues b.continues;
   marks = marks_trans x y z a.marks b.marks;
 }

@@ -77,7 +77,7 @@ impl JsAgent {
         if self.is_empty() {
             return false;
         }
-        let mut held = self.take(alloc);
+        let held = self.take(alloc);
         let whole = held.has_whole();
         self.put(held);
         whole

@@ -4,6 +4,7 @@ ghost use Rattle.run_program.specs.Laws.{JobsRun, NoneRun, ScriptRun, StaysRun, 
 ghost use Rattle.run_program.specs.Tells.{WholeTells};
 
 use heap_intern::Session;
+use heap_table::Heap;
 
 /// No file was run on a heap that was just made. After others a script is evaluated, or jobs are
 /// run. A call that uses nothing and interns nothing leaves what was run, and so does the reading
@@ -18,6 +19,6 @@ pub fn files_are_run()
 
 /// What the ends of all files that were run say, by the last session, which has the whole share:
 /// where a file ended with a full heap it was full, and the needs of the prelude and the scripts didn't fit.
-pub fn ends_tell(_session: &Session)
+pub fn ends_tell(_session: &Session<&Heap>)
     ensures { WholeTells (state_in _session.now) }
 {}

@@ -10,6 +10,7 @@ use crate::halves::run_groups;
 use crate::job::{Job, Outcome};
 use heap_intern::Session;
 use heap_read::JsStr;
+use heap_table::Heap;
 use js_eval::Env;
 use js_io::Gate;
 use std::alloc::Global;
@@ -21,7 +22,7 @@ use std::thread::Threads;
 /// copy finds no memory ends so, without lines.
 pub fn run_group<G: Gate + Sync>(
     alloc: Global,
-    session: &mut Session<'_>,
+    session: &mut Session<&Heap>,
     jobs: &[Job],
     outcomes: &mut [Outcome],
     env: &Env<JsStr>,
@@ -47,7 +48,7 @@ pub fn run_group<G: Gate + Sync>(
 pub fn run_all<R: Threads + Sync, G: Gate + Sync>(
     rt: &R,
     alloc: Global,
-    session: &mut Session<'_>,
+    session: &mut Session<&Heap>,
     jobs: &[Job],
     outcomes: &mut [Outcome],
     groups: u32,

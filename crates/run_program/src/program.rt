@@ -26,7 +26,7 @@ use std::marker::Sync;
 use std::thread::Threads;
 
 // The number of different lists that were interned, where it is asked for.
-fn count_if(session: &mut Session<'_>, count: bool) -> Option<u32>
+fn count_if(session: &mut Session<&Heap>, count: bool) -> Option<u32>
     requires { IsWhole (state_in session.old) }
     ensures count { result ≡ counted count (different (state_in session.old).history) }
     ensures uses { Uses (state_in session.old) (state_in session.new) None 0 0 }

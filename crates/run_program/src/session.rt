@@ -3,19 +3,20 @@ use crate::shared::Shared;
 use eval_tree::Script;
 use heap_intern::Session;
 use heap_read::JsStr;
+use heap_table::Heap;
 use js_eval::{End, Env, Lines, eval};
 use std::alloc::Global;
 
-impl<'h> Shared for Session<'h> {
+impl<'h> Shared for Session<&'h Heap> {
     ghost use Rattle.heap_intern.specs.Sessions.{state_in};
 
     ghost state = { λ s. state_in s };
 
-    fn lend(&mut self, give: u32) -> Session<'h> {
+    fn lend(&mut self, give: u32) -> Session<&'h Heap> {
         self.split(give)
     }
 
-    fn take_back(&mut self, other: Session<'h>) {
+    fn take_back(&mut self, other: Session<&'h Heap>) {
         self.join(other);
     }
 

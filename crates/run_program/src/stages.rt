@@ -12,6 +12,7 @@ use crate::job::{Job, Outcome};
 use crate::on_heap::run_all;
 use eval_tree::Script;
 use heap_intern::Session;
+use heap_table::Heap;
 use js_eval::{End, Env, Lines, eval};
 use js_io::Gate;
 use std::alloc::Global;
@@ -34,7 +35,7 @@ fn is_done(end: End) -> bool
 fn run_alone<R: Threads + Sync, G: Gate + Sync>(
     rt: &R,
     alloc: Global,
-    session: &mut Session<'_>,
+    session: &mut Session<&Heap>,
     jobs: &[Job],
     outcomes: &mut [Outcome],
     groups: u32,
@@ -59,7 +60,7 @@ fn run_alone<R: Threads + Sync, G: Gate + Sync>(
 fn run_behind<R: Threads + Sync, G: Gate + Sync>(
     rt: &R,
     alloc: Global,
-    session: &mut Session<'_>,
+    session: &mut Session<&Heap>,
     prelude: &Script,
     jobs: &[Job],
     outcomes: &mut Vec<Outcome>,
@@ -97,7 +98,7 @@ fn run_behind<R: Threads + Sync, G: Gate + Sync>(
 pub(crate) fn run_files<R: Threads + Sync, G: Gate + Sync>(
     rt: &R,
     alloc: Global,
-    session: &mut Session<'_>,
+    session: &mut Session<&Heap>,
     prelude: Option<&Script>,
     jobs: &[Job],
     outcomes: &mut Vec<Outcome>,

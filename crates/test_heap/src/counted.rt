@@ -14,7 +14,7 @@ use std::sync::ledger::{Blank, Ledger};
 // The number that a new string of these units is interned as. No more loads are counted than
 // twice the number of slots.
 fn counted<L: Ledger>(
-    session: &mut Session,
+    session: &mut Session<&Heap>,
     units: &[u16],
     steps: &mut Steps<L>,
 ) -> Result<u32, StoreFault>
@@ -34,7 +34,7 @@ fn counted<L: Ledger>(
 
 // The answers for two strings in turn, each made and interned twice.
 fn answers<L: Ledger>(
-    session: &mut Session,
+    session: &mut Session<&Heap>,
     first: &[u16],
     second: &[u16],
     steps: &mut Steps<L>,

@@ -14,7 +14,7 @@ use std::sync::ledger::{Blank, Ledger};
 // The answer for a new string of these units; None where there is no room for the string. No more
 // loads are counted than twice the number of slots.
 fn counted<L: Ledger>(
-    text: &mut Text,
+    text: &mut Text<&Heap>,
     units: &[u16],
     steps: &mut Steps<L>,
 ) -> Option<Result<u32, TableFull>>
@@ -31,7 +31,7 @@ fn counted<L: Ledger>(
 
 // The answers for two strings in turn, each made and interned twice.
 fn answers<L: Ledger>(
-    text: &mut Text,
+    text: &mut Text<&Heap>,
     first: &[u16],
     second: &[u16],
     steps: &mut Steps<L>,
@@ -102,7 +102,7 @@ fn two_lists_of_one_hash(rt: HostRuntime) {
 // one in the only slot that there is, by two loads: one to compare it, and one that enters the
 // call.
 fn found_again<L: Ledger>(
-    text: &mut Text,
+    text: &mut Text<&Heap>,
     units: &[u16],
     steps: &mut Steps<L>,
 ) -> Option<(u32, u32)>

@@ -8,6 +8,7 @@ use Rattle.heap_rule.specs.Paths.{Calls}
 use Rattle.heap_table.specs.Known.{KeepsKnown}
 use Rattle.heap_rule.specs.Births.{part}
 use Rattle.heap_rule.proofs.MapLemmas.{key_of}
+use Rattle.heap_read.specs.declared.heap_ref.HeapRef.{Ghosts}
 use Rattle.heap_read.specs.declared.reader.Reader.{Reader}
 use Rattle.heap_read.specs.declared.string.JsStr.{JsStr}
 use Rattle.heap_text.specs.declared.faults.TextFull.{TextFull}
@@ -59,17 +60,18 @@ pub found_key : (v w : View) (us : List ℕ) (r : Option ℕ) → Finds v w us r
 found_key v w us (Some i) h = key_of w.units i us h.2.1
 found_key v w us None h = tt
 
-pub moves_refl : (a : Reader) → Moves Turns a a
-moves_refl a = record { heap = refl; view = turns_refl (view_in a) }
+module _ {H : Type 0} {r : Ghosts H} where
+  pub moves_refl : (a : Reader H r) → Moves Turns a a
+  moves_refl a = record { heap = refl; view = turns_refl (view_in a) }
 
-pub moves_trans : (a b c : Reader) → Moves Turns a b → Moves Turns b c → Moves Turns a c
-moves_trans a b c g h = record { heap = h.heap ∙ g.heap; view = turns_trans (view_in a) (view_in b) (view_in c) g.view h.view }
+  pub moves_trans : (a b c : Reader H r) → Moves Turns a b → Moves Turns b c → Moves Turns a c
+  moves_trans a b c g h = record { heap = h.heap ∙ g.heap; view = turns_trans (view_in a) (view_in b) (view_in c) g.view h.view }
 
-pub moves_continues : (a b : Reader) → b.heap ≡ a.heap → Continues (view_in a) (view_in b) → Moves Turns a b
-moves_continues a b e c = record { heap = e; view = turns_continues (view_in a) (view_in b) c }
+  pub moves_continues : (a b : Reader H r) → b.heap ≡ a.heap → Continues (view_in a) (view_in b) → Moves Turns a b
+  moves_continues a b e c = record { heap = e; view = turns_continues (view_in a) (view_in b) c }
 
-pub moves_reads : (a b : Reader) → b.heap ≡ a.heap → OnlyLoads (view_in a) (view_in b) → Moves Turns a b
-moves_reads a b e c = record { heap = e; view = turns_reads (view_in a) (view_in b) c }
+  pub moves_reads : (a b : Reader H r) → b.heap ≡ a.heap → OnlyLoads (view_in a) (view_in b) → Moves Turns a b
+  moves_reads a b e c = record { heap = e; view = turns_reads (view_in a) (view_in b) c }
 
 -- strings that were made stay known
 pub played_on : (v w : View) (n : ℕ) (ids : List ℕ) → Turns v w → IsPlayed v n ids → IsPlayed w n ids
@@ -85,13 +87,14 @@ played_more v n ids more s some known p = record {
 pub played_put : (v w : View) (n : ℕ) (ids more : List ℕ) (s : ℕ) → Turns v w → IsPlayed v n ids → ((i : ℕ) → Contains more i → Contains ids i ⊎ (i ≡ s)) → HasKey w.units s → IsPlayed w n more
 played_put v w n ids more s t p some known = played_more w n ids more s some known (played_on v w n ids t p)
 
-pub gone_on : (a b : Reader) → Moves Turns a b → HasGoneOn a b
-unfolding HasGoneOn
-gone_on a b g = g
+module _ {H : Type 0} {r : Ghosts H} where
+  pub gone_on : (a b : Reader H r) → Moves Turns a b → HasGoneOn a b
+  unfolding HasGoneOn
+  gone_on a b g = g
 
-pub goes_of : (a b : Reader) → HasGoneOn a b → Moves Turns a b
-unfolding HasGoneOn
-goes_of a b g = g
+  pub goes_of : (a b : Reader H r) → HasGoneOn a b → Moves Turns a b
+  unfolding HasGoneOn
+  goes_of a b g = g
 
 -- v was split into l and r, and each went on
 module _ (v l r a b : View) (give : ℕ) (left : l ≡ left_after_split v give) (right : r ≡ right_after_split v give) (ta : Turns l a) (tb : Turns r b) where

@@ -5,6 +5,7 @@ use Rattle.heap_rule.specs.declared.view.View.{View}
 use Rattle.heap_rule.specs.Maps.{HasKey}
 use Rattle.heap_rule.specs.Paths.{Calls}
 use Rattle.heap_table.specs.Known.{KeepsKnown}
+use Rattle.heap_read.specs.declared.heap_ref.HeapRef.{Ghosts}
 use Rattle.heap_read.specs.declared.reader.Reader.{Reader}
 use Rattle.heap_read.specs.Readers.{Moves}
 
@@ -24,5 +25,6 @@ pub record IsPlayed (v : View) (agents : ℕ) (ids : List ℕ) : Type 0 where
   pub agents_are : v.agents ≡ agents
 
 -- the same of a reader as one fact, which a search uses as it is
-unfoldable pub HasGoneOn : Reader → Reader → Type 0
-HasGoneOn a b = Moves Turns a b
+module _ {H : Type 0} {g : Ghosts H} where
+  unfoldable pub HasGoneOn : Reader H g → Reader H g → Type 0
+  HasGoneOn a b = Moves Turns a b

@@ -5,10 +5,11 @@ ghost use Rattle.heap_read.specs.Readers.{Moves, view_in};
 ghost use Rattle.test_strings.specs.Turns.{Turns};
 
 use heap_read::Reader;
+use heap_table::Heap;
 use js_header::Form;
 
 /// A string of four units in two-byte lanes, whatever its units are: they fill one word.
-pub(crate) fn wide(reader: &mut Reader, word: u64) -> Option<u32>
+pub(crate) fn wide(reader: &mut Reader<&Heap>, word: u64) -> Option<u32>
     ensures goes { Moves Turns reader.old reader.new }
     ensures known { IfSome result (λ i. HasKey (view_in reader.new).units i) }
 {

@@ -21,7 +21,7 @@ use std::thread::{Threads, join_mut};
 pub(crate) struct OnSession<'h> {
     pub(crate) alloc: Global,
     heap: &'h Heap,
-    session: Session<'h>,
+    session: Session<&'h Heap>,
     agents: u32,
     // whether it is known to have the whole share of the heap
     whole: bool,
@@ -29,7 +29,7 @@ pub(crate) struct OnSession<'h> {
     ghost played: { IsPlayed (state_in session) heap.now agents whole made.items },
 }
 
-fn made(session: &mut Session, units: &[u16]) -> Result<JsStr, StoreFault>
+fn made(session: &mut Session<&Heap>, units: &[u16]) -> Result<JsStr, StoreFault>
     requires short { length units.now ≤ 65536 }
     ensures goes { GoesOn (state_in session.old) (state_in session.new) }
     ensures known { IfOk result (λ s. IsKnown (state_in session.new) s.id) }
@@ -37,7 +37,7 @@ fn made(session: &mut Session, units: &[u16]) -> Result<JsStr, StoreFault>
     session.from_units(units)
 }
 
-fn joined(session: &mut Session, a: JsStr, b: JsStr) -> Result<JsStr, ConcatFault>
+fn joined(session: &mut Session<&Heap>, a: JsStr, b: JsStr) -> Result<JsStr, ConcatFault>
     requires left { IsKnown (state_in session.old) a.id }
     requires right { IsKnown (state_in session.old) b.id }
     ensures goes { GoesOn (state_in session.old) (state_in session.new) }
@@ -46,7 +46,7 @@ fn joined(session: &mut Session, a: JsStr, b: JsStr) -> Result<JsStr, ConcatFaul
     session.concat(a, b)
 }
 
-fn interned(session: &mut Session, s: JsStr) -> Result<JsStr, StoreFault>
+fn interned(session: &mut Session<&Heap>, s: JsStr) -> Result<JsStr, StoreFault>
     requires known { IsKnown (state_in session.old) s.id }
     ensures goes { GoesOn (state_in session.old) (state_in session.new) }
     ensures known { IfOk result (λ t. IsKnown (state_in session.new) t.id) }
@@ -55,7 +55,11 @@ fn interned(session: &mut Session, s: JsStr) -> Result<JsStr, StoreFault>
 }
 
 // The interned string with these units. Where there is none, one is made if `make` says so.
-fn of_table(session: &mut Session, units: &[u16], make: bool) -> Option<Result<JsStr, StoreFault>>
+fn of_table(
+    session: &mut Session<&Heap>,
+    units: &[u16],
+    make: bool,
+) -> Option<Result<JsStr, StoreFault>>
     requires short { length units.now ≤ 65536 }
     ensures goes { GoesOn (state_in session.old) (state_in session.new) }
     ensures known { IfSome result (λ r. IfOk r (λ s. IsKnown (state_in session.new) s.id)) }
@@ -70,7 +74,12 @@ fn of_table(session: &mut Session, units: &[u16], make: bool) -> Option<Result<J
 }
 
 // A part of a string, once that is settled; None where it has no such part.
-fn cut(session: &mut Session, s: JsStr, from: u32, to: u32) -> Option<Result<JsStr, StoreFault>>
+fn cut(
+    session: &mut Session<&Heap>,
+    s: JsStr,
+    from: u32,
+    to: u32,
+) -> Option<Result<JsStr, StoreFault>>
     requires known { IsKnown (state_in session.old) s.id }
     ensures goes { GoesOn (state_in session.old) (state_in session.new) }
     ensures known { IfSome result (λ r. IfOk r (λ t. IsKnown (state_in session.new) t.id)) }
@@ -85,7 +94,7 @@ fn cut(session: &mut Session, s: JsStr, from: u32, to: u32) -> Option<Result<JsS
 }
 
 // Whether a string has these units, once it is settled.
-fn reads(session: &mut Session, s: JsStr, want: &[u16]) -> bool
+fn reads(session: &mut Session<&Heap>, s: JsStr, want: &[u16]) -> bool
     requires known { IsKnown (state_in session.old) s.id }
     ensures goes { GoesOn (state_in session.old) (state_in session.new) }
 {
@@ -100,7 +109,7 @@ fn reads(session: &mut Session, s: JsStr, want: &[u16]) -> bool
 }
 
 // Whether a settled string has these units.
-fn has_units(session: &mut Session, s: JsStr, n: u32, want: &[u16]) -> bool
+fn has_units(session: &mut Session<&Heap>, s: JsStr, n: u32, want: &[u16]) -> bool
     requires known { IsKnown (state_in session.old) s.id }
     requires settled { IsSettled (state_in session.old) s.id }
     requires long { length (text (state_in session.old) s.id) ≡ n }
@@ -120,7 +129,7 @@ impl<'h> OnSession<'h> {
     pub(crate) fn new(
         alloc: Global,
         heap: &'h Heap,
-        session: Session<'h>,
+        session: Session<&'h Heap>,
         agents: u32,
     ) -> OnSession<'h>
         requires of { IsOf (state_in session) heap.now }

@@ -12,6 +12,7 @@ use crate::text_calls::{cut, ends, first_word, flat, interned, joined, of_table,
 use heap_intern::count_interned;
 use heap_read::Reader;
 use heap_rule::MAX;
+use heap_table::Heap;
 use heap_text::{JsStr, Text};
 use js_header::{Form, encode};
 use std::alloc::Global;
@@ -23,7 +24,7 @@ use std::thread::{Threads, join_mut};
 #[derive(Drop)]
 pub(crate) struct OnText<'h> {
     pub(crate) alloc: Global,
-    pub(crate) text: Text<'h>,
+    pub(crate) text: Text<&'h Heap>,
     pub(crate) agents: u32,
     pub(crate) made: Vec<u32>,
     ghost played: { IsPlayed (view_in text.reader) agents made.items },
@@ -43,7 +44,7 @@ impl<'h> OnText<'h> {
     /// Strings of these numbers were made.
     pub(crate) fn of_strings(
         alloc: Global,
-        text: Text<'h>,
+        text: Text<&'h Heap>,
         agents: u32,
         made: Vec<u32>,
     ) -> OnText<'h>
@@ -58,7 +59,7 @@ impl<'h> OnText<'h> {
     }
 
     /// No string was made yet.
-    pub(crate) fn new(alloc: Global, text: Text<'h>, agents: u32) -> OnText<'h>
+    pub(crate) fn new(alloc: Global, text: Text<&'h Heap>, agents: u32) -> OnText<'h>
         requires { (view_in text.reader).agents ≡ agents }
         ensures { result.text ≡ text.entry }
     {

@@ -8,11 +8,12 @@ ghost use Rattle.test_strings.specs.Turns.{Turns};
 
 use heap_intern::{TableFull, find_units, intern, intern_units};
 use heap_read::{Reader, Steps};
+use heap_table::Heap;
 use heap_text::{JoinFault, JsStr, Text, TextFull};
 use js_header::Form;
 use std::sync::ledger::{Blank, Ledger};
 
-pub(crate) fn flat(text: &mut Text, units: &[u16]) -> Result<JsStr, TextFull>
+pub(crate) fn flat(text: &mut Text<&Heap>, units: &[u16]) -> Result<JsStr, TextFull>
     requires short { length units.now ≤ 65536 }
     ensures goes { Moves Turns text.old.reader text.new.reader }
     ensures known { IfOk result (λ s. HasKey (view_in text.new.reader).units s.id) }
@@ -20,7 +21,7 @@ pub(crate) fn flat(text: &mut Text, units: &[u16]) -> Result<JsStr, TextFull>
     text.make_flat(units)
 }
 
-pub(crate) fn joined(text: &mut Text, a: JsStr, b: JsStr) -> Result<JsStr, JoinFault>
+pub(crate) fn joined(text: &mut Text<&Heap>, a: JsStr, b: JsStr) -> Result<JsStr, JoinFault>
     requires left { HasKey (view_in text.old.reader).units a.id }
     requires right { HasKey (view_in text.old.reader).units b.id }
     ensures goes { Moves Turns text.old.reader text.new.reader }
@@ -30,7 +31,12 @@ pub(crate) fn joined(text: &mut Text, a: JsStr, b: JsStr) -> Result<JsStr, JoinF
 }
 
 /// A part of a string, once that is settled; None where it has no such part.
-pub(crate) fn cut(text: &mut Text, s: JsStr, from: u32, to: u32) -> Option<Result<JsStr, TextFull>>
+pub(crate) fn cut(
+    text: &mut Text<&Heap>,
+    s: JsStr,
+    from: u32,
+    to: u32,
+) -> Option<Result<JsStr, TextFull>>
     requires known { HasKey (view_in text.old.reader).units s.id }
     ensures goes { Moves Turns text.old.reader text.new.reader }
     ensures known { IfSome result
@@ -47,7 +53,7 @@ pub(crate) fn cut(text: &mut Text, s: JsStr, from: u32, to: u32) -> Option<Resul
 }
 
 /// Whether the string has these units, read one by one, by a window and without.
-pub(crate) fn reads(text: &mut Text, s: JsStr, want: &[u16]) -> bool
+pub(crate) fn reads(text: &mut Text<&Heap>, s: JsStr, want: &[u16]) -> bool
     requires known { HasKey (view_in text.old.reader).units s.id }
     ensures goes { Moves Turns text.old.reader text.new.reader }
 {
@@ -72,7 +78,7 @@ pub(crate) fn reads(text: &mut Text, s: JsStr, want: &[u16]) -> bool
 }
 
 /// The number that a string is interned as, once it is settled.
-pub(crate) fn interned(text: &mut Text, s: JsStr) -> Option<Result<u32, TableFull>>
+pub(crate) fn interned(text: &mut Text<&Heap>, s: JsStr) -> Option<Result<u32, TableFull>>
     requires known { HasKey (view_in text.old.reader).units s.id }
     ensures goes { Moves Turns text.old.reader text.new.reader }
     ensures known { IfSome result
@@ -85,7 +91,11 @@ pub(crate) fn interned(text: &mut Text, s: JsStr) -> Option<Result<u32, TableFul
 }
 
 /// The number of the interned string with these units. Where there is none, one is made if `make` says so.
-pub(crate) fn of_table(text: &mut Text, units: &[u16], make: bool) -> Option<Result<u32, TableFull>>
+pub(crate) fn of_table(
+    text: &mut Text<&Heap>,
+    units: &[u16],
+    make: bool,
+) -> Option<Result<u32, TableFull>>
     requires short { length units.now ≤ 65536 }
     ensures goes { Moves Turns text.old.reader text.new.reader }
     ensures known { IfSome result
@@ -101,7 +111,7 @@ pub(crate) fn of_table(text: &mut Text, units: &[u16], make: bool) -> Option<Res
 }
 
 /// The first content word of a string that is flat; None where it is empty or has another form.
-pub(crate) fn first_word(reader: &mut Reader, s: JsStr) -> Option<u64>
+pub(crate) fn first_word(reader: &mut Reader<&Heap>, s: JsStr) -> Option<u64>
     requires known { HasKey (view_in reader.old).units s.id }
     ensures goes { Moves Turns reader.old reader.new }
 {
@@ -116,7 +126,11 @@ pub(crate) fn first_word(reader: &mut Reader, s: JsStr) -> Option<u64>
 
 /// The length of a string, and its first and its last unit, once it is settled with a count of the
 /// loads of forms.
-pub(crate) fn ends<L: Ledger>(text: &mut Text, s: JsStr, blank: Blank) -> Option<(u32, u16, u16)>
+pub(crate) fn ends<L: Ledger>(
+    text: &mut Text<&Heap>,
+    s: JsStr,
+    blank: Blank,
+) -> Option<(u32, u16, u16)>
     requires name { blank.name ≡ L.name }
     requires parts { blank.parts ≡ L.parts }
     requires some { 0 < blank.parts }

@@ -13,20 +13,20 @@ ghost use Rattle.heap_read.specs.Reads.{HoldsForms};
 
 use crate::table::probing::{Visit, visit_used};
 use crate::table::wanted::Wanted;
-use heap_read::{Reader, Steps};
+use heap_read::{HeapRef, Reader, Steps};
 use js_units::hash_units;
 use std::marker::Brand;
 use std::sync::ledger::{Blank, Ledger};
 
 // A look at one slot: none where it is free.
-fn look<L: Ledger>(
-    reader: &mut Reader,
+fn look<L: Ledger, H: HeapRef>(
+    reader: &mut Reader<H>,
     wanted: &Wanted,
     k: u32,
     steps: &mut Steps<L>,
 ) -> Option<Visit>
     requires wanted { (us : List ℕ) × IsWanted (view_in reader.old) wanted.now us }
-    requires inside { k < (size_of reader.old.heap.now).slots }
+    requires inside { k < (size_of (H.reached reader.old.heap)).slots }
     ensures heap { reader.new.heap ≡ reader.old.heap }
     ensures looked { (us : List ℕ) → IsWanted (view_in reader.old) wanted.now us
         → Looked (view_in reader.old) (view_in reader.new) us (wanted_plan wanted.now us) k result }
@@ -34,15 +34,15 @@ fn look<L: Ledger>(
         (entries_seen result + 1) steps.old steps.new }
 {
     steps.tick();
-    match reader.agent.load_slot(reader.heap, k, false) {
+    match reader.agent.load_slot(reader.heap.heap(), k, false) {
         Some(t) => Some(visit_used(reader, wanted, k, t, None, steps)),
         None => None,
     }
 }
 
 // The slots of the path, from the first on, up to the one with the string or a free one.
-fn walk<L: Ledger>(
-    reader: &mut Reader,
+fn walk<L: Ledger, H: HeapRef>(
+    reader: &mut Reader<H>,
     wanted: &Wanted,
     hash: u32,
     steps: &mut Steps<L>,
@@ -55,7 +55,7 @@ fn walk<L: Ledger>(
         → Finds (view_in reader.old) (view_in reader.new) us result }
     ensures loads { LoadsSlots (view_in reader.old) (view_in reader.new) result steps.old steps.new }
 {
-    let n = reader.heap.size().slots;
+    let n = reader.heap.heap().size().slots;
     let start = hash % n;
     for r in 0..n {
         let visit = match look(reader, wanted, (start + r) % n, steps) {
@@ -72,8 +72,8 @@ fn walk<L: Ledger>(
 
 /// As [`find_units`], and counts each load of a slot. No slot is loaded twice but the one that
 /// answers: once more after its units were compared, which enters the call in the history.
-pub fn find_units_counted<L: Ledger>(
-    reader: &mut Reader,
+pub fn find_units_counted<L: Ledger, H: HeapRef>(
+    reader: &mut Reader<H>,
     units: &[u16],
     steps: &mut Steps<L>,
 ) -> Option<u32>
@@ -85,14 +85,18 @@ pub fn find_units_counted<L: Ledger>(
     ensures forms { HoldsForms (view_in reader.old) (view_in reader.new) }
     ensures loads { LoadsSlots (view_in reader.old) (view_in reader.new) result steps.old steps.new }
     ensures few { (k : ℕ) → loads_at (view_in reader.new) k ≤ loads_at (view_in reader.old) k + 2 }
-    ensures most { steps.new ≤ steps.old + 2 * (size_of reader.old.heap.now).slots }
+    ensures most { steps.new ≤ steps.old + 2 * (size_of (H.reached reader.old.heap)).slots }
 {
     let hash = hash_units(0, units);
     walk(reader, &Wanted::Units(units), hash, steps)
 }
 
 // The ledger of a caller that counts nothing.
-fn find_units_by<L: Ledger>(reader: &mut Reader, units: &[u16], blank: Blank) -> Option<u32>
+fn find_units_by<L: Ledger, H: HeapRef>(
+    reader: &mut Reader<H>,
+    units: &[u16],
+    blank: Blank,
+) -> Option<u32>
     requires name { blank.name ≡ L.name }
     requires parts { blank.parts ≡ L.parts }
     requires some { 0 < blank.parts }
@@ -112,7 +116,7 @@ fn find_units_by<L: Ledger>(reader: &mut Reader, units: &[u16], blank: Blank) ->
 /// a slot was found free behind slots with strings that differ, or every slot has such a string. It
 /// uses nothing, also on a full heap. What it found counts as a call of the history, so its number
 /// may be compared with those that interning answers. No slot is loaded more than twice.
-pub fn find_units(reader: &mut Reader, units: &[u16]) -> Option<u32>
+pub fn find_units<H: HeapRef>(reader: &mut Reader<H>, units: &[u16]) -> Option<u32>
     requires short { length units.now ≤ MAX }
     ensures heap { reader.new.heap ≡ reader.old.heap }
     ensures finds { Finds (view_in reader.old) (view_in reader.new) units.now result }
@@ -121,5 +125,5 @@ pub fn find_units(reader: &mut Reader, units: &[u16]) -> Option<u32>
     ensures forms { HoldsForms (view_in reader.old) (view_in reader.new) }
     ensures few { (k : ℕ) → loads_at (view_in reader.new) k ≤ loads_at (view_in reader.old) k + 2 }
 {
-    find_units_by::<Brand>(reader, units, Blank::new(1))
+    find_units_by::<Brand, _>(reader, units, Blank::new(1))
 }

@@ -10,7 +10,7 @@ ghost use Rattle.heap_read.specs.Readers.{view_in};
 ghost use Rattle.heap_intern.specs.Seeking.{IsSought};
 
 use crate::table::sought::Sought;
-use heap_read::Reader;
+use heap_read::{HeapRef, Reader};
 use js_header::Form;
 
 // Whether a header of this form may come to forward.
@@ -38,7 +38,7 @@ pub(crate) fn forwards_to(form: Form) -> Option<u32>
 
 // The header of a string that was interned forwards to the answer, unless it is a fixed Flat. Where
 // it forwards already it does so to the answer.
-pub(crate) fn forward(reader: &mut Reader, s: Sought, answer: u32)
+pub(crate) fn forward<H: HeapRef>(reader: &mut Reader<H>, s: Sought, answer: u32)
     requires lies { IsSought (view_in reader.old) s }
     requires stands { (k : ℕ) × Has (view_in reader.old).slots k answer }
     requires units { (us : List ℕ) × Has (view_in reader.old).units s.id us
@@ -49,7 +49,9 @@ pub(crate) fn forward(reader: &mut Reader, s: Sought, answer: u32)
     ensures forwards { IsForwarded (view_in reader.new) s.id answer }
 {
     if can_thin(s.form) {
-        reader.agent.thin_step(reader.heap, s.id, s.form, answer);
+        reader
+            .agent
+            .thin_step(reader.heap.heap(), s.id, s.form, answer);
         return;
     }
 }

@@ -20,7 +20,7 @@ pub extern "C" fn jsstr_share_unchecked(alloc: Global, agent: &mut JsAgent) -> u
     ensures same { agent.new.at.value ≡ agent.old.at.value }
     ensures share { result ≡ share_in agent.old.at.value }
 {
-    let mut held = agent.take(alloc);
+    let held = agent.take(alloc);
     let answer = held.share();
     agent.put(held);
     answer

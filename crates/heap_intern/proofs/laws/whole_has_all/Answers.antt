@@ -4,4 +4,4 @@ use Rattle.heap_intern.proofs.Whole.{whole_all}
 use Rattle.heap_intern.proofs.laws.whole_has_all.Goals as goal
 
 pub returns : goal.returns
-returns c whole = let s = c.args._session.now in whole_all (session_view s) (limit_units s.limit) (table_of s.text.reader.heap.now) s.text.reader.belongs.5 whole
+returns g c whole = let s = c.args._session.now in whole_all (session_view s) (limit_units s.limit) (table_of (g.H.HeapRef.reached s.text.reader.heap)) s.text.reader.belongs.5 whole

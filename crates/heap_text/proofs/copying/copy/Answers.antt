@@ -20,16 +20,16 @@ use Rattle.heap_read.proofs.Going.{continues_full_ids, continues_ids, continues_
 use Rattle.heap_text.proofs.copying.copy.Goals as goal
 
 pub returns-in-Err-claim_id-clause-continues : goal.returns-in-Err-claim_id-clause-continues
-returns-in-Err-claim_id-clause-continues c = let v : View = c.args.reader.now.agent.seat.me.0 in let u : View = c.has_wide-wide.new.self.agent.seat.me.0 in let w : View = c.write.new.self.agent.seat.me.0 in
+returns-in-Err-claim_id-clause-continues g c = let v : View = c.args.reader.now.agent.seat.me.0 in let u : View = c.has_wide-wide.new.self.agent.seat.me.0 in let w : View = c.write.new.self.agent.seat.me.0 in
     let x : View = c.claim_id.new.self.seat.me.0 in
     record { heap = c.write.ensures.continues.heap ∙ c.has_wide-wide.ensures.reads.heap; view = continues_trans v u x (continues_reads v u c.has_wide-wide.ensures.reads.view) (continues_trans u w x c.write.ensures.continues.view (continues_full_ids w x c.in-Err-claim_id.full.at c.in-Err-claim_id.ensures.refused.0 c.claim_id.ensures.low)) }
 
 pub store_length-requires-clause-may : goal.store_length-requires-clause-may
-store_length-requires-clause-may c = let w : View = c.write.new.self.agent.seat.me.0 in let id = c.in-Ok-claim_id.id in
+store_length-requires-clause-may g c = let w : View = c.write.new.self.agent.seat.me.0 in let id = c.in-Ok-claim_id.id in
     (subst (λ (y : View). HasKey y.own_ids id) (sym c.in-Ok-claim_id.ensures.view) (key_of _ id 0 (insert_same w.own_ids id 0)), c.requires.short)
 
 pub birth-requires-clause-fits : goal.birth-requires-clause-fits
-birth-requires-clause-fits c = let v : View = c.args.reader.now.agent.seat.me.0 in let w : View = c.write.new.self.agent.seat.me.0 in let x : View = c.claim_id.new.self.seat.me.0 in let y : View = c.store_length.new.self.seat.me.0 in
+birth-requires-clause-fits g c = let v : View = c.args.reader.now.agent.seat.me.0 in let w : View = c.write.new.self.agent.seat.me.0 in let x : View = c.claim_id.new.self.seat.me.0 in let y : View = c.store_length.new.self.seat.me.0 in
     let id = c.in-Ok-claim_id.id in let n = c.args.n in let wide = c.has_wide-wide.result in let start = c.in-Ok.start in let us : List ℕ = source_units v c.args.source.now in
     let is : y ≡ stored_length (won_claim w Ids id 1) id n = c.store_length.ensures.view ∙ ap (λ (a : View). stored_length a id n) c.in-Ok-claim_id.ensures.view in
     let here : IsWritten w wide start us = subst (λ (xs : List ℕ). IsWritten w wide start xs) c.has_wide-wide.ensures.listed c.in-Ok.ensures.ok.0 in
@@ -38,7 +38,7 @@ birth-requires-clause-fits c = let v : View = c.args.reader.now.agent.seat.me.0 
     subst (λ (m : ℕ). MayBear y id (Flat wide start false)) c.requires.count (length us, subst (Has y.own_ids id) (sym c.requires.count) own, written_fits y wide start us there id)
 
 pub returns-clause-continues : goal.returns-clause-continues
-returns-clause-continues c = let v : View = c.args.reader.now.agent.seat.me.0 in let u : View = c.has_wide-wide.new.self.agent.seat.me.0 in let w : View = c.write.new.self.agent.seat.me.0 in let x : View = c.claim_id.new.self.seat.me.0 in
+returns-clause-continues g c = let v : View = c.args.reader.now.agent.seat.me.0 in let u : View = c.has_wide-wide.new.self.agent.seat.me.0 in let w : View = c.write.new.self.agent.seat.me.0 in let x : View = c.claim_id.new.self.seat.me.0 in
     let y : View = c.store_length.new.self.seat.me.0 in let z : View = c.birth.new.self.seat.me.0 in let id = c.in-Ok-claim_id.id in let n = c.args.n in let f = Flat c.has_wide-wide.result c.in-Ok.start false in
     record {
       heap = c.write.ensures.continues.heap ∙ c.has_wide-wide.ensures.reads.heap;
@@ -49,7 +49,7 @@ returns-clause-continues c = let v : View = c.args.reader.now.agent.seat.me.0 in
     }
 
 pub returns-clause-units : goal.returns-clause-units
-returns-clause-units c = let v : View = c.args.reader.now.agent.seat.me.0 in let w : View = c.write.new.self.agent.seat.me.0 in let x : View = c.claim_id.new.self.seat.me.0 in let y : View = c.store_length.new.self.seat.me.0 in
+returns-clause-units g c = let v : View = c.args.reader.now.agent.seat.me.0 in let w : View = c.write.new.self.agent.seat.me.0 in let x : View = c.claim_id.new.self.seat.me.0 in let y : View = c.store_length.new.self.seat.me.0 in
     let id = c.in-Ok-claim_id.id in let n = c.args.n in let wide = c.has_wide-wide.result in let start = c.in-Ok.start in let us : List ℕ = source_units v c.args.source.now in
     let is : y ≡ stored_length (won_claim w Ids id 1) id n = c.store_length.ensures.view ∙ ap (λ (a : View). stored_length a id n) c.in-Ok-claim_id.ensures.view in
     let here : IsWritten w wide start us = subst (λ (xs : List ℕ). IsWritten w wide start xs) c.has_wide-wide.ensures.listed c.in-Ok.ensures.ok.0 in
@@ -58,18 +58,18 @@ returns-clause-units c = let v : View = c.args.reader.now.agent.seat.me.0 in let
     subst (λ (a : View). Has a.units id us) (sym c.birth.ensures.view) (born_units y id n wide start us there own (sym c.requires.count))
 
 pub returns-clause-form : goal.returns-clause-form
-returns-clause-form c = let y : View = c.store_length.new.self.seat.me.0 in let id = c.in-Ok-claim_id.id in let start = c.in-Ok.start in (
+returns-clause-form g c = let y : View = c.store_length.new.self.seat.me.0 in let id = c.in-Ok-claim_id.id in let start = c.in-Ok.start in (
   start,
   subst (λ (a : View). Has a.forms id (Flat (is_wide (source_units c.args.reader.now.agent.seat.me.0 c.args.source.now)) start false)) (sym c.birth.ensures.view)
       (subst (λ (b : Bool). Has (born y id (Flat c.has_wide-wide.result start false)).forms id (Flat b start false)) c.has_wide-wide.ensures.wide (born_form y id c.has_wide-wide.result start)),
 )
 
 pub returns-in-Err-clause-spared : goal.returns-in-Err-clause-spared
-returns-in-Err-clause-spared c = let v : View = c.args.reader.now.agent.seat.me.0 in let u : View = c.has_wide-wide.new.self.agent.seat.me.0 in let w : View = c.write.new.self.agent.seat.me.0 in let e = c.write.ensures in let f = c.in-Err.ensures.refused in
+returns-in-Err-clause-spared g c = let v : View = c.args.reader.now.agent.seat.me.0 in let u : View = c.has_wide-wide.new.self.agent.seat.me.0 in let w : View = c.write.new.self.agent.seat.me.0 in let e = c.write.ensures in let f = c.in-Err.ensures.refused in
     let n = c.args.n in subst (λ (wide : Bool). IsSpared v w (words_over wide n) (fault.Words c.in-Err.full)) c.has_wide-wide.ensures.wide (spared_words v u w (words_over c.has_wide-wide.result n) _ c.in-Err.full c.has_wide-wide.ensures.reads.view f.0 e.ids f.2 e.own_ids e.own_words)
 
 pub returns-in-Err-claim_id-clause-spared : goal.returns-in-Err-claim_id-clause-spared
-returns-in-Err-claim_id-clause-spared c = let v : View = c.args.reader.now.agent.seat.me.0 in let u : View = c.has_wide-wide.new.self.agent.seat.me.0 in let w : View = c.write.new.self.agent.seat.me.0 in let x : View = c.claim_id.new.self.seat.me.0 in
+returns-in-Err-claim_id-clause-spared g c = let v : View = c.args.reader.now.agent.seat.me.0 in let u : View = c.has_wide-wide.new.self.agent.seat.me.0 in let w : View = c.write.new.self.agent.seat.me.0 in let x : View = c.claim_id.new.self.seat.me.0 in
     let e = c.write.ensures in let f = c.in-Err-claim_id.ensures.refused in let ok = c.in-Ok.ensures.ok in let n = c.args.n in let wide = c.has_wide-wide.result in let us : List ℕ = source_units u c.args.source.now in
     let long : length us ≡ n = ap length c.has_wide-wide.ensures.listed ∙ c.requires.count in
     let own : (q : ℕ) → q < words_over wide n → HasKey w.own_words (c.in-Ok.start + q) = λ q l. let t = ok.0.words.each q (subst (λ (m : ℕ). q < words_over wide m) (sym long) l) in key_of w.own_words (c.in-Ok.start + q) t.0 t.1 in
@@ -77,18 +77,18 @@ returns-in-Err-claim_id-clause-spared c = let v : View = c.args.reader.now.agent
     (spared_ids v u w x c.in-Ok.start (words_over wide n) c.in-Err-claim_id.full.at c.in-Err-claim_id.full c.has_wide-wide.ensures.reads.view f.0 e.ids ok.1 e.own_ids e.own_words own c.in-Ok.ensures.fresh)
 
 pub returns-in-Err-clause-continues : goal.returns-in-Err-clause-continues
-returns-in-Err-clause-continues c = let v : View = c.args.reader.now.agent.seat.me.0 in let u : View = c.has_wide-wide.new.self.agent.seat.me.0 in record { heap = c.write.ensures.continues.heap ∙ c.has_wide-wide.ensures.reads.heap; view = continues_trans v u c.write.new.self.agent.seat.me.0 (continues_reads v u c.has_wide-wide.ensures.reads.view) c.write.ensures.continues.view }
+returns-in-Err-clause-continues g c = let v : View = c.args.reader.now.agent.seat.me.0 in let u : View = c.has_wide-wide.new.self.agent.seat.me.0 in record { heap = c.write.ensures.continues.heap ∙ c.has_wide-wide.ensures.reads.heap; view = continues_trans v u c.write.new.self.agent.seat.me.0 (continues_reads v u c.has_wide-wide.ensures.reads.view) c.write.ensures.continues.view }
 
 pub returns-in-Err-clause-own : goal.returns-in-Err-clause-own
-returns-in-Err-clause-own c = let v : View = c.args.reader.now.agent.seat.me.0 in let u : View = c.has_wide-wide.new.self.agent.seat.me.0 in let w : View = c.write.new.self.agent.seat.me.0 in
+returns-in-Err-clause-own g c = let v : View = c.args.reader.now.agent.seat.me.0 in let u : View = c.has_wide-wide.new.self.agent.seat.me.0 in let w : View = c.write.new.self.agent.seat.me.0 in
     own_trans v u w (own_reads v u c.has_wide-wide.ensures.reads.view) (own_written u w c.write.ensures.own_ids c.write.ensures.stays)
 
 pub returns-in-Err-claim_id-clause-own : goal.returns-in-Err-claim_id-clause-own
-returns-in-Err-claim_id-clause-own c = let v : View = c.args.reader.now.agent.seat.me.0 in let u : View = c.has_wide-wide.new.self.agent.seat.me.0 in let w : View = c.write.new.self.agent.seat.me.0 in
+returns-in-Err-claim_id-clause-own g c = let v : View = c.args.reader.now.agent.seat.me.0 in let u : View = c.has_wide-wide.new.self.agent.seat.me.0 in let w : View = c.write.new.self.agent.seat.me.0 in
     own_full v w c.claim_id.new.self.seat.me.0 Ids c.in-Err-claim_id.full.at c.in-Err-claim_id.ensures.refused.0 (own_trans v u w (own_reads v u c.has_wide-wide.ensures.reads.view) (own_written u w c.write.ensures.own_ids c.write.ensures.stays))
 
 pub returns-clause-own : goal.returns-clause-own
-returns-clause-own c = let v : View = c.args.reader.now.agent.seat.me.0 in let u : View = c.has_wide-wide.new.self.agent.seat.me.0 in let w : View = c.write.new.self.agent.seat.me.0 in let y : View = c.store_length.new.self.seat.me.0 in
+returns-clause-own g c = let v : View = c.args.reader.now.agent.seat.me.0 in let u : View = c.has_wide-wide.new.self.agent.seat.me.0 in let w : View = c.write.new.self.agent.seat.me.0 in let y : View = c.store_length.new.self.seat.me.0 in
     let id = c.in-Ok-claim_id.id in let n = c.args.n in let wide = c.has_wide-wide.result in let start = c.in-Ok.start in let f = Flat wide start false in
     let is : y ≡ stored_length (won_claim w Ids id 1) id n = c.store_length.ensures.view ∙ ap (λ (a : View). stored_length a id n) c.in-Ok-claim_id.ensures.view in
     let kept : KeepsOwn u w = own_written u w c.write.ensures.own_ids c.write.ensures.stays in

@@ -169,18 +169,21 @@ fill-requires g t c κs within = let v : View = c.args.reader.now.agent.seat.me.
     let both = both_here wide start (own_word v.own_words) c.args.at c.args.n (units_at v c.args.id) at n uu ff gg gg id left right m e.reads.view i.known fil d.sides in let ds = d.sides in (
       omega (arith, fil.fewer, both.right_some),
       (
-        within,
+        within.0,
         (
-          d.known.0,
+          within.1,
           (
-            both.left_count,
+            d.known.0,
             (
-              both.left_some,
+              both.left_count,
               (
-                omega (arith, c.requires.short, fil.within, both.right_some),
+                both.left_some,
                 (
-                  (λ o l k. subst (λ (x : FinMap nat_cmp ℕ). HasKey x (start + o / lane_count wide)) (sym (d.reads.view.own_words ∙ e.reads.view.own_words)) (i.writes.own_words (start + o / lane_count wide) (c.requires.own o (omega (arith, i.behind, l)) (omega (arith, k, fil.within, both.left_some, both.right_some))))),
-                  left_fits wide (units_at uu id) (units_at gg left) (units_at gg right) m n both fil.fits,
+                  omega (arith, c.requires.short, fil.within, both.right_some),
+                  (
+                    (λ o l k. subst (λ (x : FinMap nat_cmp ℕ). HasKey x (start + o / lane_count wide)) (sym (d.reads.view.own_words ∙ e.reads.view.own_words)) (i.writes.own_words (start + o / lane_count wide) (c.requires.own o (omega (arith, i.behind, l)) (omega (arith, k, fil.within, both.left_some, both.right_some))))),
+                    left_fits wide (units_at uu id) (units_at gg left) (units_at gg right) m n both fil.fits,
+                  ),
                 ),
               ),
             ),
@@ -196,18 +199,21 @@ fill-requires-else-m-n g t c κs within = let v : View = c.args.reader.now.agent
     let both = both_here wide start (own_word v.own_words) c.args.at c.args.n (units_at v c.args.id) at n uu ff gg gg id left right m e.reads.view i.known fil d.sides in let ds = d.sides in (
       omega (arith, fil.fewer, both.left_some, both.right_some),
       (
-        within,
+        within.0,
         (
-          d.known.1,
+          within.1,
           (
-            both.right_count,
+            d.known.1,
             (
-              omega (arith, both.right_some),
+              both.right_count,
               (
-                omega (arith, c.requires.short, fil.within, both.right_some),
+                omega (arith, both.right_some),
                 (
-                  (λ o l k. subst (λ (x : FinMap nat_cmp ℕ). HasKey x (start + o / lane_count wide)) (sym (d.reads.view.own_words ∙ e.reads.view.own_words)) (i.writes.own_words (start + o / lane_count wide) (c.requires.own o (omega (arith, i.behind, l)) (omega (arith, k, fil.within, both.left_some, both.right_some))))),
-                  right_fits wide (units_at uu id) (units_at gg left) (units_at gg right) m n both fil.fits,
+                  omega (arith, c.requires.short, fil.within, both.right_some),
+                  (
+                    (λ o l k. subst (λ (x : FinMap nat_cmp ℕ). HasKey x (start + o / lane_count wide)) (sym (d.reads.view.own_words ∙ e.reads.view.own_words)) (i.writes.own_words (start + o / lane_count wide) (c.requires.own o (omega (arith, i.behind, l)) (omega (arith, k, fil.within, both.left_some, both.right_some))))),
+                    right_fits wide (units_at uu id) (units_at gg left) (units_at gg right) m n both fil.fits,
+                  ),
                 ),
               ),
             ),

@@ -23,39 +23,39 @@ use Rattle.heap_text.proofs.Pieces.{spared_ids}
 use Rattle.heap_text.proofs.making.link.Goals as goal
 
 pub side_forms-front-requires : goal.side_forms-front-requires
-side_forms-front-requires c = let v : View = c.args.reader.now.agent.seat.me.0 in let k = c.requires.known in record { known = (key_of v.units c.args.a.id k.0 k.2, key_of v.units c.args.b.id k.1 k.3) }
+side_forms-front-requires g c = let v : View = c.args.reader.now.agent.seat.me.0 in let k = c.requires.known in record { known = (key_of v.units c.args.a.id k.0 k.2, key_of v.units c.args.b.id k.1 k.3) }
 
 pub is_wide_side-right-requires-clause-seen : goal.is_wide_side-right-requires-clause-seen
-is_wide_side-right-requires-clause-seen c = c.is_wide_side-left.ensures.held c.args.b.id c.side_forms-front.result.1 c.side_forms-front.ensures.seen.1
+is_wide_side-right-requires-clause-seen g c = c.is_wide_side-left.ensures.held c.args.b.id c.side_forms-front.result.1 c.side_forms-front.ensures.seen.1
 
 pub is_wide_side-right-requires-clause-side : goal.is_wide_side-right-requires-clause-side
-is_wide_side-right-requires-clause-side c = side_kept c.side_forms-front.new.reader.agent.seat.me.0 c.is_wide_side-left.new.reader.agent.seat.me.0 c.is_wide_side-left.ensures.reads.view.known c.side_forms-front.result.1 c.side_forms-front.ensures.sides.1
+is_wide_side-right-requires-clause-side g c = side_kept c.side_forms-front.new.reader.agent.seat.me.0 c.is_wide_side-left.new.reader.agent.seat.me.0 c.is_wide_side-left.ensures.reads.view.known c.side_forms-front.result.1 c.side_forms-front.ensures.sides.1
 
 pub returns-in-Err-clause-continues : goal.returns-in-Err-clause-continues
-returns-in-Err-clause-continues c = let v : View = c.args.reader.now.agent.seat.me.0 in let u0 : View = c.side_forms-front.new.reader.agent.seat.me.0 in let u1 : View = c.is_wide_side-left.new.reader.agent.seat.me.0 in let u : View = c.is_wide_side-right.new.reader.agent.seat.me.0 in
+returns-in-Err-clause-continues g c = let v : View = c.args.reader.now.agent.seat.me.0 in let u0 : View = c.side_forms-front.new.reader.agent.seat.me.0 in let u1 : View = c.is_wide_side-left.new.reader.agent.seat.me.0 in let u : View = c.is_wide_side-right.new.reader.agent.seat.me.0 in
     let reads = reads_trans v u1 u (reads_trans v u0 u1 c.side_forms-front.ensures.reads.view c.is_wide_side-left.ensures.reads.view) c.is_wide_side-right.ensures.reads.view in let x : View = c.claim_id.new.self.seat.me.0 in
     record { heap = c.is_wide_side-right.ensures.reads.heap ∙ (c.is_wide_side-left.ensures.reads.heap ∙ c.side_forms-front.ensures.reads.heap); view = continues_trans v u x (continues_reads v u reads) (continues_full_ids u x c.in-Err.full.at c.in-Err.ensures.refused.0 c.claim_id.ensures.low) }
 
 pub returns-in-Err-clause-linked : goal.returns-in-Err-clause-linked
-returns-in-Err-clause-linked c us vs h k = let v : View = c.args.reader.now.agent.seat.me.0 in let u0 : View = c.side_forms-front.new.reader.agent.seat.me.0 in let u1 : View = c.is_wide_side-left.new.reader.agent.seat.me.0 in let u : View = c.is_wide_side-right.new.reader.agent.seat.me.0 in
+returns-in-Err-clause-linked g c us vs h k = let v : View = c.args.reader.now.agent.seat.me.0 in let u0 : View = c.side_forms-front.new.reader.agent.seat.me.0 in let u1 : View = c.is_wide_side-left.new.reader.agent.seat.me.0 in let u : View = c.is_wide_side-right.new.reader.agent.seat.me.0 in
     let reads = reads_trans v u1 u (reads_trans v u0 u1 c.side_forms-front.ensures.reads.view c.is_wide_side-left.ensures.reads.view) c.is_wide_side-right.ensures.reads.view in let x : View = c.claim_id.new.self.seat.me.0 in let f = c.in-Err.ensures.refused in let full = c.in-Err.full in
-    let same : size_of c.is_wide_side-right.new.reader.heap.now ≡ size_of c.args.reader.now.heap.now = ap (λ y. size_of y.now) (c.is_wide_side-right.ensures.reads.heap ∙ (c.is_wide_side-left.ensures.reads.heap ∙ c.side_forms-front.ensures.reads.heap)) in inr (
+    let same : size_of (g.H.HeapRef.reached c.is_wide_side-right.new.reader.heap) ≡ size_of (g.H.HeapRef.reached c.args.reader.now.heap) = ap (λ y. size_of (g.H.HeapRef.reached y)) (c.is_wide_side-right.ensures.reads.heap ∙ (c.is_wide_side-left.ensures.reads.heap ∙ c.side_forms-front.ensures.reads.heap)) in inr (
       fault.Ids full,
       refl,
       (
         (full, refl),
-        (subst (λ (z : HeapSize). IsFull full 1 z.ids) same f.1, ap (λ (y : View). y.low.ids) f.0),
+        (subst (λ (z : HeapSize). IsFull full 1 z.ids) (ap size_of c.heap.ensures ∙ same) f.1, ap (λ (y : View). y.low.ids) f.0),
         spared_ids v u u x 0 0 full.at full reads f.0 refl (omega arith) refl (λ q w. w) (λ q l. absurd (omega arith)) (λ q l k. absurd (omega arith)),
       ),
     )
 
 pub store_length-requires-clause-may : goal.store_length-requires-clause-may
-store_length-requires-clause-may c = let v : View = c.args.reader.now.agent.seat.me.0 in let u0 : View = c.side_forms-front.new.reader.agent.seat.me.0 in let u1 : View = c.is_wide_side-left.new.reader.agent.seat.me.0 in let u : View = c.is_wide_side-right.new.reader.agent.seat.me.0 in
+store_length-requires-clause-may g c = let v : View = c.args.reader.now.agent.seat.me.0 in let u0 : View = c.side_forms-front.new.reader.agent.seat.me.0 in let u1 : View = c.is_wide_side-left.new.reader.agent.seat.me.0 in let u : View = c.is_wide_side-right.new.reader.agent.seat.me.0 in
     let reads = reads_trans v u1 u (reads_trans v u0 u1 c.side_forms-front.ensures.reads.view c.is_wide_side-left.ensures.reads.view) c.is_wide_side-right.ensures.reads.view in let id = c.in-Ok.id in
     (subst (λ (y : View). HasKey y.own_ids id) (sym c.in-Ok.ensures.view) (key_of _ id 0 (insert_same u.own_ids id 0)), c.requires.long.1)
 
 pub birth-requires-clause-fits : goal.birth-requires-clause-fits
-birth-requires-clause-fits c = let v : View = c.args.reader.now.agent.seat.me.0 in let u0 : View = c.side_forms-front.new.reader.agent.seat.me.0 in let u1 : View = c.is_wide_side-left.new.reader.agent.seat.me.0 in let u : View = c.is_wide_side-right.new.reader.agent.seat.me.0 in
+birth-requires-clause-fits g c = let v : View = c.args.reader.now.agent.seat.me.0 in let u0 : View = c.side_forms-front.new.reader.agent.seat.me.0 in let u1 : View = c.is_wide_side-left.new.reader.agent.seat.me.0 in let u : View = c.is_wide_side-right.new.reader.agent.seat.me.0 in
     let reads = reads_trans v u1 u (reads_trans v u0 u1 c.side_forms-front.ensures.reads.view c.is_wide_side-left.ensures.reads.view) c.is_wide_side-right.ensures.reads.view in let x : View = c.claim_id.new.self.seat.me.0 in let y : View = c.store_length.new.self.seat.me.0 in
     let k = c.requires.known in let e = c.side_forms-front.ensures in let id = c.in-Ok.id in let n = c.args.n in let a = c.args.a.id in let b = c.args.b.id in
     let is : y ≡ stored_length (won_claim u Ids id 1) id n = c.store_length.ensures.view ∙ ap (λ (w : View). stored_length w id n) c.in-Ok.ensures.view in
@@ -86,7 +86,7 @@ birth-requires-clause-fits c = let v : View = c.args.reader.now.agent.seat.me.0 
     )
 
 pub returns-clause-continues : goal.returns-clause-continues
-returns-clause-continues c = let v : View = c.args.reader.now.agent.seat.me.0 in let u0 : View = c.side_forms-front.new.reader.agent.seat.me.0 in let u1 : View = c.is_wide_side-left.new.reader.agent.seat.me.0 in let u : View = c.is_wide_side-right.new.reader.agent.seat.me.0 in
+returns-clause-continues g c = let v : View = c.args.reader.now.agent.seat.me.0 in let u0 : View = c.side_forms-front.new.reader.agent.seat.me.0 in let u1 : View = c.is_wide_side-left.new.reader.agent.seat.me.0 in let u : View = c.is_wide_side-right.new.reader.agent.seat.me.0 in
     let reads = reads_trans v u1 u (reads_trans v u0 u1 c.side_forms-front.ensures.reads.view c.is_wide_side-left.ensures.reads.view) c.is_wide_side-right.ensures.reads.view in let x : View = c.claim_id.new.self.seat.me.0 in let y : View = c.store_length.new.self.seat.me.0 in let z : View = c.birth.new.self.seat.me.0 in
     let id = c.in-Ok.id in let n = c.args.n in let wide = c.is_either-wide.result in let a = c.args.a.id in let b = c.args.b.id in
     record {
@@ -98,7 +98,7 @@ returns-clause-continues c = let v : View = c.args.reader.now.agent.seat.me.0 in
     }
 
 pub returns-clause-linked : goal.returns-clause-linked
-returns-clause-linked c us vs h k = let v : View = c.args.reader.now.agent.seat.me.0 in let u0 : View = c.side_forms-front.new.reader.agent.seat.me.0 in let u1 : View = c.is_wide_side-left.new.reader.agent.seat.me.0 in let u : View = c.is_wide_side-right.new.reader.agent.seat.me.0 in
+returns-clause-linked g c us vs h k = let v : View = c.args.reader.now.agent.seat.me.0 in let u0 : View = c.side_forms-front.new.reader.agent.seat.me.0 in let u1 : View = c.is_wide_side-left.new.reader.agent.seat.me.0 in let u : View = c.is_wide_side-right.new.reader.agent.seat.me.0 in
     let reads = reads_trans v u1 u (reads_trans v u0 u1 c.side_forms-front.ensures.reads.view c.is_wide_side-left.ensures.reads.view) c.is_wide_side-right.ensures.reads.view in let x : View = c.claim_id.new.self.seat.me.0 in let y : View = c.store_length.new.self.seat.me.0 in let z : View = c.birth.new.self.seat.me.0 in
     let e = c.side_forms-front.ensures in let id = c.in-Ok.id in let n = c.args.n in let wide = c.is_either-wide.result in let a = c.args.a.id in let b = c.args.b.id in let front = c.side_forms-front.result.0 in let back = c.side_forms-front.result.1 in
     let is : y ≡ stored_length (won_claim u Ids id 1) id n = c.store_length.ensures.view ∙ ap (λ (w : View). stored_length w id n) c.in-Ok.ensures.view in
@@ -127,12 +127,12 @@ returns-clause-linked c us vs h k = let v : View = c.args.reader.now.agent.seat.
     )
 
 pub returns-in-Err-clause-own : goal.returns-in-Err-clause-own
-returns-in-Err-clause-own c = let v : View = c.args.reader.now.agent.seat.me.0 in let u0 : View = c.side_forms-front.new.reader.agent.seat.me.0 in let u1 : View = c.is_wide_side-left.new.reader.agent.seat.me.0 in let u : View = c.is_wide_side-right.new.reader.agent.seat.me.0 in
+returns-in-Err-clause-own g c = let v : View = c.args.reader.now.agent.seat.me.0 in let u0 : View = c.side_forms-front.new.reader.agent.seat.me.0 in let u1 : View = c.is_wide_side-left.new.reader.agent.seat.me.0 in let u : View = c.is_wide_side-right.new.reader.agent.seat.me.0 in
     let reads = reads_trans v u1 u (reads_trans v u0 u1 c.side_forms-front.ensures.reads.view c.is_wide_side-left.ensures.reads.view) c.is_wide_side-right.ensures.reads.view in
     own_full v u c.claim_id.new.self.seat.me.0 Ids c.in-Err.full.at c.in-Err.ensures.refused.0 (own_reads v u reads)
 
 pub returns-clause-own : goal.returns-clause-own
-returns-clause-own c = let v : View = c.args.reader.now.agent.seat.me.0 in let u0 : View = c.side_forms-front.new.reader.agent.seat.me.0 in let u1 : View = c.is_wide_side-left.new.reader.agent.seat.me.0 in let u : View = c.is_wide_side-right.new.reader.agent.seat.me.0 in
+returns-clause-own g c = let v : View = c.args.reader.now.agent.seat.me.0 in let u0 : View = c.side_forms-front.new.reader.agent.seat.me.0 in let u1 : View = c.is_wide_side-left.new.reader.agent.seat.me.0 in let u : View = c.is_wide_side-right.new.reader.agent.seat.me.0 in
     let reads = reads_trans v u1 u (reads_trans v u0 u1 c.side_forms-front.ensures.reads.view c.is_wide_side-left.ensures.reads.view) c.is_wide_side-right.ensures.reads.view in
     let y : View = c.store_length.new.self.seat.me.0 in let id = c.in-Ok.id in let n = c.args.n in let f = Cons c.is_either-wide.result c.args.a.id c.args.b.id in
     let is : y ≡ stored_length (won_claim u Ids id 1) id n = c.store_length.ensures.view ∙ ap (λ (w : View). stored_length w id n) c.in-Ok.ensures.view in

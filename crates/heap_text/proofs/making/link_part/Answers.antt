@@ -26,38 +26,38 @@ use Rattle.heap_text.proofs.Pieces.{spared_ids}
 use Rattle.heap_text.proofs.making.link_part.Goals as goal
 
 pub form_now-whole-requires : goal.form_now-whole-requires
-form_now-whole-requires c = let t = c.requires.within in record { known = inl (key_of c.args.reader.now.agent.seat.me.0.units c.args.s.id t.0 t.1) }
+form_now-whole-requires g c = let t = c.requires.within in record { known = inl (key_of c.args.reader.now.agent.seat.me.0.units c.args.s.id t.0 t.1) }
 
 pub overflow_add-offset : goal.overflow_add-offset
-overflow_add-offset c = let t = c.requires.within in let b = possible_short c.args.reader.now.agent.seat.me.0 c.args.reader.now.belongs.5 c.args.s.id t.0 t.1 in let o = offset_small c.form_now-whole.result c.form_now-whole.ensures.range in
+overflow_add-offset g c = let t = c.requires.within in let b = possible_short c.args.reader.now.agent.seat.me.0 c.args.reader.now.belongs.5 c.args.s.id t.0 t.1 in let o = offset_small c.form_now-whole.result c.form_now-whole.ensures.range in
     let room = t.2 in omega (arith, b, o, room, c.offset_of.ensures)
 
 pub returns-in-Err-clause-continues : goal.returns-in-Err-clause-continues
-returns-in-Err-clause-continues c = let v : View = c.args.reader.now.agent.seat.me.0 in let u0 : View = c.form_now-whole.new.self.agent.seat.me.0 in let u : View = c.is_wide_side-wide.new.reader.agent.seat.me.0 in
+returns-in-Err-clause-continues g c = let v : View = c.args.reader.now.agent.seat.me.0 in let u0 : View = c.form_now-whole.new.self.agent.seat.me.0 in let u : View = c.is_wide_side-wide.new.reader.agent.seat.me.0 in
     let reads = reads_trans v u0 u c.form_now-whole.ensures.reads.view c.is_wide_side-wide.ensures.reads.view in let s = c.args.s.id in let from = c.args.from in let n = c.args.n in let whole = c.form_now-whole.result in
     let x : View = c.claim_id.new.self.seat.me.0 in record { heap = c.is_wide_side-wide.ensures.reads.heap ∙ c.form_now-whole.ensures.reads.heap; view = continues_trans v u x (continues_reads v u reads) (continues_full_ids u x c.in-Err.full.at c.in-Err.ensures.refused.0 c.claim_id.ensures.low) }
 
 pub returns-in-Err-clause-linked : goal.returns-in-Err-clause-linked
-returns-in-Err-clause-linked c us h = let v : View = c.args.reader.now.agent.seat.me.0 in let u0 : View = c.form_now-whole.new.self.agent.seat.me.0 in let u : View = c.is_wide_side-wide.new.reader.agent.seat.me.0 in
+returns-in-Err-clause-linked g c us h = let v : View = c.args.reader.now.agent.seat.me.0 in let u0 : View = c.form_now-whole.new.self.agent.seat.me.0 in let u : View = c.is_wide_side-wide.new.reader.agent.seat.me.0 in
     let reads = reads_trans v u0 u c.form_now-whole.ensures.reads.view c.is_wide_side-wide.ensures.reads.view in let s = c.args.s.id in let from = c.args.from in let n = c.args.n in let whole = c.form_now-whole.result in
     let x : View = c.claim_id.new.self.seat.me.0 in let f = c.in-Err.ensures.refused in let full = c.in-Err.full in
-    let same : size_of c.is_wide_side-wide.new.reader.heap.now ≡ size_of c.args.reader.now.heap.now = ap (λ y. size_of y.now) (c.is_wide_side-wide.ensures.reads.heap ∙ c.form_now-whole.ensures.reads.heap) in inr (
+    let same : size_of (g.H.HeapRef.reached c.is_wide_side-wide.new.reader.heap) ≡ size_of (g.H.HeapRef.reached c.args.reader.now.heap) = ap (λ y. size_of (g.H.HeapRef.reached y)) (c.is_wide_side-wide.ensures.reads.heap ∙ c.form_now-whole.ensures.reads.heap) in inr (
       fault.Ids full,
       refl,
       (
         (full, refl),
-        (subst (λ (z : HeapSize). IsFull full 1 z.ids) same f.1, ap (λ (y : View). y.low.ids) f.0),
+        (subst (λ (z : HeapSize). IsFull full 1 z.ids) (ap size_of c.heap.ensures ∙ same) f.1, ap (λ (y : View). y.low.ids) f.0),
         spared_ids v u u x 0 0 full.at full reads f.0 refl (omega arith) refl (λ q w. w) (λ q l. absurd (omega arith)) (λ q l k. absurd (omega arith)),
       ),
     )
 
 pub store_length-requires-clause-may : goal.store_length-requires-clause-may
-store_length-requires-clause-may c = let u : View = c.is_wide_side-wide.new.reader.agent.seat.me.0 in let id = c.in-Ok.id in let t = c.requires.within in
+store_length-requires-clause-may g c = let u : View = c.is_wide_side-wide.new.reader.agent.seat.me.0 in let id = c.in-Ok.id in let t = c.requires.within in
     let b = possible_short c.args.reader.now.agent.seat.me.0 c.args.reader.now.belongs.5 c.args.s.id t.0 t.1 in let room = t.2 in
     (subst (λ (y : View). HasKey y.own_ids id) (sym c.in-Ok.ensures.view) (key_of _ id 0 (insert_same u.own_ids id 0)), omega (arith, b, room))
 
 pub birth-requires-clause-fits : goal.birth-requires-clause-fits
-birth-requires-clause-fits c = let v : View = c.args.reader.now.agent.seat.me.0 in let u0 : View = c.form_now-whole.new.self.agent.seat.me.0 in let u : View = c.is_wide_side-wide.new.reader.agent.seat.me.0 in
+birth-requires-clause-fits g c = let v : View = c.args.reader.now.agent.seat.me.0 in let u0 : View = c.form_now-whole.new.self.agent.seat.me.0 in let u : View = c.is_wide_side-wide.new.reader.agent.seat.me.0 in
     let reads = reads_trans v u0 u c.form_now-whole.ensures.reads.view c.is_wide_side-wide.ensures.reads.view in let s = c.args.s.id in let from = c.args.from in let n = c.args.n in let whole = c.form_now-whole.result in
     let x : View = c.claim_id.new.self.seat.me.0 in let y : View = c.store_length.new.self.seat.me.0 in let id = c.in-Ok.id in let seen = c.is_wide_side-wide.ensures.held s whole c.form_now-whole.ensures.seen in
     let is : y ≡ stored_length (won_claim u Ids id 1) id n = c.store_length.ensures.view ∙ ap (λ (w : View). stored_length w id n) c.in-Ok.ensures.view in
@@ -70,7 +70,7 @@ birth-requires-clause-fits c = let v : View = c.args.reader.now.agent.seat.me.0 
     may_part u y id s from n c.parent_of-parent.result (c.offset_of.result + from) c.is_wide_side-wide.result whole (part from n us) is c.parent_of-parent.ensures at told less c.requires.long (cut_parent u s whole seen leaf) (narrow_part c.is_wide_side-wide.result from n us narrow)
 
 pub returns-clause-continues : goal.returns-clause-continues
-returns-clause-continues c = let v : View = c.args.reader.now.agent.seat.me.0 in let u0 : View = c.form_now-whole.new.self.agent.seat.me.0 in let u : View = c.is_wide_side-wide.new.reader.agent.seat.me.0 in
+returns-clause-continues g c = let v : View = c.args.reader.now.agent.seat.me.0 in let u0 : View = c.form_now-whole.new.self.agent.seat.me.0 in let u : View = c.is_wide_side-wide.new.reader.agent.seat.me.0 in
     let reads = reads_trans v u0 u c.form_now-whole.ensures.reads.view c.is_wide_side-wide.ensures.reads.view in let s = c.args.s.id in let from = c.args.from in let n = c.args.n in let whole = c.form_now-whole.result in
     let x : View = c.claim_id.new.self.seat.me.0 in let y : View = c.store_length.new.self.seat.me.0 in let z : View = c.birth.new.self.seat.me.0 in let id = c.in-Ok.id in
     record {
@@ -82,7 +82,7 @@ returns-clause-continues c = let v : View = c.args.reader.now.agent.seat.me.0 in
     }
 
 pub returns-clause-linked : goal.returns-clause-linked
-returns-clause-linked c us h = let v : View = c.args.reader.now.agent.seat.me.0 in let u0 : View = c.form_now-whole.new.self.agent.seat.me.0 in let u : View = c.is_wide_side-wide.new.reader.agent.seat.me.0 in
+returns-clause-linked g c us h = let v : View = c.args.reader.now.agent.seat.me.0 in let u0 : View = c.form_now-whole.new.self.agent.seat.me.0 in let u : View = c.is_wide_side-wide.new.reader.agent.seat.me.0 in
     let reads = reads_trans v u0 u c.form_now-whole.ensures.reads.view c.is_wide_side-wide.ensures.reads.view in let s = c.args.s.id in let from = c.args.from in let n = c.args.n in let whole = c.form_now-whole.result in
     let x : View = c.claim_id.new.self.seat.me.0 in let y : View = c.store_length.new.self.seat.me.0 in let id = c.in-Ok.id in let seen = c.is_wide_side-wide.ensures.held s whole c.form_now-whole.ensures.seen in
     let is : y ≡ stored_length (won_claim u Ids id 1) id n = c.store_length.ensures.view ∙ ap (λ (w : View). stored_length w id n) c.in-Ok.ensures.view in
@@ -109,12 +109,12 @@ returns-clause-linked c us h = let v : View = c.args.reader.now.agent.seat.me.0 
     )
 
 pub returns-in-Err-clause-own : goal.returns-in-Err-clause-own
-returns-in-Err-clause-own c = let v : View = c.args.reader.now.agent.seat.me.0 in let u0 : View = c.form_now-whole.new.self.agent.seat.me.0 in let u : View = c.is_wide_side-wide.new.reader.agent.seat.me.0 in
+returns-in-Err-clause-own g c = let v : View = c.args.reader.now.agent.seat.me.0 in let u0 : View = c.form_now-whole.new.self.agent.seat.me.0 in let u : View = c.is_wide_side-wide.new.reader.agent.seat.me.0 in
     let reads = reads_trans v u0 u c.form_now-whole.ensures.reads.view c.is_wide_side-wide.ensures.reads.view in
     own_full v u c.claim_id.new.self.seat.me.0 Ids c.in-Err.full.at c.in-Err.ensures.refused.0 (own_reads v u reads)
 
 pub returns-clause-own : goal.returns-clause-own
-returns-clause-own c = let v : View = c.args.reader.now.agent.seat.me.0 in let u0 : View = c.form_now-whole.new.self.agent.seat.me.0 in let u : View = c.is_wide_side-wide.new.reader.agent.seat.me.0 in
+returns-clause-own g c = let v : View = c.args.reader.now.agent.seat.me.0 in let u0 : View = c.form_now-whole.new.self.agent.seat.me.0 in let u : View = c.is_wide_side-wide.new.reader.agent.seat.me.0 in
     let reads = reads_trans v u0 u c.form_now-whole.ensures.reads.view c.is_wide_side-wide.ensures.reads.view in let y : View = c.store_length.new.self.seat.me.0 in let id = c.in-Ok.id in let n = c.args.n in
     let wide = c.is_wide_side-wide.result in let parent : ℕ = c.parent_of-parent.result in let offset : ℕ = c.offset_of.result + c.args.from in
     let is : y ≡ stored_length (won_claim u Ids id 1) id n = c.store_length.ensures.view ∙ ap (λ (w : View). stored_length w id n) c.in-Ok.ensures.view in

@@ -407,13 +407,13 @@ returns-in-Err-clause-refused g c xs h = let v : View = c.args.reader.now.agent.
     let w : View = c.claim_words.new.self.seat.me.0 in let full = c.in-Err.full in let f = c.in-Err.ensures.refused in
     let words : c.words_for.result ≡ words_over wide (length us) = c.words_for.ensures ∙ ap (words_over wide) count in
     let is : xs ≡ us = sym (units_are v i xs h) in let rb = reads_trans v a b ra d.reads.view in
-    let same : size_of c.left_length-m.new.reader.heap.now ≡ size_of c.args.reader.now.heap.now = ap (λ y. size_of y.now) d.reads.heap in
-    let no_room : IsFull full (words_over wide (length us)) (size_of c.left_length-m.new.reader.heap.now).words = subst (λ (k : ℕ). IsFull full k (size_of c.left_length-m.new.reader.heap.now).words) words f.1 in
-    subst (λ (ys : List ℕ). IsNoRoom v w (size_of c.args.reader.now.heap.now) ys (Words full) wide) (sym is) record {
+    let same : size_of (g.H.HeapRef.reached c.left_length-m.new.reader.heap) ≡ size_of (g.H.HeapRef.reached c.args.reader.now.heap) = ap (λ y. size_of (g.H.HeapRef.reached y)) d.reads.heap in
+    let no_room : IsFull full (words_over wide (length us)) (size_of (g.H.HeapRef.reached c.left_length-m.new.reader.heap)).words = subst (λ (k : ℕ). IsFull full k (size_of (g.H.HeapRef.reached c.left_length-m.new.reader.heap)).words) words (subst (λ (z : HeapSize). IsFull full c.words_for.result z.words) (ap size_of c.heap-2.ensures) f.1) in
+    subst (λ (ys : List ℕ). IsNoRoom v w (size_of (g.H.HeapRef.reached c.args.reader.now.heap)) ys (Words full) wide) (sym is) record {
       narrow = narrow;
       words = (full, refl);
       told = (subst (λ (z : HeapSize). IsFull full (words_over wide (length us)) z.words) same no_room, ap (λ (y : View). y.low.words) f.0);
-      spared = spared_words v b w (words_over wide (length us)) (size_of c.left_length-m.new.reader.heap.now).words full rb no_room (ap (λ (y : View). y.used.ids) f.0) (ap (λ (y : View). y.used.words) f.0) (ap (λ (y : View). y.own_ids) f.0) (λ q k. subst (λ (y : View). HasKey y.own_words q) (sym f.0) k);
+      spared = spared_words v b w (words_over wide (length us)) (size_of (g.H.HeapRef.reached c.left_length-m.new.reader.heap)).words full rb no_room (ap (λ (y : View). y.used.ids) f.0) (ap (λ (y : View). y.used.words) f.0) (ap (λ (y : View). y.own_ids) f.0) (λ q k. subst (λ (y : View). HasKey y.own_words q) (sym f.0) k);
     }
 
 pub returns-in-Err-clause-loads : goal.returns-in-Err-clause-loads

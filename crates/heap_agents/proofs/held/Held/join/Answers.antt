@@ -5,16 +5,16 @@ use Rattle.heap_agents.proofs.Marks.{below, joined_held, same_ids}
 use Rattle.heap_agents.proofs.held.Held.join.Goals as goal
 
 pub returns-clause-held : goal.returns-clause-held
-returns-clause-held c = let j = c.join_member.ensures in
-    joined_held c.args.self.now c.args.other c.join_member.new.member c.requires.held c.requires.other j.whole j.same c.requires.beside c.requires.may j.known j.known_of_other j.history
+returns-clause-held c = let j = c.join_text.ensures in
+    joined_held c.args.self.now c.args.other c.join_text.new.text c.requires.held c.requires.other j.there j.same c.requires.beside c.requires.may j.known j.known_of_other j.history
     c.add_all.new.self c.add_all-2.new.self c.add_all.ensures.room c.add_all.ensures.only c.add_all-2.ensures.room c.add_all-2.ensures.only (ap (λ (v : View). v.agents) j.view)
 
 pub returns-clause-known : goal.returns-clause-known
 returns-clause-known c i h = let x = c.args.self.now in let o = c.args.other in
     c.add_all.ensures.there (held_size x).ids i c.requires.held.marked.room
-    (subst (λ (n : ℕ). i < n) (sym (same_ids x.member o.member c.requires.beside)) (below o c.requires.other i (c.requires.other.marked.known i h))) h
+    (subst (λ (n : ℕ). i < n) (sym (same_ids x.text o.text c.requires.beside)) (below o c.requires.other i (c.requires.other.marked.known i h))) h
 
 pub returns-clause-interned : goal.returns-clause-interned
 returns-clause-interned c i h = let x = c.args.self.now in let o = c.args.other in
     c.add_all-2.ensures.there (held_size x).ids i c.requires.held.marked.calls_room
-    (subst (λ (n : ℕ). i < n) (sym (same_ids x.member o.member c.requires.beside)) (c.requires.other.marked.calls_below i h)) h
+    (subst (λ (n : ℕ). i < n) (sym (same_ids x.text o.text c.requires.beside)) (c.requires.other.marked.calls_below i h)) h

@@ -1,9 +1,13 @@
-use Rattle.std.proofs.Common.{sym, subst}
+use Rattle.std.proofs.Common.{Option, subst, sym}
+use Rattle.heap_rule.specs.Maps.{Has}
+use Rattle.heap_table.specs.Agents.{view_of}
 use Rattle.heap_text.specs.Settling.{IsSettling}
-use Rattle.heap_agents.specs.declared.member.HeapAgent.{HeapAgent}
 use Rattle.heap_agents.specs.Held.{view_by}
-use Rattle.heap_agents.specs.Members.{view_if}
+use Rattle.heap_agents.specs.Shared.{SharedText, view_if}
 use Rattle.heap_agents.proofs.held.Held.settle.Goals as goal
 
 pub returns-clause-used : goal.returns-clause-used
-returns-clause-used c us h = subst (λ (m : HeapAgent). IsSettling (view_by c.args.self.now) (view_if m.agent) c.args.s.id us) (sym c.mark.ensures.member) (c.in_ok-settle.ensures.used us h)
+returns-clause-used c us h =
+    subst (λ (t : Option SharedText). IsSettling (view_by c.args.self.now) (view_if t) c.args.s.id us) (sym c.mark.ensures.text)
+    (subst (λ (t : Option SharedText). IsSettling (view_if t) (view_of c.settle-answer.new.self.reader.agent) c.args.s.id us) (sym c.in-Some.is)
+    (c.in_ok-answer.ensures.used us (subst (λ (t : Option SharedText). Has (view_if t).units c.args.s.id us) c.in-Some.is h)))

@@ -1,15 +1,15 @@
-use Rattle.std.proofs.Common.{ap, ◌∙◌}
+use Rattle.std.proofs.Common.{Some, ap, ◌∙◌}
 use Rattle.heap_agents.specs.declared.held.Held.{Held}
 use Rattle.heap_agents.proofs.Marks.{left_held, right_held}
 use Rattle.heap_agents.proofs.held.Held.split.Goals as goal
 
 pub returns-clause-held : goal.returns-clause-held
-returns-clause-held c = let s = c.split_member.ensures in left_held c.args.self.now c.split_member.new.member c.args.give c.requires.held s.whole.0 s.same.0 s.left
+returns-clause-held c = let s = c.in_ok-split_text.ensures in left_held c.args.self.now c.split_text.new.text c.args.give c.requires.held s.there s.same s.left
 
 pub returns-clause-other : goal.returns-clause-other
-returns-clause-other c = let s = c.split_member.ensures in let b = c.in_ok-other.ensures in
-    right_held c.args.self.now c.split_member.new.other c.args.give c.requires.held s.whole.1 s.same.1 s.right c.in_ok-other.other.value _
-    b.known b.interned b.room b.calls_room (ap (λ (h : Held). h.member) c.deref_mut-2.ensures.value)
+returns-clause-other c = let s = c.in_ok-split_text.ensures in let b = c.in_ok-other.ensures in
+    right_held c.args.self.now (Some c.in_ok-split_text.field-0) c.args.give c.requires.held tt s.other s.right c.in_ok-other.other.value _
+    b.known b.interned b.room b.calls_room (ap (λ (h : Held). h.text) c.deref_mut-2.ensures.value)
     (ap (λ (h : Held). h.agents) c.deref_mut-2.ensures.value ∙ (ap (λ (h : Held). h.agents) c.deref_mut.ensures.value ∙ b.agents))
     (ap (λ (h : Held). h.known) c.deref_mut-2.ensures.value ∙ ap (λ (h : Held). h.known) c.deref_mut.ensures.value)
     (ap (λ (h : Held). h.interned) c.deref_mut-2.ensures.value ∙ ap (λ (h : Held). h.interned) c.deref_mut.ensures.value)

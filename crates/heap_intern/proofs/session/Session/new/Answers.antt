@@ -4,7 +4,7 @@ use Rattle.heap_intern.proofs.Lately.{kept_none}
 use Rattle.heap_intern.proofs.session.Session.new.Goals as goal
 
 pub invariant_of-result : goal.invariant_of-result
-invariant_of-result c = record {
+invariant_of-result g c = record {
   one_limit = c.new.ensures.limit ∙ c.units.ensures;
   last_kept = kept_none c.new.result.reader.agent.seat.me.0 c.none.result c.none.ensures;
   older_kept = kept_none c.new.result.reader.agent.seat.me.0 c.none-2.result c.none-2.ensures;
@@ -13,4 +13,4 @@ invariant_of-result c = record {
 }
 
 pub new-requires-clause-most : goal.new-requires-clause-most
-new-requires-clause-most c = let a = limit_high c.args.limit in let e = c.units.ensures in omega arith
+new-requires-clause-most g c = let a = limit_high c.args.limit in let e = c.units.ensures in omega arith

@@ -4,11 +4,12 @@ use Rattle.std.specs.FinMap.{get}
 use Rattle.js_store.proofs.Laws.{text_still}
 use Rattle.heap_rule.specs.declared.view.View.{View}
 use Rattle.heap_rule.specs.Maps.{Has}
+use Rattle.heap_text.proofs.Owned.{own_reads, own_trans}
 use Rattle.heap_intern.proofs.OneUnit.{one_of_part}
 use Rattle.heap_intern.proofs.session.Session.one_part.Goals as goal
 
 pub invariant_of-self-in-Ok : goal.invariant_of-self-in-Ok
-invariant_of-self-in-Ok c = let p = c.part_of.new.self in let x : View = c.unit_at-unit.new.self.text.reader.agent.seat.me.0 in let w : View = p.text.reader.agent.seat.me.0 in
+invariant_of-self-in-Ok g c = let p = c.part_of.new.self in let x : View = c.unit_at-unit.new.self.text.reader.agent.seat.me.0 in let w : View = p.text.reader.agent.seat.me.0 in
     let i = c.args.s.id in let us : List ℕ = unwrap_or (get x.units i) [] in let ok = c.in-Ok.ensures.ok in
     let same = text_still c.unit_at-unit.ensures.uses.step.grows i c.requires.known in
     let within : c.args.to ≤ length us = subst (λ (xs : List ℕ). c.args.to ≤ length xs) (sym same) c.requires.within in
@@ -20,3 +21,7 @@ invariant_of-self-in-Ok c = let p = c.part_of.new.self in let x : View = c.unit_
       singles_kept = c.keep.ensures w p.singles_kept (one, ok.1);
       recent_kept = p.recent_kept;
     }
+
+pub returns-in-Ok-clause-own : goal.returns-in-Ok-clause-own
+returns-in-Ok-clause-own g c = let v : View = c.args.self.now.text.reader.agent.seat.me.0 in let x : View = c.unit_at-unit.new.self.text.reader.agent.seat.me.0 in let w : View = c.part_of.new.self.text.reader.agent.seat.me.0 in
+    own_trans v x w (own_reads v x c.unit_at-unit.ensures.reads) c.part_of.ensures.own

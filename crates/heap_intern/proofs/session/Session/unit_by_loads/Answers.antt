@@ -6,7 +6,7 @@ use Rattle.heap_intern.proofs.MadeLately.{recent_by}
 use Rattle.heap_intern.proofs.session.Session.unit_by_loads.Goals as goal
 
 pub invariant_of-self : goal.invariant_of-self
-invariant_of-self c = let s = c.args.self.now in let v : View = s.text.reader.agent.seat.me.0 in let w : View = c.word_with-unit.new.text.reader.agent.seat.me.0 in let e = c.word_with-unit.ensures in record {
+invariant_of-self g c = let s = c.args.self.now in let v : View = s.text.reader.agent.seat.me.0 in let w : View = c.word_with-unit.new.text.reader.agent.seat.me.0 in let e = c.word_with-unit.ensures in record {
   one_limit = e.limit ∙ s.one_limit;
   last_kept = e.kept;
   older_kept = kept_by v w e.reads.known s.older s.older_kept;
@@ -15,7 +15,7 @@ invariant_of-self c = let s = c.args.self.now in let v : View = s.text.reader.ag
 }
 
 pub invariant_of-self-2 : goal.invariant_of-self-2
-invariant_of-self-2 c = let s = c.args.self.now in let v : View = s.text.reader.agent.seat.me.0 in let w : View = c.word_with-unit.new.text.reader.agent.seat.me.0 in let e = c.word_with-unit.ensures in record {
+invariant_of-self-2 g c = let s = c.args.self.now in let v : View = s.text.reader.agent.seat.me.0 in let w : View = c.word_with-unit.new.text.reader.agent.seat.me.0 in let e = c.word_with-unit.ensures in record {
   one_limit = e.limit ∙ s.one_limit;
   last_kept = e.kept;
   older_kept = kept_by v w e.reads.known s.last s.last_kept;

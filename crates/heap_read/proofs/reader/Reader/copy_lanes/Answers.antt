@@ -19,7 +19,7 @@ use Rattle.heap_read.proofs.Storing.{word_put, writes_reads, writes_refl, writes
 use Rattle.heap_read.proofs.reader.Reader.copy_lanes.Goals as goal
 
 pub loop-done-init : goal.loop-done-init
-loop-done-init c = let v : View = c.args.self.now.agent.seat.me.0 in let us : List ℕ = source_units v c.args.source.now in record {
+loop-done-init g c = let v : View = c.args.self.now.agent.seat.me.0 in let us : List ℕ = source_units v c.args.source.now in record {
   heap = refl;
   writes = writes_refl v;
   below = λ q y l h. h;
@@ -32,24 +32,24 @@ loop-done-init c = let v : View = c.args.self.now.agent.seat.me.0 in let us : Li
 
 -- the word of the next lane
 pub patched-word-requires-clause-own : goal.patched-word-requires-clause-own
-patched-word-requires-clause-own c = let v : View = c.args.self.now.agent.seat.me.0 in let o : ℕ = c.args.at + c.loop-done.done in
+patched-word-requires-clause-own g c = let v : View = c.args.self.now.agent.seat.me.0 in let o : ℕ = c.args.at + c.loop-done.done in
     subst (λ (n : ℕ). HasKey c.loop-done.self.agent.seat.me.0.own_words (c.args.to.start + n)) (sym c.word_and_lane-number.ensures.0)
     (c.loop-done.invariant.writes.own_words (c.args.to.start + o / lane_count c.args.to.wide) (c.requires.own o (omega arith) (omega (arith, c.loop-done-test.true))))
 
 pub overflow_add-to : goal.overflow_add-to
-overflow_add-to c = let u : View = c.loop-done.self.agent.seat.me.0 in let p = c.loop-done.self.belongs.5 in let o : ℕ = c.args.at + c.loop-done.done in
+overflow_add-to g c = let u : View = c.loop-done.self.agent.seat.me.0 in let p = c.loop-done.self.belongs.5 in let o : ℕ = c.args.at + c.loop-done.done in
     let own : HasKey u.own_words (c.args.to.start + c.word_and_lane-number.result.0) = subst (λ (n : ℕ). HasKey u.own_words (c.args.to.start + n)) (sym c.word_and_lane-number.ensures.0)
     (c.loop-done.invariant.writes.own_words (c.args.to.start + o / lane_count c.args.to.wide) (c.requires.own o (omega arith) (omega (arith, c.loop-done-test.true)))) in
     let a = (possible_within u p).words (c.args.to.start + c.word_and_lane-number.result.0) own in let b = (possible_lawful u p).3 in omega arith
 
 pub overflow_add-to-in-loop-done : goal.overflow_add-to-in-loop-done
-overflow_add-to-in-loop-done c = let u : View = c.loop-done.self.agent.seat.me.0 in let p = c.loop-done.self.belongs.5 in let o : ℕ = c.args.at + c.loop-done.done in
+overflow_add-to-in-loop-done g c = let u : View = c.loop-done.self.agent.seat.me.0 in let p = c.loop-done.self.belongs.5 in let o : ℕ = c.args.at + c.loop-done.done in
     let own : HasKey u.own_words (c.args.to.start + c.word_and_lane-number.result.0) = subst (λ (n : ℕ). HasKey u.own_words (c.args.to.start + n)) (sym c.word_and_lane-number.ensures.0)
     (c.loop-done.invariant.writes.own_words (c.args.to.start + o / lane_count c.args.to.wide) (c.requires.own o (omega arith) (omega (arith, c.loop-done-test.true)))) in
     let a = (possible_within u p).words (c.args.to.start + c.word_and_lane-number.result.0) own in let b = (possible_lawful u p).3 in omega arith
 
 pub loop-done-preserved : goal.loop-done-preserved
-loop-done-preserved c = let v : View = c.args.self.now.agent.seat.me.0 in let u : View = c.loop-done.self.agent.seat.me.0 in let p : View = c.patched-word.new.self.agent.seat.me.0 in let w : View = c.store_word.new.self.seat.me.0 in
+loop-done-preserved g c = let v : View = c.args.self.now.agent.seat.me.0 in let u : View = c.loop-done.self.agent.seat.me.0 in let p : View = c.patched-word.new.self.agent.seat.me.0 in let w : View = c.store_word.new.self.seat.me.0 in
     let i = c.loop-done.invariant in let e = c.patched-word.ensures in let f = c.store_word.ensures in let wide = c.args.to.wide in let start = c.args.to.start in let done = c.loop-done.done in let count = c.min-count.result in let o : ℕ = c.args.at + done in
     let us : List ℕ = source_units v c.args.source.now in let number = c.word_and_lane-number.result.0 in let low = c.word_and_lane-number.result.1 in let x = c.patched-word.result in let is = c.word_and_lane-number.ensures in
     let known : KeepsKnown p w = subst (KeepsKnown p) (sym f.view) (known_stored p (start + number) x) in

@@ -6,7 +6,7 @@ use Rattle.heap_read.specs.Sources.{ShowsSource, source_units}
 use Rattle.heap_read.proofs.reader.Reader.copy_lanes.Given as goal
 
 abbrev pub invariant-loop-done : goal.invariant-loop-done
-invariant-loop-done l = record {
+invariant-loop-done g l = record {
   heap : l.self.heap ≡ l.fn.self.heap;
   writes : Writes (view_in l.fn.self) (view_in l.self);
   below : KeepsBelow l.to.start (view_in l.fn.self) (view_in l.self);
@@ -18,4 +18,4 @@ invariant-loop-done l = record {
 }
 
 abbrev pub decreases-loop-done : goal.decreases-loop-done
-decreases-loop-done l = l.n - l.done
+decreases-loop-done g l = l.n - l.done

@@ -7,15 +7,15 @@ use Rattle.heap_read.proofs.WindowLemmas.{first_on, forms_trans, frozen_later, l
 use Rattle.heap_read.proofs.reader.Reader.find_unit.Goals as goal
 
 pub word_with-word-requires-clause-frozen : goal.word_with-word-requires-clause-frozen
-word_with-word-requires-clause-frozen c = let v : View = c.args.self.now.agent.seat.me.0 in let u : View = c.loop-i.self.agent.seat.me.0 in let s = c.loop-i.invariant in
+word_with-word-requires-clause-frozen g c = let v : View = c.args.self.now.agent.seat.me.0 in let u : View = c.loop-i.self.agent.seat.me.0 in let s = c.loop-i.invariant in
     frozen_later v u c.args.w c.requires.window.0 s.reads s.forms c.requires.window.1
 
 pub overflow_add-w : goal.overflow_add-w
-overflow_add-w c = let v : View = c.args.self.now.agent.seat.me.0 in let u : View = c.loop-i.self.agent.seat.me.0 in let s = c.loop-i.invariant in
+overflow_add-w g c = let v : View = c.args.self.now.agent.seat.me.0 in let u : View = c.loop-i.self.agent.seat.me.0 in let s = c.loop-i.invariant in
     let a = place_small u c.args.w c.loop-i.i c.loop-i.self.belongs.5 (frozen_later v u c.args.w c.requires.window.0 s.reads s.forms c.requires.window.1) c.loop-i-test.true in omega arith
 
 pub returns-then-at-left-clause-least : goal.returns-then-at-left-clause-least
-returns-then-at-left-clause-least c us window =
+returns-then-at-left-clause-least g c us window =
     let v : View = c.args.self.now.agent.seat.me.0 in
     let u : View = c.loop-i.self.agent.seat.me.0 in
     let s = c.loop-i.invariant in
@@ -36,7 +36,7 @@ returns-then-at-left-clause-least c us window =
     )
 
 pub loop-i-preserved : goal.loop-i-preserved
-loop-i-preserved c =
+loop-i-preserved g c =
     let v : View = c.args.self.now.agent.seat.me.0 in
     let u : View = c.loop-i.self.agent.seat.me.0 in
     let x : View = c.word_with-word.new.self.agent.seat.me.0 in
@@ -62,14 +62,14 @@ loop-i-preserved c =
     }
 
 pub returns-then-at-left-clause-reads : goal.returns-then-at-left-clause-reads
-returns-then-at-left-clause-reads c =
+returns-then-at-left-clause-reads g c =
     let v : View = c.args.self.now.agent.seat.me.0 in
     let u : View = c.loop-i.self.agent.seat.me.0 in
     let x : View = c.word_with-word.new.self.agent.seat.me.0 in
     record { heap = c.word_with-word.ensures.reads.heap ∙ c.loop-i.invariant.heap; view = reads_trans v u x c.loop-i.invariant.reads c.word_with-word.ensures.reads.view }
 
 pub returns-then-at-size-clause-least : goal.returns-then-at-size-clause-least
-returns-then-at-size-clause-least c us window =
+returns-then-at-size-clause-least g c us window =
     let v : View = c.args.self.now.agent.seat.me.0 in
     let u : View = c.loop-i.self.agent.seat.me.0 in
     let s = c.loop-i.invariant in
@@ -92,14 +92,14 @@ returns-then-at-size-clause-least c us window =
     )
 
 pub returns-then-at-size-clause-reads : goal.returns-then-at-size-clause-reads
-returns-then-at-size-clause-reads c =
+returns-then-at-size-clause-reads g c =
     let v : View = c.args.self.now.agent.seat.me.0 in
     let u : View = c.loop-i.self.agent.seat.me.0 in
     let x : View = c.word_with-word.new.self.agent.seat.me.0 in
     record { heap = c.word_with-word.ensures.reads.heap ∙ c.loop-i.invariant.heap; view = reads_trans v u x c.loop-i.invariant.reads c.word_with-word.ensures.reads.view }
 
 pub loop-i-preserved-then-w-i : goal.loop-i-preserved-then-w-i
-loop-i-preserved-then-w-i c =
+loop-i-preserved-then-w-i g c =
     let v : View = c.args.self.now.agent.seat.me.0 in
     let u : View = c.loop-i.self.agent.seat.me.0 in
     let x : View = c.word_with-word.new.self.agent.seat.me.0 in

@@ -5,7 +5,7 @@ use Rattle.heap_read.specs.Windows.{IsWindow}
 use Rattle.heap_read.proofs.reader.Reader.find_unit.Given as goal
 
 abbrev pub invariant-loop-i : goal.invariant-loop-i
-invariant-loop-i l = record {
+invariant-loop-i g l = record {
   low : l.from ≤ l.i;
   most : l.i ≤ l.w.len;
   none : (us : List ℕ) → IsWindow (view_in l.fn.self) l.w us → (k : ℕ) → l.from ≤ k → k < l.i → get_or us k 0 ≡ l.unit → ⊥;
@@ -15,4 +15,4 @@ invariant-loop-i l = record {
 }
 
 abbrev pub decreases-loop-i : goal.decreases-loop-i
-decreases-loop-i l = l.w.len - l.i
+decreases-loop-i g l = l.w.len - l.i

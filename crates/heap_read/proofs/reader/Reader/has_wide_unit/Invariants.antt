@@ -5,7 +5,7 @@ use Rattle.heap_read.specs.Windows.{IsWindow}
 use Rattle.heap_read.proofs.reader.Reader.has_wide_unit.Given as goal
 
 abbrev pub invariant-loop-i : goal.invariant-loop-i
-invariant-loop-i l = record {
+invariant-loop-i g l = record {
   most : l.i ≤ l.w.len;
   heap : l.self.heap ≡ l.fn.self.heap;
   reads : OnlyLoads (view_in l.fn.self) (view_in l.self);
@@ -14,4 +14,4 @@ invariant-loop-i l = record {
 }
 
 abbrev pub decreases-loop-i : goal.decreases-loop-i
-decreases-loop-i l = l.w.len - l.i
+decreases-loop-i g l = l.w.len - l.i

@@ -11,11 +11,11 @@ use Rattle.heap_read.proofs.WindowLemmas.{forms_trans, frozen_later, hash_word, 
 use Rattle.heap_read.proofs.reader.Reader.hash_in.Goals as goal
 
 pub hold_in-held-requires-clause-frozen : goal.hold_in-held-requires-clause-frozen
-hold_in-held-requires-clause-frozen c = let v : View = c.args.self.now.agent.seat.me.0 in let u : View = c.loop-i.self.agent.seat.me.0 in let s = c.loop-i.invariant in
+hold_in-held-requires-clause-frozen g c = let v : View = c.args.self.now.agent.seat.me.0 in let u : View = c.loop-i.self.agent.seat.me.0 in let s = c.loop-i.invariant in
     frozen_later v u c.args.w c.requires.0 s.reads s.forms c.requires.1
 
 pub loop-i-preserved : goal.loop-i-preserved
-loop-i-preserved c = let v : View = c.args.self.now.agent.seat.me.0 in let u : View = c.loop-i.self.agent.seat.me.0 in let x : View = c.hold_in-held.new.self.agent.seat.me.0 in
+loop-i-preserved g c = let v : View = c.args.self.now.agent.seat.me.0 in let u : View = c.loop-i.self.agent.seat.me.0 in let x : View = c.hold_in-held.new.self.agent.seat.me.0 in
     let s = c.loop-i.invariant in let e = c.hold_in-held.ensures in let has = e.has in let held = c.hold_in-held.result in let within = e.held.within in let lanes = e.held.lanes in let i = c.loop-i.i in
     record {
       most = omega arith;
@@ -32,8 +32,8 @@ loop-i-preserved c = let v : View = c.args.self.now.agent.seat.me.0 in let u : V
     }
 
 pub returns-clause-hash : goal.returns-clause-hash
-returns-clause-hash c us window = let v : View = c.args.self.now.agent.seat.me.0 in let s = c.loop-i.invariant in let n = window_length v c.args.w us window in
+returns-clause-hash g c us window = let v : View = c.args.self.now.agent.seat.me.0 in let s = c.loop-i.invariant in let n = window_length v c.args.w us window in
     hash_end c.loop-i.hash (hash_of us) c.loop-i.i us (omega arith) (s.hashed us window)
 
 pub returns-clause-frozen : goal.returns-clause-frozen
-returns-clause-frozen c = record { each = λ k l. c.loop-i.invariant.frozen k (omega arith) }
+returns-clause-frozen g c = record { each = λ k l. c.loop-i.invariant.frozen k (omega arith) }

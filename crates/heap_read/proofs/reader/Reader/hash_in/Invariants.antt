@@ -7,7 +7,7 @@ use Rattle.heap_read.specs.Windows.{IsWindow}
 use Rattle.heap_read.proofs.reader.Reader.hash_in.Given as goal
 
 abbrev pub invariant-loop-i : goal.invariant-loop-i
-invariant-loop-i l = record {
+invariant-loop-i g l = record {
   most : l.i ≤ l.w.len;
   small : l.hash < 2 ^ 32;
   heap : l.self.heap ≡ l.fn.self.heap;
@@ -18,4 +18,4 @@ invariant-loop-i l = record {
 }
 
 abbrev pub decreases-loop-i : goal.decreases-loop-i
-decreases-loop-i l = l.w.len - l.i
+decreases-loop-i g l = l.w.len - l.i

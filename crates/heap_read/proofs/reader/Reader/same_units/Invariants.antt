@@ -6,7 +6,7 @@ use Rattle.heap_read.specs.Windows.{IsWindow}
 use Rattle.heap_read.proofs.reader.Reader.same_units.Given as goal
 
 abbrev pub invariant-loop-i : goal.invariant-loop-i
-invariant-loop-i l = record {
+invariant-loop-i g l = record {
   most : l.i ≤ l.a.len;
   heap : l.self.heap ≡ l.fn.self.heap;
   reads : OnlyLoads (view_in l.fn.self) (view_in l.self);
@@ -16,4 +16,4 @@ invariant-loop-i l = record {
 }
 
 abbrev pub decreases-loop-i : goal.decreases-loop-i
-decreases-loop-i l = l.a.len - l.i
+decreases-loop-i g l = l.a.len - l.i

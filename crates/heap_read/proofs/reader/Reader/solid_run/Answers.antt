@@ -7,23 +7,23 @@ use Rattle.heap_read.proofs.Solids.{no_other}
 use Rattle.heap_read.proofs.reader.Reader.solid_run.Goals as goal
 
 pub target_run-requires-clause-thin : goal.target_run-requires-clause-thin
-target_run-requires-clause-thin c = subst (λ (f : Form). Has c.args.self.now.agent.seat.me.0.forms c.args.id f) c.in-Thin.is c.requires.seen
+target_run-requires-clause-thin g c = subst (λ (f : Form). Has c.args.self.now.agent.seat.me.0.forms c.args.id f) c.in-Thin.is c.requires.seen
 
 pub target_run-requires-clause-met : goal.target_run-requires-clause-met
-target_run-requires-clause-met c = subst (KnowsSide c.args.self.now.agent.seat.me.0) c.in-Thin.is c.requires.side
+target_run-requires-clause-met g c = subst (KnowsSide c.args.self.now.agent.seat.me.0) c.in-Thin.is c.requires.side
 
 pub unreachable-requires : goal.unreachable-requires
-unreachable-requires c = no_other c.args.form c.requires.solid c.in_default.not-Flat c.in_default.not-Thin
+unreachable-requires g c = no_other c.args.form c.requires.solid c.in_default.not-Flat c.in_default.not-Thin
 
 pub returns-in-Flat-clause-flat : goal.returns-in-Flat-clause-flat
-returns-in-Flat-clause-flat c = (c.args.id, c.in-Flat.fixed, inl refl, subst (λ (f : Form). Has c.args.self.now.agent.seat.me.0.forms c.args.id f) c.in-Flat.is c.requires.seen)
+returns-in-Flat-clause-flat g c = (c.args.id, c.in-Flat.fixed, inl refl, subst (λ (f : Form). Has c.args.self.now.agent.seat.me.0.forms c.args.id f) c.in-Flat.is c.requires.seen)
 
 pub returns-in-Thin-clause-flat : goal.returns-in-Thin-clause-flat
-returns-in-Thin-clause-flat c = let e = c.target_run.ensures in
+returns-in-Thin-clause-flat g c = let e = c.target_run.ensures in
     (c.in-Thin.target, true, inr (e.held c.args.id (Thin c.in-Thin.target) (subst (λ (f : Form). Has c.args.self.now.agent.seat.me.0.forms c.args.id f) c.in-Thin.is c.requires.seen)), e.flat)
 
 pub returns-in-Flat-clause-loads : goal.returns-in-Flat-clause-loads
-returns-in-Flat-clause-loads c l j e = rw c.in-Flat.is (omega (arith, e))
+returns-in-Flat-clause-loads g c l j e = rw c.in-Flat.is (omega (arith, e))
 
 pub returns-in-Thin-clause-loads : goal.returns-in-Thin-clause-loads
-returns-in-Thin-clause-loads c l j e = rw c.in-Thin.is (omega (arith, e, c.target_run.ensures.loads))
+returns-in-Thin-clause-loads g c l j e = rw c.in-Thin.is (omega (arith, e, c.target_run.ensures.loads))

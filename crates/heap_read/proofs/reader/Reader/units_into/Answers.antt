@@ -7,11 +7,11 @@ use Rattle.heap_read.proofs.WindowLemmas.{first_on, forms_trans, frozen_later, l
 use Rattle.heap_read.proofs.reader.Reader.units_into.Goals as goal
 
 pub word_with-word-requires-clause-frozen : goal.word_with-word-requires-clause-frozen
-word_with-word-requires-clause-frozen c = let v : View = c.args.self.now.agent.seat.me.0 in let u : View = c.loop-done.self.agent.seat.me.0 in let s = c.loop-done.invariant in
+word_with-word-requires-clause-frozen g c = let v : View = c.args.self.now.agent.seat.me.0 in let u : View = c.loop-done.self.agent.seat.me.0 in let s = c.loop-done.invariant in
     frozen_later v u c.args.w c.requires.window.0 s.reads s.forms c.requires.window.1
 
 pub returns-clause-units : goal.returns-clause-units
-returns-clause-units c us window =
+returns-clause-units g c us window =
     let v : View = c.args.self.now.agent.seat.me.0 in
     let s = c.loop-done.invariant in
     let long = window_length v c.args.w us window in
@@ -19,11 +19,11 @@ returns-clause-units c us window =
     read_all us c.args.from (length c.args.into.now) c.loop-done.into (omega arith) (omega arith) (λ k l. s.same us window k (omega arith))
 
 pub overflow_add-w : goal.overflow_add-w
-overflow_add-w c = let v : View = c.args.self.now.agent.seat.me.0 in let u : View = c.loop-done.self.agent.seat.me.0 in let s = c.loop-done.invariant in
+overflow_add-w g c = let v : View = c.args.self.now.agent.seat.me.0 in let u : View = c.loop-done.self.agent.seat.me.0 in let s = c.loop-done.invariant in
     let a = place_small u c.args.w (c.args.from + c.loop-done.done) c.loop-done.self.belongs.5 (frozen_later v u c.args.w c.requires.window.0 s.reads s.forms c.requires.window.1) (omega (arith, c.requires.within, c.loop-done-test.true)) in omega arith
 
 pub loop-done-preserved-then-into-done : goal.loop-done-preserved-then-into-done
-loop-done-preserved-then-into-done c =
+loop-done-preserved-then-into-done g c =
     let v : View = c.args.self.now.agent.seat.me.0 in
     let u : View = c.loop-done.self.agent.seat.me.0 in
     let x : View = c.word_with-word.new.self.agent.seat.me.0 in
@@ -47,7 +47,7 @@ loop-done-preserved-then-into-done c =
     }
 
 pub loop-done-preserved : goal.loop-done-preserved
-loop-done-preserved c =
+loop-done-preserved g c =
     let v : View = c.args.self.now.agent.seat.me.0 in
     let u : View = c.loop-done.self.agent.seat.me.0 in
     let x : View = c.word_with-word.new.self.agent.seat.me.0 in

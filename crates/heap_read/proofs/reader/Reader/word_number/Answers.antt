@@ -10,7 +10,7 @@ use Rattle.heap_read.proofs.WordsOf.{first_number, first_within}
 use Rattle.heap_read.proofs.reader.Reader.word_number.Goals as goal
 
 pub overflow_add-w : goal.overflow_add-w
-overflow_add-w c =
+overflow_add-w g c =
     let w = c.args.w in
     let v : View = c.args.self.now.agent.seat.me.0 in
     let i = c.args.j * lane_count w.wide - w.offset % lane_count w.wide in
@@ -19,7 +19,7 @@ overflow_add-w c =
     omega arith
 
 pub overflow_add-w-2 : goal.overflow_add-w-2
-overflow_add-w-2 c =
+overflow_add-w-2 g c =
     let w = c.args.w in
     let v : View = c.args.self.now.agent.seat.me.0 in
     let i = c.args.j * lane_count w.wide - w.offset % lane_count w.wide in
@@ -28,7 +28,7 @@ overflow_add-w-2 c =
     omega arith
 
 pub returns-clause-word : goal.returns-clause-word
-returns-clause-word c us h =
+returns-clause-word g c us h =
     let w = c.args.w in
     let v : View = c.args.self.now.agent.seat.me.0 in
     let x : View = c.load_word.new.self.seat.me.0 in
@@ -42,4 +42,4 @@ returns-clause-word c us h =
     (subst (λ (q : ℕ). HasKey x.own_words q ⊎ HasKey x.frozen q) same has) (e.shown ∙ ap (shown_word x) same)
 
 pub returns-clause-reads : goal.returns-clause-reads
-returns-clause-reads c = let e = c.load_word.ensures in record { heap = cc; view = reads_word c.args.self.now.agent.seat.me.0 c.load_word.new.self.seat.me.0 _ c.load_word.result e.known e.view }
+returns-clause-reads g c = let e = c.load_word.ensures in record { heap = cc; view = reads_word c.args.self.now.agent.seat.me.0 c.load_word.new.self.seat.me.0 _ c.load_word.result e.known e.view }

@@ -6,7 +6,7 @@ use Rattle.heap_read.specs.Sources.{ShowsSource, source_units}
 use Rattle.heap_read.proofs.reader.Reader.word_of.Given as goal
 
 abbrev pub invariant-loop-done : goal.invariant-loop-done
-invariant-loop-done l = record {
+invariant-loop-done g l = record {
   most : l.done ≤ l.count;
   heap : l.self.heap ≡ l.fn.self.heap;
   reads : OnlyLoads (view_in l.fn.self) (view_in l.self);
@@ -17,4 +17,4 @@ invariant-loop-done l = record {
 }
 
 abbrev pub decreases-loop-done : goal.decreases-loop-done
-decreases-loop-done l = l.count - l.done
+decreases-loop-done g l = l.count - l.done

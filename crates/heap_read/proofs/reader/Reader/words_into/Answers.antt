@@ -7,11 +7,11 @@ use Rattle.heap_read.proofs.WordsOf.{word_shows, words_more}
 use Rattle.heap_read.proofs.reader.Reader.words_into.Goals as goal
 
 pub word_number-word-requires-clause-frozen : goal.word_number-word-requires-clause-frozen
-word_number-word-requires-clause-frozen c = let v : View = c.args.self.now.agent.seat.me.0 in let u : View = c.loop-k.self.agent.seat.me.0 in let s = c.loop-k.invariant in
+word_number-word-requires-clause-frozen g c = let v : View = c.args.self.now.agent.seat.me.0 in let u : View = c.loop-k.self.agent.seat.me.0 in let s = c.loop-k.invariant in
     frozen_later v u c.args.w c.requires.window.0 s.reads s.forms c.requires.window.1
 
 pub loop-k-preserved : goal.loop-k-preserved
-loop-k-preserved c =
+loop-k-preserved g c =
     let v : View = c.args.self.now.agent.seat.me.0 in
     let u : View = c.loop-k.self.agent.seat.me.0 in
     let x : View = c.word_number-word.new.self.agent.seat.me.0 in
@@ -32,4 +32,4 @@ loop-k-preserved c =
     }
 
 pub returns-clause-words : goal.returns-clause-words
-returns-clause-words c us window = record { each = λ i l low high. (c.loop-k.invariant.same us window).each i l low (omega arith) }
+returns-clause-words g c us window = record { each = λ i l low high. (c.loop-k.invariant.same us window).each i l low (omega arith) }

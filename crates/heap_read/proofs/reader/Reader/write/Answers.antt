@@ -18,7 +18,7 @@ use Rattle.heap_read.proofs.WindowLemmas.{forms_trans}
 use Rattle.heap_read.proofs.reader.Reader.write.Goals as goal
 
 pub loop-at-init : goal.loop-at-init
-loop-at-init c = let v : View = c.args.self.now.agent.seat.me.0 in let w : View = c.claim_words.new.self.seat.me.0 in let start = c.in_ok-start.start in let want = c.words_for-want.result in let e = c.in_ok-start.ensures in
+loop-at-init g c = let v : View = c.args.self.now.agent.seat.me.0 in let w : View = c.claim_words.new.self.seat.me.0 in let start = c.in_ok-start.start in let want = c.words_for-want.result in let e = c.in_ok-start.ensures in
     let known : KeepsKnown v w = subst (KeepsKnown v) (sym e.view) (known_words v start want) in record {
       heap = refl;
       continues = continues_words v w start want e.view e.low;
@@ -35,7 +35,7 @@ loop-at-init c = let v : View = c.args.self.now.agent.seat.me.0 in let w : View 
     }
 
 pub loop-at-preserved : goal.loop-at-preserved
-loop-at-preserved c = let v : View = c.args.self.now.agent.seat.me.0 in let u : View = c.loop-at.self.agent.seat.me.0 in let p : View = c.pack-word.new.self.agent.seat.me.0 in let w : View = c.store_word.new.self.seat.me.0 in
+loop-at-preserved g c = let v : View = c.args.self.now.agent.seat.me.0 in let u : View = c.loop-at.self.agent.seat.me.0 in let p : View = c.pack-word.new.self.agent.seat.me.0 in let w : View = c.store_word.new.self.seat.me.0 in
     let i = c.loop-at.invariant in let e = c.pack-word.ensures in let f = c.store_word.ensures in let start = c.in_ok-start.start in let at = c.loop-at.at in let word = c.pack-word.result in
     let us : List ℕ = source_units v c.args.source.now in let known : KeepsKnown p w = subst (KeepsKnown p) (sym f.view) (known_stored p (start + at) word) in
     let done : AreWords p c.args.wide start us at = record { each = λ q l. let t = i.done.each q l in (t.0, subst (λ (m : FinMap nat_cmp ℕ). Has m (start + q) t.0) (sym e.reads.view.own_words) t.1, t.2) } in
@@ -56,4 +56,4 @@ loop-at-preserved c = let v : View = c.args.self.now.agent.seat.me.0 in let u : 
     }
 
 pub returns-clause-fresh : goal.returns-clause-fresh
-returns-clause-fresh c q l own = let above = c.in_ok-start.ensures.above_own (c.in_ok-start.start + q) own in omega arith
+returns-clause-fresh g c q l own = let above = c.in_ok-start.ensures.above_own (c.in_ok-start.start + q) own in omega arith

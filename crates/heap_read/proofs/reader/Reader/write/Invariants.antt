@@ -7,7 +7,7 @@ use Rattle.heap_read.specs.Written.{AreWords}
 use Rattle.heap_read.proofs.reader.Reader.write.Given as goal
 
 abbrev pub invariant-loop-at : goal.invariant-loop-at
-invariant-loop-at l = record {
+invariant-loop-at g l = record {
   heap : l.self.heap ≡ l.fn.self.heap;
   continues : Continues (view_in l.fn.self) (view_in l.self);
   forms : KeepsForms (view_in l.fn.self) (view_in l.self);

@@ -1,4 +1,4 @@
 use Rattle.heap_text.proofs.text.Text.settle.Given as goal
 
 abbrev pub ghosts-settle_by : goal.ghosts-settle_by
-ghosts-settle_by a = record { name = a.blank.name; parts = a.blank.parts }
+ghosts-settle_by g a = record { name = a.blank.name; parts = a.blank.parts }

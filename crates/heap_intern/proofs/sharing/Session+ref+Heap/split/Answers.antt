@@ -7,7 +7,7 @@ use Rattle.heap_intern.proofs.Lately.{kept_none}
 use Rattle.heap_intern.specs.Lately.{IsWordKept}
 use Rattle.heap_intern.specs.Singles.{AreSingles}
 use Rattle.heap_intern.specs.Recent.{AreRecent}
-use Rattle.heap_intern.proofs.session.Session.split.Goals as goal
+use Rattle.heap_intern.proofs.sharing.Session+ref+Heap.split.Goals as goal
 
 pub invariant_of-result : goal.invariant_of-result
 invariant_of-result c = record {
