@@ -18,7 +18,7 @@ CALLS = {
     "ends with 0, with 4 where one is none, and with 3 where one can't be read",
     "tools/jsstr --unproved ARGUMENT..": f"the quick run, also where a program is built; {stated_times.stated('quick run')}",
     "tools/jsstr --build": f"proves and builds the program; from nothing {stated_times.stated('--build')}",
-    "tools/jsstr --test": f"runs all tests, and all cases but ten long ones, and proves nothing; {stated_times.stated('--test')}",
+    "tools/jsstr --test": f"runs all tests, and all cases but twelve long ones, and proves nothing; {stated_times.stated('--test')}",
     "tools/jsstr --install PREFIX": "puts the built program, jsstr-where, their man pages and completions for shells below PREFIX, as in PREFIX/bin",
     "tools/jsstr --library PREFIX": f"proves and builds the heap for C, and puts it into PREFIX/include and PREFIX/lib; from nothing {stated_times.stated('--library')}",
     "tools/jsstr --uninstall PREFIX": "removes what --install and --library put there",

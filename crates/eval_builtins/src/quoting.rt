@@ -11,6 +11,7 @@ ghost use Rattle.js_item.specs.Seen.{seen, says, fields_mapped};
 ghost use Rattle.js_item.specs.Fine.{IsFine, FineFields, Bounded, strings_of};
 ghost use Rattle.eval_values.specs.Seen.{all_seen, AllFine};
 ghost use Rattle.eval_values.specs.Does.{GivesValue};
+ghost use Rattle.eval_values.specs.Settled.{ElementsSettled};
 ghost use Rattle.js_item.specs.Views.{content_of};
 ghost use Rattle.js_object.specs.Settled.{SettledIn, SettledFields};
 ghost use Rattle.eval_builtins.specs.Settled.{FirstSettled};
@@ -72,6 +73,7 @@ pub fn give_text<S: Strings>(
     requires { IsFine (S.state store.old) S.number value.now }
     ensures grows { Grows (S.state store.old) (S.state store.new) }
     ensures fine { IfOk result (λ v. IsFine (S.state store.new) S.number v) }
+    ensures read { OnOk result (ElementsSettled (S.state store.new) S.number value.now) }
     ensures did { GivesValue S.number (S.state store.old) (S.state store.new) result
         (as_text (S.state store.old).limit (seen (S.state store.old) S.number value.now)) }
 {

@@ -12,6 +12,7 @@ ghost use Rattle.js_item.specs.Seen.{seen};
 ghost use Rattle.js_item.specs.Fine.{IsFine};
 ghost use Rattle.eval_values.specs.Seen.{all_seen, AllFine};
 ghost use Rattle.eval_values.specs.Does.{GivesValue};
+ghost use Rattle.eval_values.specs.Settled.{OfFirst, StringsSettled};
 ghost use Rattle.eval_builtins.specs.Settled.{ShownSettled, FirstShownSettled};
 ghost use Rattle.eval_builtins.specs.Symbols.{shown_symbol, shown_out, string_conversion, registered, string_of as string_out, symbol_for as symbol_out, key_for as key_out};
 
@@ -143,6 +144,7 @@ pub(crate) fn call_symbol_for<S: Strings>(
     requires { AllFine (S.state store.old) S.number args.now }
     ensures grows { Grows (S.state store.old) (S.state store.new) }
     ensures fine { IfOk result (λ v. IsFine (S.state store.new) S.number v) }
+    ensures settled { OnOk result (OfFirst (λ v. StringsSettled (S.state store.new) S.number v) args.now) }
     ensures did { GivesValue S.number (S.state store.old) (S.state store.new) result
         (symbol_out (S.state store.old).limit (first_of (all_seen (S.state store.old) S.number args.now))) }
 {
@@ -160,6 +162,7 @@ fn symbol_for<S: Strings>(
     requires { IsFine (S.state store.old) S.number value.now }
     ensures grows { Grows (S.state store.old) (S.state store.new) }
     ensures fine { IfOk result (λ v. IsFine (S.state store.new) S.number v) }
+    ensures settled { OnOk result (StringsSettled (S.state store.new) S.number value.now) }
     ensures did { GivesValue S.number (S.state store.old) (S.state store.new) result
         (symbol_out (S.state store.old).limit (seen (S.state store.old) S.number value.now)) }
 {
@@ -172,6 +175,7 @@ fn register<S: Strings>(store: &mut S, key: S::Ref) -> Result<Value<S::Ref>, Sto
     requires { IsKnown (S.state store.old) (S.number key) }
     ensures grows { Grows (S.state store.old) (S.state store.new) }
     ensures fine { IfOk result (λ v. IsFine (S.state store.new) S.number v) }
+    ensures settled { OnOk result (IsSettled (S.state store.new) (S.number key)) }
     ensures did { (t : ℕ) → length (text (S.state store.old) (S.number key)) ≤ t + 40 → GivesValue S.number
         (S.state store.old) (S.state store.new) result
         (registered t (text (S.state store.old) (S.number key))) }

@@ -1,5 +1,5 @@
 // The URI handling functions (ECMA-262, "URI Handling Functions").
-ghost use Rattle.std.specs.Prelude.{◌≡◌, ◌+◌, ◌≤◌, ℕ, IfOk};
+ghost use Rattle.std.specs.Prelude.{◌≡◌, ◌+◌, ◌≤◌, ℕ, IfOk, OnOk};
 ghost use Rattle.js_store.specs.State.{Grows, IsKnown, IsSettled, text};
 ghost use Rattle.js_store.specs.Rows.{wide_words};
 ghost use Rattle.js_store.specs.Faults.{Uses};
@@ -10,6 +10,7 @@ ghost use Rattle.js_item.specs.Seen.{seen};
 ghost use Rattle.js_item.specs.Fine.{IsFine};
 ghost use Rattle.eval_values.specs.Seen.{all_seen, AllFine};
 ghost use Rattle.eval_values.specs.Does.{GivesValue};
+ghost use Rattle.eval_values.specs.Settled.{OfFirst, StringsSettled};
 ghost use Rattle.eval_builtins.specs.Uris.{uri_call, uri_value};
 ghost use Rattle.eval_builtins.specs.UriFunctions.{outcome_of, uri_stop};
 
@@ -37,6 +38,7 @@ pub(crate) fn call_uri<S: Strings>(
     requires { AllFine (S.state store.old) S.number args.now }
     ensures grows { Grows (S.state store.old) (S.state store.new) }
     ensures fine { IfOk result (λ v. IsFine (S.state store.new) S.number v) }
+    ensures settled { OnOk result (OfFirst (λ v. StringsSettled (S.state store.new) S.number v) args.now) }
     ensures did { GivesValue S.number (S.state store.old) (S.state store.new) result
         (uri_call (outcome_of which) (S.state store.old).limit
         (first_of (all_seen (S.state store.old) S.number args.now))) }
@@ -56,6 +58,7 @@ fn uri_of<S: Strings>(
     requires { IsFine (S.state store.old) S.number value.now }
     ensures grows { Grows (S.state store.old) (S.state store.new) }
     ensures fine { IfOk result (λ v. IsFine (S.state store.new) S.number v) }
+    ensures settled { OnOk result (StringsSettled (S.state store.new) S.number value.now) }
     ensures did { GivesValue S.number (S.state store.old) (S.state store.new) result
         (uri_call (outcome_of which) (S.state store.old).limit
         (seen (S.state store.old) S.number value.now)) }
@@ -74,6 +77,7 @@ fn give_uri<S: Strings>(
     requires { IsKnown (S.state store.old) (S.number s) }
     ensures grows { Grows (S.state store.old) (S.state store.new) }
     ensures fine { IfOk result (λ v. IsFine (S.state store.new) S.number v) }
+    ensures settled { OnOk result (IsSettled (S.state store.new) (S.number s)) }
     ensures did { (t : ℕ) → settling (S.state store.old) (S.number s) ≤ wide_words t
         → GivesValue S.number (S.state store.old) (S.state store.new) result
         (uri_value (S.state store.old).limit t (outcome_of which (text (S.state store.old) (S.number s)))) }
@@ -105,6 +109,7 @@ fn answer<S: Strings>(
     ensures value { IfOk result
         (λ r. HasUriOutcome (S.state store.new) (S.number r)
         (outcome_of which (text (S.state store.old) (S.number s)))) }
+    ensures settled { OnOk result (IsSettled (S.state store.new) (S.number s)) }
     ensures throws { Throws result (S.state store.old).limit
         (outcome_of which (text (S.state store.old) (S.number s))) }
     ensures uses { Uses (S.state store.old) (S.state store.new) (uri_full_of result) 1

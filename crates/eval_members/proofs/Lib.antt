@@ -1,6 +1,7 @@
 mod Calls
 mod Joined
 mod Pads
+mod Fillers
 mod Parts
 mod Made
 mod Replacements

@@ -7,11 +7,12 @@ ghost use Rattle.js_texts.specs.Texts.{known_texts as texts_seen, AllKnown, AllS
 ghost use Rattle.eval_values.specs.Conversions.{list_units};
 ghost use Rattle.eval_members.specs.Arrays.{as_number, indexed_text, indexed_list, indexed_other, indexed, joined_with, join_call, list_call};
 ghost use Rattle.eval_members.specs.Reading.{maybe_text};
-ghost use Rattle.eval_members.specs.Settled.{IndexSettles, ListSettled, UnitSettled};
+ghost use Rattle.eval_members.specs.Settled.{IndexSettles, KeySettled, ListSettled, ListOperandsSettled, UnitSettled};
 ghost use Rattle.js_item.specs.Seen.{seen};
 ghost use Rattle.js_item.specs.Fine.{IsFine};
 ghost use Rattle.eval_values.specs.Seen.{all_seen, AllFine};
 ghost use Rattle.eval_values.specs.Does.{GivesValue};
+ghost use Rattle.eval_values.specs.Settled.{OfFirst, StringsSettled};
 
 use crate::properties::read_indexed;
 use eval_tree::Method;
@@ -34,6 +35,7 @@ pub fn read_index<S: Strings>(
     ensures fine { IfOk result (λ v. IsFine (S.state store.new) S.number v) }
     ensures settled { OnOk result (IndexSettles (S.state store.old) (S.state store.new) S.number value.now
         (as_number (seen (S.state store.old) S.number index.now))) }
+    ensures key_settled { OnOk result (KeySettled (S.state store.new) S.number value.now index.now) }
     ensures did { GivesValue S.number (S.state store.old) (S.state store.new) result
         (indexed at (S.state store.old).limit (seen (S.state store.old) S.number value.now)
         (seen (S.state store.old) S.number index.now)) }
@@ -155,6 +157,7 @@ pub fn call_list<S: Strings>(
     ensures grows { Grows (S.state store.old) (S.state store.new) }
     ensures fine { IfOk result (λ v. IsFine (S.state store.new) S.number v) }
     ensures settled { OnOk result (ListSettled method (S.state store.new) S.number list.now) }
+    ensures operands_settled { OnOk result (ListOperandsSettled method (S.state store.new) S.number args.now) }
     ensures did { (t : ℕ) → GivesValue S.number (S.state store.old) (S.state store.new) result
         (list_call method at (S.state store.old).limit t (texts_seen (S.state store.old) S.number list.now)
         (all_seen (S.state store.old) S.number args.now)) }
@@ -183,6 +186,8 @@ fn call_join<S: Strings>(
     ensures grows { Grows (S.state store.old) (S.state store.new) }
     ensures fine { IfOk result (λ v. IsFine (S.state store.new) S.number v) }
     ensures settled { OnOk result (AllSettled (S.state store.new) S.number list.now) }
+    ensures separator_settled { OnOk result
+        (OfFirst (λ v. StringsSettled (S.state store.new) S.number v) args.now) }
     ensures did { GivesValue S.number (S.state store.old) (S.state store.new) result
         (join_call (S.state store.old).limit (texts_seen (S.state store.old) S.number list.now)
         (all_seen (S.state store.old) S.number args.now)) }
@@ -226,6 +231,7 @@ fn join_with<S: Strings>(
     ensures grows { Grows (S.state store.old) (S.state store.new) }
     ensures fine { IfOk result (λ v. IsFine (S.state store.new) S.number v) }
     ensures settled { OnOk result (AllSettled (S.state store.new) S.number list.now) }
+    ensures separator_settled { OnOk result (IsSettled (S.state store.new) (S.number sep)) }
     ensures did { (t : ℕ) → list_units (texts_seen (S.state store.old) S.number list.now)
         + length (text (S.state store.old) (S.number sep)) ≤ t + 40 → GivesValue S.number (S.state store.old)
         (S.state store.new) result

@@ -1,12 +1,14 @@
 // Methods that make longer strings.
-ghost use Rattle.std.specs.Prelude.{ℕ, IfOk};
+ghost use Rattle.std.specs.Prelude.{ℕ, IfOk, OnOk};
 ghost use Rattle.js_store.specs.State.{Grows, IsKnown, text};
+ghost use Rattle.js_texts.specs.Texts.{Every};
 ghost use Rattle.eval_values.specs.Limited.{within};
 ghost use Rattle.eval_members.specs.Building.{joined_text, one_joined, concat_call};
 ghost use Rattle.js_item.specs.Seen.{seen};
 ghost use Rattle.js_item.specs.Fine.{IsFine};
 ghost use Rattle.eval_values.specs.Seen.{all_seen, AllFine};
 ghost use Rattle.eval_values.specs.Does.{GivesValue, GivesText};
+ghost use Rattle.eval_values.specs.Settled.{ElementsSettled};
 
 use eval_values::{Kind, Stop, Value, to_text};
 use js_store::Strings;
@@ -23,6 +25,7 @@ pub fn call_concat<S: Strings>(
     requires args { AllFine (S.state store.old) S.number args.now }
     ensures grows { Grows (S.state store.old) (S.state store.new) }
     ensures fine { IfOk result (λ v. IsFine (S.state store.new) S.number v) }
+    ensures read { OnOk result (Every (λ v. ElementsSettled (S.state store.new) S.number v) args.now) }
     ensures did { GivesValue S.number (S.state store.old) (S.state store.new) result
         (concat_call (S.state store.old).limit (text (S.state store.old) (S.number s))
         (all_seen (S.state store.old) S.number args.now)) }
@@ -45,6 +48,7 @@ fn join_one<S: Strings>(
     requires fine { IsFine (S.state store.old) S.number value.now }
     ensures grows { Grows (S.state store.old) (S.state store.new) }
     ensures known { IfOk result (λ r. IsKnown (S.state store.new) (S.number r)) }
+    ensures read { OnOk result (ElementsSettled (S.state store.new) S.number value.now) }
     ensures did { GivesText S.number (S.state store.old) (S.state store.new) result
         (one_joined (S.state store.old).limit (text (S.state store.old) (S.number s))
         (seen (S.state store.old) S.number value.now)) }

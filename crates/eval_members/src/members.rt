@@ -7,7 +7,7 @@ ghost use Rattle.js_item.specs.Contents;
 ghost use Rattle.js_methods.specs.WellFormed.{all_paired};
 ghost use Rattle.eval_values.specs.Conversions.{all_units};
 ghost use Rattle.eval_members.specs.Members.{length_property, description_of, present as present_out, string_call, called};
-ghost use Rattle.eval_members.specs.Settled.{StringSettled, CallSettles};
+ghost use Rattle.eval_members.specs.Settled.{StringSettled, CallSettles, OperandsSettled, StringOperandsSettled};
 ghost use Rattle.js_item.specs.Seen.{seen};
 ghost use Rattle.js_item.specs.Fine.{IsFine};
 ghost use Rattle.eval_values.specs.Seen.{all_seen, AllFine};
@@ -107,6 +107,8 @@ pub fn call<S: Strings>(
     ensures fine { IfOk result (λ v. IsFine (S.state store.new) S.number v) }
     ensures settled { OnOk result (CallSettles method at (S.state store.old) (S.state store.new) S.number
         value.now (all_seen (S.state store.old) S.number args.now)) }
+    ensures operands_settled { OnOk result (OperandsSettled method at (S.state store.old) (S.state store.new)
+        S.number value.now args.now) }
     ensures did { GivesValue S.number (S.state store.old) (S.state store.new) result
         (called method at (S.state store.old).limit (seen (S.state store.old) S.number value.now)
         (all_seen (S.state store.old) S.number args.now)) }
@@ -138,6 +140,8 @@ fn call_string<S: Strings>(
     ensures fine { IfOk result (λ v. IsFine (S.state store.new) S.number v) }
     ensures settled { OnOk result (StringSettled method at (S.state store.new) (S.number s)
         (text (S.state store.old) (S.number s)) (all_seen (S.state store.old) S.number args.now)) }
+    ensures operands_settled { OnOk result (StringOperandsSettled method at (S.state store.old)
+        (S.state store.new) S.number (text (S.state store.old) (S.number s)) args.now) }
     ensures did { GivesValue S.number (S.state store.old) (S.state store.new) result
         (string_call method at (S.state store.old).limit
         (length (text (S.state store.old) (S.number s))

@@ -26,6 +26,7 @@ pub(crate) fn operands<'a, S: Strings>(
     args: &'a [Value<S::Ref>],
 ) -> &'a [Value<S::Ref>]
     requires { AllFine (S.state _store.now) S.number args.now }
+    ensures taken { result.now ≡ operands_of method args.now }
     ensures seen { all_seen (S.state _store.now) S.number result.now ≡ operands_of method
         (all_seen (S.state _store.now) S.number args.now) }
     ensures fine { AllFine (S.state _store.now) S.number result.now }

@@ -1,15 +1,16 @@
 // Methods that repeat a string or a filler.
-ghost use Rattle.std.specs.Prelude.{◌≡◌, ◌+◌, ◌∷◌, [], length, IfOk};
-ghost use Rattle.js_store.specs.State.{NamesUnits, Grows, IsKnown, text};
+ghost use Rattle.std.specs.Prelude.{◌≡◌, ◌+◌, ◌-◌, ◌∷◌, [], length, IfOk, OnOk};
+ghost use Rattle.js_store.specs.State.{NamesUnits, Grows, IsKnown, IsSettled, text};
 ghost use Rattle.js_store.specs.Faults.{Uses};
 ghost use Rattle.js_texts.specs.Answers.{method_fault_of, ThrowsLong};
 ghost use Rattle.js_methods.specs.Padding as methods;
 ghost use Rattle.eval_values.specs.Conversions.{to_number};
-ghost use Rattle.eval_values.specs.Arguments.{first_of, second_of};
+ghost use Rattle.eval_values.specs.Arguments.{first_of, second_of, second_units};
 ghost use Rattle.eval_values.specs.Limited.{within};
 ghost use Rattle.eval_values.specs.Need.{pad_ids, pad_words};
 ghost use Rattle.eval_members.specs.Padding.{filled, padded, pad_call, repeat_call};
 ghost use Rattle.eval_members.specs.Members.{padded_of};
+ghost use Rattle.eval_members.specs.Settled.{FillerSettled, PadSettled};
 ghost use Rattle.js_item.specs.Fine.{IsFine};
 ghost use Rattle.eval_values.specs.Seen.{all_seen, AllFine};
 ghost use Rattle.eval_values.specs.Does.{GivesValue};
@@ -60,6 +61,10 @@ pub fn call_pad<S: Strings>(
     requires args { AllFine (S.state store.old) S.number args.now }
     ensures grows { Grows (S.state store.old) (S.state store.new) }
     ensures fine { IfOk result (λ v. IsFine (S.state store.new) S.number v) }
+    ensures filler_settled { OnOk result (PadSettled (S.state store.new) S.number
+        (length (text (S.state store.old) (S.number s)))
+        (second_units (all_seen (S.state store.old) S.number args.now))
+        (to_number at (first_of (all_seen (S.state store.old) S.number args.now))) args.now) }
     ensures did { GivesValue S.number (S.state store.old) (S.state store.new) result
         (pad_call (S.state store.old).limit (padded_of pad (text (S.state store.old) (S.number s)))
         (text (S.state store.old) (S.number s))
@@ -83,6 +88,9 @@ fn pad_to<S: Strings>(
     requires args { AllFine (S.state store.old) S.number args.now }
     ensures grows { Grows (S.state store.old) (S.state store.new) }
     ensures fine { IfOk result (λ v. IsFine (S.state store.new) S.number v) }
+    ensures filler_settled { OnOk result (FillerSettled (S.state store.new) S.number
+        (max - length (text (S.state store.old) (S.number s)))
+        (second_units (all_seen (S.state store.old) S.number args.now)) args.now) }
     ensures did { GivesValue S.number (S.state store.old) (S.state store.new) result
         (padded (S.state store.old).limit (padded_of pad (text (S.state store.old) (S.number s)))
         (text (S.state store.old) (S.number s)) max
@@ -108,6 +116,9 @@ fn fill<S: Strings>(
     requires args { AllFine (S.state store.old) S.number args.now }
     ensures grows { Grows (S.state store.old) (S.state store.new) }
     ensures fine { IfOk result (λ v. IsFine (S.state store.new) S.number v) }
+    ensures filler_settled { OnOk result (FillerSettled (S.state store.new) S.number
+        (max - length (text (S.state store.old) (S.number s)))
+        (second_units (all_seen (S.state store.old) S.number args.now)) args.now) }
     ensures did { GivesValue S.number (S.state store.old) (S.state store.new) result
         (filled (S.state store.old).limit (padded_of pad (text (S.state store.old) (S.number s)))
         (text (S.state store.old) (S.number s)) max
@@ -168,6 +179,10 @@ fn pad_with<S: Strings>(
     requires filler_known { IsKnown (S.state store.old) (S.number w) }
     ensures grows { Grows (S.state store.old) (S.state store.new) }
     ensures fine { IfOk result (λ v. IsFine (S.state store.new) S.number v) }
+    ensures filler_settled { methods.CutsFiller
+        (max - length (text (S.state store.old) (S.number s)))
+        (length (text (S.state store.old) (S.number w)))
+        → OnOk result (IsSettled (S.state store.new) (S.number w)) }
     ensures did { GivesValue S.number (S.state store.old) (S.state store.new) result
         (within (S.state store.old).limit pad_ids
         (λ _. pad_words
@@ -193,6 +208,10 @@ fn padded_with<S: Strings>(
         (λ r. NamesUnits (S.state store.new) (S.number r)
         (padded_of pad (text (S.state store.old) (S.number s)) max
         (text (S.state store.old) (S.number w)))) }
+    ensures filler_settled { methods.CutsFiller
+        (max - length (text (S.state store.old) (S.number s)))
+        (length (text (S.state store.old) (S.number w)))
+        → OnOk result (IsSettled (S.state store.new) (S.number w)) }
     ensures throws { ThrowsLong result (S.state store.old).limit
         (length (padded_of pad (text (S.state store.old) (S.number s)) max
         (text (S.state store.old) (S.number w)))) }

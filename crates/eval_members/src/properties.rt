@@ -1,6 +1,6 @@
 // Properties of objects, by their keys (ECMA-262, "OrdinaryGet").
-ghost use Rattle.std.specs.Prelude.{◌≡◌, ◌≤◌, ◌||◌, IfOk, bytes_eq, codes};
-ghost use Rattle.js_store.specs.State.{Grows, IsKnown, text};
+ghost use Rattle.std.specs.Prelude.{◌≡◌, ◌≤◌, ◌||◌, IfOk, OnOk, bytes_eq, codes};
+ghost use Rattle.js_store.specs.State.{Grows, IsKnown, IsSettled, text};
 ghost use Rattle.js_item.specs.Fine.{IsFine, KeyFine, FineFields, Bounded, strings_of};
 ghost use Rattle.js_item.specs.Seen.{seen, says, fields_mapped};
 ghost use Rattle.std.specs.Prelude.{unwrap_or, length};
@@ -8,6 +8,7 @@ ghost use Rattle.js_item.specs.Contents.{undefined};
 ghost use Rattle.eval_values.specs.Outcome.{needing};
 ghost use Rattle.eval_values.specs.Need.{nothing};
 ghost use Rattle.eval_values.specs.Does.{GivesValue, GivesText};
+ghost use Rattle.eval_values.specs.Settled.{StringsSettled};
 ghost use Rattle.eval_members.specs.Properties.{is_inherited, key_out, own, lacking, got, property, plain_property, spelled_property, property_of, keyed, indexed_object};
 
 use eval_values::{Kind, Stop, Value, to_text};
@@ -75,6 +76,7 @@ pub fn read_indexed<S: Strings>(
     requires index { IsFine (S.state store.old) S.number index.now }
     ensures grows { Grows (S.state store.old) (S.state store.new) }
     ensures fine { IfOk result (λ v. IsFine (S.state store.new) S.number v) }
+    ensures key_settled { OnOk result (StringsSettled (S.state store.new) S.number index.now) }
     ensures did { GivesValue S.number (S.state store.old) (S.state store.new) result
         (indexed_object at (S.state store.old).limit
         (fields_mapped (says (S.state store.old) S.number) object.now)
@@ -104,6 +106,7 @@ fn read_keyed<S: Strings>(
     requires index { IsFine (S.state store.old) S.number index.now }
     ensures grows { Grows (S.state store.old) (S.state store.new) }
     ensures fine { IfOk result (λ v. IsFine (S.state store.new) S.number v) }
+    ensures key_settled { OnOk result (StringsSettled (S.state store.new) S.number index.now) }
     ensures did { GivesValue S.number (S.state store.old) (S.state store.new) result
         (keyed at (S.state store.old).limit
         (fields_mapped (says (S.state store.old) S.number) object.now)
@@ -125,6 +128,7 @@ fn read_by_text<S: Strings>(
     requires known { IsKnown (S.state store.old) (S.number s) }
     ensures grows { Grows (S.state store.old) (S.state store.new) }
     ensures fine { IfOk result (λ v. IsFine (S.state store.new) S.number v) }
+    ensures settled { OnOk result (IsSettled (S.state store.new) (S.number s)) }
     ensures did { GivesValue S.number (S.state store.old) (S.state store.new) result
         (property at (text (S.state store.old) (S.number s))
         (fields_mapped (says (S.state store.old) S.number) object.now)) }
@@ -166,6 +170,7 @@ fn intern<S: Strings>(store: &mut S, s: S::Ref) -> Result<S::Ref, Stop>
     requires { IsKnown (S.state store.old) (S.number s) }
     ensures grows { Grows (S.state store.old) (S.state store.new) }
     ensures key { IfOk result (λ r. KeyFine (strings_of (S.state store.new)) (S.number r)) }
+    ensures settled { OnOk result (IsSettled (S.state store.new) (S.number s)) }
     ensures did { GivesText S.number (S.state store.old) (S.state store.new) result
         (key_out (text (S.state store.old) (S.number s))) }
 {

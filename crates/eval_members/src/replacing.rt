@@ -12,6 +12,7 @@ ghost use Rattle.js_item.specs.Seen.{seen};
 ghost use Rattle.js_item.specs.Fine.{IsFine};
 ghost use Rattle.eval_values.specs.Seen.{all_seen, AllFine};
 ghost use Rattle.eval_values.specs.Does.{GivesValue};
+ghost use Rattle.eval_values.specs.Settled.{OfFirst, OfSecond, StringsSettled};
 
 use eval_values::{Stop, Value, to_text};
 use js_store::Strings;
@@ -38,6 +39,10 @@ pub fn call_replace<S: Strings>(
     ensures grows { Grows (S.state store.old) (S.state store.new) }
     ensures fine { IfOk result (λ v. IsFine (S.state store.new) S.number v) }
     ensures settled { OnOk result (IsSettled (S.state store.new) (S.number s)) }
+    ensures searched_settled { OnOk result
+        (OfFirst (λ v. StringsSettled (S.state store.new) S.number v) args.now) }
+    ensures template_settled { OnOk result
+        (OfSecond (λ v. StringsSettled (S.state store.new) S.number v) args.now) }
     ensures did { GivesValue S.number (S.state store.old) (S.state store.new) result
         (replace_call (S.state store.old).limit
         (length (text (S.state store.old) (S.number s))
@@ -81,6 +86,8 @@ fn replace_values<S: Strings>(
     ensures grows { Grows (S.state store.old) (S.state store.new) }
     ensures fine { IfOk result (λ v. IsFine (S.state store.new) S.number v) }
     ensures settled { OnOk result (IsSettled (S.state store.new) (S.number s)) }
+    ensures searched_settled { OnOk result (StringsSettled (S.state store.new) S.number searched.now) }
+    ensures template_settled { OnOk result (StringsSettled (S.state store.new) S.number template.now) }
     ensures did { (o m t : ℕ) → length (text (S.state store.old) (S.number s))
         + (text_units (seen (S.state store.old) S.number searched.now)
         + text_units (seen (S.state store.old) S.number template.now)) ≤ t → GivesValue S.number
@@ -112,6 +119,8 @@ fn give_replaced<S: Strings>(
     ensures grows { Grows (S.state store.old) (S.state store.new) }
     ensures fine { IfOk result (λ v. IsFine (S.state store.new) S.number v) }
     ensures settled { OnOk result (IsSettled (S.state store.new) (S.number s)) }
+    ensures needle_settled { OnOk result (IsSettled (S.state store.new) (S.number w)) }
+    ensures template_settled { OnOk result (IsSettled (S.state store.new) (S.number template)) }
     ensures did { (t : ℕ) → length (text (S.state store.old) (S.number s))
         + (length (text (S.state store.old) (S.number w))
         + length (text (S.state store.old) (S.number template))) ≤ t + 80 → GivesValue S.number
@@ -142,6 +151,8 @@ fn replaced<S: Strings>(
         (replaced_of replace (text (S.state store.old) (S.number s))
         (text (S.state store.old) (S.number w)) (text (S.state store.old) (S.number template)))) }
     ensures settled { OnOk result (IsSettled (S.state store.new) (S.number s)) }
+    ensures needle_settled { OnOk result (IsSettled (S.state store.new) (S.number w)) }
+    ensures template_settled { OnOk result (IsSettled (S.state store.new) (S.number template)) }
     ensures throws { ThrowsLong result (S.state store.old).limit
         (length (replaced_of replace (text (S.state store.old) (S.number s))
         (text (S.state store.old) (S.number w)) (text (S.state store.old) (S.number template)))) }

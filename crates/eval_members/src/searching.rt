@@ -17,6 +17,7 @@ ghost use Rattle.js_item.specs.Seen.{seen};
 ghost use Rattle.js_item.specs.Fine.{IsFine};
 ghost use Rattle.eval_values.specs.Seen.{all_seen, AllFine, LawfulEnd};
 ghost use Rattle.eval_values.specs.Does.{GivesValue};
+ghost use Rattle.eval_values.specs.Settled.{OfFirst, StringsSettled};
 
 use eval_values::{Abrupt, Stop, Value, first_text, second_number, second_or_none};
 use js_number::Num;
@@ -47,6 +48,8 @@ pub fn call_search<S: Strings>(
     ensures grows { Grows (S.state store.old) (S.state store.new) }
     ensures fine { IfOk result (λ v. IsFine (S.state store.new) S.number v) }
     ensures settled { OnOk result (IsSettled (S.state store.new) (S.number s)) }
+    ensures needle_settled { OnOk result
+        (OfFirst (λ v. StringsSettled (S.state store.new) S.number v) args.now) }
     ensures did { GivesValue S.number (S.state store.old) (S.state store.new) result
         (search_call (S.state store.old).limit
         (length (text (S.state store.old) (S.number s))
@@ -76,6 +79,7 @@ fn find<S: Strings>(
     ensures grows { Grows (S.state store.old) (S.state store.new) }
     ensures fine { IfOk result (λ v. IsFine (S.state store.new) S.number v) }
     ensures settled { OnOk result (IsSettled (S.state store.new) (S.number s)) }
+    ensures needle_settled { OnOk result (IsSettled (S.state store.new) (S.number w)) }
     ensures did { (t : ℕ) → length (text (S.state store.old) (S.number s))
         + length (text (S.state store.old) (S.number w)) ≤ t + 40 → GivesValue S.number (S.state store.old)
         (S.state store.new) result
@@ -101,6 +105,7 @@ fn searched<S: Strings>(
         (text (S.state store.old) (S.number w)) n) }
     ensures fine { IfOk result (λ v. IsFine (S.state store.new) S.number v) }
     ensures settled { OnOk result (IsSettled (S.state store.new) (S.number s)) }
+    ensures needle_settled { OnOk result (IsSettled (S.state store.new) (S.number w)) }
     ensures throws { NeverThrows result }
     ensures uses { Uses (S.state store.old) (S.state store.new) (method_fault_of result)
         0 (wide_words (length (text (S.state store.old) (S.number s)))
@@ -138,6 +143,8 @@ pub fn call_ends_with<S: Strings>(
     ensures grows { Grows (S.state store.old) (S.state store.new) }
     ensures fine { IfOk result (λ v. IsFine (S.state store.new) S.number v) }
     ensures settled { OnOk result (IsSettled (S.state store.new) (S.number s)) }
+    ensures needle_settled { OnOk result
+        (OfFirst (λ v. StringsSettled (S.state store.new) S.number v) args.now) }
     ensures did { GivesValue S.number (S.state store.old) (S.state store.new) result
         (search_call (S.state store.old).limit
         (length (text (S.state store.old) (S.number s))
@@ -165,6 +172,7 @@ fn find_end<S: Strings>(
     ensures grows { Grows (S.state store.old) (S.state store.new) }
     ensures fine { IfOk result (λ v. IsFine (S.state store.new) S.number v) }
     ensures settled { OnOk result (IsSettled (S.state store.new) (S.number s)) }
+    ensures needle_settled { OnOk result (IsSettled (S.state store.new) (S.number w)) }
     ensures did { (t : ℕ) → length (text (S.state store.old) (S.number s))
         + length (text (S.state store.old) (S.number w)) ≤ t + 40 → GivesValue S.number (S.state store.old)
         (S.state store.new) result

@@ -7,6 +7,7 @@ ghost use Rattle.eval_members.specs.Arrays.{most_parts as most_of, split_into, s
 ghost use Rattle.js_item.specs.Fine.{IsFine};
 ghost use Rattle.eval_values.specs.Seen.{all_seen, AllFine};
 ghost use Rattle.eval_values.specs.Does.{GivesValue};
+ghost use Rattle.eval_values.specs.Settled.{OfFirst, StringsSettled};
 
 use eval_values::{Stop, Value, first_is_missing, first_text, second_or_none};
 use js_number::Num;
@@ -27,6 +28,8 @@ pub fn call_split<S: Strings>(
     ensures fine { IfOk result (λ v. IsFine (S.state store.new) S.number v) }
     ensures settled { OnOk result (is_undefined (first_of (all_seen (S.state store.old) S.number args.now)) ≡ false
         → IsSettled (S.state store.new) (S.number s)) }
+    ensures separator_settled { OnOk result
+        (OfFirst (λ v. StringsSettled (S.state store.new) S.number v) args.now) }
     ensures did { GivesValue S.number (S.state store.old) (S.state store.new) result
         (split_call (S.state store.old).limit (text (S.state store.old) (S.number s))
         (all_seen (S.state store.old) S.number args.now)
@@ -60,6 +63,8 @@ fn split_most<S: Strings>(
     ensures fine { IfOk result (λ v. IsFine (S.state store.new) S.number v) }
     ensures settled { OnOk result (is_undefined (first_of (all_seen (S.state store.old) S.number args.now)) ≡ false
         → IsSettled (S.state store.new) (S.number s)) }
+    ensures separator_settled { OnOk result
+        (OfFirst (λ v. StringsSettled (S.state store.new) S.number v) args.now) }
     ensures did { GivesValue S.number (S.state store.old) (S.state store.new) result
         (split_out (S.state store.old).limit (text (S.state store.old) (S.number s))
         (all_seen (S.state store.old) S.number args.now) most) }
@@ -102,6 +107,7 @@ fn split_by<S: Strings>(
     ensures grows { Grows (S.state store.old) (S.state store.new) }
     ensures fine { IfOk result (λ v. IsFine (S.state store.new) S.number v) }
     ensures settled { OnOk result (IsSettled (S.state store.new) (S.number s)) }
+    ensures separator_settled { OnOk result (IsSettled (S.state store.new) (S.number sep)) }
     ensures did { (t : ℕ) → length (text (S.state store.old) (S.number s))
         + length (text (S.state store.old) (S.number sep)) ≤ t + 40 → GivesValue S.number (S.state store.old)
         (S.state store.new) result

@@ -3,6 +3,7 @@ pub mod Each
 pub mod Needs
 pub mod ListTexts
 pub mod Still
+pub mod Settled
 pub mod Strings
 pub mod Sums
 mod Orders

@@ -5,6 +5,7 @@ pub mod Operators
 pub mod Comparing
 pub mod Arguments
 pub mod Seen
+pub mod Settled
 pub mod Ran
 pub mod Does
 pub mod Stops

@@ -11,6 +11,7 @@ ghost use Rattle.js_item.specs.Seen.{seen};
 ghost use Rattle.js_item.specs.Fine.{IsFine};
 ghost use Rattle.eval_values.specs.Seen.{all_seen, AllFine, LawfulEnd};
 ghost use Rattle.eval_values.specs.Does.{GivesText};
+ghost use Rattle.eval_values.specs.Settled.{IsFirstText, IsSecondText};
 
 use crate::conversions::{abrupt_of_object, number_of, to_text};
 use crate::value::{Abrupt, Kind, Stop, Value};
@@ -30,6 +31,7 @@ pub fn first_text<S: Strings>(
     ensures short { IfOk result
         (λ r. length (text (S.state store.new) (S.number r))
         ≤ first_text_units (all_seen (S.state store.old) S.number args.now) + 40) }
+    ensures own { IfOk result (λ r. IsFirstText (S.state store.new) S.number args.now (S.number r)) }
     ensures did { GivesText S.number (S.state store.old) (S.state store.new) result
         (to_string (S.state store.old).limit (first_of (all_seen (S.state store.old) S.number args.now))) }
 {
@@ -51,6 +53,7 @@ pub fn second_text<S: Strings>(
     ensures short { IfOk result
         (λ r. length (text (S.state store.new) (S.number r))
         ≤ second_units (all_seen (S.state store.old) S.number args.now) + 40) }
+    ensures own { IfOk result (λ r. IsSecondText (S.state store.new) S.number args.now (S.number r)) }
     ensures did { GivesText S.number (S.state store.old) (S.state store.new) result
         (to_string (S.state store.old).limit (second_of (all_seen (S.state store.old) S.number args.now))) }
 {

@@ -12,6 +12,7 @@ ghost use Rattle.js_item.specs.Seen.{seen};
 ghost use Rattle.js_item.specs.Fine.{IsFine};
 ghost use Rattle.eval_values.specs.Seen.{IsKey, TextSettled, OneOrSettled, TextRead, TextsRead};
 ghost use Rattle.eval_values.specs.Does.{GivesPlain};
+ghost use Rattle.eval_values.specs.Settled.{StringsSettled};
 
 use crate::operators::{to_primitive, two_numbers};
 use crate::value::{Stop, Value};
@@ -259,7 +260,7 @@ fn order_of(a: Num, b: Num) -> Option<Ordering>
 }
 
 /// The order of two values, of which arrays and objects become strings first; none where one is NaN.
-/// Two strings are settled.
+/// Strings and the elements of arrays are settled.
 pub fn compare<S: Strings>(
     alloc: Global,
     store: &mut S,
@@ -270,8 +271,8 @@ pub fn compare<S: Strings>(
     requires left { IsFine (S.state store.old) S.number left.now }
     requires right { IsFine (S.state store.old) S.number right.now }
     ensures grows { Grows (S.state store.old) (S.state store.new) }
-    ensures left_settled { OnOk result (TextSettled (S.state store.new) S.number left.now) }
-    ensures right_settled { OnOk result (TextSettled (S.state store.new) S.number right.now) }
+    ensures left_settled { OnOk result (StringsSettled (S.state store.new) S.number left.now) }
+    ensures right_settled { OnOk result (StringsSettled (S.state store.new) S.number right.now) }
     ensures did { GivesPlain (S.state store.old) (S.state store.new) result
         (order_out at (S.state store.old).limit
         (seen (S.state store.old) S.number left.now) (seen (S.state store.old) S.number right.now)) }

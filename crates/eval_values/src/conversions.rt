@@ -10,12 +10,13 @@ ghost use Rattle.js_store.specs.Rows.{wide_words, settle_words};
 ghost use Rattle.js_item.specs.Contents;
 ghost use Rattle.eval_values.specs.Outcome.{each, fails};
 ghost use Rattle.eval_values.specs.Conversions.{spelled, to_string, is_text, to_number, to_boolean, number_truth, list_string, object_string, own_to_string, comma_joined, text_units};
-ghost use Rattle.js_texts.specs.Texts.{known_texts as texts_seen, AllKnown, AllSettled, settle_most};
+ghost use Rattle.js_texts.specs.Texts.{known_texts as texts_seen, Every, AllKnown, AllSettled, settle_most};
 ghost use Rattle.eval_values.specs.Stops.{converted_of, ending_of};
 ghost use Rattle.js_item.specs.Seen.{seen, says, fields_mapped};
 ghost use Rattle.js_item.specs.Fine.{IsFine, FineFields, strings_of};
 ghost use Rattle.eval_values.specs.Seen.{all_seen, AllFine};
 ghost use Rattle.eval_values.specs.Does.{GivesText, GivesTexts, string_words};
+ghost use Rattle.eval_values.specs.Settled.{IsTextOf, ElementsSettled};
 
 use crate::lists::push;
 use crate::value::{Abrupt, Kind, Stop, Value};
@@ -26,7 +27,8 @@ use js_texts::MethodFault;
 use js_units::Units;
 use std::alloc::Global;
 
-/// ToString of a value. A string that is made here is settled, and short.
+/// ToString of a value. A string is its own; the elements of an array are settled, and so is a string
+/// that is made here, which is short unless it is an array's.
 pub fn to_text<S: Strings>(
     alloc: Global,
     store: &mut S,
@@ -42,6 +44,7 @@ pub fn to_text<S: Strings>(
         (λ r. settle_words ((S.state store.new).settled (S.number r))
         (length (text (S.state store.new) (S.number r)))
         ≤ wide_words (text_units (seen (S.state store.old) S.number value.now))) }
+    ensures own { IfOk result (λ r. IsTextOf (S.state store.new) S.number value.now (S.number r)) }
     ensures did { GivesText S.number (S.state store.old) (S.state store.new) result
         (to_string (S.state store.old).limit (seen (S.state store.old) S.number value.now)) }
 {
@@ -67,6 +70,7 @@ fn list_text<S: Strings>(alloc: Global, store: &mut S, list: &[S::Ref]) -> Resul
         (λ r. text (S.state store.new) (S.number r)
         ≡ comma_joined (texts_seen (S.state store.old) S.number list.now)) }
     ensures settled { IfOk result (λ r. IsSettled (S.state store.new) (S.number r)) }
+    ensures read { OnOk result (AllSettled (S.state store.new) S.number list.now) }
     ensures did { GivesText S.number (S.state store.old) (S.state store.new) result
         (list_string (S.state store.old).limit (texts_seen (S.state store.old) S.number list.now)) }
 {
@@ -242,7 +246,7 @@ fn is_nonzero(n: Num) -> bool
     }
 }
 
-/// ToString of values, from left to right.
+/// ToString of values, from left to right. The elements of arrays are settled.
 pub fn texts<S: Strings>(
     alloc: Global,
     store: &mut S,
@@ -254,6 +258,7 @@ pub fn texts<S: Strings>(
     ensures settles { IfOk result
         (λ v. settle_most (S.state store.new) S.number v.items
         ≤ string_words (all_seen (S.state store.old) S.number values.now)) }
+    ensures read { OnOk result (Every (λ v. ElementsSettled (S.state store.new) S.number v) values.now) }
     ensures did { GivesTexts S.number (S.state store.old) (S.state store.new) result
         (each (to_string (S.state store.old).limit) (all_seen (S.state store.old) S.number values.now)) }
 {

@@ -1,5 +1,5 @@
 // Operators on values (ECMA-262, "Additive Operators" and "Unary Operators").
-ghost use Rattle.std.specs.Prelude.{◌≡◌, ◌≤◌, ◌+◌, ◌||◌, length, IfOk, IfSome, None};
+ghost use Rattle.std.specs.Prelude.{◌≡◌, ◌≤◌, ◌+◌, ◌||◌, length, IfOk, OnOk, IfSome, None};
 ghost use Rattle.js_number.specs.Places.{IsLawful};
 ghost use Rattle.js_store.specs.State.{Grows, IsKnown, text};
 ghost use Rattle.js_store.specs.Faults.{Uses};
@@ -12,6 +12,7 @@ ghost use Rattle.js_item.specs.Seen.{seen};
 ghost use Rattle.js_item.specs.Fine.{IsFine};
 ghost use Rattle.eval_values.specs.Seen.{OwnText};
 ghost use Rattle.eval_values.specs.Does.{GivesValue};
+ghost use Rattle.eval_values.specs.Settled.{ElementsSettled};
 
 use crate::conversions::{is_string, number_of, to_text, truth};
 use crate::value::{Abrupt, Kind, Stop, Value};
@@ -20,6 +21,7 @@ use js_store::{ConcatFault, Strings};
 use std::alloc::Global;
 
 /// `+` at the byte offset `at`, before which arrays and objects become strings ("Addition Operator").
+/// The elements of an array are settled; strings are joined as they are.
 pub fn plus<S: Strings>(
     alloc: Global,
     store: &mut S,
@@ -31,6 +33,8 @@ pub fn plus<S: Strings>(
     requires right { IsFine (S.state store.old) S.number right.now }
     ensures grows { Grows (S.state store.old) (S.state store.new) }
     ensures fine { IfOk result (λ v. IsFine (S.state store.new) S.number v) }
+    ensures left_read { OnOk result (ElementsSettled (S.state store.new) S.number left.now) }
+    ensures right_read { OnOk result (ElementsSettled (S.state store.new) S.number right.now) }
     ensures did { GivesValue S.number (S.state store.old) (S.state store.new) result
         (sum_out at (S.state store.old).limit (seen (S.state store.old) S.number left.now)
         (seen (S.state store.old) S.number right.now)) }
@@ -40,7 +44,8 @@ pub fn plus<S: Strings>(
     plus_primitives(alloc, store, at, &first, &second)
 }
 
-/// The primitive value of a value, which is no array and no object. A string is its own.
+/// The primitive value of a value, which is no array and no object. A string is its own; the elements
+/// of an array are settled.
 pub fn to_primitive<S: Strings>(
     alloc: Global,
     store: &mut S,
@@ -50,6 +55,7 @@ pub fn to_primitive<S: Strings>(
     ensures grows { Grows (S.state store.old) (S.state store.new) }
     ensures fine { IfOk result (λ v. IsFine (S.state store.new) S.number v) }
     ensures own { IfOk result (λ v. OwnText value.now v) }
+    ensures read { OnOk result (ElementsSettled (S.state store.new) S.number value.now) }
     ensures did { GivesValue S.number (S.state store.old) (S.state store.new) result
         (primitive (S.state store.old).limit (seen (S.state store.old) S.number value.now)) }
 {
@@ -73,6 +79,7 @@ fn text_value<S: Strings>(
     requires { IsFine (S.state store.old) S.number value.now }
     ensures grows { Grows (S.state store.old) (S.state store.new) }
     ensures fine { IfOk result (λ v. IsFine (S.state store.new) S.number v) }
+    ensures read { OnOk result (ElementsSettled (S.state store.new) S.number value.now) }
     ensures did { GivesValue S.number (S.state store.old) (S.state store.new) result
         (bind (to_string (S.state store.old).limit (seen (S.state store.old) S.number value.now))
         (λ u. gave (Contents.text u) free)) }

@@ -3,6 +3,8 @@ use Rattle.eval_members.specs.Members.{replaced_of, match_count}
 use Rattle.eval_members.proofs.Replacements.{searched_stops, template_stops, replace_does}
 use Rattle.js_store.proofs.Laws.{grows_trans}
 use Rattle.eval_values.proofs.Still.{fine_still}
+use Rattle.std.proofs.lemmas.Result.{on_ok_weaker}
+use Rattle.eval_values.proofs.Settled.{strings_read}
 use Rattle.eval_members.proofs.replacing.replace_values.Goals as goal
 
 pub returns-in_err-w-clause-did : goal.returns-in_err-w-clause-did
@@ -30,3 +32,17 @@ to_text-requires-2 g c = fine_still (g.S.Strings.state c.args.store.now) (g.S.St
 
 pub returns-clause-grows : goal.returns-clause-grows
 returns-clause-grows g c = grows_trans c.in_ok-w.ensures.grows (grows_trans c.in_ok-by.ensures.grows c.give_replaced.ensures.grows)
+
+pub returns-clause-searched_settled : goal.returns-clause-searched_settled
+returns-clause-searched_settled g c =
+    let state = g.S.Strings.state in
+    let number = g.S.Strings.number in
+    let e = c.give_replaced.ensures in
+    on_ok_weaker c.give_replaced.result (λ h. strings_read number (state c.to_text.new.store) (state c.give_replaced.new.store) (grows_trans c.in_ok-by.ensures.grows e.grows) c.args.searched.now (number c.in_ok-w.w) c.in_ok-w.ensures.own h) e.needle_settled
+
+pub returns-clause-template_settled : goal.returns-clause-template_settled
+returns-clause-template_settled g c =
+    let state = g.S.Strings.state in
+    let number = g.S.Strings.number in
+    let e = c.give_replaced.ensures in
+    on_ok_weaker c.give_replaced.result (λ h. strings_read number (state c.to_text-2.new.store) (state c.give_replaced.new.store) e.grows c.args.template.now (number c.in_ok-by.by) c.in_ok-by.ensures.own h) e.template_settled

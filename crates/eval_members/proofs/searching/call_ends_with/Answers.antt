@@ -13,6 +13,8 @@ use Rattle.eval_values.specs.Seen.{all_seen}
 use Rattle.eval_values.proofs.TextArguments.{text_fails}
 use Rattle.eval_values.proofs.Still.{values_fine_still}
 use Rattle.eval_members.proofs.Calls.{search_does, search_after}
+use Rattle.std.proofs.lemmas.Result.{on_ok_weaker}
+use Rattle.eval_values.proofs.Settled.{first_read}
 use Rattle.eval_members.proofs.searching.call_ends_with.Goals as goal
 
 pub returns-in_err-w-clause-did : goal.returns-in_err-w-clause-did
@@ -43,3 +45,10 @@ first_text-requires g c = values_fine_still (g.S.Strings.state c.args.store.now)
 
 pub returns-clause-grows : goal.returns-clause-grows
 returns-clause-grows g c = grows_trans c.second_or_none-end.ensures.uses.step.grows (grows_trans c.in_ok-w.ensures.grows c.find_end.ensures.grows)
+
+pub returns-clause-needle_settled : goal.returns-clause-needle_settled
+returns-clause-needle_settled g c =
+    let state = g.S.Strings.state in
+    let number = g.S.Strings.number in
+    let e = c.find_end.ensures in
+    on_ok_weaker c.find_end.result (λ h. first_read number (state c.first_text.new.store) (state c.find_end.new.store) e.grows c.args.args.now (number c.in_ok-w.w) c.in_ok-w.ensures.own h) e.needle_settled

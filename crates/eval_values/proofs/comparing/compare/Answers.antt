@@ -2,6 +2,8 @@ use Rattle.std.proofs.lemmas.Result.{err_from_is_err_and}
 use Rattle.js_store.proofs.Laws.{grows_trans}
 use Rattle.eval_values.proofs.Still.{fine_still}
 use Rattle.eval_values.proofs.Orders.{order_does, first_ends, second_ends}
+use Rattle.std.proofs.lemmas.Result.{on_ok_weaker}
+use Rattle.eval_values.proofs.Settled.{primitive_read}
 use Rattle.eval_values.proofs.comparing.compare.Goals as goal
 
 pub returns-in_err-first-clause-did : goal.returns-in_err-first-clause-did
@@ -29,3 +31,17 @@ returns-clause-grows g c = grows_trans (grows_trans c.in_ok-first.ensures.grows 
 
 pub to_primitive-requires-2 : goal.to_primitive-requires-2
 to_primitive-requires-2 g c = fine_still (g.S.Strings.state c.args.store.now) (g.S.Strings.state c.to_primitive.new.store) g.S.Strings.number c.in_ok-first.ensures.grows c.args.right.now c.requires.right
+
+pub returns-clause-left_settled : goal.returns-clause-left_settled
+returns-clause-left_settled g c =
+    let state = g.S.Strings.state in
+    let e = c.in_ok-first.ensures in
+    let f = c.compare_primitives.ensures in
+    on_ok_weaker c.compare_primitives.result (λ h. primitive_read g.S.Strings.number (state c.to_primitive.new.store) (state c.compare_primitives.new.store) (grows_trans c.in_ok-second.ensures.grows f.grows) c.args.left.now c.in_ok-first.first e.own e.read h) f.left_settled
+
+pub returns-clause-right_settled : goal.returns-clause-right_settled
+returns-clause-right_settled g c =
+    let state = g.S.Strings.state in
+    let e = c.in_ok-second.ensures in
+    let f = c.compare_primitives.ensures in
+    on_ok_weaker c.compare_primitives.result (λ h. primitive_read g.S.Strings.number (state c.to_primitive-2.new.store) (state c.compare_primitives.new.store) f.grows c.args.right.now c.in_ok-second.second e.own e.read h) f.right_settled

@@ -2,6 +2,8 @@ use Rattle.std.proofs.lemmas.Result.{err_from_is_err_and}
 use Rattle.js_store.proofs.Laws.{grows_trans}
 use Rattle.eval_values.proofs.Still.{fine_still}
 use Rattle.eval_values.proofs.Sums.{sum_does, first_ends, second_ends}
+use Rattle.eval_values.specs.Settled.{ElementsSettled}
+use Rattle.eval_values.proofs.Settled.{elements_still, on_ok_always}
 use Rattle.eval_values.proofs.operators.plus.Goals as goal
 
 pub returns-in_err-first-clause-did : goal.returns-in_err-first-clause-did
@@ -29,3 +31,19 @@ returns-clause-grows g c = grows_trans (grows_trans c.in_ok-first.ensures.grows 
 
 pub to_primitive-requires-2 : goal.to_primitive-requires-2
 to_primitive-requires-2 g c = fine_still (g.S.Strings.state c.args.store.now) (g.S.Strings.state c.to_primitive.new.store) g.S.Strings.number c.in_ok-first.ensures.grows c.args.right.now c.requires.right
+
+pub returns-clause-left_read : goal.returns-clause-left_read
+returns-clause-left_read g c =
+    let state = g.S.Strings.state in
+    let number = g.S.Strings.number in
+    let b = state c.to_primitive.new.store in
+    let d = state c.plus_primitives.new.store in
+    let e = c.in_ok-first.ensures in
+    on_ok_always c.plus_primitives.result (ElementsSettled d number c.args.left.now) (elements_still number b d (grows_trans c.in_ok-second.ensures.grows c.plus_primitives.ensures.grows) c.args.left.now e.read)
+
+pub returns-clause-right_read : goal.returns-clause-right_read
+returns-clause-right_read g c =
+    let state = g.S.Strings.state in
+    let number = g.S.Strings.number in
+    let d = state c.plus_primitives.new.store in
+    on_ok_always c.plus_primitives.result (ElementsSettled d number c.args.right.now) (elements_still number (state c.to_primitive-2.new.store) d c.plus_primitives.ensures.grows c.args.right.now c.in_ok-second.ensures.read)

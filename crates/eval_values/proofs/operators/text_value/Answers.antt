@@ -1,6 +1,8 @@
 use Rattle.std.proofs.lemmas.Result.{err_from_is_err_and}
 use Rattle.js_item.specs.Seen.{seen}
 use Rattle.eval_values.proofs.Sums.{text_given, text_ends}
+use Rattle.js_store.proofs.Laws.{grows_refl}
+use Rattle.eval_values.proofs.Settled.{elements_read}
 use Rattle.eval_values.proofs.operators.text_value.Goals as goal
 
 pub returns-in_err-text-clause-did : goal.returns-in_err-text-clause-did
@@ -18,3 +20,9 @@ returns-clause-did g c =
     let a = state c.args.store.now in
     let e = c.in_ok-text.ensures in
     text_given number a (state c.to_text.new.store) (seen a number c.args.value.now) c.in_ok-text.text e.known e.did
+
+pub returns-clause-read : goal.returns-clause-read
+returns-clause-read g c =
+    let number = g.S.Strings.number in
+    let b = g.S.Strings.state c.to_text.new.store in
+    elements_read number b b (grows_refl b) c.args.value.now (number c.in_ok-text.text) c.in_ok-text.ensures.own

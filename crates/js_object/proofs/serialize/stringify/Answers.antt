@@ -8,5 +8,5 @@ returns-clause-settled g c h =
     let number = g.S.Strings.number in
     let a = state c.args.store.now in
     let b = state c.object_len.new.store in
-    settled_fields_still (state c.append_object.new.store) (state c.from_units.new.self) number c.in_ok-from_units.ensures.uses.step.grows c.args.of.now
+    settled_fields_still (state c.append_object.new.store) _ number c.in_ok-from_units.ensures.uses.step.grows c.args.of.now
     (c.in_ok-append_object.ensures.settled (fine_fields_still a b c.in_ok-length.ensures.uses.step.grows number c.args.of.now h))
