@@ -1,5 +1,5 @@
--- Built-in functions (ECMA-262, "The String Constructor", "Properties of the String Constructor", "Properties of the Symbol
--- Constructor", "JSON.stringify", "Object.keys", "URI Handling Functions").
+-- Built-in functions (ECMA-262, "The String Constructor", "Properties of the String Constructor", "Properties
+-- of the Symbol Constructor", "JSON.stringify", "Object.keys", "URI Handling Functions").
 use Rattle.std.specs.Prelude.{ℕ, List}
 use Rattle.eval_tree.specs.declared.tree.Builtin.{Builtin}
 use Rattle.eval_tree.specs.declared.tree.Builtin.TheVariants.{String, FromCharCode, FromCodePoint, SymbolFor, KeyFor, Stringify, EncodeUri, EncodeUriComponent, DecodeUri, DecodeUriComponent, Keys}

@@ -1,4 +1,5 @@
--- Strings of numbers: `String.fromCharCode` and `String.fromCodePoint` (ECMA-262, "Properties of the String Constructor").
+-- Strings of numbers: `String.fromCharCode` and `String.fromCodePoint` (ECMA-262,
+-- "Properties of the String Constructor").
 use Rattle.std.specs.Prelude.{ℕ, ◌+◌, List, length, nat_le, if◌then◌else◌, map}
 use Rattle.js_number.specs.declared.Num.{Num}
 use Rattle.js_number.specs.Arith.{modulo}
@@ -10,7 +11,8 @@ use Rattle.eval_values.specs.Outcome.{Out, gave, bind, each, free, needing, thro
 use Rattle.eval_values.specs.Need.{Row, parts}
 use Rattle.eval_values.specs.Conversions.{to_number, all_units}
 
--- what a call of `String.fromCharCode` or `String.fromCodePoint` with these arguments needs, where its result has n units
+-- what a call of `String.fromCharCode` or `String.fromCodePoint` with these arguments needs,
+-- where its result has n units
 abbrev pub from_row : List Val → ℕ → Row
 from_row vs n = parts (length vs) (all_units vs + n)
 
@@ -29,8 +31,8 @@ number_out taken at vs v = converts (from_row vs 0) (to_number at v) taken
 abbrev pub made : List Val → List ℕ → Out Val
 made vs u = needing (from_row vs (length u)) (text u)
 
--- a call of such a function: each argument in turn as a number, and then the string of these; no source text spells a call of more
--- than 2^20 arguments
+-- a call of such a function: each argument in turn as a number, and then the string of these; no source text
+-- spells a call of more than 2^20 arguments
 abbrev pub from_numbers : (Num → Out Num) → (List Num → List ℕ) → ℕ → List Val → Out Val
 from_numbers taken units at vs =
     if nat_le (length vs) 1048576

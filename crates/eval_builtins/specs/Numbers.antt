@@ -38,5 +38,6 @@ codes_call which at vs = from_numbers (taken_of which vs) (units_of which) at vs
 abbrev pub GivesNumber : {F : Type 0} → State F → State F → Codes → Result Num Stop → Out Num → Type 0
 GivesNumber a b which r o = ComesTo a b (λ s n. n) (λ s n. IsFor which n) r o
 
-abbrev pub GivesNumbers : {F : Type 0} → State F → State F → Codes → Result (Vec Num Global) Stop → Out (List Num) → Type 0
+abbrev pub GivesNumbers : {F : Type 0} → State F → State F → Codes → Result (Vec Num Global) Stop
+    → Out (List Num) → Type 0
 GivesNumbers a b which r o = ComesTo a b (λ s v. v.items) (λ s v. Every (IsFor which) v.items) r o

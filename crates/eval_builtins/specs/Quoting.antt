@@ -24,7 +24,8 @@ as_text limit v = bind (to_string limit v) (λ u. needing nothing (text u))
 abbrev pub list_json : ℕ → List (List ℕ) → Out Val
 list_json limit us = bounded limit (λ n. parts (length us) (list_units us + n)) (list_text us)
 
--- the units of the keys and of all strings of an object, at every level, and how many members it has and elements its arrays
+-- the units of the keys and of all strings of an object, at every level,
+-- and how many members it has and elements its arrays
 abbrev mutual
   pub quoted_units : Val → ℕ
   quoted_units undefined = 0

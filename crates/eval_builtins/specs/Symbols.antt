@@ -27,10 +27,12 @@ string_conversion limit (v ∷ vs) = string_of limit v
 
 -- the one symbol of a key, which is interned
 abbrev pub registered : ℕ → List ℕ → Out Val
-registered t k = gave (symbol k) (record { interned = k ∷ []; texts = []; ids = ids_in (reads t); words = words_in (reads t) })
+registered t k = gave (symbol k)
+    (record { interned = k ∷ []; texts = []; ids = ids_in (reads t); words = words_in (reads t) })
 
 abbrev pub symbol_for : ℕ → Val → Out Val
-symbol_for limit v = converting (reads (string_units v)) (to_string limit v) (λ k. registered (text_units v) k)
+symbol_for limit v =
+    converting (reads (string_units v)) (to_string limit v) (λ k. registered (text_units v) k)
 
 abbrev pub key_for : Val → Out Val
 key_for (symbol k) = needing (reads (length k)) (text k)

@@ -83,10 +83,12 @@ abbrev pub separator_of : ℕ → Val → Out (List ℕ)
 separator_of limit v = if is_undefined v then gave (44 ∷ []) free else to_string limit v
 
 abbrev pub join_call : ℕ → List (List ℕ) → List Val → Out Val
-join_call limit us vs = converting (parts (length us) (list_units us + all_units vs)) (separator_of limit (first_of vs)) (λ w. joined_with limit (list_units us + first_text_units vs) us w)
+join_call limit us vs = converting (parts (length us) (list_units us + all_units vs))
+    (separator_of limit (first_of vs)) (λ w. joined_with limit (list_units us + first_text_units vs) us w)
 
--- a method that was called on an array, where the operands of the call have t units. The profile leaves out what arrays have
--- besides `join`, and of the other identifiers arrays know nothing (ECMA-262, "Properties of the Array Prototype Object")
+-- a method that was called on an array, where the operands of the call have t units. The profile leaves out
+-- what arrays have besides `join`, and of the other identifiers arrays know nothing (ECMA-262, "Properties of
+-- the Array Prototype Object")
 abbrev pub list_call : Method → ℕ → ℕ → ℕ → List (List ℕ) → List Val → Out Val
 list_call Join at limit t us vs = join_call limit us vs
 list_call At at limit t us vs = refuses at
@@ -97,22 +99,27 @@ list_call LastIndexOf at limit t us vs = refuses at
 list_call Slice at limit t us vs = refuses at
 list_call _ at limit t us vs = throwing (reads t) TypeError
 
--- how many parts `split` may give: 2^32 - 1 where no number is given, and else the number modulo 2^32 ("ToUint32")
+-- how many parts `split` may give: 2^32 - 1 where no number is given,
+-- and else the number modulo 2^32 ("ToUint32")
 abbrev pub most_parts : Option Num → ℕ
 most_parts None = 4294967295
 most_parts (Some n) = modulo 4294967296 n
 
 -- the parts of a string, of operands with t units
 abbrev pub split_into : ℕ → List ℕ → ℕ → Option (List ℕ) → Out Val
-split_into t u most sep = needing (parts (length (parts_of u sep most)) (t + list_units (parts_of u sep most))) (list (parts_of u sep most))
+split_into t u most sep =
+    needing (parts (length (parts_of u sep most)) (t + list_units (parts_of u sep most)))
+    (list (parts_of u sep most))
 
 -- a separator that isn't given is none
 abbrev pub split_most : ℕ → List ℕ → List Val → ℕ → Out Val
 split_most limit u vs most =
     if is_undefined (first_of vs)
     then split_into (length u + first_text_units vs) u most None
-    else converting (reads (length u + all_units vs)) (to_string limit (first_of vs)) (λ w. split_into (length u + first_text_units vs) u most (Some w))
+    else converting (reads (length u + all_units vs)) (to_string limit (first_of vs))
+    (λ w. split_into (length u + first_text_units vs) u most (Some w))
 
 -- "String.prototype.split", of which the limit is converted first
 abbrev pub split_call : ℕ → List ℕ → List Val → Converted (Option Num) → Out Val
-split_call limit u vs n = converts (reads (length u + all_units vs)) n (λ k. split_most limit u vs (most_parts k))
+split_call limit u vs n =
+    converts (reads (length u + all_units vs)) n (λ k. split_most limit u vs (most_parts k))

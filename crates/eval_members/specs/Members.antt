@@ -67,38 +67,54 @@ present undefined = throwing (reads 0) TypeError
 present null = throwing (reads 0) TypeError
 present v = gave tt free
 
--- a method of a string, where the operands of the call have t units (ECMA-262, "Properties of the String Prototype Object")
+-- a method of a string, where the operands of the call have t units (ECMA-262,
+-- "Properties of the String Prototype Object")
 abbrev pub string_call : Method → ℕ → ℕ → ℕ → List ℕ → List Val → Out Val
 string_call At at limit t u vs = at_call t u (to_number at (first_of vs))
 string_call CharAt at limit t u vs = char_at_call t u (to_number at (first_of vs))
 string_call CharCodeAt at limit t u vs = char_code_call t u (to_number at (first_of vs))
 string_call CodePointAt at limit t u vs = code_point_call t u (to_number at (first_of vs))
 string_call Concat at limit t u vs = concat_call limit u vs
-string_call EndsWith at limit t u vs = search_call limit t (length u + first_text_units vs) (λ w e. bool (ends_at u w e)) (first_of vs) (end_in at (second_of vs))
-string_call Includes at limit t u vs = search_call limit t (length u + first_text_units vs) (λ w n. bool (includes_from u w n)) (first_of vs) (to_number at (second_of vs))
-string_call IndexOf at limit t u vs = search_call limit t (length u + first_text_units vs) (λ w n. place_value (index_from u w n)) (first_of vs) (to_number at (second_of vs))
+string_call EndsWith at limit t u vs = search_call limit t (length u + first_text_units vs)
+    (λ w e. bool (ends_at u w e)) (first_of vs) (end_in at (second_of vs))
+string_call Includes at limit t u vs = search_call limit t (length u + first_text_units vs)
+    (λ w n. bool (includes_from u w n)) (first_of vs) (to_number at (second_of vs))
+string_call IndexOf at limit t u vs = search_call limit t (length u + first_text_units vs)
+    (λ w n. place_value (index_from u w n)) (first_of vs) (to_number at (second_of vs))
 string_call IsWellFormed at limit t u vs = needing (reads t) (bool (all_paired u))
 string_call Join at limit t u vs = throwing (reads t) TypeError
-string_call LastIndexOf at limit t u vs = search_call limit t (length u + first_text_units vs) (λ w n. place_value (last_index_up_to u w n)) (first_of vs) (to_number at (second_of vs))
-string_call PadEnd at limit t u vs = pad_call limit (pad_end_of u) u (to_number at (first_of vs)) (second_of vs)
-string_call PadStart at limit t u vs = pad_call limit (pad_start_of u) u (to_number at (first_of vs)) (second_of vs)
+string_call LastIndexOf at limit t u vs = search_call limit t (length u + first_text_units vs)
+    (λ w n. place_value (last_index_up_to u w n)) (first_of vs) (to_number at (second_of vs))
+string_call PadEnd at limit t u vs =
+    pad_call limit (pad_end_of u) u (to_number at (first_of vs)) (second_of vs)
+string_call PadStart at limit t u vs =
+    pad_call limit (pad_start_of u) u (to_number at (first_of vs)) (second_of vs)
 string_call Repeat at limit t u vs = repeat_call limit u (to_number at (first_of vs))
-string_call Replace at limit t u vs = replace_call limit t (length u + first_text_units vs) (length u + two_text_units vs) (λ w. 1) (replaced_first u) (first_of vs) (second_of vs)
-string_call ReplaceAll at limit t u vs = replace_call limit t (length u + first_text_units vs) (length u + two_text_units vs) (λ w. length (matches u w)) (replaced_all u) (first_of vs) (second_of vs)
-string_call Slice at limit t u vs = cut_call limit t (slice_of u) (to_number at (first_of vs)) (end_in at (second_of vs))
+string_call Replace at limit t u vs = replace_call limit t (length u + first_text_units vs)
+    (length u + two_text_units vs) (λ w. 1) (replaced_first u) (first_of vs) (second_of vs)
+string_call ReplaceAll at limit t u vs = replace_call limit t (length u + first_text_units vs)
+    (length u + two_text_units vs) (λ w. length (matches u w)) (replaced_all u) (first_of vs) (second_of vs)
+string_call Slice at limit t u vs =
+    cut_call limit t (slice_of u) (to_number at (first_of vs)) (end_in at (second_of vs))
 string_call Split at limit t u vs = split_call limit u vs (end_in at (second_of vs))
-string_call StartsWith at limit t u vs = search_call limit t (length u + first_text_units vs) (λ w n. bool (starts_at u w n)) (first_of vs) (to_number at (second_of vs))
-string_call Substr at limit t u vs = cut_call limit t (substr_of u) (to_number at (first_of vs)) (end_in at (second_of vs))
-string_call Substring at limit t u vs = cut_call limit t (substring_of u) (to_number at (first_of vs)) (end_in at (second_of vs))
+string_call StartsWith at limit t u vs = search_call limit t (length u + first_text_units vs)
+    (λ w n. bool (starts_at u w n)) (first_of vs) (to_number at (second_of vs))
+string_call Substr at limit t u vs =
+    cut_call limit t (substr_of u) (to_number at (first_of vs)) (end_in at (second_of vs))
+string_call Substring at limit t u vs =
+    cut_call limit t (substring_of u) (to_number at (first_of vs)) (end_in at (second_of vs))
 string_call ToWellFormed at limit t u vs = limited limit t (well u)
 string_call Trim at limit t u vs = limited limit t (trimmed u)
 string_call TrimEnd at limit t u vs = limited limit t (trimmed_end u)
 string_call TrimStart at limit t u vs = limited limit t (trimmed_start u)
 
--- a call of a method on a value, with all its arguments, of which the method uses those that its definition names
+-- a call of a method on a value, with all its arguments,
+-- of which the method uses those that its definition names
 abbrev pub called : Method → ℕ → ℕ → Val → List Val → Out Val
-called m at limit (text u) vs = string_call m at limit (length u + all_units (operands m vs)) u (operands m vs)
-called m at limit (list us) vs = list_call m at limit (list_units us + all_units (operands m vs)) us (operands m vs)
+called m at limit (text u) vs =
+    string_call m at limit (length u + all_units (operands m vs)) u (operands m vs)
+called m at limit (list us) vs =
+    list_call m at limit (list_units us + all_units (operands m vs)) us (operands m vs)
 called m at limit v vs = throwing (reads (all_units (operands m vs))) TypeError
 
 -- methods that differ in one definition alone, by the code's names of them

@@ -26,7 +26,8 @@ filler_of limit v = if is_undefined v then gave (32 ∷ []) free else to_string 
 
 -- a filler, and then the string u with it, so that it has m units
 abbrev pub filled : ℕ → (ℕ → List ℕ → List ℕ) → List ℕ → ℕ → Val → Out Val
-filled limit pad u m f = converting (pads (length u + string_units f)) (filler_of limit f) (λ w. bounded limit (λ r. pads (length u + length w)) (pad m w))
+filled limit pad u m f = converting (pads (length u + string_units f)) (filler_of limit f)
+    (λ w. bounded limit (λ r. pads (length u + length w)) (pad m w))
 
 -- the string u padded to m units; the filler isn't looked at where u has as many
 abbrev pub padded : ℕ → (ℕ → List ℕ → List ℕ) → List ℕ → ℕ → Val → Out Val
@@ -37,4 +38,5 @@ padded limit pad u m f =
 
 -- "String.prototype.padStart", "String.prototype.padEnd"
 abbrev pub pad_call : ℕ → (ℕ → List ℕ → List ℕ) → List ℕ → Converted Num → Val → Out Val
-pad_call limit pad u n f = converts (pads (length u + string_units f)) n (λ k. padded limit pad u (length_of k) f)
+pad_call limit pad u n f =
+    converts (pads (length u + string_units f)) n (λ k. padded limit pad u (length_of k) f)

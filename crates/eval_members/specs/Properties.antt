@@ -8,18 +8,28 @@ use Rattle.eval_values.specs.Outcome.{Out, gave, bind, converting, needing, thro
 use Rattle.eval_values.specs.Need.{nothing, reads, ids_in, words_in}
 use Rattle.eval_values.specs.Conversions.{to_string, string_units}
 
--- the properties that objects have from their prototype, which the profile leaves out (ECMA-262, "Properties of the Object
--- Prototype Object")
+-- the properties that objects have from their prototype, which the profile leaves out (ECMA-262, "Properties
+-- of the Object Prototype Object")
 abbrev pub is_inherited : List ℕ → Bool
 is_inherited key =
-    bytes_eq key (codes "constructor") || bytes_eq key (codes "hasOwnProperty") || bytes_eq key (codes "isPrototypeOf")
-    || bytes_eq key (codes "propertyIsEnumerable") || bytes_eq key (codes "toLocaleString") || bytes_eq key (codes "toString")
-    || bytes_eq key (codes "valueOf") || bytes_eq key (codes "__proto__") || bytes_eq key (codes "__defineGetter__")
-    || bytes_eq key (codes "__defineSetter__") || bytes_eq key (codes "__lookupGetter__") || bytes_eq key (codes "__lookupSetter__")
+    bytes_eq key (codes "constructor") || bytes_eq key (codes "hasOwnProperty")
+    || bytes_eq key (codes "isPrototypeOf")
+    || bytes_eq key (codes "propertyIsEnumerable") || bytes_eq key (codes "toLocaleString")
+    || bytes_eq key (codes "toString")
+    || bytes_eq key (codes "valueOf") || bytes_eq key (codes "__proto__")
+    || bytes_eq key (codes "__defineGetter__")
+    || bytes_eq key (codes "__defineSetter__") || bytes_eq key (codes "__lookupGetter__")
+    || bytes_eq key (codes "__lookupSetter__")
 
 -- the key of a read, which is interned
 abbrev pub key_out : List ℕ → Out (List ℕ)
-key_out key = gave key (record { interned = key ∷ []; texts = []; ids = ids_in (reads (2 * length key)); words = words_in (reads (2 * length key)) })
+key_out key =
+    gave key (record {
+      interned = key ∷ [];
+      texts = [];
+      ids = ids_in (reads (2 * length key));
+      words = words_in (reads (2 * length key));
+    })
 
 -- the value of the own property of a key ("OrdinaryGetOwnProperty")
 abbrev pub own : List ℕ → Fields (List ℕ) → Option Val
@@ -43,9 +53,11 @@ plain_property key fs = bind (key_out key) (λ k. needing nothing (unwrap_or (ow
 
 -- the same of a key that a script spells; no source text spells one that is longer than a string may be
 abbrev pub spelled_property : ℕ → ℕ → List ℕ → Fields (List ℕ) → Out Val
-spelled_property at limit key fs = if nat_le (length key) limit then property at key fs else throwing nothing RangeError
+spelled_property at limit key fs =
+    if nat_le (length key) limit then property at key fs else throwing nothing RangeError
 
--- a property of a value by an identifier behind a point, other than `length` and `description` ("Property Accessors")
+-- a property of a value by an identifier behind a point,
+-- other than `length` and `description` ("Property Accessors")
 abbrev pub property_of : ℕ → ℕ → List ℕ → Val → Out Val
 property_of at limit key undefined = throwing nothing TypeError
 property_of at limit key null = throwing nothing TypeError

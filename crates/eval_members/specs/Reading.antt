@@ -27,7 +27,8 @@ at_call t u n = converts (reads t) n
 
 -- "String.prototype.charAt": the one unit, or the empty string
 abbrev pub char_at_call : ℕ → List ℕ → Converted Num → Out Val
-char_at_call t u n = converts (reads t) n (λ k. needing (reads (t + length (char_at_of u k))) (text (char_at_of u k)))
+char_at_call t u n =
+    converts (reads t) n (λ k. needing (reads (t + length (char_at_of u k))) (text (char_at_of u k)))
 
 -- "String.prototype.charCodeAt": the unit as a number, or NaN
 abbrev pub char_code_call : ℕ → List ℕ → Converted Num → Out Val

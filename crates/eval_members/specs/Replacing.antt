@@ -1,5 +1,5 @@
--- Methods that put a template in the place of matches. The operands of a call have o units as they are, m where the first one
--- was converted, and t where both were.
+-- Methods that put a template in the place of matches. The operands of a call have o units as they are, m
+-- where the first one was converted, and t where both were.
 use Rattle.std.specs.Prelude.{ℕ, ◌+◌, List, [], ◌∷◌}
 use Rattle.js_item.specs.Seen.{Val}
 use Rattle.eval_values.specs.Outcome.{Out, converting}
@@ -16,8 +16,8 @@ two_text_units (v ∷ vs) = text_units v + first_text_units vs
 abbrev pub replacement : ℕ → ℕ → ℕ → List ℕ → Out Val
 replacement limit t p r = bounded limit (λ n. parts p (t + n)) r
 
--- the searched string and the template as strings, in this order, and then what they give: "String.prototype.replace",
--- "String.prototype.replaceAll"
+-- the searched string and the template as strings, in this order, and then what they give:
+-- "String.prototype.replace", "String.prototype.replaceAll"
 abbrev pub replace_call : ℕ → ℕ → ℕ → ℕ → (List ℕ → ℕ) → (List ℕ → List ℕ → List ℕ) → Val → Val → Out Val
 replace_call limit o m t count replaced w template =
     converting (reads o) (to_string limit w) (λ x.

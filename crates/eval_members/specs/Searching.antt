@@ -1,5 +1,5 @@
--- Methods that look for one string in another. The operands of a call have o units as they are, and t where the first one was
--- converted.
+-- Methods that look for one string in another. The operands of a call have o units as they are, and t where
+-- the first one was converted.
 use Rattle.std.specs.Prelude.{ℕ, List, Option, Some, None, pos, negsuc}
 use Rattle.js_number.specs.declared.Num.{Num}
 use Rattle.js_number.specs.declared.Num.TheVariants.{Int}
@@ -21,8 +21,9 @@ place_value k = number (place_number k)
 abbrev pub search_answer : {N : Type 0} → ℕ → (N → Val) → Converted N → Out Val
 search_answer t answer n = converts (reads t) n (λ k. needing (reads t) (answer k))
 
--- the first argument as a string, and then what it and a number give: "String.prototype.includes", "String.prototype.indexOf",
--- "String.prototype.lastIndexOf", "String.prototype.startsWith", and "String.prototype.endsWith", where the number may be missing
+-- the first argument as a string, and then what it and a number give: "String.prototype.includes",
+-- "String.prototype.indexOf", "String.prototype.lastIndexOf", "String.prototype.startsWith", and
+-- "String.prototype.endsWith", where the number may be missing
 abbrev pub search_call : {N : Type 0} → ℕ → ℕ → ℕ → (List ℕ → N → Val) → Val → Converted N → Out Val
 search_call limit o t answer w n = converting (reads o) (to_string limit w)
     (λ x. search_answer t (answer x) n)

@@ -24,8 +24,9 @@ abbrev pub NamesPlace : (Num → ℕ → Option ℕ) → List ℕ → Converted 
 NamesPlace place u (into n) = IsSome (place n (length u))
 NamesPlace place u (fails e) = ⊥
 
--- The string n that a method was called on, by its units u and the arguments vs. A method that reads one unit reads the string
--- where there is such a place, and `split` where a separator is given; `concat`, `repeat` and the pads use it as it is.
+-- The string n that a method was called on, by its units u and the arguments vs. A method that reads one unit
+-- reads the string where there is such a place, and `split` where a separator is given; `concat`, `repeat`
+-- and the pads use it as it is.
 abbrev pub StringSettled : {F : Type 0} → Method → ℕ → State F → ℕ → List ℕ → List Val → Type 0
 StringSettled At at s n u vs = NamesPlace relative_place u (to_number at (first_of vs)) → IsSettled s n
 StringSettled CharAt at s n u vs = NamesPlace exact_place u (to_number at (first_of vs)) → IsSettled s n
@@ -45,24 +46,28 @@ ListSettled Join s name rs = AllSettled s name rs
 ListSettled m s name rs = Unit {0}
 
 -- what a call with the arguments vs has read of a value, from the state a to the state b
-abbrev pub CallSettles : {F R : Type 0} → Method → ℕ → State F → State F → (R → ℕ) → Item R → List Val → Type 0
-CallSettles m at a b name (item.Text r) vs = StringSettled m at b (name r) (units_of a (name r)) (operands m vs)
+abbrev pub CallSettles : {F R : Type 0} → Method → ℕ → State F → State F → (R → ℕ) → Item R → List Val
+    → Type 0
+CallSettles m at a b name (item.Text r) vs =
+    StringSettled m at b (name r) (units_of a (name r)) (operands m vs)
 CallSettles m at a b name (item.List rs) vs = ListSettled m b name rs.items
 CallSettles m at a b name _ vs = Unit {0}
 
--- The second argument of a pad whose filler has m units, where n units are missing. It becomes a string where any are, which joins
--- the elements of an array, and the filler is read where its last copy is cut.
+-- The second argument of a pad whose filler has m units, where n units are missing. It becomes a string where
+-- any are, which joins the elements of an array, and the filler is read where its last copy is cut.
 abbrev pub FillerSettled : {F R : Type 0} → State F → (R → ℕ) → ℕ → ℕ → List (Item R) → Type 0
-FillerSettled s name n m vs = (1 ≤ n → OfSecond (λ v. ElementsSettled s name v) vs) × (CutsFiller n m → OfSecond (λ v. StringsSettled s name v) vs)
+FillerSettled s name n m vs = (1 ≤ n → OfSecond (λ v. ElementsSettled s name v) vs)
+    × (CutsFiller n m → OfSecond (λ v. StringsSettled s name v) vs)
 
 -- the same of a string with k units, where a number says how many are requested
 abbrev pub PadSettled : {F R : Type 0} → State F → (R → ℕ) → ℕ → ℕ → Converted Num → List (Item R) → Type 0
 PadSettled s name k m (into n) vs = FillerSettled s name (length_of n - k) m vs
 PadSettled s name k m (fails e) vs = ⊥
 
--- The arguments vs that a method takes of a string with the units u. The strings that are searched, replaced and put in are read,
--- and `concat` takes strings as they are.
-abbrev pub StringOperandsSettled : {F R : Type 0} → Method → ℕ → State F → State F → (R → ℕ) → List ℕ → List (Item R) → Type 0
+-- The arguments vs that a method takes of a string with the units u. The strings that are searched, replaced
+-- and put in are read, and `concat` takes strings as they are.
+abbrev pub StringOperandsSettled : {F R : Type 0} → Method → ℕ → State F → State F → (R → ℕ) → List ℕ
+    → List (Item R) → Type 0
 StringOperandsSettled Concat at a b name u vs = Every (λ v. ElementsSettled b name v) vs
 StringOperandsSettled EndsWith at a b name u vs = OfFirst (λ v. StringsSettled b name v) vs
 StringOperandsSettled Includes at a b name u vs = OfFirst (λ v. StringsSettled b name v) vs
@@ -70,10 +75,14 @@ StringOperandsSettled IndexOf at a b name u vs = OfFirst (λ v. StringsSettled b
 StringOperandsSettled LastIndexOf at a b name u vs = OfFirst (λ v. StringsSettled b name v) vs
 StringOperandsSettled Split at a b name u vs = OfFirst (λ v. StringsSettled b name v) vs
 StringOperandsSettled StartsWith at a b name u vs = OfFirst (λ v. StringsSettled b name v) vs
-StringOperandsSettled PadEnd at a b name u vs = PadSettled b name (length u) (second_units (all_seen a name vs)) (to_number at (first_of (all_seen a name vs))) vs
-StringOperandsSettled PadStart at a b name u vs = PadSettled b name (length u) (second_units (all_seen a name vs)) (to_number at (first_of (all_seen a name vs))) vs
-StringOperandsSettled Replace at a b name u vs = OfFirst (λ v. StringsSettled b name v) vs × OfSecond (λ v. StringsSettled b name v) vs
-StringOperandsSettled ReplaceAll at a b name u vs = OfFirst (λ v. StringsSettled b name v) vs × OfSecond (λ v. StringsSettled b name v) vs
+StringOperandsSettled PadEnd at a b name u vs = PadSettled b name (length u)
+    (second_units (all_seen a name vs)) (to_number at (first_of (all_seen a name vs))) vs
+StringOperandsSettled PadStart at a b name u vs = PadSettled b name (length u)
+    (second_units (all_seen a name vs)) (to_number at (first_of (all_seen a name vs))) vs
+StringOperandsSettled Replace at a b name u vs =
+    OfFirst (λ v. StringsSettled b name v) vs × OfSecond (λ v. StringsSettled b name v) vs
+StringOperandsSettled ReplaceAll at a b name u vs =
+    OfFirst (λ v. StringsSettled b name v) vs × OfSecond (λ v. StringsSettled b name v) vs
 StringOperandsSettled m at a b name u vs = Unit {0}
 
 -- the separator, where a method of an array joins
@@ -82,8 +91,10 @@ ListOperandsSettled Join s name vs = OfFirst (λ v. StringsSettled s name v) vs
 ListOperandsSettled m s name vs = Unit {0}
 
 -- the arguments vs of a call on a value
-abbrev pub OperandsSettled : {F R : Type 0} → Method → ℕ → State F → State F → (R → ℕ) → Item R → List (Item R) → Type 0
-OperandsSettled m at a b name (item.Text r) vs = StringOperandsSettled m at a b name (units_of a (name r)) (operands m vs)
+abbrev pub OperandsSettled : {F R : Type 0} → Method → ℕ → State F → State F → (R → ℕ) → Item R
+    → List (Item R) → Type 0
+OperandsSettled m at a b name (item.Text r) vs =
+    StringOperandsSettled m at a b name (units_of a (name r)) (operands m vs)
 OperandsSettled m at a b name (item.List rs) vs = ListOperandsSettled m b name (operands m vs)
 OperandsSettled m at a b name _ vs = Unit {0}
 

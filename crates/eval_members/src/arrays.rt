@@ -157,7 +157,8 @@ pub fn call_list<S: Strings>(
     ensures grows { Grows (S.state store.old) (S.state store.new) }
     ensures fine { IfOk result (λ v. IsFine (S.state store.new) S.number v) }
     ensures settled { OnOk result (ListSettled method (S.state store.new) S.number list.now) }
-    ensures operands_settled { OnOk result (ListOperandsSettled method (S.state store.new) S.number args.now) }
+    ensures operands_settled { OnOk result
+        (ListOperandsSettled method (S.state store.new) S.number args.now) }
     ensures did { (t : ℕ) → GivesValue S.number (S.state store.old) (S.state store.new) result
         (list_call method at (S.state store.old).limit t (texts_seen (S.state store.old) S.number list.now)
         (all_seen (S.state store.old) S.number args.now)) }

@@ -26,7 +26,8 @@ pub fn call_split<S: Strings>(
     requires args { AllFine (S.state store.old) S.number args.now }
     ensures grows { Grows (S.state store.old) (S.state store.new) }
     ensures fine { IfOk result (λ v. IsFine (S.state store.new) S.number v) }
-    ensures settled { OnOk result (is_undefined (first_of (all_seen (S.state store.old) S.number args.now)) ≡ false
+    ensures settled { OnOk result (is_undefined (first_of (all_seen (S.state store.old) S.number args.now))
+        ≡ false
         → IsSettled (S.state store.new) (S.number s)) }
     ensures separator_settled { OnOk result
         (OfFirst (λ v. StringsSettled (S.state store.new) S.number v) args.now) }
@@ -61,7 +62,8 @@ fn split_most<S: Strings>(
     requires args { AllFine (S.state store.old) S.number args.now }
     ensures grows { Grows (S.state store.old) (S.state store.new) }
     ensures fine { IfOk result (λ v. IsFine (S.state store.new) S.number v) }
-    ensures settled { OnOk result (is_undefined (first_of (all_seen (S.state store.old) S.number args.now)) ≡ false
+    ensures settled { OnOk result (is_undefined (first_of (all_seen (S.state store.old) S.number args.now))
+        ≡ false
         → IsSettled (S.state store.new) (S.number s)) }
     ensures separator_settled { OnOk result
         (OfFirst (λ v. StringsSettled (S.state store.new) S.number v) args.now) }

@@ -31,8 +31,8 @@ is_equal _ = false
 abbrev pub compared : {A : Type 0} → A → List ℕ → List ℕ → Out A
 compared x u w = gave x (cost (reads (length u + length w)))
 
--- whether a value is this one: strings by their units, numbers by their value, where NaN is unequal to itself, symbols by
--- their key, which is as good as their identity, since there is one symbol of each key
+-- whether a value is this one: strings by their units, numbers by their value, where NaN is unequal to
+-- itself, symbols by their key, which is as good as their identity, since there is one symbol of each key
 abbrev pub is_undefined_too : Val → Bool
 is_undefined_too undefined = true
 is_undefined_too _ = false
@@ -94,10 +94,11 @@ same_out at (symbol k) w = gave (is_symbol_too k w) free
 same_out at (list us) w = same_as_list at w
 same_out at (object fs) w = same_as_object at w
 
--- the order of two primitive values. Where both are strings it is that of their units. Else both become numbers: a symbol
--- throws, whatever its side, before a string ends the script
+-- the order of two primitive values. Where both are strings it is that of their units. Else both become
+-- numbers: a symbol throws, whatever its side, before a string ends the script
 abbrev pub order_numbers : ℕ → Val → Val → Out (Option Ordering)
-order_numbers at v w = converts nothing (paired (to_number at v) (to_number at w)) (λ p. gave (number_order p.0 p.1) free)
+order_numbers at v w =
+    converts nothing (paired (to_number at v) (to_number at w)) (λ p. gave (number_order p.0 p.1) free)
 
 abbrev pub order_text : ℕ → List ℕ → Val → Out (Option Ordering)
 order_text at u (text w) = compared (Some (units_cmp u w)) u w

@@ -28,8 +28,8 @@ list_units (u ∷ us) = length u + list_units us
 abbrev pub comma_joined : List (List ℕ) → List ℕ
 comma_joined us = joined_list (44 ∷ []) us
 
--- the string of an array, unless it is longer than a string may be ("Array.prototype.toString"); where it throws, the
--- elements count alone
+-- the string of an array, unless it is longer than a string may be ("Array.prototype.toString"); where it
+-- throws, the elements count alone
 abbrev pub list_string : ℕ → List (List ℕ) → Out (List ℕ)
 list_string limit us =
     if nat_le (length (comma_joined us)) limit
@@ -42,7 +42,8 @@ own_to_string fs = is_some (place_by (λ k. bytes_eq k (codes "toString")) fs)
 
 -- the string of an object ("OrdinaryToPrimitive", "Object.prototype.toString")
 abbrev pub object_string : Fields (List ℕ) → Out (List ℕ)
-object_string fs = if own_to_string fs then ended (threw TypeError) free else spelled (codes "[object Object]")
+object_string fs =
+    if own_to_string fs then ended (threw TypeError) free else spelled (codes "[object Object]")
 
 -- ECMA-262, "ToString"
 abbrev pub to_string : ℕ → Val → Out (List ℕ)
@@ -70,8 +71,8 @@ abbrev pub one_or_zero : Bool → Num
 one_or_zero true = Int (pos 1)
 one_or_zero false = Int (pos 0)
 
--- ECMA-262, "ToNumber", in an operation at a place, where the script ends with a string, an array or an object, of which the
--- profile leaves it out
+-- ECMA-262, "ToNumber", in an operation at a place, where the script ends with a string, an array or an
+-- object, of which the profile leaves it out
 abbrev pub to_number : ℕ → Val → Converted Num
 to_number at undefined = into NaN
 to_number at null = into (Int (pos 0))

@@ -23,7 +23,8 @@ abbrev pub GivesValues : {F R : Type 0} → (R → ℕ) → State F → State F 
     → Out (List Val) → Type 0
 GivesValues name a b r o = ComesTo a b (λ s v. all_seen s name v.items) (λ s v. AllFine s name v.items) r o
 
-abbrev pub GivesTexts : {F R : Type 0} → (R → ℕ) → State F → State F → Result (Vec R Global) Stop → Out (List (List ℕ)) → Type 0
+abbrev pub GivesTexts : {F R : Type 0} → (R → ℕ) → State F → State F → Result (Vec R Global) Stop
+    → Out (List (List ℕ)) → Type 0
 GivesTexts name a b r o = ComesTo a b (λ s v. texts_seen s name v.items) (λ s v. AllKnown s name v.items) r o
 
 -- a result that is no value of the language

@@ -6,8 +6,8 @@ use Rattle.js_item.specs.Contents.{text}
 use Rattle.eval_values.specs.Outcome.{Out, gives, throws, needing, throwing}
 use Rattle.eval_values.specs.Need.{Row, reads}
 
--- a string, unless it is longer than a string may be; it needs so many ids, and words by the units of the result, of which
--- there are none where it throws
+-- a string, unless it is longer than a string may be; it needs so many ids, and words by the units of the
+-- result, of which there are none where it throws
 abbrev pub within : ℕ → ℕ → (ℕ → ℕ) → List ℕ → Out Val
 within limit ids words w =
     if nat_le (length w) limit

@@ -1,10 +1,11 @@
--- What each kind of operation needs of a store at most: ids, and content words. The meaning names the row of each operation, and
--- this table alone says what a row comes to.
+-- What each kind of operation needs of a store at most: ids, and content words. The meaning names the row of
+-- each operation, and this table alone says what a row comes to.
 use Rattle.std.specs.Prelude.{ℕ, suc, zero, ◌+◌, ◌*◌}
 
--- `reads t`: a literal, a ToString or an operation of one part, whose string operands and results have t units together;
--- `joins`: two strings joined, by `+` or for one argument of `concat`; `parts p t`: an operation of p parts;
--- `repeats n`: `repeat`, of a string of n units; `pads n`: a pad, of a string and a filler of n units together
+-- `reads t`: a literal, a ToString or an operation of one part, whose string operands and results have t
+-- units together; `joins`: two strings joined, by `+` or for one argument of `concat`; `parts p t`: an
+-- operation of p parts; `repeats n`: `repeat`, of a string of n units; `pads n`: a pad, of a string and a
+-- filler of n units together
 pub data Row : Type 0 where
   nothing : Row
   reads : ℕ → Row

@@ -34,7 +34,8 @@ difference_in at v w = converts nothing (paired (to_number at v) (to_number at w
 abbrev pub negative_in : ℕ → Val → Out Val
 negative_in at v = converts nothing (to_number at v) (λ n. needing nothing (number (negative n)))
 
--- two strings joined, unless they are longer together than a string may be; where nothing is joined, it needs nothing
+-- two strings joined, unless they are longer together than a string may be; where nothing is joined,
+-- it needs nothing
 abbrev pub concatenated : ℕ → List ℕ → List ℕ → Out Val
 concatenated limit u w =
     if nat_le (length u + length w) limit

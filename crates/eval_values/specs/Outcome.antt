@@ -1,7 +1,8 @@
--- What an evaluation comes to: a value, or what ended the script, beside a ledger of what it interned, made and needs.
--- The values of the profile are those of `js_item` (ECMA-262, "ECMAScript Language Types"): a string is its list of units, a
--- symbol, which is always a registered one, its key, an array, whose elements are all strings, the list of these, and an object
--- the list of its members.
+-- What an evaluation comes to: a value, or what ended the script, beside a ledger of what it interned,
+-- made and needs.
+-- The values of the profile are those of `js_item` (ECMA-262, "ECMAScript Language Types"): a string is its
+-- list of units, a symbol, which is always a registered one, its key, an array, whose elements are all
+-- strings, the list of these, and an object the list of its members.
 use Rattle.std.specs.Prelude.{ℕ, ◌+◌, List, [], ◌∷◌, ◌++◌, nat_le, if◌then◌else◌, pos}
 use Rattle.js_number.specs.declared.Num.TheVariants.{Int}
 use Rattle.js_item.specs.Contents.{undefined, null, bool, number, text, symbol, list, object}
@@ -21,7 +22,13 @@ abbrev pub free : Ledger
 free = record { interned = []; texts = []; ids = 0; words = 0 }
 
 abbrev pub both : Ledger → Ledger → Ledger
-both l m = record { interned = l.interned ++ m.interned; texts = l.texts ++ m.texts; ids = l.ids + m.ids; words = l.words + m.words }
+both l m =
+    record {
+      interned = l.interned ++ m.interned;
+      texts = l.texts ++ m.texts;
+      ids = l.ids + m.ids;
+      words = l.words + m.words;
+    }
 
 -- what ends a script early: a throw completion, or a place that the profile leaves out
 pub data Ending : Type 0 where
@@ -71,7 +78,8 @@ texts_of (symbol k) = []
 texts_of (list us) = us
 texts_of (object fs) = []
 
--- a number as it is written, or a count of elements; no source text spells one past the range, and no array has as many
+-- a number as it is written, or a count of elements; no source text spells one past the range,
+-- and no array has as many
 abbrev pub number_of : ℕ → Val
 number_of n = if nat_le n 9007199254740991 then number (Int (pos n)) else undefined
 

@@ -31,7 +31,8 @@ NextShut b (Full (Slots n)) (u ∷ us) = IsTrue (b.shut u)
 NextShut b _ us = Unit {0}
 
 -- the history grew by the first ones of these lists
-pub record InternsSome {F : Type 0} (b : State F) (f : StoreFault) (old : List (List ℕ × ℕ)) (lists : List (List ℕ)) : Type 0 where
+pub record InternsSome {F : Type 0} (b : State F) (f : StoreFault) (old : List (List ℕ × ℕ))
+    (lists : List (List ℕ)) : Type 0 where
   pub done : List (List ℕ)
   pub left : List (List ℕ)
   pub split : lists ≡ done ++ left

@@ -1,11 +1,13 @@
--- Which strings ToString of a value reads: those of an array that it joins. The string that it gives may then be read.
+-- Which strings ToString of a value reads: those of an array that it joins.
+-- The string that it gives may then be read.
 use Rattle.std.specs.Prelude.{◌≡◌, ℕ, List, [], ◌∷◌}
 use Rattle.js_store.specs.State.{State, IsSettled}
 use Rattle.js_texts.specs.Texts.{AllSettled}
 use Rattle.js_item.specs.declared.item.Item.{Item}
 use Rattle.js_item.specs.declared.item.Item.TheVariants as item
 
--- the string n that a value became: a string is its own; the elements of an array are settled, and so is each string that was made
+-- the string n that a value became: a string is its own; the elements of an array are settled,
+-- and so is each string that was made
 abbrev pub IsTextOf : {F R : Type 0} → State F → (R → ℕ) → Item R → ℕ → Type 0
 IsTextOf s name (item.Text r) n = n ≡ name r
 IsTextOf s name (item.List rs) n = AllSettled s name rs.items × IsSettled s n

@@ -1,5 +1,5 @@
--- What is kept at run time beside an agent: which ids it may use, which of them are answers of the string table, and the
--- numbers by which a join is known to be valid.
+-- What is kept at run time beside an agent: which ids it may use, which of them are answers of the string
+-- table, and the numbers by which a join is known to be valid.
 use Rattle.std.specs.Prelude.{◌≡◌, ◌⊎◌, ℕ, ◌<◌, List, Contains, Result, Ok, Err, None}
 use Rattle.heap_rule.specs.Maps.{HasKey}
 use Rattle.heap_rule.specs.Views.{history}
@@ -34,7 +34,8 @@ without_text x = record x { text = None }
 abbrev pub IsSame : Held → Held → Type 0
 IsSame x y = IsSameText x.text y.text
 
--- each marked id is known to the agent, and each that is marked as interned is in a known call of the string table
+-- each marked id is known to the agent, and each that is marked as interned is in a known call of the string
+-- table
 pub record IsMarked (v : View) (usable answered : IdSet) (ids : ℕ) : Type 0 where
   pub known : (i : ℕ) → IsIn usable i → HasKey v.units i
   pub calls : (i : ℕ) → IsIn answered i → (u : List ℕ) × Contains (history v) (u, i)

@@ -18,7 +18,8 @@ abbrev pub MarksFound : Held → Held → Option ℕ → Type 0
 MarksFound x y (Some i) = MarksOnlyKey x y i
 MarksFound x y None = MarksNothing x y
 
--- The units us were interned, with r as the answer. Where their string was seen at its place in the table, it is answered, and nothing used.
+-- The units us were interned, with r as the answer. Where their string was seen at its place in the table, it
+-- is answered, and nothing used.
 pub record InternedUnits (x y : Held) (us : List ℕ) (r : Result ℕ TableFull) : Type 0 where
   pub held : IsHeld y
   pub same : IsSame x y
@@ -30,7 +31,8 @@ pub record InternedUnits (x y : Held) (us : List ℕ) (r : Result ℕ TableFull)
   pub interns : IsInternAnswer (view_by x) (view_by y) us (copy_plan us) r
   pub again : IsFoundAgain (view_by x) (view_by y) us r
 
--- The units us were looked for, with r as the answer, and nothing was used. Where their string was seen at its place in the table, it is found.
+-- The units us were looked for, with r as the answer, and nothing was used. Where their string was seen at
+-- its place in the table, it is found.
 pub record FoundUnits (x y : Held) (us : List ℕ) (r : Option ℕ) : Type 0 where
   pub held : IsHeld y
   pub same : IsSame x y

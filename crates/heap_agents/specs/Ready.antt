@@ -67,7 +67,8 @@ abbrev pub HasInterned : Option Held → ℕ → Type 0
 HasInterned None i = ⊥
 HasInterned (Some x) i = IsIn x.interned i
 
--- the number of an agent, which no other agent of its heap has, and that of the agent that it was split off from
+-- the number of an agent, which no other agent of its heap has,
+-- and that of the agent that it was split off from
 abbrev pub handle_number : Option Held → ℕ
 handle_number None = 0
 handle_number (Some x) = x.number

@@ -11,7 +11,8 @@ use Rattle.js_search.specs.Order.{Precedes}
 abbrev pub IsReadable : View → ℕ → Type 0
 IsReadable v s = HasKey v.units s × IsSeenSettled v s
 
--- Strings keep their units, and stay settled. The calls of the string table stay, and so do sizes, shares, and what was used.
+-- Strings keep their units, and stay settled. The calls of the string table stay, and so do sizes,
+-- shares, and what was used.
 pub record KeepsStrings (v w : View) : Type 0 where
   pub units : (i : ℕ) (us : List ℕ) → Has v.units i us → Has w.units i us
   pub settled : (i : ℕ) → IsSeenSettled v i → IsSeenSettled w i

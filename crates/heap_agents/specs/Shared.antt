@@ -1,4 +1,5 @@
--- What contracts see of the text that a handle holds: that it is there, what its agent knows, and its heap's sizes.
+-- What contracts see of the text that a handle holds: that it is there, what its agent knows,
+-- and its heap's sizes.
 use Rattle.std.specs.Prelude.{◌≡◌, ℕ, Option, None, Some}
 use Rattle.std.specs.Arc.{arc_value}
 use Rattle.std.specs.declared.sync.Arc.{Arc}

@@ -7,8 +7,9 @@ use Rattle.heap_read.specs.Windows.{IsWindow}
 use Rattle.heap_read.specs.Written.{ShowsFrom}
 use Rattle.heap_agents.specs.declared.words.Shown.{Shown}
 
--- Of the words of these units, from word number `at` on, as many as there are and as there is room for are in front of the list: unit i is
--- `lane + i` lanes behind the lowest lane of word number 0. The rest of the list stayed. An empty list has no words, and narrow ones.
+-- Of the words of these units, from word number `at` on, as many as there are and as there is room for are in
+-- front of the list: unit i is `lane + i` lanes behind the lowest lane of word number 0. The rest of the list
+-- stayed. An empty list has no words, and narrow ones.
 pub record AreShown (us : List ℕ) (at : ℕ) (old new : List ℕ) (r : Shown) : Type 0 where
   pub len : r.len ≡ length us
   pub lane : r.lane < lane_count r.wide
@@ -19,4 +20,5 @@ pub record AreShown (us : List ℕ) (at : ℕ) (old new : List ℕ) (r : Shown) 
 
 -- these words are those of a Flat, where they have any
 pub record AreThere (v : View) (us : List ℕ) (r : Shown) : Type 0 where
-  pub each : 0 < length us → (w : Window) × IsWindow v w us × (r.wide ≡ w.wide) × (r.lane ≡ w.offset % lane_count w.wide)
+  pub each : 0 < length us → (w : Window) × IsWindow v w us × (r.wide ≡ w.wide)
+      × (r.lane ≡ w.offset % lane_count w.wide)

@@ -57,7 +57,8 @@ impl Machine {
         requires stand { AreStanding self.now.size self.now.words.items }
         requires born { IsBorn self.now.size self.now.words.items id }
         ensures some { IfSome result (λ r. (units_of self.now.size self.now.words.items id
-            ≡ span (content self.now.size self.now.words.items) r.0 r.1 0 r.2) × (r.1 < 2 ^ 29) × (r.2 ≤ MAX)) }
+            ≡ span (content self.now.size self.now.words.items) r.0 r.1 0 r.2) × (r.1 < 2 ^ 29)
+            × (r.2 ≤ MAX)) }
         ensures none { IsSolidForm (form_of (form self.now.size self.now.words.items id)) → IsSome result }
     {
         let found = self.header(id);

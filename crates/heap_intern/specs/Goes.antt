@@ -1,5 +1,5 @@
--- What a call on the string table leaves of what an agent knows and has: what is known stays known, what is its own stays its own, counters and
--- uses never fall, and the given calls go to the end of its history.
+-- What a call on the string table leaves of what an agent knows and has: what is known stays known, what is
+-- its own stays its own, counters and uses never fall, and the given calls go to the end of its history.
 use Rattle.std.specs.Prelude.{◌≡◌, ℕ, ◌≤◌, [], ◌++◌}
 use Rattle.heap_rule.specs.declared.view.View.{View}
 use Rattle.heap_rule.specs.Maps.{Has}

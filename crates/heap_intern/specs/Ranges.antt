@@ -23,12 +23,15 @@ empty_units = All-nil (λ (x : ℕ). x < 65536)
 
 lane_small : (f : ℕ → ℕ) (wide : Bool) (start o : ℕ) → lane_in f wide start o < 65536
 unfolding lane_in lane_of
-lane_small f true start o = let x : ℕ = f (start + o / 4) / 65536 ^ (o % 4) in let goal : x % 65536 < 65536 = omega arith in goal
-lane_small f false start o = let x : ℕ = f (start + o / 8) / 256 ^ (o % 8) in let goal : x % 256 < 65536 = omega arith in goal
+lane_small f true start o =
+    let x : ℕ = f (start + o / 4) / 65536 ^ (o % 4) in let goal : x % 65536 < 65536 = omega arith in goal
+lane_small f false start o =
+    let x : ℕ = f (start + o / 8) / 256 ^ (o % 8) in let goal : x % 256 < 65536 = omega arith in goal
 
 span_small : (f : ℕ → ℕ) (wide : Bool) (start o n : ℕ) → AreUnits (span f wide start o n)
 span_small f wide start o zero = empty_units
-span_small f wide start o (suc n) = All-cons (λ (x : ℕ). x < 65536) (lane_in f wide start o) (span f wide start (suc o) n) (lane_small f wide start o) (span_small f wide start (suc o) n)
+span_small f wide start o (suc n) = All-cons (λ (x : ℕ). x < 65536) (lane_in f wide start o)
+    (span f wide start (suc o) n) (lane_small f wide start o) (span_small f wide start (suc o) n)
 
 -- a shape whose own units are small
 abbrev HasSmallUnits : Shape → Type 0
@@ -63,8 +66,10 @@ module _ (z : HeapSize) (W : List ℕ) where
   by_small i (Some Unborn) = tt
   by_small i (Some (Flat wide start fixed)) = span_small (content z W) wide start 0 (length_word z W i)
   by_small i (Some (Thin target)) = flat_small target (form_of (form z W target))
-  by_small i (Some (Sliced wide parent offset)) = All-take (λ (x : ℕ). x < 65536) (length_word z W i) (drop offset (solid z W parent))
-      (All-drop (λ (x : ℕ). x < 65536) offset (solid z W parent) (solid_small parent (form_of (form z W parent))))
+  by_small i (Some (Sliced wide parent offset)) =
+      All-take (λ (x : ℕ). x < 65536) (length_word z W i) (drop offset (solid z W parent))
+      (All-drop (λ (x : ℕ). x < 65536) offset (solid z W parent)
+      (solid_small parent (form_of (form z W parent))))
   by_small i (Some (Cons wide left right)) = joined_small (nat_lt left i && nat_lt right i) left right
 
   shape_small : (i : ℕ) → HasSmallUnits (shape z W i)
@@ -75,20 +80,23 @@ units_small : (below : ℕ → List ℕ) → ((j : ℕ) → AreUnits (below j)) 
     → AreUnits (units_by below s)
 units_small below h blank k = empty_units
 units_small below h (whole us) k = k
-units_small below h (joins left right) k = All-append (λ (x : ℕ). x < 65536) (below left) (below right) (h left) (h right)
+units_small below h (joins left right) k =
+    All-append (λ (x : ℕ). x < 65536) (below left) (below right) (h left) (h right)
 
 within_small : (shapes : ℕ → Shape) → ((i : ℕ) → HasSmallUnits (shapes i)) → (n i : ℕ)
     → AreUnits (units_within shapes n i)
 unfolding units_within
 within_small shapes h zero i = empty_units
-within_small shapes h (suc n) i = units_small (λ j. units_within shapes n j) (λ j. within_small shapes h n j) (shapes i) (h i)
+within_small shapes h (suc n) i =
+    units_small (λ j. units_within shapes n j) (λ j. within_small shapes h n j) (shapes i) (h i)
 
 of_small : (z : HeapSize) (W : List ℕ) (i : ℕ) → AreUnits (units_of z W i)
 unfolding units_in
 of_small z W i = within_small (shape z W) (shape_small z W) (suc i) i
 
 range_in : (v : View) → StandsIn v → (n : ℕ) (u : List ℕ) → Has v.units n u → AreUnits u
-range_in v (z, agents, W, vs, j, s, at, live) n u h = subst (λ (us : List ℕ). AreUnits us) ((s.knows j v at live).of_units n u h).1 (of_small z W n)
+range_in v (z, agents, W, vs, j, s, at, live) n u h =
+    subst (λ (us : List ℕ). AreUnits us) ((s.knows j v at live).of_units n u h).1 (of_small z W n)
 
 -- the units that a view knows are 16 bits wide
 pub possible_range : (v : View) → IsPossible v → (n : ℕ) (u : List ℕ) → Has v.units n u → AreUnits u

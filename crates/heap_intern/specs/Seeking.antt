@@ -8,8 +8,9 @@ use Rattle.heap_rule.specs.Maps.{Has}
 use Rattle.heap_rule.specs.Views.{HasLength, LeadsTo}
 use Rattle.heap_intern.specs.declared.table.sought.Sought.{Sought}
 
--- The view has the string with this header, and leads from it to the words of a Flat, where its units lie behind `offset` lanes. The length is the
--- string's own, or that of the one to which it forwards. A string that is no part of another has all units of the Flat.
+-- The view has the string with this header, and leads from it to the words of a Flat, where its units lie
+-- behind `offset` lanes. The length is the string's own, or that of the one to which it forwards. A string
+-- that is no part of another has all units of the Flat.
 pub record IsSought (v : View) (s : Sought) : Type 0 where
   pub own : Has v.forms s.id s.form
   pub settled : IsCons s.form → ⊥

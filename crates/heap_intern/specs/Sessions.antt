@@ -14,7 +14,8 @@ use Rattle.heap_intern.specs.Settled.{is_settled}
 use Rattle.heap_read.specs.declared.heap_ref.HeapRef.{Ghosts}
 use Rattle.heap_intern.specs.declared.session.Session.{Session}
 
--- what every call of a store keeps of a session: the table of its heap, its share, the heap's number of agents, and the history at its split
+-- what every call of a store keeps of a session: the table of its heap, its share, the heap's number of
+-- agents, and the history at its split
 pub record SessionFrame : Type 0 where
   pub table : TableId
   pub share : ℕ

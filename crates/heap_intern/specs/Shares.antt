@@ -19,15 +19,17 @@ IsOf s h = (s.frame.table ≡ table_of h) × (s.sizes ≡ sizes_of h)
 abbrev pub IsWhole : State SessionFrame → Type 0
 IsWhole s = s.frame.share ≡ s.frame.agents
 
--- a split: the giver keeps the rest of its share; the new session knows the same, has used nothing, and its history is the giver's
+-- a split: the giver keeps the rest of its share; the new session knows the same, has used nothing,
+-- and its history is the giver's
 abbrev pub giver_after : State SessionFrame → ℕ → State SessionFrame
 giver_after s give = record s { frame = record s.frame { share = s.frame.share - give } }
 
 abbrev pub right_by : State SessionFrame → ℕ → State SessionFrame
-right_by s give = record s { used_ids = 0; used_words = 0; frame = record s.frame { share = give; seen = s.history } }
+right_by s give =
+    record s { used_ids = 0; used_words = 0; frame = record s.frame { share = give; seen = s.history } }
 
--- joining b into a: two sessions of one heap with one limit; b was split off with calls that a knows by now, among which are those that a was
--- split off with, so that no call is in the history twice
+-- joining b into a: two sessions of one heap with one limit; b was split off with calls that a knows by now,
+-- among which are those that a was split off with, so that no call is in the history twice
 pub record MayJoinSession (a b : State SessionFrame) : Type 0 where
   pub table : b.frame.table ≡ a.frame.table
   pub sizes : b.sizes ≡ a.sizes
@@ -35,8 +37,8 @@ pub record MayJoinSession (a b : State SessionFrame) : Type 0 where
   pub first : StartsWith b.frame.seen a.frame.seen
   pub second : StartsWith a.history b.frame.seen
 
--- what both knew, read and used the joined session knows, has read and has used; its history is its own, followed by the calls of the other
--- since its split
+-- what both knew, read and used the joined session knows, has read and has used; its history is its own,
+-- followed by the calls of the other since its split
 pub record IsSessionJoined (a b c : State SessionFrame) : Type 0 where
   pub known : (n : ℕ) → IsSome (a.known n) → c.known n ≡ a.known n
   pub known_of_other : (n : ℕ) → IsSome (b.known n) → c.known n ≡ b.known n

@@ -25,8 +25,8 @@ abbrev pub answered : Result ℕ TableFull → Option ℕ
 answered (Ok i) = Some i
 answered (Err f) = None
 
--- Between two views each slot was loaded so many times: at most twice, and twice only the one with the answer, if there is one. A count went on by
--- all of these loads.
+-- Between two views each slot was loaded so many times: at most twice, and twice only the one with the
+-- answer, if there is one. A count went on by all of these loads.
 pub record LoadsSlots (v w : View) (answer : Option ℕ) (before after : ℕ) : Type 0 where
   pub times : ℕ → ℕ
   pub each : (k : ℕ) → loads_at w k ≡ counted_on (loads_at v k) (times k)

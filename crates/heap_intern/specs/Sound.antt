@@ -25,13 +25,19 @@ legal_in : (v : View) → StandsIn v → IsLegal (history v)
 legal_in v (z, agents, W, vs, j, s, at, live) = legal z agents W vs s j v at live j v at live
 
 pub possible_legal : (v : View) → IsPossible v → IsLegal (history v)
-possible_legal v p u t i k c d = (λ e. ∥∥₁_elim p (Prim.hlevel props) (λ s. (legal_in v s u t i k c d).0 e), λ e. ∥∥₁_elim p (Prim.hlevel props) (λ s. (legal_in v s u t i k c d).1 e))
+possible_legal v p u t i k c d = (
+  λ e. ∥∥₁_elim p (Prim.hlevel props) (λ s. (legal_in v s u t i k c d).0 e),
+  λ e. ∥∥₁_elim p (Prim.hlevel props) (λ s. (legal_in v s u t i k c d).1 e),
+)
 
-agrees_in : (v : View) → StandsIn v → (u w : List ℕ) (n : ℕ) → Contains (history v) (u, n) → Has v.units n w → u ≡ w
-agrees_in v (z, agents, W, vs, j, s, at, live) u w n c h = (s.recalls j v at live u n c).1 ∙ ((s.knows j v at live).of_units n w h).1
+agrees_in : (v : View) → StandsIn v → (u w : List ℕ) (n : ℕ) → Contains (history v) (u, n) → Has v.units n w
+    → u ≡ w
+agrees_in v (z, agents, W, vs, j, s, at, live) u w n c h =
+    (s.recalls j v at live u n c).1 ∙ ((s.knows j v at live).of_units n w h).1
 
 -- a call in the history has the units that are known of its string
-pub possible_agrees : (v : View) → IsPossible v → (u w : List ℕ) (n : ℕ) → Contains (history v) (u, n) → Has v.units n w → u ≡ w
+pub possible_agrees : (v : View) → IsPossible v → (u w : List ℕ) (n : ℕ) → Contains (history v) (u, n)
+    → Has v.units n w → u ≡ w
 possible_agrees v p u w n c h = ∥∥₁_elim p (Prim.hlevel props) (λ s. agrees_in v s u w n c h)
 
 pub limit_low : (l : Limit) → 268435440 ≤ limit_units l
@@ -48,7 +54,8 @@ session_sound v l t p = record {
   one_list = λ u w n a b. (possible_legal v p u w n n a b).1 (λ i. n);
   agrees = λ u w n a h. possible_agrees v p u w n a h;
   shut_apart = λ u n h a. possible_apart v p u h n a;
-  numbers = λ n u h. let a = (possible_within v p).known n (inl (key_of v.units n u h)) in let b = (possible_lawful v p).1 in omega arith;
+  numbers = λ n u h. let a = (possible_within v p).known n (inl (key_of v.units n u h)) in
+      let b = (possible_lawful v p).1 in omega arith;
   lengths = λ n u h. possible_short v p n u h;
   units = λ n u h. possible_range v p n u h;
   low = limit_low l;

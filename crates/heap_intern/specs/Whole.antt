@@ -5,8 +5,9 @@ use Rattle.heap_intern.specs.Counting.{different}
 use Rattle.heap_intern.specs.Sessions.{SessionFrame}
 use Rattle.heap_intern.specs.Shares.{IsWhole}
 
--- No counter was ever read past what the session used, which is no more than the heap has. The history has as many different lists as
--- slots are used: at most as many as there are, each with an id of its own, and all of them where a list is shut.
+-- No counter was ever read past what the session used, which is no more than the heap has. The history has as
+-- many different lists as slots are used: at most as many as there are, each with an id of its own, and all
+-- of them where a list is shut.
 pub record HasWholeCounts (s : State SessionFrame) : Type 0 where
   pub low_ids : s.low_ids ≤ s.used_ids
   pub low_words : s.low_words ≤ s.used_words

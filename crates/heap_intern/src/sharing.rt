@@ -47,7 +47,8 @@ impl<H: HeapRef> Session<H> {
     pub fn new(heap: H, agent: Agent, limit: Limit) -> Session<H>
         requires belongs { Belongs agent (H.reached heap) }
         ensures view { session_view result ≡ view_of agent }
-        ensures state { state_in result ≡ state_by (view_of agent) (limit_units limit) (table_of (H.reached heap)) }
+        ensures state { state_in result
+            ≡ state_by (view_of agent) (limit_units limit) (table_of (H.reached heap)) }
     {
         Session {
             text: Text::new(heap, agent, limit.units()),

@@ -28,9 +28,11 @@ pub record HasLane (v : View) (wide : Bool) (start o unit : ℕ) : Type 0 where
 pub record IsWordHeld (v : View) (w : Window) (h : HeldWord) : Type 0 where
   pub lanes : h.lane + h.count ≤ lane_count h.wide
   pub within : h.from + h.count ≤ w.len
-  pub each : (k : ℕ) → k < h.count → HasLane v w.wide w.start (w.offset + (h.from + k)) (lane_of h.wide h.word (h.lane + k))
+  pub each : (k : ℕ) → k < h.count
+      → HasLane v w.wide w.start (w.offset + (h.from + k)) (lane_of h.wide h.word (h.lane + k))
 
--- It shows all units of the window that its word has: it begins with the window or with the word, and ends with one of the two.
+-- It shows all units of the window that its word has: it begins with the window or with the word,
+-- and ends with one of the two.
 pub record HoldsAll (w : Window) (h : HeldWord) : Type 0 where
   pub front : 0 < h.from → h.lane ≡ 0
   pub back : h.from + h.count < w.len → h.lane + h.count ≡ lane_count h.wide
@@ -52,5 +54,6 @@ pub record HasOther (v : View) (w : Window) (us : List ℕ) : Type 0 where
 
 -- The units of each Flat are known once all its words are frozen, as they are after a load.
 pub record IsLearned (v : View) : Type 0 where
-  pub each : (i : ℕ) (wide : Bool) (start : ℕ) (fixed : Bool) (n : ℕ) → Has v.forms i (Flat wide start fixed) → Has v.lengths i n
+  pub each : (i : ℕ) (wide : Bool) (start : ℕ) (fixed : Bool) (n : ℕ) → Has v.forms i (Flat wide start fixed)
+      → Has v.lengths i n
       → ((q : ℕ) → q < words_over wide n → HasKey v.frozen (start + q)) → HasKey v.units i

@@ -5,7 +5,8 @@ use Rattle.heap_rule.specs.declared.view.View.{View}
 use Rattle.heap_rule.specs.Maps.{Has, HasKey}
 use Rattle.heap_table.specs.Known.{KeepsKnown}
 
--- a call that only loads: what is known stays known, what the agent owns, used and read of the counters stays, and so do its slots and history
+-- a call that only loads: what is known stays known, what the agent owns, used and read of the counters
+-- stays, and so do its slots and history
 pub record OnlyLoads (v w : View) : Type 0 where
   pub known : KeepsKnown v w
   pub sizes : w.sizes ≡ v.sizes
@@ -25,7 +26,8 @@ pub record OnlyLoads (v w : View) : Type 0 where
 abbrev pub HoldsForms : View → View → Type 0
 HoldsForms v w = (i : ℕ) (f : Form) → Has v.forms i f → Has w.forms i f
 
--- any call: what is known stays known, counters and uses never fall, and slots, how often each was loaded, and history stay
+-- any call: what is known stays known, counters and uses never fall, and slots,
+-- how often each was loaded, and history stay
 pub record Continues (v w : View) : Type 0 where
   pub known : KeepsKnown v w
   pub sizes : w.sizes ≡ v.sizes
@@ -45,8 +47,8 @@ pub record Continues (v w : View) : Type 0 where
 abbrev pub KeepsForms : View → View → Type 0
 KeepsForms v w = (w.forms ≡ v.forms) × (w.form_loads ≡ v.form_loads)
 
--- A call that loads, and stores to own content words: what is known stays known, what the agent owns and used and what it read of the counters
--- stays, and so do its slots and history.
+-- A call that loads, and stores to own content words: what is known stays known, what the agent owns and used
+-- and what it read of the counters stays, and so do its slots and history.
 pub record Writes (v w : View) : Type 0 where
   pub known : KeepsKnown v w
   pub sizes : w.sizes ≡ v.sizes

@@ -6,14 +6,16 @@ use Rattle.heap_rule.specs.declared.view.View.{View}
 use Rattle.heap_rule.specs.Loads.{added_loads}
 use Rattle.heap_rule.specs.Views.{MayUse}
 
--- the string that a form names first is known: the left side of a Cons, the parent of a Sliced, the target of a Thin
+-- the string that a form names first is known: the left side of a Cons, the parent of a Sliced,
+-- the target of a Thin
 abbrev pub KnowsSide : View → Form → Type 0
 KnowsSide v (Cons wide left right) = MayUse v left
 KnowsSide v (Sliced wide parent offset) = MayUse v parent
 KnowsSide v (Thin target) = MayUse v target
 KnowsSide v _ = Unit {0}
 
--- how often the form of another string is loaded to find the words of one that is a Flat or a Thin: that of a Thin's target is
+-- how often the form of another string is loaded to find the words of one that is a Flat or a Thin:
+-- that of a Thin's target is
 abbrev pub target_loads : Form → ℕ
 target_loads (Thin target) = 1
 target_loads _ = 0

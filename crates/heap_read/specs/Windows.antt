@@ -10,23 +10,26 @@ use Rattle.heap_read.specs.declared.string.Window.{Window}
 
 -- each content word that has a unit of the window is known to be frozen
 abbrev pub IsFrozenWindow : View → Window → Type 0
-IsFrozenWindow v w = (c : ℕ) → w.start + w.offset / lane_count w.wide ≤ c → c < w.start + words_over w.wide (w.offset + w.len) → IsFrozen v c
+IsFrozenWindow v w = (c : ℕ) → w.start + w.offset / lane_count w.wide ≤ c
+    → c < w.start + words_over w.wide (w.offset + w.len) → IsFrozen v c
 
 -- The string i is p, or p forwards to it.
 abbrev pub StandsFor : View → ℕ → ℕ → Type 0
 StandsFor v p i = (p ≡ i) ⊎ Has v.forms p (Thin i)
 
--- The view leads from the string s to a Flat over the words from `start` on, where the units of s begin behind `before` others. By the length of
--- the string `by` they are known to be there: of the Flat's own string, or of s where that is a Sliced.
+-- The view leads from the string s to a Flat over the words from `start` on, where the units of s begin
+-- behind `before` others. By the length of the string `by` they are known to be there: of the Flat's own
+-- string, or of s where that is a Sliced.
 pub record IsLed (v : View) (s by : ℕ) (wide : Bool) (start before : ℕ) : Type 0 where
   pub id : ℕ
   pub fixed : Bool
   pub form : Has v.forms id (Flat wide start fixed)
   pub way : (StandsFor v s id × (by ≡ id) × (before ≡ 0))
-      ⊎ ((narrow : Bool) × (parent : ℕ) × Has v.forms s (Sliced narrow parent before) × StandsFor v parent id × (by ≡ s))
+      ⊎ ((narrow : Bool) × (parent : ℕ) × Has v.forms s (Sliced narrow parent before) × StandsFor v parent id
+      × (by ≡ s))
 
--- The window shows the units us, which are those of a string from `from` on. Its words are those of a Flat to which the view leads from that string,
--- where they begin behind `before` units.
+-- The window shows the units us, which are those of a string from `from` on. Its words are those of a Flat to
+-- which the view leads from that string, where they begin behind `before` units.
 pub record IsWindow (v : View) (w : Window) (us : List ℕ) : Type 0 where
   pub of : ℕ
   pub whole : List ℕ
@@ -46,8 +49,8 @@ pub record IsWindow (v : View) (w : Window) (us : List ℕ) : Type 0 where
 abbrev pub ShowsAll : View → View → ℕ → Window → Type 0
 ShowsAll v w s window = (us : List ℕ) → Has v.units s us → IsWindow w window us × (window.len ≡ length us)
 
--- The window has all units of the string s: its words are those of the Flat to which the view leads from s, and its length is known, by that of s or
--- of what s forwards to.
+-- The window has all units of the string s: its words are those of the Flat to which the view leads from s,
+-- and its length is known, by that of s or of what s forwards to.
 pub record IsWindowOf (v : View) (s : ℕ) (w : Window) : Type 0 where
   pub by : ℕ
   pub led : IsLed v s by w.wide w.start w.offset

@@ -32,13 +32,16 @@ pub record HasAt (h : HeldWord) (i count : ℕ) : Type 0 where
   pub low : h.from ≤ i
   pub high : i + count ≤ h.from + h.count
 
--- The word shows units of a list, which are those of the window: from number i on, each in the lane behind that of the one before, up to the last lane.
+-- The word shows units of a list, which are those of the window: from number i on, each in the lane behind
+-- that of the one before, up to the last lane.
 pub record ShowsOn (w : Window) (us : List ℕ) (i word : ℕ) : Type 0 where
   pub each : (k : ℕ) → (w.offset + i) % lane_count w.wide + k < lane_count w.wide → i + k < w.len
       → lane_of w.wide word ((w.offset + i) % lane_count w.wide + k) ≡ slice_index us (i + k)
 
--- The first `count` of these words are those of a list from word number `at` on, where unit i is `lane + i` lanes behind the lowest lane of word
--- number 0.
+-- The first `count` of these words are those of a list from word number `at` on, where unit i is `lane + i`
+-- lanes behind the lowest lane of word number 0.
 pub record ShowsFrom (wide : Bool) (lane : ℕ) (us : List ℕ) (at count : ℕ) (words : List ℕ) : Type 0 where
-  pub each : (i : ℕ) → i < length us → at ≤ (lane + i) / lane_count wide → (lane + i) / lane_count wide < at + count
-      → lane_of wide (slice_index words ((lane + i) / lane_count wide - at)) ((lane + i) % lane_count wide) ≡ slice_index us i
+  pub each : (i : ℕ) → i < length us → at ≤ (lane + i) / lane_count wide
+      → (lane + i) / lane_count wide < at + count
+      → lane_of wide (slice_index words ((lane + i) / lane_count wide - at)) ((lane + i) % lane_count wide)
+      ≡ slice_index us i

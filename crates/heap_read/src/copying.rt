@@ -103,7 +103,8 @@ impl<H: HeapRef> Reader<H> {
         ensures ok { IfOk result
             (λ start. IsWritten (view_in self.new) wide start (listed_in self.old source.now)
             × ((view_in self.new).used.words ≡ (view_in self.old).used.words + words_over wide n)) }
-        ensures refused { IfErr result (λ f. IsFull f (words_over wide n) (size_of (H.reached self.old.heap)).words
+        ensures refused { IfErr result
+            (λ f. IsFull f (words_over wide n) (size_of (H.reached self.old.heap)).words
             × ((view_in self.new).low.words ≡ f.at)
             × ((view_in self.new).used.words ≡ (view_in self.old).used.words)) }
         ensures forms { KeepsForms (view_in self.old) (view_in self.new) }

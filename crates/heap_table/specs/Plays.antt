@@ -1,6 +1,6 @@
--- What each step of the table reports to its caller. A step is given as the number of its word and two operands;
--- so each says what it did for every counter, id or place that spells that number, and a caller puts in its
--- own.
+-- What each step of the table reports to its caller. A step is given as the number of its word and two
+-- operands; so each says what it did for every counter, id or place that spells that number, and a caller
+-- puts in its own.
 use Rattle.std.specs.Prelude.{Some, None, Option, Bool, ◌≡◌, ℕ, ◌+◌, ◌^◌, ◌<◌, ◌≤◌, ◌⊎◌, List, Contains}
 use Rattle.atomic_table.specs.Table.{Step, Me}
 use Rattle.js_header.specs.Form.{IsInRange, form_of, word_of}

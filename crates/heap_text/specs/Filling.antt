@@ -10,9 +10,11 @@ use Rattle.heap_rule.specs.Maps.{Has}
 abbrev pub units_at : View → ℕ → List ℕ
 units_at v i = unwrap_or (get v.units i) []
 
--- a call that loads forms of strings up to id and of such to which others forward: what was seen as a Cons above id is so still
+-- a call that loads forms of strings up to id and of such to which others forward:
+-- what was seen as a Cons above id is so still
 abbrev pub HoldsAbove : View → View → ℕ → Type 0
-HoldsAbove v w id = (i : ℕ) (wide : Bool) (left right : ℕ) → id < i → Has v.forms i (Cons wide left right) → Has w.forms i (Cons wide left right)
+HoldsAbove v w id = (i : ℕ) (wide : Bool) (left right : ℕ) → id < i → Has v.forms i (Cons wide left right)
+    → Has w.forms i (Cons wide left right)
 
 -- the units us are ls, which are m, and then rs, which are the rest of n, and neither is empty
 pub record IsBoth (us ls rs : List ℕ) (m n : ℕ) : Type 0 where

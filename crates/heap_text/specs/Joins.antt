@@ -20,7 +20,8 @@ abbrev pub IsCopy : View → View → JsStr → List ℕ → Type 0
 IsCopy v w s us = Has w.units s.id us × ((start : ℕ) × Has w.forms s.id (Flat (is_wide us) start false))
     × UsesExactly v w 1 (words_over (is_wide us) (length us))
 
--- a call that was refused for lack of ids or words: it reported that there is no room, and no string has what it used
+-- a call that was refused for lack of ids or words: it reported that there is no room,
+-- and no string has what it used
 abbrev pub IsTextRefused : View → View → HeapSize → List ℕ → TextFull → Type 0
 IsTextRefused v w z us f = Told w z (words_over (is_wide us) (length us)) f
     × IsSpared v w (words_over (is_wide us) (length us)) f
@@ -40,15 +41,17 @@ abbrev pub IsWideIn : View → Form → Bool → Type 0
 IsWideIn v (Thin target) b = (start : ℕ) × Has v.forms target (Flat b start true)
 IsWideIn v f b = b ≡ wide_bit f
 
--- A new Cons of the strings a and b, with these units: one id and no content word. It is wide exactly where one of the forms that were loaded of
--- its sides is; the view has these forms.
+-- A new Cons of the strings a and b, with these units: one id and no content word. It is wide exactly where
+-- one of the forms that were loaded of its sides is; the view has these forms.
 abbrev pub IsRope : View → View → JsStr → JsStr → JsStr → List ℕ → Type 0
 IsRope v w a b s us = Has w.units s.id us
-    × ((f : Form) × (g : Form) × (left : Bool) × (right : Bool) × Has w.forms a.id f × Has w.forms b.id g × IsWideIn w f left × IsWideIn w g right
+    × ((f : Form) × (g : Form) × (left : Bool) × (right : Bool) × Has w.forms a.id f × Has w.forms b.id g
+    × IsWideIn w f left × IsWideIn w g right
     × Has w.forms s.id (Cons (left || right) a.id b.id))
     × UsesExactly v w 1 0
 
--- the string from which a Sliced is cut, by the form of the string s that is cut: the parent of a Sliced, else s; and where the units of s begin there
+-- the string from which a Sliced is cut, by the form of the string s that is cut: the parent of a Sliced,
+-- else s; and where the units of s begin there
 abbrev pub parent_of : ℕ → Form → ℕ
 parent_of s (Sliced wide parent offset) = parent
 parent_of s _ = s
@@ -57,11 +60,13 @@ abbrev pub offset_of : Form → ℕ
 offset_of (Sliced wide parent offset) = offset
 offset_of _ = 0
 
--- A new Sliced t of the units of the string s from `from` on: one id and no content word. Its parent is no Sliced: s itself, or the parent of s. It is
--- wide exactly where the form that was loaded of s is; the view has that form.
+-- A new Sliced t of the units of the string s from `from` on: one id and no content word. Its parent is no
+-- Sliced: s itself, or the parent of s. It is wide exactly where the form that was loaded of s is;
+-- the view has that form.
 abbrev pub IsPart : View → View → JsStr → ℕ → JsStr → List ℕ → Type 0
 IsPart v w s from t us = Has w.units t.id us
-    × ((f : Form) × (wide : Bool) × Has w.forms s.id f × IsWideIn w f wide × Has w.forms t.id (Sliced wide (parent_of s.id f) (offset_of f + from)))
+    × ((f : Form) × (wide : Bool) × Has w.forms s.id f × IsWideIn w f wide
+    × Has w.forms t.id (Sliced wide (parent_of s.id f) (offset_of f + from)))
     × UsesExactly v w 1 0
 
 -- a call that was refused for lack of an id, and used nothing
@@ -79,31 +84,42 @@ IsCopied v w z us r = ((t : JsStr) × (r ≡ Ok t) × IsCopy v w t us)
     ⊎ ((f : TextFull) × (r ≡ Err f) × IsTextRefused v w z us f)
 
 abbrev pub IsLinked : View → View → HeapSize → JsStr → JsStr → List ℕ → Result JsStr TextFull → Type 0
-IsLinked v w z a b us r = ((t : JsStr) × (r ≡ Ok t) × IsRope v w a b t us) ⊎ ((f : TextFull) × (r ≡ Err f) × IsNoId v w z f)
+IsLinked v w z a b us r =
+    ((t : JsStr) × (r ≡ Ok t) × IsRope v w a b t us) ⊎ ((f : TextFull) × (r ≡ Err f) × IsNoId v w z f)
 
 abbrev pub IsPartCut : View → View → HeapSize → JsStr → ℕ → List ℕ → Result JsStr TextFull → Type 0
-IsPartCut v w z s from us r = ((t : JsStr) × (r ≡ Ok t) × IsPart v w s from t us) ⊎ ((f : TextFull) × (r ≡ Err f) × IsNoId v w z f)
+IsPartCut v w z s from us r =
+    ((t : JsStr) × (r ≡ Ok t) × IsPart v w s from t us) ⊎ ((f : TextFull) × (r ≡ Err f) × IsNoId v w z f)
 
 -- the string s itself, for which nothing was used
 abbrev pub IsItself : View → View → JsStr → JsStr → Type 0
 IsItself v w s t = (t ≡ s) × (w.used ≡ v.used)
 
 module _ (v w : View) (z : HeapSize) where
-  -- Joining strings a with the units us and b with the units vs, where a result has at most `most` units. A sum over that is refused, and no
-  -- other. An empty side gives the other side. Fewer than 13 units are copied, more become a Cons.
-  pub record IsJoined (most : ℕ) (a b : JsStr) (us vs : List ℕ) (answer : Result JsStr JoinFault) : Type 0 where
-    pub long : most < length us + length vs → (answer ≡ Err (TooLong (length us) (length vs))) × (w.used ≡ v.used)
-    pub left_empty : length us + length vs ≤ most → length us ≡ 0 → (t : JsStr) × (answer ≡ Ok t) × IsItself v w b t
-    pub right_empty : length us + length vs ≤ most → 0 < length us → length vs ≡ 0 → (t : JsStr) × (answer ≡ Ok t) × IsItself v w a t
-    pub short : length us + length vs ≤ most → 0 < length us → 0 < length vs → length us + length vs < MIN_CONS
+  -- Joining strings a with the units us and b with the units vs, where a result has at most `most` units. A
+  -- sum over that is refused, and no other. An empty side gives the other side. Fewer than 13 units are
+  -- copied, more become a Cons.
+  pub record IsJoined (most : ℕ) (a b : JsStr) (us vs : List ℕ)
+      (answer : Result JsStr JoinFault) : Type 0 where
+    pub long : most < length us + length vs
+        → (answer ≡ Err (TooLong (length us) (length vs))) × (w.used ≡ v.used)
+    pub left_empty : length us + length vs ≤ most → length us ≡ 0
+        → (t : JsStr) × (answer ≡ Ok t) × IsItself v w b t
+    pub right_empty : length us + length vs ≤ most → 0 < length us → length vs ≡ 0
+        → (t : JsStr) × (answer ≡ Ok t) × IsItself v w a t
+    pub short : length us + length vs ≤ most → 0 < length us → 0 < length vs
+        → length us + length vs < MIN_CONS
         → ((t : JsStr) × (answer ≡ Ok t) × IsCopy v w t (us ++ vs))
         ⊎ ((f : TextFull) × (answer ≡ Err (Full f)) × IsTextRefused v w z (us ++ vs) f)
     pub rope : length us + length vs ≤ most → 0 < length us → 0 < length vs → MIN_CONS ≤ length us + length vs
-        → ((t : JsStr) × (answer ≡ Ok t) × IsRope v w a b t (us ++ vs)) ⊎ ((f : TextFull) × (answer ≡ Err (Full f)) × IsNoId v w z f)
+        → ((t : JsStr) × (answer ≡ Ok t) × IsRope v w a b t (us ++ vs))
+        ⊎ ((f : TextFull) × (answer ≡ Err (Full f)) × IsNoId v w z f)
 
-  -- Cutting the part from unit `from` up to unit `to` out of the string s with the units us. The whole is s itself. Fewer than 13 units are copied,
-  -- more become a Sliced.
+  -- Cutting the part from unit `from` up to unit `to` out of the string s with the units us. The whole is s
+  -- itself. Fewer than 13 units are copied, more become a Sliced.
   pub record IsCut (s : JsStr) (from to : ℕ) (us : List ℕ) (answer : Result JsStr TextFull) : Type 0 where
     pub whole : from ≡ 0 → to ≡ length us → (t : JsStr) × (answer ≡ Ok t) × IsItself v w s t
-    pub short : (0 < from) ⊎ (to < length us) → to - from < MIN_CONS → IsCopied v w z (part from (to - from) us) answer
-    pub long : (0 < from) ⊎ (to < length us) → MIN_CONS ≤ to - from → IsPartCut v w z s from (part from (to - from) us) answer
+    pub short : (0 < from) ⊎ (to < length us) → to - from < MIN_CONS
+        → IsCopied v w z (part from (to - from) us) answer
+    pub long : (0 < from) ⊎ (to < length us) → MIN_CONS ≤ to - from
+        → IsPartCut v w z s from (part from (to - from) us) answer

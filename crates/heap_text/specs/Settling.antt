@@ -13,7 +13,8 @@ use Rattle.heap_text.specs.declared.faults.TextFull.TheVariants.{Words}
 use Rattle.heap_read.specs.Reads.{OnlyLoads}
 use Rattle.heap_text.specs.Texts.{IsSpared, Told, UsesExactly}
 
--- Two strings that are known, neither of them empty, with smaller numbers than i, have the units us between them.
+-- Two strings that are known, neither of them empty, with smaller numbers than i,
+-- have the units us between them.
 pub record HasSides (w : View) (i : ℕ) (us : List ℕ) : Type 0 where
   pub left : ℕ
   pub right : ℕ
@@ -26,8 +27,9 @@ pub record HasSides (w : View) (i : ℕ) (us : List ℕ) : Type 0 where
   pub right_some : 0 < length back
   pub joined : us ≡ front ++ back
 
--- A Cons with this wide bit became flat. The content words that were claimed were not the agent's own before. They are those of the Flat, which has
--- the wide bit of the Cons; or they stay the agent's own, where another agent's Flat is there. What was own is so still.
+-- A Cons with this wide bit became flat. The content words that were claimed were not the agent's own before.
+-- They are those of the Flat, which has the wide bit of the Cons; or they stay the agent's own, where another
+-- agent's Flat is there. What was own is so still.
 pub record IsFlattened (v w : View) (i : ℕ) (us : List ℕ) (wide : Bool) : Type 0 where
   pub narrow : IsNarrow wide us
   pub used : UsesExactly v w 0 (words_over wide (length us))
@@ -35,7 +37,8 @@ pub record IsFlattened (v w : View) (i : ℕ) (us : List ℕ) (wide : Bool) : Ty
   pub own_words : (c : ℕ) → HasKey v.own_words c → HasKey w.own_words c
   pub sides : HasSides w i us
   pub words : (start : ℕ) × ((q : ℕ) → q < words_over wide (length us) → HasKey v.own_words (start + q) → ⊥)
-      × (Has w.forms i (Flat wide start false) ⊎ ((q : ℕ) → q < words_over wide (length us) → HasKey w.own_words (start + q)))
+      × (Has w.forms i (Flat wide start false)
+      ⊎ ((q : ℕ) → q < words_over wide (length us) → HasKey w.own_words (start + q)))
 
 -- the wide bit is that of the Cons, where the string was seen as one
 abbrev pub IsBitOf : View → ℕ → Bool → Type 0

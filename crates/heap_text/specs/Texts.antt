@@ -11,7 +11,8 @@ use Rattle.heap_text.specs.declared.faults.TextFull.TheVariants.{Ids, Words}
 abbrev pub UsesExactly : View → View → ℕ → ℕ → Type 0
 UsesExactly v w ids words = (w.used.ids ≡ v.used.ids + ids) × (w.used.words ≡ v.used.words + words)
 
--- The counter that was read last has no room for what the call requested of it: one id, or that many content words.
+-- The counter that was read last has no room for what the call requested of it: one id,
+-- or that many content words.
 abbrev pub Told : View → HeapSize → ℕ → TextFull → Type 0
 Told w z words (Ids f) = IsFull f 1 z.ids × (w.low.ids ≡ f.at)
 Told w z words (Words f) = IsFull f words z.words × (w.low.words ≡ f.at)
@@ -21,17 +22,20 @@ abbrev pub text_words_wanted : TextFull → ℕ
 text_words_wanted (Ids f) = 0
 text_words_wanted (Words f) = f.want
 
--- A refused call used no id, and the words that it used are, with those that its report requests, at most the words of its row. What was the agent's
--- own is so still, and so are the words that the call claimed: the n words from `start` on, which were not its own before and are in no string.
+-- A refused call used no id, and the words that it used are, with those that its report requests, at most the
+-- words of its row. What was the agent's own is so still, and so are the words that the call claimed: the n
+-- words from `start` on, which were not its own before and are in no string.
 pub record IsSpared (v w : View) (words : ℕ) (f : TextFull) : Type 0 where
   pub used_ids : w.used.ids ≡ v.used.ids
   pub used_words : w.used.words + text_words_wanted f ≤ v.used.words + words
   pub own_ids : w.own_ids ≡ v.own_ids
   pub own_words : (c : ℕ) → HasKey v.own_words c → HasKey w.own_words c
-  pub claimed : (start : ℕ) × (n : ℕ) × (w.used.words ≡ v.used.words + n) × ((q : ℕ) → q < n → HasKey w.own_words (start + q))
+  pub claimed : (start : ℕ) × (n : ℕ) × (w.used.words ≡ v.used.words + n)
+      × ((q : ℕ) → q < n → HasKey w.own_words (start + q))
       × ((q : ℕ) → q < n → HasKey v.own_words (start + q) → ⊥)
 
--- What the agent owned it owns still, with what it stored there: each own id with its length, each own content word with its word.
+-- What the agent owned it owns still, with what it stored there: each own id with its length, each own
+-- content word with its word.
 pub record KeepsOwn (v w : View) : Type 0 where
   pub ids : (i n : ℕ) → Has v.own_ids i n → Has w.own_ids i n
   pub words : (c x : ℕ) → Has v.own_words c x → Has w.own_words c x

@@ -54,8 +54,8 @@ abbrev pub reached : Out (List ℕ) → ℕ → ℕ → ℕ
 reached (gave u l) converted plain = converted
 reached (ended e l) converted plain = plain
 
--- the same of all values: before the first whose conversion throws, the units of the strings; from it on, those
--- of the strings in the values
+-- the same of all values: before the first whose conversion throws, the units of the strings; from it on,
+-- those of the strings in the values
 abbrev pub reached_units : ℕ → List Val → ℕ
 reached_units limit [] = 0
 reached_units limit (v ∷ vs) =

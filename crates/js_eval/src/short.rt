@@ -82,7 +82,8 @@ fn of_link<S: Strings>(
     ensures fine { IfSome result (λ v. IsFine (S.state store.now) S.number v) }
     ensures did { IfSome result (λ v. GivesValue S.number (S.state store.now) (S.state store.now) (Ok v)
         (expr_out (tree.chain (expr_tree first.now)
-        (tree.link link.now.at link.now.op (expr_tree link.now.right) tree.no_links)) (scope_of (S.state store.now) S.number context.now))) }
+        (tree.link link.now.at link.now.op (expr_tree link.now.right) tree.no_links))
+        (scope_of (S.state store.now) S.number context.now))) }
 {
     if !is_of_numbers(link.op) {
         return None;

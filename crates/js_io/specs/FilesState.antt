@@ -9,8 +9,8 @@ abbrev pub IsToldAs : Option (List ℕ) → List ℕ → Type 0
 IsToldAs None bytes = ⊤
 IsToldAs (Some held) bytes = bytes ≡ held
 
--- the file is too large: by its bytes where they are reported, and then nothing is counted; or else one more such
--- file was counted
+-- the file is too large: by its bytes where they are reported, and then nothing is counted; or else one more
+-- such file was counted
 abbrev pub IsTooLarge : Option (List ℕ) → ℕ → ℕ → Type 0
 IsTooLarge None before after = after ≡ next_count before
 IsTooLarge (Some held) before after = (FILE_MAX < length held) × (after ≡ before)

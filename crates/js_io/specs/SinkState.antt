@@ -29,8 +29,8 @@ Takes old new bytes = Appends old.taken new.taken bytes
 abbrev pub TakesPrefix : SinkState → SinkState → List ℕ → Type 0
 TakesPrefix old new bytes = (prefix : List ℕ) × IsProperPrefix prefix bytes × Takes old new prefix
 
--- at Ok the sink received all of the bytes and no write failed; at Err it received a prefix of them, and the one
--- write of what was left failed. The count of faults never falls.
+-- at Ok the sink received all of the bytes and no write failed; at Err it received a prefix of them, and the
+-- one write of what was left failed. The count of faults never falls.
 pub record WritesAll {E : Type 0} (result : Result Unit E) (old new : SinkState)
     (bytes : List ℕ) : Type 0 where
   pub all : OnOk result (Takes old new bytes)

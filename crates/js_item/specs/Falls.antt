@@ -23,5 +23,6 @@ most_le_size : {R : Type 0} (ms : List (Member R)) → most (deep-Member R) ms �
 most_le_size [] = omega arith
 most_le_size (m ∷ ms) = omega (arith, falls_item m.value, most_le_size ms)
 
-pub depth_le_size : {R : Type 0} (ms : List (Member R)) → max (most (deep-Member R) ms) 0 ≤ count (fields_of ms)
+pub depth_le_size : {R : Type 0} (ms : List (Member R))
+    → max (most (deep-Member R) ms) 0 ≤ count (fields_of ms)
 depth_le_size ms = omega (arith, most_le_size ms)

@@ -61,7 +61,8 @@ abbrev pub NoKey : {R : Type 0} → KnownStrings → (R → ℕ) → List ℕ �
 NoKey s name u no_fields = Unit {0}
 NoKey s name u (field key value rest) = (units_at s (name key) ≡ u → ⊥) × NoKey s name u rest
 
--- valid numbers, known strings, symbols that were interned, and objects whose keys and values are fine, whose keys differ, and which are bounded
+-- valid numbers, known strings, symbols that were interned, and objects whose keys and values are fine, whose
+-- keys differ, and which are bounded
 abbrev mutual
   pub FineOf : {R : Type 0} → KnownStrings → (R → ℕ) → Content R → Type 0
   FineOf s name undefined = Unit {0}
@@ -75,7 +76,8 @@ abbrev mutual
 
   pub FineFields : {R : Type 0} → KnownStrings → (R → ℕ) → Fields R → Type 0
   FineFields s name no_fields = Unit {0}
-  FineFields s name (field key value rest) = KeyFine s (name key) × FineOf s name value × FineFields s name rest × NoKey s name (units_at s (name key)) rest
+  FineFields s name (field key value rest) = KeyFine s (name key) × FineOf s name value
+      × FineFields s name rest × NoKey s name (units_at s (name key)) rest
 
 -- the keys of the members of an object
 abbrev pub KeysFine : {R : Type 0} → KnownStrings → (R → ℕ) → Fields R → Type 0

@@ -25,7 +25,8 @@ value_by is (field key value rest) = if is key then Some value else value_by is 
 -- the value in the place of the one whose key is so, or else a new member at the end
 abbrev pub put_by : {R : Type 0} → (R → Bool) → R → Content R → Fields R → Fields R
 put_by is key value no_fields = field key value no_fields
-put_by is key value (field k v rest) = if is k then field k value rest else field k v (put_by is key value rest)
+put_by is key value (field k v rest) =
+    if is k then field k value rest else field k v (put_by is key value rest)
 
 -- whether a reference names a string of these units
 abbrev pub has_units : {F R : Type 0} → State F → (R → ℕ) → List ℕ → R → Bool

@@ -18,8 +18,11 @@ clamped_end None n = n
 clamped_end (Some e) n = clamped e n
 
 abbrev pub substring_of : List ℕ → Num → Option Num → List ℕ
-substring_of u start end = slice_range u (min (clamped start (length u)) (clamped_end end (length u))) (max (clamped start (length u)) (clamped_end end (length u)))
+substring_of u start end = slice_range u (min (clamped start (length u)) (clamped_end end (length u)))
+    (max (clamped start (length u)) (clamped_end end (length u)))
 
--- "String.prototype.substr": so many units from start on, all where it isn't given, at most those that are there
+-- "String.prototype.substr": so many units from start on, all where it isn't given,
+-- at most those that are there
 abbrev pub substr_of : List ℕ → Num → Option Num → List ℕ
-substr_of u start count = slice_range u (relative start (length u)) (min (relative start (length u) + clamped_end count (length u)) (length u))
+substr_of u start count = slice_range u (relative start (length u))
+    (min (relative start (length u) + clamped_end count (length u)) (length u))

@@ -6,7 +6,8 @@ use Rattle.std.specs.List.{repeat}
 abbrev pub filling : List ℕ → ℕ → List ℕ
 filling filler n = take n (repeat n filler)
 
--- "String.prototype.padStart", "String.prototype.padEnd": what is missing at `most` units is filled, before or behind
+-- "String.prototype.padStart", "String.prototype.padEnd": what is missing at `most` units is filled,
+-- before or behind
 abbrev pub pad_start_of : List ℕ → ℕ → List ℕ → List ℕ
 pad_start_of u most filler = filling filler (most - length u) ++ u
 

@@ -35,7 +35,8 @@ char_code_of u i = option_map_or (λ k. Int (pos (slice_index u k))) (exact_plac
 
 -- "CodePointAt": the code point of a lead and the trail after it, and else the unit
 abbrev pub code_point_from : List ℕ → ℕ → ℕ
-code_point_from u k = if is_lead (slice_index u k) && nat_lt (k + 1) (length u) && is_trail (slice_index u (k + 1))
+code_point_from u k =
+    if is_lead (slice_index u k) && nat_lt (k + 1) (length u) && is_trail (slice_index u (k + 1))
     then pair_value (slice_index u k) (slice_index u (k + 1)) else slice_index u k
 
 -- "String.prototype.codePointAt"

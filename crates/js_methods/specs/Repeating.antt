@@ -25,7 +25,8 @@ copies n = 0
 abbrev pub repeat_of : List ℕ → Num → List ℕ
 repeat_of u count = repeat (copies count) u
 
--- it throws exactly where the number is no count, or else where the n units of its result are more than the limit, and says how many
+-- it throws exactly where the number is no count, or else where the n units of its result are more than the
+-- limit, and says how many
 abbrev pub IsCountFault : Bool → Cause → ℕ → ℕ → Type 0
 IsCountFault false c limit n = c ≡ BadCount
 IsCountFault true c limit n = (limit < n) × (c ≡ Length n)

@@ -9,4 +9,5 @@ is_surrogate u = is_lead u || is_trail u
 abbrev pub all_paired : List ℕ → Bool
 all_paired [] = true
 all_paired (u ∷ []) = not (is_surrogate u)
-all_paired (u ∷ v ∷ us) = if is_lead u && is_trail v then all_paired us else not (is_surrogate u) && all_paired (v ∷ us)
+all_paired (u ∷ v ∷ us) =
+    if is_lead u && is_trail v then all_paired us else not (is_surrogate u) && all_paired (v ∷ us)

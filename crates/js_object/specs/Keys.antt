@@ -19,7 +19,8 @@ read_on n (u ∷ us) = read_on (n * 10 + (u - 48)) us
 -- one to ten decimal digits, with no zero in front of others
 abbrev pub has_form : List ℕ → Bool
 has_form [] = false
-has_form (u ∷ us) = (not (u == 48) || nat_eq (length us) 0) && nat_le (length us) 9 && all_ascii_digits (u ∷ us)
+has_form (u ∷ us) =
+    (not (u == 48) || nat_eq (length us) 0) && nat_le (length us) 9 && all_ascii_digits (u ∷ us)
 
 -- the number of an array index: decimal digits of a number in 0..4294967294
 abbrev pub index_of_key : List ℕ → Option ℕ

@@ -19,4 +19,5 @@ abbrev mutual
 
   pub ReadableFields : {R : Type 0} → KnownStrings → (R → ℕ) → Fields R → Type 0
   ReadableFields s name no_fields = Unit {0}
-  ReadableFields s name (field key value rest) = KeyFine s (name key) × Readable s name value × ReadableFields s name rest
+  ReadableFields s name (field key value rest) =
+      KeyFine s (name key) × Readable s name value × ReadableFields s name rest

@@ -1,5 +1,5 @@
--- Which strings are settled once an object was serialized as JSON text: those of its values, at every level. Its keys
--- are settled before.
+-- Which strings are settled once an object was serialized as JSON text: those of its values, at every level.
+-- Its keys are settled before.
 use Rattle.std.specs.Prelude.{ℕ}
 use Rattle.js_store.specs.State.{State, IsSettled}
 use Rattle.js_texts.specs.Texts.{AllSettled}

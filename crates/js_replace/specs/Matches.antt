@@ -1,8 +1,10 @@
--- Where the matches of a string are that `replaceAll` and `split` find (ECMA-262, "String.prototype.replaceAll", "String.prototype.split").
+-- Where the matches of a string are that `replaceAll` and `split` find (ECMA-262,
+-- "String.prototype.replaceAll", "String.prototype.split").
 use Rattle.std.specs.Prelude.{◌≡◌, ℕ, zero, suc, ◌+◌, ◌≤◌, max, List, [], ◌∷◌, length, Option, Some, None}
 use Rattle.js_search.specs.Places.{first}
 
--- the places of the matches of w in u from `from` on: the least place, and after each the least from its end on, or from one place further where w is empty
+-- the places of the matches of w in u from `from` on: the least place, and after each the least from its end
+-- on, or from one place further where w is empty
 abbrev pub AreMatches : List ℕ → List ℕ → ℕ → List ℕ → Type 0
 AreMatches u w from [] = first u w from ≡ None
 AreMatches u w from (k ∷ ks) = (first u w from ≡ Some k) × AreMatches u w (k + max 1 (length w)) ks
@@ -23,7 +25,8 @@ first_matches (suc n) u w from = and_on (first u w from) (λ k. first_matches n 
 unfoldable pub matches : List ℕ → List ℕ → List ℕ
 matches u w = first_matches (suc (length u)) u w 0
 
--- places in a string of `len` units at which a needle of `size` units has room, each at or after the end of the one before it
+-- places in a string of `len` units at which a needle of `size` units has room,
+-- each at or after the end of the one before it
 abbrev pub InOrder : ℕ → ℕ → ℕ → List ℕ → Type 0
 InOrder len size from [] = from ≤ len
 InOrder len size from (k ∷ ks) = (from ≤ k) × (k + size ≤ len) × InOrder len size (k + size) ks

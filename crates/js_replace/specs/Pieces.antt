@@ -1,5 +1,6 @@
 -- Helpers: no public contract reaches these definitions.
--- What the pieces of a template expand to, into which the code cuts it, and how many units they have together.
+-- What the pieces of a template expand to, into which the code cuts it,
+-- and how many units they have together.
 use Rattle.std.specs.Prelude.{◌≡◌, ℕ, ◌+◌, ◌-◌, ◌*◌, ◌≤◌, List, [], ◌∷◌, length, take, drop}
 use Rattle.js_replace.specs.declared.pieces.Piece.{Piece}
 use Rattle.js_replace.specs.declared.pieces.Piece.TheVariants.{Plain, Match, Before, After}
@@ -22,4 +23,5 @@ len_of s len at size = s.plain + s.matched * size + s.before * at + s.after * (l
 
 -- they are those of a template
 abbrev pub Measures : Shape → List ℕ → Type 0
-Measures s t = (u : List ℕ) (at : ℕ) (w : List ℕ) → at + length w ≤ length u → length (substituted t u at w) ≡ len_of s (length u) at (length w)
+Measures s t = (u : List ℕ) (at : ℕ) (w : List ℕ) → at + length w ≤ length u
+    → length (substituted t u at w) ≡ len_of s (length u) at (length w)

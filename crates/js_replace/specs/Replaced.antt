@@ -6,7 +6,8 @@ use Rattle.js_replace.specs.Substitution.{substituted}
 -- u from `from` on, where the template t replaces w at each of the places
 abbrev pub replaced_at : List ℕ → List ℕ → List ℕ → ℕ → List ℕ → List ℕ
 replaced_at u w t from [] = drop from u
-replaced_at u w t from (k ∷ ks) = slice_range u from k ++ substituted t u k w ++ replaced_at u w t (k + length w) ks
+replaced_at u w t from (k ∷ ks) =
+    slice_range u from k ++ substituted t u k w ++ replaced_at u w t (k + length w) ks
 
 -- "String.prototype.replace": the first match replaced, if there is one
 abbrev pub replaced_first : List ℕ → List ℕ → List ℕ → List ℕ

@@ -10,7 +10,8 @@ abbrev pub copies_words : List (List ℕ) → ℕ
 copies_words [] = 0
 copies_words (u ∷ us) = copy_words (length u) + copies_words us
 
--- splitting: without a separator nothing, since the string itself is the one part; else both are settled and each part is a copy
+-- splitting: without a separator nothing, since the string itself is the one part;
+-- else both are settled and each part is a copy
 abbrev pub split_ids : {F R : Type 0} → State F → (R → ℕ) → R → Option R → ℕ → ℕ
 split_ids s name r None limit = 0
 split_ids s name r (Some sep) limit = length (parts (text s (name r)) (Some (text s (name sep))) limit)

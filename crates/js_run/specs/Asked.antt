@@ -13,8 +13,8 @@ abbrev pub names_of : Asked → Program FileName
 names_of (files prelude scripts) = record { prelude = prelude; scripts = scripts }
 names_of (made_from number) = record { prelude = None; scripts = [] }
 
--- The sources are those of the files, as far as files are reported, and none is too large; or those that are generated
--- from the number.
+-- The sources are those of the files, as far as files are reported, and none is too large; or those that are
+-- generated from the number.
 abbrev pub AreTexts : Asked → (FileName → Option (List ℕ)) → Program Named → Type 0
 AreTexts (files prelude scripts) held sources =
     AreRead held (record { prelude = prelude; scripts = scripts }) sources

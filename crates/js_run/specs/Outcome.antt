@@ -12,8 +12,8 @@ pub record KeepsMoment (old new : Moment) : Type 0 where
   pub out : old.sinks.out.faults ≤ new.sinks.out.faults
   pub err : old.sinks.err.faults ≤ new.sinks.err.faults
 
--- a call came to one verdict, which has its cause; what the sinks received, the status and what is kept are the
--- verdict's
+-- a call came to one verdict, which has its cause; what the sinks received, the status and what is kept are
+-- the verdict's
 pub record CallOutcome (words : List (List ℕ)) (ended : Ended) (old new : Moment) : Type 0 where
   pub verdict : Verdict
   pub cause : HasCause words old.files new.files verdict

@@ -57,7 +57,8 @@ pub record IsFileFault (words : List (List ℕ)) (old new : FilesState) : Type 0
   pub why : IsUnread old new (in_order (names_of request.asked)) new.blamed
       ⊎ IsLarge old new (in_order (names_of request.asked)) new.blamed
 
--- no read failed, and the first file that isn't reported to have at most so many bytes is reported to have more
+-- no read failed, and the first file that isn't reported to have at most so many bytes is reported to have
+-- more
 pub record IsToldLarge (words : List (List ℕ)) (old new : FilesState) : Type 0 where
   pub request : Request
   pub lawful : request_of words ≡ Some request
@@ -83,8 +84,8 @@ pub record IsNoScript (words : List (List ℕ)) (old new : FilesState) : Type 0 
   pub fault : ParseFault
   pub refused : OfTexts request old new (Refused name fault)
 
--- no read failed, all files are reported and not too large, and one of the sources is the first that spells no
--- script
+-- no read failed, all files are reported and not too large, and one of the sources is the first that spells
+-- no script
 pub record IsToldRefused (words : List (List ℕ)) (old new : FilesState) : Type 0 where
   pub request : Request
   pub lawful : request_of words ≡ Some request
@@ -185,8 +186,8 @@ pub record PrintsFull (words : List (List ℕ)) (ended : Ended) (old new : Momen
 abbrev pub IsMemory : List (List ℕ) → Ended → Moment → Moment → Type 0
 IsMemory words ended old new = IsWant ended old new ⊎ Prints words 6 ended old new
 
--- the program was run, and a write failed: one to out after a prefix of what it prints, and err received nothing;
--- or one to err
+-- the program was run, and a write failed: one to out after a prefix of what it prints, and err received
+-- nothing; or one to err
 pub record IsCutShort (words : List (List ℕ)) (ended : Ended) (old new : Moment) : Type 0 where
   pub run : HasProgram words old.files new.files
   pub ran : Ran
@@ -197,7 +198,8 @@ pub record IsCutShort (words : List (List ℕ)) (ended : Ended) (old new : Momen
 
 -- ---- honest files
 
--- the arguments are valid, all files are reported and not too large, the sources spell a program, and no read failed
+-- the arguments are valid, all files are reported and not too large, the sources spell a program,
+-- and no read failed
 pub record IsHonest (words : List (List ℕ)) (old new : FilesState) : Type 0 where
   pub request : Request
   pub lawful : request_of words ≡ Some request

@@ -15,8 +15,8 @@ use Rattle.run_program.specs.declared.ran.Ran.{Ran}
 use Rattle.run_program.specs.Ran.{outcomes_in}
 use Rattle.js_parse.specs.Faults.{fault_offset, fault_words}
 
--- what becomes of a call: the arguments are refused, a file can't be read or is too large, a source is refused,
--- memory runs out, or files were run
+-- what becomes of a call: the arguments are refused, a file can't be read or is too large, a source is
+-- refused, memory runs out, or files were run
 pub data Verdict : Type 0 where
   BadWords : Verdict
   NotRead : FileName → Verdict

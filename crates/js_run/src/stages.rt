@@ -186,7 +186,8 @@ pub(crate) fn run_plan<R: Threads + Sync, F: Files, O: Sink, E: Sink, G: Gate + 
     requires { IsRequestInRange (request_for plan.now) }
     ensures keeps { KeepsFiles (F.state files.old) (F.state files.new) }
     ensures becomes { Becomes (HasCauseIn (F.state files.old) (F.state files.new) (request_for plan.now))
-        (ended result) (sinks (O.state out.old) (E.state err.old)) (sinks (O.state out.new) (E.state err.new)) }
+        (ended result) (sinks (O.state out.old) (E.state err.old))
+        (sinks (O.state out.new) (E.state err.new)) }
 {
     let setup = setup(plan);
     match &plan.input {

@@ -18,7 +18,8 @@ pub record HasPair (u : List ℕ) (p : Pair) (k : ℕ) : Type 0 where
 -- no pair occurs from `from` on and before the place that was found, or before the end
 abbrev pub IsFirstPair : List ℕ → Pair → ℕ → Option ℕ → Type 0
 IsFirstPair u p from None = (k : ℕ) → from ≤ k → k + p.apart < length u → HasPair u p k → ⊥
-IsFirstPair u p from (Some at) = (from ≤ at) × (at + p.apart < length u) × ((k : ℕ) → from ≤ k → k < at → HasPair u p k → ⊥)
+IsFirstPair u p from (Some at) =
+    (from ≤ at) × (at + p.apart < length u) × ((k : ℕ) → from ≤ k → k < at → HasPair u p k → ⊥)
 
 -- no pair occurs before `end` and behind the place that was found, or anywhere
 abbrev pub IsLastPair : List ℕ → Pair → ℕ → Option ℕ → Type 0

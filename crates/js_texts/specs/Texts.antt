@@ -22,7 +22,8 @@ AllSettled s name rs = Every (λ r. IsSettled s (name r)) rs
 -- what settling strings uses at most
 abbrev pub settle_most : {F R : Type 0} → State F → (R → ℕ) → List R → ℕ
 settle_most s name [] = 0
-settle_most s name (r ∷ rs) = settle_words (s.settled (name r)) (length (text s (name r))) + settle_most s name rs
+settle_most s name (r ∷ rs) =
+    settle_words (s.settled (name r)) (length (text s (name r))) + settle_most s name rs
 
 -- the report of a call that may find no memory itself: its own lack of memory says nothing of the store
 abbrev pub full_only : StoreFault → Option StoreFault

@@ -14,8 +14,8 @@ abbrev pub HasUriOutcome : {F : Type 0} → State F → ℕ → UriOutcome → T
 HasUriOutcome s n (Ok us) = NamesUnits s n us
 HasUriOutcome s n (Err at) = ⊥
 
--- a fault other than the store's: Malformed exactly where the units are, with the place; and RangeError exactly where the list is
--- longer than the limit, with its length
+-- a fault other than the store's: Malformed exactly where the units are, with the place; and RangeError
+-- exactly where the list is longer than the limit, with its length
 abbrev pub IsThrown : UriFault → ℕ → UriOutcome → Type 0
 IsThrown (Malformed at) limit (Ok us) = ⊥
 IsThrown (Malformed at) limit (Err place) = at ≡ place
@@ -42,7 +42,8 @@ abbrev pub uri_full_of : {R : Type 0} → Result R UriFault → Option StoreFaul
 uri_full_of (Ok r) = None
 uri_full_of (Err f) = uri_full_part f
 
--- the words of a new string of the list; nothing is made of units that are malformed or of a list that is too long
+-- the words of a new string of the list; nothing is made of units that are malformed or of a list that is too
+-- long
 abbrev pub outcome_words : ℕ → UriOutcome → ℕ
 outcome_words limit (Ok us) = made_words limit us
 outcome_words limit (Err at) = 0

@@ -33,12 +33,13 @@ abbrev pub escaped_bytes : ℕ → List ℕ → Option (List ℕ)
 escaped_bytes zero us = Some []
 escaped_bytes (suc n) us = cons_bytes (escaped_byte us) (escaped_bytes n (drop 3 us))
 
--- how many bytes UTF-8 asks for where the first is this one of 80 or more, which is as many as it has leading bits of 1; no sequence
--- begins with one of 80 to BF, or of F8 or more
+-- how many bytes UTF-8 asks for where the first is this one of 80 or more, which is as many as it has leading
+-- bits of 1; no sequence begins with one of 80 to BF, or of F8 or more
 abbrev pub sequence_len : ℕ → ℕ
 sequence_len b = if nat_lt b 0xC0 then 1 else if nat_lt b 0xE0 then 2 else if nat_lt b 0xF0 then 3 else 4
 
--- the bits of a code point that its first byte holds in a sequence of n bytes, and those of the others, six in each
+-- the bits of a code point that its first byte holds in a sequence of n bytes, and those of the others,
+-- six in each
 abbrev pub first_bits : ℕ → ℕ → ℕ
 first_bits n b = if nat_lt n 3 then b % 32 else if nat_lt n 4 then b % 16 else b % 8
 
@@ -54,7 +55,8 @@ bits (b ∷ bs) = with_bits (first_bits (length (b ∷ bs)) b) bs
 abbrev pub is_scalar : ℕ → Bool
 is_scalar c = nat_lt c 0x110000 && not (is_lead c || is_trail c)
 
--- the code point whose UTF-8 the bytes are, where they are well formed: no surrogate, at most 10FFFF, and in as few bytes as can be
+-- the code point whose UTF-8 the bytes are, where they are well formed: no surrogate, at most 10FFFF,
+-- and in as few bytes as can be
 abbrev pub spelled_by : List ℕ → ℕ → Option ℕ
 spelled_by bs c = if is_scalar c && bytes_eq (encode_utf8 c) bs then Some c else None
 
@@ -79,13 +81,15 @@ point_part n (Some c) = Some (record { units = utf16_of c; taken = 3 * n })
 abbrev pub escaped_part : (ℕ → Bool) → List ℕ → Option ℕ → Option DecodedPart
 escaped_part hold us None = None
 escaped_part hold us (Some b) =
-    if nat_lt b 0x80 then Some (ascii_part hold us b) else point_part (sequence_len b) (utf8_point (escaped_bytes (sequence_len b) us))
+    if nat_lt b 0x80 then Some (ascii_part hold us b)
+    else point_part (sequence_len b) (utf8_point (escaped_bytes (sequence_len b) us))
 
 -- the first part of units; nothing where it is malformed
 abbrev pub first_part : (ℕ → Bool) → List ℕ → Option DecodedPart
 first_part hold [] = None
 first_part hold (u ∷ us) =
-    if u == 0x25 then escaped_part hold (u ∷ us) (escaped_byte (u ∷ us)) else Some (record { units = u ∷ []; taken = 1 })
+    if u == 0x25 then escaped_part hold (u ∷ us) (escaped_byte (u ∷ us))
+    else Some (record { units = u ∷ []; taken = 1 })
 
 -- a part, and what the units behind its first come to where so many of them are passed over
 abbrev pub after_part : Option DecodedPart → (ℕ → UriOutcome) → UriOutcome

@@ -17,12 +17,14 @@ escapes c = flat_map escape (encode_utf8 c)
 
 -- what denotes a code point: its own units where it is to be kept, nothing for a surrogate that is in no pair
 abbrev pub encoded_point : (ℕ → Bool) → ℕ → Option (List ℕ)
-encoded_point keep c = if is_lead c || is_trail c then None else if keep c then Some (utf16_of c) else Some (escapes c)
+encoded_point keep c =
+    if is_lead c || is_trail c then None else if keep c then Some (utf16_of c) else Some (escapes c)
 
 -- the code points from the front
 abbrev pub encoded_points : (ℕ → Bool) → List ℕ → UriOutcome
 encoded_points keep [] = Ok []
-encoded_points keep (c ∷ cs) = after_some (length (utf16_of c)) (encoded_point keep c) (encoded_points keep cs)
+encoded_points keep (c ∷ cs) =
+    after_some (length (utf16_of c)) (encoded_point keep c) (encoded_points keep cs)
 
 -- the units encoded; malformed at the first unpaired surrogate
 abbrev pub encoded : List ℕ → (ℕ → Bool) → UriOutcome

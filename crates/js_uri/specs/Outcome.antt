@@ -4,7 +4,8 @@ use Rattle.std.specs.Prelude.{ℕ, ◌+◌, List, [], ◌++◌, length, Option, 
 abbrev pub UriOutcome : Type 0
 UriOutcome = Result (List ℕ) ℕ
 
--- n units that denote others, before units that come to an outcome: its list goes behind the others, its place counts on
+-- n units that denote others, before units that come to an outcome: its list goes behind the others,
+-- its place counts on
 abbrev pub uri_after : ℕ → List ℕ → UriOutcome → UriOutcome
 uri_after n us (Ok vs) = Ok (us ++ vs)
 uri_after n us (Err at) = Err (n + at)

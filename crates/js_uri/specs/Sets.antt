@@ -1,13 +1,16 @@
--- The sets of characters of the URI functions, all of them ASCII (ECMA-262, "encodeURI", "encodeURIComponent", "decodeURI", "decodeURIComponent").
+-- The sets of characters of the URI functions, all of them ASCII (ECMA-262, "encodeURI",
+-- "encodeURIComponent", "decodeURI", "decodeURIComponent").
 use Rattle.std.specs.Prelude.{ℕ, Bool, false, ◌||◌, nat_le, ◌&&◌, ◌==◌}
 
 -- A to Z, a to z, 0 to 9
 abbrev pub is_alphanumeric : ℕ → Bool
-is_alphanumeric u = (nat_le 0x41 u && nat_le u 0x5A) || (nat_le 0x61 u && nat_le u 0x7A) || (nat_le 0x30 u && nat_le u 0x39)
+is_alphanumeric u =
+    (nat_le 0x41 u && nat_le u 0x5A) || (nat_le 0x61 u && nat_le u 0x7A) || (nat_le 0x30 u && nat_le u 0x39)
 
 -- - _ . ! ~ * ' ( )
 abbrev pub is_mark : ℕ → Bool
-is_mark u = u == 0x2D || u == 0x5F || u == 0x2E || u == 0x21 || u == 0x7E || u == 0x2A || u == 0x27 || u == 0x28 || u == 0x29
+is_mark u = u == 0x2D || u == 0x5F || u == 0x2E || u == 0x21 || u == 0x7E || u == 0x2A || u == 0x27
+    || u == 0x28 || u == 0x29
 
 -- ; / ? : @ & = + $ , #
 abbrev pub is_uri_reserved : ℕ → Bool

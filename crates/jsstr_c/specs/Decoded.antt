@@ -16,4 +16,5 @@ utf8_decoded bytes = utf16 (chars bytes)
 
 -- Why bytes gave no units: they are no UTF-8, which is reported wherever it is so; or memory runs out.
 abbrev pub IsUndecoded : List ℕ → JsAnswer → Type 0
-IsUndecoded bytes r = ((IsUtf8 bytes → ⊥) × ((n : ℕ) × (r ≡ not_utf8 n) × IsValidUpTo bytes n)) ⊎ (IsUtf8 bytes × (r ≡ no_memory))
+IsUndecoded bytes r = ((IsUtf8 bytes → ⊥) × ((n : ℕ) × (r ≡ not_utf8 n) × IsValidUpTo bytes n))
+    ⊎ (IsUtf8 bytes × (r ≡ no_memory))

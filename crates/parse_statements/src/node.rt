@@ -128,7 +128,8 @@ pub(crate) fn let_line(
     name: Ident,
     init: Option<Expr>,
 ) -> Result<Stmt, NoMemory>
-    ensures { IfOk result (λ s. stmt_tree s ≡ let_of (tables_of tables.now) (ident name.at name.number) (init_tree init)) }
+    ensures { IfOk result (λ s. stmt_tree s
+        ≡ let_of (tables_of tables.now) (ident name.at name.number) (init_tree init)) }
 {
     Ok(Stmt::Let {
         at: name.at,

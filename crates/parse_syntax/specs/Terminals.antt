@@ -1,5 +1,5 @@
--- What each token is to the grammar. A terminal is a function from a token to an optional value; so one identifier
--- may be a name at one place and a property at another.
+-- What each token is to the grammar. A terminal is a function from a token to an optional value; so one
+-- identifier may be a name at one place and a property at another.
 use Rattle.std.specs.Prelude.{ℕ, Bool, true, false, nat_eq, nat_lt, decimal, List, [], Option, Some, None, get_or}
 use Rattle.js_lex.specs.declared.token.Mark.TheVariants as mark
 use Rattle.parse_syntax.specs.declared.token.GrammarToken.{GrammarToken}
@@ -135,8 +135,8 @@ property_at at letters property.Description = None
 property_at at letters (property.Method m) = None
 property_at at letters _ = Some (tree.of_property at letters)
 
--- an identifier behind a point that is neither length nor description nor the name of a method: the read of the
--- property of that name ("EvaluatePropertyAccessWithIdentifierKey")
+-- an identifier behind a point that is neither length nor description nor the name of a method: the read of
+-- the property of that name ("EvaluatePropertyAccessWithIdentifierKey")
 abbrev pub property_word : TokenTables → GrammarToken → Option StepTree
 property_word tables (token.Name at n p) = property_at at (get_or tables.names n []) p
 property_word tables (token.Word at w number) = Some (tree.of_property at (get_or tables.names number []))
@@ -148,8 +148,8 @@ from_of property.FromCharCode = Some builtin.FromCharCode
 from_of property.FromCodePoint = Some builtin.FromCodePoint
 from_of _ = None
 
--- the identifier fromCharCode or fromCodePoint behind String and a point: the function ("Properties of the String
--- Constructor")
+-- the identifier fromCharCode or fromCodePoint behind String and a point: the function ("Properties of the
+-- String Constructor")
 abbrev pub from_word : GrammarToken → Option Builtin
 from_word (token.Name at n p) = from_of p
 from_word _ = None
@@ -159,7 +159,8 @@ abbrev pub key_for_function : Property → Option Builtin
 key_for_function property.KeyFor = Some builtin.KeyFor
 key_for_function _ = None
 
--- the identifier for or keyFor behind Symbol and a point: the function ("Properties of the Symbol Constructor")
+-- the identifier for or keyFor behind Symbol and a point:
+-- the function ("Properties of the Symbol Constructor")
 abbrev pub symbol_function : GrammarToken → Option Builtin
 symbol_function (token.Word at word.For number) = Some builtin.SymbolFor
 symbol_function (token.Name at n p) = key_for_function p
@@ -185,8 +186,8 @@ abbrev pub keys_word : GrammarToken → Option Builtin
 keys_word (token.Name at n p) = keys_function p
 keys_word _ = None
 
--- the key of a member of an object literal (ECMA-262, "LiteralPropertyName"): the letters of any identifier, the
--- units of a string, or the decimal digits of a number
+-- the key of a member of an object literal (ECMA-262, "LiteralPropertyName"): the letters of any identifier,
+-- the units of a string, or the decimal digits of a number
 abbrev pub key : TokenTables → GrammarToken → Option (List ℕ)
 key tables (token.Text at n k) = Some (get_or tables.keys n [])
 key tables (token.Number at n) = Some (decimal n)

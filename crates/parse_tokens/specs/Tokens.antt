@@ -14,7 +14,8 @@ use Rattle.parse_syntax.specs.declared.token.GrammarToken.TheVariants as token
 use Rattle.parse_syntax.specs.declared.token.Word.{Word}
 use Rattle.parse_tokens.specs.Words.{word_meant, word_property, is_in}
 
--- The number of an identifier is its place in the table of names, which has each identifier once in source order.
+-- The number of an identifier is its place in the table of names,
+-- which has each identifier once in source order.
 
 -- where the letters are in a table, or its length
 abbrev pub place_in : List (List ℕ) → List ℕ → ℕ

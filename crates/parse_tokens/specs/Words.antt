@@ -90,8 +90,8 @@ word_or (Some w) reserved = Some w
 word_or None true = Some word.Reserved
 word_or None false = None
 
--- what an identifier is where it can't be a name: the identifier itself if it has a meaning here, else Reserved; None for
--- a name
+-- what an identifier is where it can't be a name: the identifier itself if it has a meaning here, else
+-- Reserved; None for a name
 abbrev pub word_meant : List ℕ → Option Word
 word_meant letters = word_or (keyword_of letters) (is_reserved letters)
 

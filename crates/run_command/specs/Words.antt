@@ -20,8 +20,8 @@ use Rattle.run_command.specs.declared.plan.WordsFault.TheVariants.{Refused, Memo
 abbrev pub FileWord : Type 0
 FileWord = List ℕ
 
--- what is run: a prelude or none and the scripts, by the names of their files, or the sources that are generated
--- from a number
+-- what is run: a prelude or none and the scripts, by the names of their files, or the sources that are
+-- generated from a number
 pub data Asked : Type 0 where
   files : Option FileWord → List FileWord → Asked
   made_from : ℕ → Asked
@@ -131,9 +131,9 @@ request_with asked rows = request_by asked (jobs_in rows) (sizes_in rows) (limit
 abbrev pub request_in : List Row → Option Request
 request_in rows = option_and_then (λ asked. request_with asked rows) (asked_in rows)
 
--- valid arguments: the command gives matches for them, each number is in its range, the limit is 32 or 64, the
--- three sizes are not too much together, and either files are named, one or more but not too many, or there
--- is a number that sources are generated from, with neither a file nor a prelude
+-- valid arguments: the command gives matches for them, each number is in its range, the limit is 32 or 64,
+-- the three sizes are not too much together, and either files are named, one or more but not too many, or
+-- there is a number that sources are generated from, with neither a file nor a prelude
 abbrev pub request_of : List Text → Option Request
 request_of words = if gives_matches words then request_in (matches_of command words) else None
 

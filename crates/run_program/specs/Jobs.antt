@@ -46,8 +46,8 @@ fault_in (Unsupported at) = None
 fault_in (Full report) = Some (store.Full report)
 fault_in Memory = Some store.Memory
 
--- what a report says of a store at the moment when it came and at every later one: what was requested passes the
--- end of the counter from a value that it had, and the end is the store's
+-- what a report says of a store at the moment when it came and at every later one: what was requested passes
+-- the end of the counter from a value that it had, and the end is the store's
 abbrev pub Reports : {F : Type 0} → State F → StoreFault → Type 0
 Reports s (store.Full (Ids at want end)) =
     (end < at + want) × (end ≡ s.sizes.ids) × (at ≤ s.low_ids) × (want ≡ 1)

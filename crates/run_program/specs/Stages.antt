@@ -43,7 +43,8 @@ abbrev pub HaveRunFrom : State SessionFrame → State SessionFrame → Option Tr
 HaveRunFrom a b prelude scripts first outcomes =
     HaveRun a.sizes b (prelude_meant a.limit prelude) (scripts_meant a.limit prelude scripts) first outcomes
 
--- the same on a heap that was made for it, by the agent with the whole share, and what is reported of the heap
+-- the same on a heap that was made for it, by the agent with the whole share,
+-- and what is reported of the heap
 pub record IsTold (setup : Setup) (s : State SessionFrame) (prelude : Option Tree) (scripts : List Tree)
     (first : Option Outcome) (outcomes : List Outcome) (interned : Option ℕ) : Type 0 where
   pub have : HaveRun (setup_sizes setup) s (prelude_by setup prelude)

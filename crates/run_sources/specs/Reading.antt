@@ -19,8 +19,8 @@ pub record IsQuiet (old new : FilesState) : Type 0 where
   pub not_large : new.oversize ≡ old.oversize
   pub unblamed : new.blamed ≡ old.blamed
 
--- the file of this name has these bytes, as far as files are reported. It is not too large: this is what keeps a
--- reported file that is too large from passing for one that was read.
+-- the file of this name has these bytes, as far as files are reported. It is not too large: this is what
+-- keeps a reported file that is too large from passing for one that was read.
 pub record IsRead (held : FileName → Option (List ℕ)) (name : FileName) (source : Named) : Type 0 where
   pub named : source.name ≡ name
   pub tells : IsToldAs (held name) source.text

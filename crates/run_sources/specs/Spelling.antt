@@ -26,8 +26,8 @@ pub record Spell (sources : Program Named) (trees : Program Tree) : Type 0 where
   pub prelude : SpellsPrelude sources.prelude trees.prelude
   pub scripts : AllSpell (outer_of trees.prelude) sources.scripts trees.scripts
 
--- after a prelude that declares the outer names, the first of the sources that spells no script is that of this
--- name, for this fault
+-- after a prelude that declares the outer names, the first of the sources that spells no script is that of
+-- this name, for this fault
 pub data FirstAmong (outer : List (List ℕ)) (name : FileName) (fault : ParseFault) : List Named → Type 0 where
   here : (source : Named) (sources : List Named) → source.name ≡ name
       → script.Refused role.Main outer source.text fault

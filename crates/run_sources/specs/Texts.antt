@@ -1,5 +1,5 @@
--- The sources that are generated from a number: a prelude and 32 scripts. All that is drawn is drawn in the order of
--- the source, from the number as the first state.
+-- The sources that are generated from a number: a prelude and 32 scripts. All that is drawn is drawn in the
+-- order of the source, from the number as the first state.
 use Rattle.std.specs.Prelude.{◌+◌, ◌*◌, ◌≤◌, ◌++◌, ℕ, zero, suc, List, [], ◌∷◌, codes, length}
 use Rattle.std.specs.String.{string_bytes}
 use Rattle.run_sources.specs.Draws.{state_after, draw, joined_up_to, list_up_to, next}
@@ -44,7 +44,8 @@ pub record Named : Type 0 where
   pub name : List ℕ
   pub text : List ℕ
 
--- script j that is generated from the number n, drawn behind the strings of the prelude and the scripts before it
+-- script j that is generated from the number n, drawn behind the strings of the prelude and the scripts
+-- before it
 abbrev pub named_script : ℕ → ℕ → Named
 named_script n j =
     record { name = codes "gen-" ++ digits j; text = script j (state_after (128 * j) (before n 16)) }

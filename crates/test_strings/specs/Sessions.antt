@@ -19,9 +19,10 @@ pub record GoesOn (a b : State SessionFrame) : Type 0 where
 unfoldable pub HasGoneOn : State SessionFrame → State SessionFrame → Type 0
 HasGoneOn a b = GoesOn a b
 
--- Strings of these numbers are known by a session of this heap, which has so many agents; it may be known to have the whole share,
--- and was split off from none then.
-pub record IsPlayed (s : State SessionFrame) (h : Heap) (agents : ℕ) (whole : Bool) (ids : List ℕ) : Type 0 where
+-- Strings of these numbers are known by a session of this heap, which has so many agents; it may be known to
+-- have the whole share, and was split off from none then.
+pub record IsPlayed (s : State SessionFrame) (h : Heap) (agents : ℕ) (whole : Bool)
+    (ids : List ℕ) : Type 0 where
   pub known : (i : ℕ) → Contains ids i → IsKnown s i
   pub of : IsOf s h
   pub agents_are : s.frame.agents ≡ agents

@@ -31,7 +31,8 @@ pub extern "C" fn jsstr_make_unchecked(
     ensures refused { result ≡ reports.BAD_SIZE → ¬ (MayMake (size_for size) agents × (limit ≤ MAX)) }
     ensures limit { result ≡ reports.DONE → handle_limit out.new.at.value ≡ limit }
     ensures unmade { result ≢ reports.DONE → out.new.at.value ≡ None }
-    ensures statuses { (result ≡ reports.DONE) ⊎ ((result ≡ reports.BAD_SIZE) ⊎ (result ≡ reports.NO_MEMORY)) }
+    ensures statuses { (result ≡ reports.DONE)
+        ⊎ ((result ≡ reports.BAD_SIZE) ⊎ (result ≡ reports.NO_MEMORY)) }
     ensures told { result ≢ reports.BAD_ARGUMENT }
     ensures handle { IsHandle out.old → IsHandle out.new }
 {

@@ -1,0 +1,5 @@
+pub mod Bytes
+pub mod Filling
+pub mod Spelling
+pub mod UnitByUnit
+pub mod Windows

@@ -1,0 +1,71 @@
+-- Comparing unit by unit.
+use Rattle.std.proofs.Common.{◌≡◌, ◌⊎◌, inl, inr, true, false, Some, None, ◌++◌, ℕ, zero, suc, ◌+◌, ◌<◌, ◌≤◌, List, [], ◌∷◌, length, take, drop, get_or, drop-cons, ap, ap₂, sym, ◌∙◌, refl, arith}
+use Rattle.std.specs.Prelude.{◌≢◌, ◌==◌, nat_lt, not}
+use Rattle.std.proofs.lemmas.Bool.{cases_lt, cond-true, cond-false, lt-ltb, le-ltb}
+use Rattle.std.specs.declared.cmp.Ordering.{Ordering}
+use Rattle.std.specs.declared.cmp.Ordering.TheVariants.{Less, Equal, Greater}
+use Rattle.std.specs.Ordering.{nat_cmp, ordering_index, ordering_then}
+use Rattle.std.proofs.lemmas.List.{take_all, take_more}
+use Rattle.js_search.specs.Order.{units_cmp}
+use Rattle.heap_export.specs.Encoded.{past_latin1}
+
+pub front : (us : List ℕ) (i : ℕ) → i < length us → drop i us ≡ get_or us i 0 ∷ drop (i + 1) us
+front us i l = let e : suc i ≡ i + 1 = omega arith in drop-cons us i 0 l ∙ ap (λ n. get_or us i 0 ∷ drop n us) e
+
+first_then : (us vs : List ℕ) (i : ℕ) → i < length us → i < length vs
+    → units_cmp (drop i us) (drop i vs) ≡ ordering_then (nat_cmp (get_or us i 0) (get_or vs i 0)) (units_cmp (drop (i + 1) us) (drop (i + 1) vs))
+first_then us vs i l m = ap₂ units_cmp (front us i l) (front vs i m)
+
+pub next_same : (us vs : List ℕ) (i : ℕ) (all : Ordering) → i < length us → i < length vs → nat_cmp (get_or us i 0) (get_or vs i 0) ≡ Equal
+    → units_cmp (drop i us) (drop i vs) ≡ all → units_cmp (drop (i + 1) us) (drop (i + 1) vs) ≡ all
+next_same us vs i all l m e h = sym (ap (λ o. ordering_then o (units_cmp (drop (i + 1) us) (drop (i + 1) vs))) e) ∙ (sym (first_then us vs i l m) ∙ h)
+
+decided : (o p q : Ordering) → o ≢ Equal → ordering_then o p ≡ ordering_then o q
+decided Less p q n = refl
+decided Equal p q n = absurd (n refl)
+decided Greater p q n = refl
+
+pub first_other : (us vs : List ℕ) (i n : ℕ) (o : Ordering) → i < length us → i < length vs → nat_cmp (get_or us i 0) (get_or vs i 0) ≡ o → o ≢ Equal
+    → units_cmp (drop i us) (drop i vs) ≡ units_cmp us vs → units_cmp us vs ≡ ordering_then o (units_cmp (drop n us) (drop n vs))
+first_other us vs i n o l m e d h = sym h ∙ (first_then us vs i l m ∙ (ap (λ p. ordering_then p (units_cmp (drop (i + 1) us) (drop (i + 1) vs))) e ∙ decided o (units_cmp (drop (i + 1) us) (drop (i + 1) vs)) (units_cmp (drop n us) (drop n vs)) d))
+
+narrow_first : (k u : ℕ) (us : List ℕ) → u ≤ 255 → past_latin1 k (u ∷ us) ≡ past_latin1 (k + 1) us
+narrow_first k u us h = cond-false (nat_lt 255 u) (Some k) (past_latin1 (k + 1) us) (le-ltb 255 u h)
+
+wide_first : (k u : ℕ) (us : List ℕ) → 255 < u → past_latin1 k (u ∷ us) ≡ Some k
+wide_first k u us h = cond-true (nat_lt 255 u) (Some k) (past_latin1 (k + 1) us) (lt-ltb 255 u h)
+
+by_first : (k u : ℕ) (us : List ℕ) (i : ℕ) → past_latin1 k (u ∷ us) ≡ None → ((j : ℕ) → past_latin1 (k + 1) us ≡ None → j < length us → get_or us j 0 ≤ 255) → i < suc (length us) → (255 < u) ⊎ (u ≤ 255) → get_or (u ∷ us) i 0 ≤ 255
+by_first k u us i e on l (inl w) = let f : Some k ≡ None = sym (wide_first k u us w) ∙ e in absurd (cc)
+by_first k u us zero e on l (inr h) = h
+by_first k u us (suc j) e on l (inr h) = on j (sym (narrow_first k u us h) ∙ e) (omega (arith, l))
+
+-- the units up to the first that is over 255
+pub next_narrow : (us : List ℕ) (i : ℕ) → i < length us → get_or us i 0 ≤ 255 → past_latin1 i (drop i us) ≡ past_latin1 (i + 1) (drop (i + 1) us)
+next_narrow us i l h = ap (past_latin1 i) (front us i l) ∙ narrow_first i (get_or us i 0) (drop (i + 1) us) h
+
+pub first_wide : (us : List ℕ) (i : ℕ) → i < length us → 255 < get_or us i 0 → past_latin1 i (drop i us) ≡ Some i
+first_wide us i l h = ap (past_latin1 i) (front us i l) ∙ wide_first i (get_or us i 0) (drop (i + 1) us) h
+
+-- where there is none, each is at most 255
+pub all_narrow : (k : ℕ) (us : List ℕ) (i : ℕ) → past_latin1 k us ≡ None → i < length us → get_or us i 0 ≤ 255
+all_narrow k [] i e l = absurd (omega arith)
+all_narrow k (u ∷ us) i e l = by_first k u us i e (λ j f m. all_narrow (k + 1) us j f m) (omega (arith, l)) (cases_lt 255 u)
+
+-- where the front is the same, so is a list with one unit more
+pub same_more : (us vs : List ℕ) (i : ℕ) → i < length us → i < length vs → get_or us i 0 ≡ get_or vs i 0 → take i us ≡ take i vs → take (i + 1) us ≡ take (i + 1) vs
+same_more us vs i l m e h = take_more us i 0 l ∙ (ap₂ (λ (f : List ℕ) (u : ℕ). f ++ u ∷ []) h e ∙ sym (take_more vs i 0 m))
+
+-- what the test of an order says
+pub is_equal : (o : Ordering) → not (ordering_index o == 1) ≡ false → o ≡ Equal
+is_equal Less e = cc
+is_equal Equal e = refl
+is_equal Greater e = cc
+
+pub is_other : (o : Ordering) → not (ordering_index o == 1) ≡ true → o ≢ Equal
+is_other Less e = λ h. cc
+is_other Equal e = λ h. let f : false ≡ true = e in cc
+is_other Greater e = λ h. cc
+
+pub whole_same : (us vs : List ℕ) (i : ℕ) → length us ≤ i → length vs ≤ i → take i us ≡ take i vs → us ≡ vs
+whole_same us vs i l m h = sym (take_all i us l) ∙ (h ∙ take_all i vs m)

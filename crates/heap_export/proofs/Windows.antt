@@ -1,0 +1,24 @@
+-- What a window shows after loads of content words.
+use Rattle.std.proofs.Common.{◌≡◌, ◌∙◌, refl, ℕ, List, length}
+use Rattle.heap_rule.specs.declared.view.View.{View}
+use Rattle.heap_read.specs.declared.string.Window.{Window}
+use Rattle.heap_read.specs.Windows.{IsWindow}
+use Rattle.heap_read.proofs.Loaded.{reads_refl, reads_trans}
+use Rattle.heap_read.proofs.Showing.{forms_held, window_kept, window_length}
+use Rattle.heap_export.specs.Points.{LoadsWords}
+
+pub loads_none : (v : View) → LoadsWords v v
+loads_none v = record { reads = reads_refl v; forms = (refl, refl) }
+
+pub loads_on : (u v w : View) → LoadsWords u v → LoadsWords v w → LoadsWords u w
+loads_on u v w a b = record { reads = reads_trans u v w a.reads b.reads; forms = (b.forms.0 ∙ a.forms.0, b.forms.1 ∙ a.forms.1) }
+
+pub still_shown : (v w : View) (win : Window) (us : List ℕ) → LoadsWords v w → IsWindow v win us → IsWindow w win us
+still_shown v w win us k h = window_kept v w (forms_held v w k.forms.0) win us k.reads.known h
+
+pub window_there : (v w : View) (win : Window) → ((us : List ℕ) × IsWindow v win us) → LoadsWords v w → (us : List ℕ) × IsWindow w win us
+window_there v w win p k = (p.0, still_shown v w win p.0 k p.1)
+
+-- a window with its length
+pub window_len : (v : View) (win : Window) (us : List ℕ) → IsWindow v win us → length us ≡ win.len
+window_len v win us h = window_length v win us h

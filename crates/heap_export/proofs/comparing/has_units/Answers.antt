@@ -1,0 +1,13 @@
+use Rattle.heap_rule.proofs.MapLemmas.{has_key}
+use Rattle.heap_table.specs.Agents.{view_of}
+use Rattle.heap_read.proofs.Loaded.{reads_trans}
+use Rattle.heap_export.proofs.comparing.has_units.Goals as goal
+
+pub shows-requires-clause-window : goal.shows-requires-clause-window
+shows-requires-clause-window g c = let u = has_key (view_of c.args.text.now.reader.agent).units c.args.s.id c.requires.known in (u.0, (c.window-window.ensures.shows u.0 u.1).0)
+
+pub returns-clause-reads : goal.returns-clause-reads
+returns-clause-reads g c = reads_trans _ _ _ c.window-window.ensures.reads c.shows.ensures.loads.reads
+
+pub returns-clause-same : goal.returns-clause-same
+returns-clause-same g c = λ us h. c.shows.ensures.same us (c.window-window.ensures.shows us h).0

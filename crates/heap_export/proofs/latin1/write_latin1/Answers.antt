@@ -1,0 +1,13 @@
+use Rattle.heap_rule.proofs.MapLemmas.{has_key}
+use Rattle.heap_table.specs.Agents.{view_of}
+use Rattle.heap_read.proofs.Loaded.{reads_trans}
+use Rattle.heap_export.proofs.latin1.write_latin1.Goals as goal
+
+pub write-requires : goal.write-requires
+write-requires g c = let u = has_key (view_of c.args.text.now.reader.agent).units c.args.s.id c.requires.known in record { window = (u.0, (c.window-window.ensures.shows u.0 u.1).0) }
+
+pub returns-clause-reads : goal.returns-clause-reads
+returns-clause-reads g c = reads_trans _ _ _ c.window-window.ensures.reads c.write.ensures.loads.reads
+
+pub returns-clause-written : goal.returns-clause-written
+returns-clause-written g c = λ us h. c.write.ensures.written us (c.window-window.ensures.shows us h).0

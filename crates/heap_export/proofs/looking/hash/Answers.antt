@@ -1,0 +1,13 @@
+use Rattle.heap_rule.proofs.MapLemmas.{has_key}
+use Rattle.heap_table.specs.Agents.{view_of}
+use Rattle.heap_read.proofs.Loaded.{reads_trans}
+use Rattle.heap_export.proofs.looking.hash.Goals as goal
+
+pub hash_in-requires : goal.hash_in-requires
+hash_in-requires g c = let u = has_key (view_of c.args.text.now.reader.agent).units c.args.s.id c.requires.known in (u.0, (c.window-window.ensures.shows u.0 u.1).0)
+
+pub returns-clause-reads : goal.returns-clause-reads
+returns-clause-reads g c = reads_trans _ _ _ c.window-window.ensures.reads c.hash_in.ensures.reads.view
+
+pub returns-clause-hash : goal.returns-clause-hash
+returns-clause-hash g c = λ us h. c.hash_in.ensures.hash us (c.window-window.ensures.shows us h).0

@@ -1,0 +1,19 @@
+use Rattle.std.proofs.Common.{◌≡◌, ◌-◌, ◌≤◌, ◌++◌, ℕ, List, length, take, drop}
+use Rattle.heap_table.specs.Agents.{view_of}
+use Rattle.heap_read.specs.Windows.{IsWindow}
+use Rattle.heap_text.specs.Keeping.{KeepsText}
+use Rattle.heap_export.specs.Points.{LoadsWords}
+use Rattle.heap_export.proofs.Spelling.{spelled}
+use Rattle.heap_export.proofs.utf8.fill.Given as goal
+
+abbrev pub invariant-loop-i : goal.invariant-loop-i
+invariant-loop-i g l = record {
+  kept : KeepsText l.fn.text l.text;
+  loads : LoadsWords (view_of l.fn.text.reader.agent) (view_of l.text.reader.agent);
+  within : l.i ≤ l.w.len;
+  room : l.at ≤ length l.out;
+  bytes : (us : List ℕ) → IsWindow (view_of l.fn.text.reader.agent) l.w us → take l.at l.out ++ spelled l.unpaired (drop l.i us) ≡ spelled l.unpaired us;
+}
+
+abbrev pub decreases-loop-i : goal.decreases-loop-i
+decreases-loop-i g l = l.w.len - l.i
