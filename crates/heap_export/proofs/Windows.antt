@@ -2,6 +2,7 @@
 use Rattle.std.proofs.Common.{◌≡◌, ◌∙◌, refl, ℕ, List, length}
 use Rattle.heap_rule.specs.declared.view.View.{View}
 use Rattle.heap_read.specs.declared.string.Window.{Window}
+use Rattle.heap_read.specs.Sides.{LoadsFewForms}
 use Rattle.heap_read.specs.Windows.{IsWindow}
 use Rattle.heap_read.proofs.Loaded.{reads_refl, reads_trans}
 use Rattle.heap_read.proofs.Showing.{forms_held, window_kept, window_length}
@@ -22,3 +23,7 @@ window_there v w win p k = (p.0, still_shown v w win p.0 k p.1)
 -- a window with its length
 pub window_len : (v : View) (win : Window) (us : List ℕ) → IsWindow v win us → length us ≡ win.len
 window_len v win us h = window_length v win us h
+
+-- loads of content words add no load of a form
+pub few_on : (u v w : View) (n : ℕ) → LoadsFewForms u v n → w.form_loads ≡ v.form_loads → LoadsFewForms u w n
+few_on u v w n a e = record { times = a.times; few = a.few; loads = λ l j h. e ∙ a.loads l j h }

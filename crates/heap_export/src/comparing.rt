@@ -6,6 +6,7 @@ ghost use Rattle.heap_rule.specs.Maps.{Has, HasKey};
 ghost use Rattle.heap_rule.specs.Views.{IsSeenSettled};
 ghost use Rattle.heap_table.specs.Agents.{view_of};
 ghost use Rattle.heap_read.specs.Reads.{OnlyLoads};
+ghost use Rattle.heap_read.specs.Sides.{LoadsFewForms};
 ghost use Rattle.heap_read.specs.Windows.{IsWindow};
 ghost use Rattle.heap_text.specs.Keeping.{KeepsText};
 ghost use Rattle.heap_export.specs.Points.{LoadsWords};
@@ -21,6 +22,7 @@ pub fn compare_units<H: HeapRef>(text: &mut Text<H>, s: JsStr, units: &[u16]) ->
     requires settled { IsSeenSettled (view_of text.old.reader.agent) s.id }
     ensures kept { KeepsText text.old text.new }
     ensures reads { OnlyLoads (view_of text.old.reader.agent) (view_of text.new.reader.agent) }
+    ensures few { LoadsFewForms (view_of text.old.reader.agent) (view_of text.new.reader.agent) 3 }
     ensures order { (us : List ℕ) → Has (view_of text.old.reader.agent).units s.id us
         → result ≡ units_cmp us units.now }
 {
@@ -56,6 +58,7 @@ pub fn has_units<H: HeapRef>(text: &mut Text<H>, s: JsStr, units: &[u16]) -> boo
     requires settled { IsSeenSettled (view_of text.old.reader.agent) s.id }
     ensures kept { KeepsText text.old text.new }
     ensures reads { OnlyLoads (view_of text.old.reader.agent) (view_of text.new.reader.agent) }
+    ensures few { LoadsFewForms (view_of text.old.reader.agent) (view_of text.new.reader.agent) 3 }
     ensures same { (us : List ℕ) → Has (view_of text.old.reader.agent).units s.id us
         → IsTrue result ↔ (us ≡ units.now) }
 {

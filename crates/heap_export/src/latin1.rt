@@ -4,6 +4,7 @@ ghost use Rattle.heap_rule.specs.Maps.{Has, HasKey};
 ghost use Rattle.heap_rule.specs.Views.{IsSeenSettled};
 ghost use Rattle.heap_table.specs.Agents.{view_of};
 ghost use Rattle.heap_read.specs.Reads.{OnlyLoads};
+ghost use Rattle.heap_read.specs.Sides.{LoadsFewForms};
 ghost use Rattle.heap_read.specs.Windows.{IsWindow};
 ghost use Rattle.heap_text.specs.Keeping.{KeepsText};
 ghost use Rattle.heap_export.specs.Encoded.{IsWritten, past_latin1};
@@ -25,6 +26,7 @@ pub fn write_latin1<H: HeapRef>(
     requires settled { IsSeenSettled (view_of text.old.reader.agent) s.id }
     ensures kept { KeepsText text.old text.new }
     ensures reads { OnlyLoads (view_of text.old.reader.agent) (view_of text.new.reader.agent) }
+    ensures few { LoadsFewForms (view_of text.old.reader.agent) (view_of text.new.reader.agent) 3 }
     ensures written { (us : List ℕ) → Has (view_of text.old.reader.agent).units s.id us
         → IsWritten (past_latin1 0 us) us out.old out.new result }
 {

@@ -1,6 +1,7 @@
 use Rattle.heap_rule.proofs.MapLemmas.{has_key}
 use Rattle.heap_table.specs.Agents.{view_of}
 use Rattle.heap_read.proofs.Loaded.{reads_trans}
+use Rattle.heap_export.proofs.Windows.{few_on}
 use Rattle.heap_export.proofs.comparing.has_units.Goals as goal
 
 pub shows-requires-clause-window : goal.shows-requires-clause-window
@@ -11,3 +12,6 @@ returns-clause-reads g c = reads_trans _ _ _ c.window-window.ensures.reads c.sho
 
 pub returns-clause-same : goal.returns-clause-same
 returns-clause-same g c = λ us h. c.shows.ensures.same us (c.window-window.ensures.shows us h).0
+
+pub returns-clause-few : goal.returns-clause-few
+returns-clause-few g c = few_on _ _ _ 3 c.window-window.ensures.few c.shows.ensures.loads.forms.1
