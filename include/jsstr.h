@@ -68,14 +68,17 @@ enum jsstr_status {
   JSSTR_TOO_LONG = 6,    /* the sides, `at` and `want` units long, are longer together than the limit */
   JSSTR_NONE = 7,        /* there is no such place, or no interned string with these units */
   JSSTR_NOT_UTF8 = 8,    /* the first `at` bytes are UTF-8, and no more of them are; nothing has changed */
-  JSSTR_BAD_ARGUMENT = 9 /* the condition of the call doesn't hold; no string and no heap has changed */
+  JSSTR_BAD_ARGUMENT = 9, /* the condition of the call doesn't hold; no string and no heap has changed */
+  JSSTR_NO_ROOM = 10,    /* `size` bytes are needed, and there is room for fewer; nothing is written */
+  JSSTR_UNMAPPED = 11    /* unit number `at` has no bytes; nothing is written */
 };
 
 /* The name of a status, as it is above, else "unknown". Not proved. */
 static inline const char *jsstr_status_name(uint32_t status) {
   static const char *const names[] = {
     "JSSTR_DONE", "JSSTR_NO_MEMORY", "JSSTR_BAD_SIZE", "JSSTR_NO_IDS", "JSSTR_NO_WORDS",
-    "JSSTR_NO_SLOTS", "JSSTR_TOO_LONG", "JSSTR_NONE", "JSSTR_NOT_UTF8", "JSSTR_BAD_ARGUMENT"};
+    "JSSTR_NO_SLOTS", "JSSTR_TOO_LONG", "JSSTR_NONE", "JSSTR_NOT_UTF8", "JSSTR_BAD_ARGUMENT",
+    "JSSTR_NO_ROOM", "JSSTR_UNMAPPED"};
   return status < sizeof names / sizeof *names ? names[status] : "unknown";
 }
 
@@ -87,6 +90,7 @@ typedef struct jsstr_order { uint32_t status; int32_t order; } jsstr_order;
 typedef struct jsstr_truth { uint32_t status; bool holds; } jsstr_truth;
 typedef struct jsstr_place { uint32_t status, at; } jsstr_place;
 typedef struct jsstr_words { uint32_t status; bool wide; uint32_t lane, length, count; } jsstr_words;
+typedef struct jsstr_bytes { uint32_t status, at, size; } jsstr_bytes;
 typedef struct jsstr_used { uint32_t status, ids, words; } jsstr_used;
 typedef struct jsstr_use { uint32_t ids, words; } jsstr_use;
 
@@ -147,6 +151,29 @@ jsstr_answer jsstr_settle(jsstr_agent *agent, jsstr_id s);
    DONE. Settles s. Condition: from + len is at most its length. */
 uint32_t jsstr_read(jsstr_agent *agent, jsstr_id s, uint32_t from, uint16_t *out, size_t len);
 
+/* Unit number `place` of s. Settles s. Condition: place is below its length. */
+jsstr_number jsstr_unit_at(jsstr_agent *agent, jsstr_id s, uint32_t place);
+
+/* What becomes of a surrogate that is in no pair, which UTF-8 can't say: U+FFFD is written for it, the call is
+   refused, or it is written in three bytes, as WTF-8 has it. */
+enum jsstr_unpaired { JSSTR_REPLACE = 0, JSSTR_REFUSE = 1, JSSTR_KEEP = 2 };
+
+/* The UTF-8 of s into `out`, all or none, and no zero behind it: `size` is how many bytes were written, with
+   NO_ROOM how many are needed (at most 3 for each unit). UNMAPPED reports the first unpaired surrogate, where
+   these are refused, also where there is no room. Settles s. Condition: unpaired is one of the three. */
+jsstr_bytes jsstr_to_utf8(jsstr_agent *agent, jsstr_id s, uint32_t unpaired, uint8_t *out, size_t room);
+
+/* The units of s into `out`, a byte each, as Latin-1 is; the same answers. UNMAPPED reports the first unit that
+   is over 255. Settles s. */
+jsstr_bytes jsstr_to_latin1(jsstr_agent *agent, jsstr_id s, uint8_t *out, size_t room);
+
+/* The hash by which the string table looks for the units of s: from 0, for each unit 31 times it plus the unit,
+   modulo 2^32. Equal strings have equal ones, in every heap. Settles s. */
+jsstr_number jsstr_hash(jsstr_agent *agent, jsstr_id s);
+
+/* Whether s is settled, which it then stays. */
+jsstr_truth jsstr_is_settled(jsstr_agent *agent, jsstr_id s);
+
 /* The words that the units of s lie in, from word number `at` on, into `out`: as many as there are, at most
    `room`, and `count` says how many. A word has n lanes, 4 where `wide`, else 8, the first in its lowest
    bits; of the `length` units number i is in word (lane + i) / n, lane (lane + i) % n; other lanes may
@@ -160,6 +187,19 @@ jsstr_order jsstr_compare(jsstr_agent *agent, jsstr_id a, jsstr_id b);
 
 /* Whether two strings have the same units. Settles both. */
 jsstr_truth jsstr_equal(jsstr_agent *agent, jsstr_id a, jsstr_id b);
+
+/* The same of s and units that are in no string, with no string made: the order of s and of them, and whether s
+   has just these units. Settles s. */
+jsstr_order jsstr_compare_units(jsstr_agent *agent, jsstr_id s, const uint16_t *units, size_t len);
+jsstr_truth jsstr_equals_units(jsstr_agent *agent, jsstr_id s, const uint16_t *units, size_t len);
+
+/* The same of bytes, by the rules of jsstr_from_latin1 and jsstr_from_utf8. Memory is allocated for the duration of
+   the call; NO_MEMORY and NOT_UTF8 leave all as it was. Condition of the UTF-8 ones: len is at most
+   JSSTR_MAX_LENGTH. They have no form that tests nothing. */
+jsstr_order jsstr_compare_latin1(jsstr_agent *agent, jsstr_id s, const uint8_t *bytes, size_t len);
+jsstr_order jsstr_compare_utf8(jsstr_agent *agent, jsstr_id s, const uint8_t *bytes, size_t len);
+jsstr_truth jsstr_equals_latin1(jsstr_agent *agent, jsstr_id s, const uint8_t *bytes, size_t len);
+jsstr_truth jsstr_equals_utf8(jsstr_agent *agent, jsstr_id s, const uint8_t *bytes, size_t len);
 
 /* Whether the units of `needle` are in `hay` from number `at` on; any `at` is allowed.
    Settles both. */
@@ -182,7 +222,7 @@ jsstr_answer jsstr_intern(jsstr_agent *agent, jsstr_id s);
    these units at that moment, the id and the words may be lost. Condition: len is at most JSSTR_MAX_LENGTH. */
 jsstr_answer jsstr_intern_units(jsstr_agent *agent, const uint16_t *units, size_t len);
 
-/* The same of bytes, by the rules of jsstr_from_latin1 and jsstr_from_utf8. Memory is allocated for the time of
+/* The same of bytes, by the rules of jsstr_from_latin1 and jsstr_from_utf8. Memory is allocated for the duration of
    the call; NO_MEMORY and NOT_UTF8 leave all as it was. Condition: len is at most JSSTR_MAX_LENGTH. */
 jsstr_answer jsstr_intern_latin1(jsstr_agent *agent, const uint8_t *bytes, size_t len);
 jsstr_answer jsstr_intern_utf8(jsstr_agent *agent, const uint8_t *bytes, size_t len);
@@ -226,9 +266,16 @@ jsstr_answer jsstr_slice_unchecked(jsstr_agent *agent, jsstr_id s, uint32_t from
 uint32_t jsstr_length_unchecked(jsstr_agent *agent, jsstr_id s);
 jsstr_answer jsstr_settle_unchecked(jsstr_agent *agent, jsstr_id s);
 void jsstr_read_unchecked(jsstr_agent *agent, jsstr_id s, uint32_t from, uint16_t *out, size_t len);
+uint16_t jsstr_unit_at_unchecked(jsstr_agent *agent, jsstr_id s, uint32_t place);
+jsstr_bytes jsstr_to_utf8_unchecked(jsstr_agent *agent, jsstr_id s, uint32_t unpaired, uint8_t *out, size_t room);
+jsstr_bytes jsstr_to_latin1_unchecked(jsstr_agent *agent, jsstr_id s, uint8_t *out, size_t room);
+uint32_t jsstr_hash_unchecked(jsstr_agent *agent, jsstr_id s);
+bool jsstr_is_settled_unchecked(jsstr_agent *agent, jsstr_id s);
 jsstr_words jsstr_window_unchecked(jsstr_agent *agent, jsstr_id s, uint32_t at, uint64_t *out, size_t room);
 int32_t jsstr_compare_unchecked(jsstr_agent *agent, jsstr_id a, jsstr_id b);
 bool jsstr_equal_unchecked(jsstr_agent *agent, jsstr_id a, jsstr_id b);
+int32_t jsstr_compare_units_unchecked(jsstr_agent *agent, jsstr_id s, const uint16_t *units, size_t len);
+bool jsstr_equals_units_unchecked(jsstr_agent *agent, jsstr_id s, const uint16_t *units, size_t len);
 bool jsstr_starts_with_unchecked(jsstr_agent *agent, jsstr_id hay, jsstr_id needle, uint32_t at);
 jsstr_place jsstr_index_of_unchecked(jsstr_agent *agent, jsstr_id hay, jsstr_id needle, uint32_t from);
 jsstr_place jsstr_last_index_of_unchecked(jsstr_agent *agent, jsstr_id hay, jsstr_id needle, uint32_t limit);

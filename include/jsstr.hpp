@@ -41,7 +41,9 @@ enum class status : std::uint32_t {
   too_long = JSSTR_TOO_LONG,
   none = JSSTR_NONE,
   not_utf8 = JSSTR_NOT_UTF8,
-  bad_argument = JSSTR_BAD_ARGUMENT
+  bad_argument = JSSTR_BAD_ARGUMENT,
+  no_room = JSSTR_NO_ROOM,
+  unmapped = JSSTR_UNMAPPED
 };
 
 /// A refusal: its status, and the numbers that jsstr.h gives beside it, else 0.
@@ -105,6 +107,10 @@ struct size {
 struct use {
   std::uint32_t ids, words;
 };
+
+/// What becomes of a surrogate that is in no pair, which UTF-8 has no bytes for: U+FFFD is written in its place
+/// (String.prototype.toWellFormed), the call is refused, or it is written in three bytes, as WTF-8 has it.
+enum class unpaired : std::uint32_t { replace = JSSTR_REPLACE, refuse = JSSTR_REFUSE, keep = JSSTR_KEEP };
 
 /// What a call answers that has no value of its own.
 struct nothing {};
@@ -219,18 +225,52 @@ public:
   /// All units of s.
   answer<std::u16string> units(string s) { return given(units_of(s)); }
 
-  /// The UTF-8 of s, with U+FFFD in the place of each unpaired surrogate (String.prototype.toWellFormed).
-  answer<std::string> utf8(string s) {
-    const result<std::u16string> read = units_of(s);
-    return given(read ? result<std::string>(utf8_of(read.value())) : result<std::string>(read.error()));
+  /// Unit number `at` of s.
+  answer<char16_t> unit(string s, std::uint32_t at) {
+    const jsstr_number found = jsstr_unit_at(handle(), s.id(), at);
+    return given(found.status == JSSTR_DONE ? result<char16_t>(static_cast<char16_t>(found.value)) : refused<char16_t>(found.status));
   }
 
-  /// Below 0, 0 or above 0, as the units of a come before those of b, are the same, or come after them.
-  answer<int> compare(string a, string b) {
-    const jsstr_order found = jsstr_compare(handle(), a.id(), b.id());
-    return given(found.status == JSSTR_DONE ? result<int>(found.order) : refused<int>(found.status));
+  /// The UTF-8 of s. A refusal of an unpaired surrogate has the status unmapped and its place.
+  answer<std::string> utf8(string s, unpaired surrogate = unpaired::replace) {
+    const auto way = static_cast<std::uint32_t>(surrogate);
+    return given(bytes([&](std::uint8_t *out, std::size_t room) { return jsstr_to_utf8(handle(), s.id(), way, out, room); }));
   }
+
+  /// The units of s, a byte each. A refusal of a unit over 255 has the status unmapped and its place.
+  answer<std::string> latin1(string s) {
+    return given(bytes([&](std::uint8_t *out, std::size_t room) { return jsstr_to_latin1(handle(), s.id(), out, room); }));
+  }
+
+  /// The hash of the units of s by which the string table looks for them.
+  answer<std::uint32_t> hash(string s) { return given(number(jsstr_hash(handle(), s.id()))); }
+  answer<bool> is_settled(string s) { return given(truth(jsstr_is_settled(handle(), s.id()))); }
+
+  /// Below 0, 0 or above 0, as the units of a come before those of b, are the same, or come after them.
+  answer<int> compare(string a, string b) { return given(order(jsstr_compare(handle(), a.id(), b.id()))); }
   answer<bool> equal(string a, string b) { return given(truth(jsstr_equal(handle(), a.id(), b.id()))); }
+
+  /// The same of units or bytes that are in no string.
+  answer<int> compare(string s, std::u16string_view units) {
+    return given(order(jsstr_compare_units(handle(), s.id(), data(units), units.size())));
+  }
+  answer<int> compare(string s, literal text) { return compare(s, text.units); }
+  answer<bool> equal(string s, std::u16string_view units) {
+    return given(truth(jsstr_equals_units(handle(), s.id(), data(units), units.size())));
+  }
+  answer<bool> equal(string s, literal text) { return equal(s, text.units); }
+  answer<int> compare_latin1(string s, std::string_view bytes) {
+    return given(order(jsstr_compare_latin1(handle(), s.id(), data(bytes), bytes.size())));
+  }
+  answer<int> compare_utf8(string s, std::string_view bytes) {
+    return given(order(jsstr_compare_utf8(handle(), s.id(), data(bytes), bytes.size())));
+  }
+  answer<bool> equal_latin1(string s, std::string_view bytes) {
+    return given(truth(jsstr_equals_latin1(handle(), s.id(), data(bytes), bytes.size())));
+  }
+  answer<bool> equal_utf8(string s, std::string_view bytes) {
+    return given(truth(jsstr_equals_utf8(handle(), s.id(), data(bytes), bytes.size())));
+  }
   answer<bool> starts_with(string hay, string needle, std::uint32_t at = 0) {
     return given(truth(jsstr_starts_with(handle(), hay.id(), needle.id(), at)));
   }
@@ -333,6 +373,9 @@ private:
   static result<bool> truth(const jsstr_truth &t) {
     return t.status == JSSTR_DONE ? result<bool>(t.holds) : refused<bool>(t.status);
   }
+  static result<int> order(const jsstr_order &o) {
+    return o.status == JSSTR_DONE ? result<int>(o.order) : refused<int>(o.status);
+  }
   static result<std::optional<std::uint32_t>> place(const jsstr_place &p) {
     using maybe = std::optional<std::uint32_t>;
     if (p.status == JSSTR_NONE) return maybe();
@@ -358,40 +401,17 @@ private:
     return read;
   }
 
-  static std::string utf8_of(std::u16string_view units) {
+  // The bytes that a call writes, whose number it says where there is no room.
+  template <class Write> static result<std::string> bytes(Write write) {
+    std::uint8_t none = 0;
     std::string out;
-    out.reserve(units.size());
-    for (std::size_t i = 0; i < units.size(); i++) {
-      char32_t c = units[i];
-      const bool leads = c >= 0xD800 && c < 0xDC00, is_surrogate = c >= 0xD800 && c < 0xE000;
-      if (leads && i + 1 < units.size() && units[i + 1] >= 0xDC00 && units[i + 1] < 0xE000) {
-        c = (c - 0xD800) * 0x400 + (units[++i] - 0xDC00u) + 0x10000;
-      } else if (is_surrogate) {
-        c = 0xFFFD;
-      }
-      append(out, c);
+    jsstr_bytes answer = write(&none, 0);
+    if (answer.status == JSSTR_NO_ROOM) {
+      out.resize(answer.size);
+      answer = write(reinterpret_cast<std::uint8_t *>(out.data()), out.size());
     }
+    if (answer.status != JSSTR_DONE) return refusal{static_cast<status>(answer.status), answer.at};
     return out;
-  }
-
-  static void append(std::string &out, char32_t c) {
-    const auto put = [&](char32_t byte) { out.push_back(static_cast<char>(byte)); };
-    const auto tail = [&](int shift) { put(0x80 | (c >> shift & 0x3F)); };
-    if (c < 0x80) {
-      put(c);
-    } else if (c < 0x800) {
-      put(0xC0 | c >> 6);
-      tail(0);
-    } else if (c < 0x10000) {
-      put(0xE0 | c >> 12);
-      tail(6);
-      tail(0);
-    } else {
-      put(0xF0 | c >> 18);
-      tail(12);
-      tail(6);
-      tail(0);
-    }
   }
 };
 

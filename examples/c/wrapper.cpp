@@ -41,6 +41,22 @@ static void makes_and_reads(jsstr::agent &agent) {
   CHECK(agent.settle(both).value().id() == both.id());
 }
 
+static void reads_out(jsstr::agent &agent) {
+  jsstr::string text = agent.from_utf8("caf\xC3\xA9").value(), lead = agent.from(u"a\x20AC"_js).value();
+  CHECK(agent.unit(text, 3).value() == u'\xE9' && agent.unit(text, 4).error().why == status::bad_argument);
+  CHECK(agent.hash(agent.from_latin1("hello").value()).value() == 99162322 && agent.is_settled(text).value());
+  CHECK(agent.latin1(text).value() == "caf\xE9" && agent.latin1(agent.from_latin1({}).value()).value().empty());
+  CHECK(agent.latin1(lead).error().why == status::unmapped && agent.latin1(lead).error().at == 1);
+  jsstr::string half = agent.from(std::u16string(u"x\xDC00")).value();
+  CHECK(agent.utf8(half, jsstr::unpaired::keep).value() == "x\xED\xB0\x80");
+  CHECK(agent.utf8(half, jsstr::unpaired::refuse).error().why == status::unmapped && agent.utf8(half, jsstr::unpaired::refuse).error().at == 1);
+  CHECK(agent.compare(text, u"caf"_js).value() > 0 && agent.compare(text, std::u16string_view(u"caf\xE9s")).value() < 0);
+  CHECK(agent.equal(text, u"caf\xE9"_js).value() && !agent.equal(text, u"cafe"_js).value());
+  CHECK(agent.equal_latin1(text, "caf\xE9").value() && agent.compare_latin1(text, "caf").value() > 0);
+  CHECK(agent.equal_utf8(text, "caf\xC3\xA9").value() && agent.compare_utf8(text, "caf\xC3\xA9").value() == 0);
+  CHECK(agent.equal_utf8(text, "\xFF").error().why == status::not_utf8);
+}
+
 static void interns(jsstr::agent &agent) {
   std::unordered_map<jsstr::key, int> counts;
   for (const char *word : {"one", "two", "one", "three", "one"}) counts[agent.intern_utf8(word).value()]++;
@@ -97,6 +113,7 @@ static void refuses() {
 int main() {
   jsstr::agent agent = jsstr::agent::make({4096, 8192, 1031}, 4).value();
   makes_and_reads(agent);
+  reads_out(agent);
   interns(agent);
   splits_and_joins(agent);
   CHECK(agent.count_interned().value() == 4);

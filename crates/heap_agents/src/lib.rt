@@ -6,16 +6,20 @@
 #![tactic(auto)]
 
 mod counts;
+mod encoding;
 mod held;
 mod ids;
 mod keys;
 mod life;
+mod lists;
 mod making;
+mod out;
 mod reading;
 mod search;
 mod table;
 mod words;
 
+pub use heap_export::{Unpaired, WriteFault};
 pub use heap_table::MakeFault;
 pub use held::Held;
 pub use words::Shown;

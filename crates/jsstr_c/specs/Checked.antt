@@ -26,6 +26,10 @@ IsUnsettled o p s r = (m : Option Held) × Follows o m × ((us : List ℕ) → H
     → (f : TextFull) × (wide : Bool) × (r ≡ text_report f)
     × IsNoRoom (handle_view m) (handle_view p) (size_in m) us f wide)
 
+-- a string could not be settled, which is reported by the status alone
+abbrev pub IsRefused : Option Held → Option Held → ℕ → ℕ → Type 0
+IsRefused o p s status = (r : JsAnswer) × (status ≡ r.status) × IsUnsettled o p s r
+
 -- the string, which by then was settled, was cut, with r as the answer
 abbrev pub IsCutIn : Option Held → Option Held → ℕ → ℕ → ℕ → JsAnswer → Type 0
 IsCutIn o p s from to r = (m : Option Held) × HandleLeaves o m

@@ -2,8 +2,11 @@
 // them a handle that the library wrote, and nothing else.
 pub(crate) mod counts;
 pub(crate) mod decoding;
+pub(crate) mod encoding;
 pub(crate) mod keys;
 pub(crate) mod life;
+pub(crate) mod lists;
+pub(crate) mod looking;
 pub(crate) mod making;
 pub(crate) mod reading;
 pub(crate) mod search;

@@ -10,6 +10,7 @@
 
 mod agent;
 mod answer;
+mod bytes;
 mod checked;
 mod decoding;
 mod handle;

@@ -1,0 +1,8 @@
+use Rattle.std.proofs.Common.{◌≡◌, inr, refl, arith}
+use Rattle.jsstr_c.proofs.Going.{goes_trans, goes_units}
+use Rattle.jsstr_c.proofs.checked.lists.jsstr_equals_units.Goals as goal
+
+pub returns-clause-compares : goal.returns-clause-compares
+returns-clause-compares c = λ told. let o = c.args.agent.now.at.value in let one = c.settle_known-status in let m = one.new.agent.at.value in let two = c.jsstr_equals_units_unchecked-holds in
+    let n = c.if-status-ne-DONE.false in let g = one.ensures.goes (λ (e : one.result ≡ 9). absurd (omega (arith, e, n))) in
+    (goes_trans o m two.new.agent.at.value g two.ensures.goes, inr (refl, λ us h. two.ensures.same us (goes_units o m g c.args.s us h)))
