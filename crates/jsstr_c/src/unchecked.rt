@@ -1,8 +1,6 @@
 // The calls whose conditions are the caller's to keep: none of them tests anything.
 pub(crate) mod counts;
-pub(crate) mod decoding;
 pub(crate) mod encoding;
-pub(crate) mod keys;
 pub(crate) mod life;
 pub(crate) mod lists;
 pub(crate) mod looking;
@@ -10,3 +8,4 @@ pub(crate) mod making;
 pub(crate) mod reading;
 pub(crate) mod search;
 pub(crate) mod table;
+pub(crate) mod units;
