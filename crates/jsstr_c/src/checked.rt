@@ -1,10 +1,9 @@
 // The calls that test their condition first, and answer `JSSTR_BAD_ARGUMENT` where it fails. A caller owes
 // them a handle that the library wrote, and nothing else.
+pub(crate) mod copying;
 pub(crate) mod counts;
-pub(crate) mod encoding;
 pub(crate) mod life;
 pub(crate) mod lists;
-pub(crate) mod looking;
 pub(crate) mod making;
 pub(crate) mod reading;
 pub(crate) mod search;

@@ -1,9 +1,8 @@
 // The calls whose conditions are the caller's to keep: none of them tests anything.
+pub(crate) mod copying;
 pub(crate) mod counts;
-pub(crate) mod encoding;
 pub(crate) mod life;
 pub(crate) mod lists;
-pub(crate) mod looking;
 pub(crate) mod making;
 pub(crate) mod reading;
 pub(crate) mod search;

@@ -2,7 +2,7 @@ use Rattle.std.proofs.Common.{arith}
 use Rattle.heap_rule.proofs.MapLemmas.{has_key}
 use Rattle.heap_agents.specs.Ready.{handle_view}
 use Rattle.jsstr_c.proofs.Going.{goes_trans, goes_units}
-use Rattle.jsstr_c.proofs.checked.looking.jsstr_unit_at.Goals as goal
+use Rattle.jsstr_c.proofs.checked.reading.jsstr_unit_at.Goals as goal
 
 pub returns-then-settled-ne-DONE-clause-goes : goal.returns-then-settled-ne-DONE-clause-goes
 returns-then-settled-ne-DONE-clause-goes c = λ told. let one = c.reaches in let two = c.jsstr_settle_unchecked-settled in
