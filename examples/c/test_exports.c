@@ -581,7 +581,7 @@ static void refuse_copies(void) {
   jsstr_agent a = {0}, b = {0};
   CHECK(jsstr_make((jsstr_size){20, 3, 9}, 1, 100, &a) == JSSTR_DONE);
   jsstr_id s = made(&a, "12345678"), x = made(&a, "x"), rope = jsstr_concat(&a, s, s).id;
-  CHECK(jsstr_make((jsstr_size){2, 2, 1}, 1, 100, &b) == JSSTR_DONE);
+  CHECK(jsstr_make((jsstr_size){2, 9, 1}, 1, 100, &b) == JSSTR_DONE);
   jsstr_answer unsettled = jsstr_copy_into(&a, rope, &b);
   CHECK(unsettled.status == JSSTR_NO_WORDS && unsettled.at == 2 && unsettled.want == 2 && unsettled.end == 3 && has_used(&b, 0, 0));
   CHECK(jsstr_intern_into(&a, rope, &b).status == JSSTR_NO_WORDS && has_used(&b, 0, 0));
