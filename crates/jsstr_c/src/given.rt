@@ -68,11 +68,23 @@ fn on_units(alloc: Global, agent: &mut JsAgent, task: Task, units: &[u16]) -> Js
     }
 }
 
+// A refusal that leaves the agent as it was.
+fn left(alloc: Global, agent: &mut JsAgent, refusal: JsAnswer) -> JsAnswer
+    requires { IsReady agent.old.at.value }
+    ensures handle { IsHandle agent.new }
+    ensures same { agent.new.at.value ≡ agent.old.at.value }
+    ensures answer { result ≡ refusal }
+{
+    let held = agent.take(alloc);
+    agent.put(held);
+    refusal
+}
+
 /// A task on the units of a source.
 pub(crate) fn on_source(alloc: Global, agent: &mut JsAgent, task: Task, source: Source) -> JsAnswer
     requires ready { IsReady agent.old.at.value }
     requires short { length (given source) ≤ MAX }
-    ensures handle { IsHandle agent.old → IsHandle agent.new }
+    ensures handle { IsHandle agent.new }
     ensures told { result.status ≢ reports.BAD_ARGUMENT }
     ensures does { DoesOn task source.entry agent.old.at.value agent.new.at.value result }
     ensures leaves { Leaves task agent.old.at.value agent.new.at.value }
@@ -81,11 +93,11 @@ pub(crate) fn on_source(alloc: Global, agent: &mut JsAgent, task: Task, source: 
         Source::Units(units) => on_units(alloc, agent, task, units),
         Source::Latin1(bytes) => match latin1_units(alloc, bytes) {
             Ok(units) => on_units(alloc, agent, task, units.as_slice()),
-            Err(refusal) => refusal,
+            Err(refusal) => left(alloc, agent, refusal),
         },
         Source::Utf8(bytes) => match utf8_units(alloc, bytes) {
             Ok(units) => on_units(alloc, agent, task, units.as_slice()),
-            Err(refusal) => refusal,
+            Err(refusal) => left(alloc, agent, refusal),
         },
     }
 }
@@ -140,7 +152,7 @@ pub(crate) fn on_string(
     requires settled { IsSeenSettled (handle_view from.old.at.value) s }
     requires other { IsReady to.old.at.value }
     ensures handle { IsHandle from.new }
-    ensures other_handle { IsHandle to.old → IsHandle to.new }
+    ensures other_handle { IsHandle to.new }
     ensures goes { HandleLeaves from.old.at.value from.new.at.value }
     ensures reads { OnlyLoads (handle_view from.old.at.value) (handle_view from.new.at.value) }
     ensures told { result.status ≢ reports.BAD_ARGUMENT }
@@ -150,6 +162,6 @@ pub(crate) fn on_string(
 {
     match copied(alloc, from, s) {
         Ok(units) => on_units(alloc, to, task, units.as_slice()),
-        Err(_) => no_memory(),
+        Err(_) => left(alloc, to, no_memory()),
     }
 }

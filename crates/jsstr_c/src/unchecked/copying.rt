@@ -27,7 +27,7 @@ pub extern "C" fn jsstr_copy_into_unchecked(
     requires settled { IsSeenSettled (handle_view from.old.at.value) s }
     requires other { IsReady to.old.at.value }
     ensures handle { IsHandle from.new }
-    ensures other_handle { IsHandle to.old → IsHandle to.new }
+    ensures other_handle { IsHandle to.new }
     ensures goes { HandleLeaves from.old.at.value from.new.at.value }
     ensures reads { OnlyLoads (handle_view from.old.at.value) (handle_view from.new.at.value) }
     ensures told { result.status ≢ reports.BAD_ARGUMENT }
@@ -52,7 +52,7 @@ pub extern "C" fn jsstr_intern_into_unchecked(
     requires settled { IsSeenSettled (handle_view from.old.at.value) s }
     requires other { IsReady to.old.at.value }
     ensures handle { IsHandle from.new }
-    ensures other_handle { IsHandle to.old → IsHandle to.new }
+    ensures other_handle { IsHandle to.new }
     ensures goes { HandleLeaves from.old.at.value from.new.at.value }
     ensures reads { OnlyLoads (handle_view from.old.at.value) (handle_view from.new.at.value) }
     ensures told { result.status ≢ reports.BAD_ARGUMENT }

@@ -39,7 +39,7 @@ pub extern "C" fn jsstr_from_latin1_unchecked(
 ) -> JsAnswer
     requires ready { IsReady agent.old.at.value }
     requires short { length bytes.now ≤ MAX }
-    ensures handle { IsHandle agent.old → IsHandle agent.new }
+    ensures handle { IsHandle agent.new }
     ensures told { result.status ≢ reports.BAD_ARGUMENT }
     ensures goes { HandleLeaves agent.old.at.value agent.new.at.value }
     ensures makes { OrNoMemory Makes agent.old.at.value agent.new.at.value bytes.now result }
@@ -57,7 +57,7 @@ pub extern "C" fn jsstr_from_utf8_unchecked(
 ) -> JsAnswer
     requires ready { IsReady agent.old.at.value }
     requires short { length bytes.now ≤ MAX }
-    ensures handle { IsHandle agent.old → IsHandle agent.new }
+    ensures handle { IsHandle agent.new }
     ensures told { result.status ≢ reports.BAD_ARGUMENT }
     ensures goes { HandleLeaves agent.old.at.value agent.new.at.value }
     ensures makes { OnUtf8 Makes agent.old.at.value agent.new.at.value bytes.now result }
@@ -94,7 +94,7 @@ pub extern "C" fn jsstr_intern_latin1_unchecked(
 ) -> JsAnswer
     requires ready { IsReady agent.old.at.value }
     requires short { length bytes.now ≤ MAX }
-    ensures handle { IsHandle agent.old → IsHandle agent.new }
+    ensures handle { IsHandle agent.new }
     ensures told { result.status ≢ reports.BAD_ARGUMENT }
     ensures interns { OrNoMemory IsInterning agent.old.at.value agent.new.at.value bytes.now result }
 {
@@ -111,7 +111,7 @@ pub extern "C" fn jsstr_intern_utf8_unchecked(
 ) -> JsAnswer
     requires ready { IsReady agent.old.at.value }
     requires short { length bytes.now ≤ MAX }
-    ensures handle { IsHandle agent.old → IsHandle agent.new }
+    ensures handle { IsHandle agent.new }
     ensures told { result.status ≢ reports.BAD_ARGUMENT }
     ensures interns { OnUtf8 IsInterning agent.old.at.value agent.new.at.value bytes.now result }
 {
@@ -147,7 +147,7 @@ pub extern "C" fn jsstr_find_latin1_unchecked(
 ) -> JsAnswer
     requires ready { IsReady agent.old.at.value }
     requires short { length bytes.now ≤ MAX }
-    ensures handle { IsHandle agent.old → IsHandle agent.new }
+    ensures handle { IsHandle agent.new }
     ensures told { result.status ≢ reports.BAD_ARGUMENT }
     ensures finds { OrNoMemory IsFinding agent.old.at.value agent.new.at.value bytes.now result }
 {
@@ -164,7 +164,7 @@ pub extern "C" fn jsstr_find_utf8_unchecked(
 ) -> JsAnswer
     requires ready { IsReady agent.old.at.value }
     requires short { length bytes.now ≤ MAX }
-    ensures handle { IsHandle agent.old → IsHandle agent.new }
+    ensures handle { IsHandle agent.new }
     ensures told { result.status ≢ reports.BAD_ARGUMENT }
     ensures finds { OnUtf8 IsFinding agent.old.at.value agent.new.at.value bytes.now result }
 {
