@@ -1,4 +1,4 @@
-use Rattle.std.proofs.Common.{◌≡◌, ◌≤◌, ℕ, List, length, drop, subst, sym, arith}
+use Rattle.std.proofs.Common.{◌≤◌, ℕ, List, length, drop, subst, sym, arith}
 use Rattle.heap_rule.specs.Layout.{MAX}
 use Rattle.heap_rule.proofs.MapLemmas.{has_key}
 use Rattle.heap_rule.proofs.Possible.{possible_short}
