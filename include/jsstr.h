@@ -66,10 +66,10 @@ enum jsstr_status {
   JSSTR_NO_WORDS = 4,    /* not enough words are left: the same of words */
   JSSTR_NO_SLOTS = 5,    /* all `end` slots of the string table are used by other units */
   JSSTR_TOO_LONG = 6,    /* the sides, `at` and `want` units long, are longer together than the limit */
-  JSSTR_NONE = 7,        /* there is no such place, or no interned string with these units */
+  JSSTR_NONE = 7,        /* there is no such place or number, or no interned string with these units */
   JSSTR_NOT_UTF8 = 8,    /* the first `at` bytes are UTF-8, and no more of them are; nothing has changed */
   JSSTR_BAD_ARGUMENT = 9, /* the condition of the call doesn't hold; no string and no heap has changed */
-  JSSTR_NO_ROOM = 10,    /* `size` bytes are needed, and there is room for fewer; nothing is written */
+  JSSTR_NO_ROOM = 10,    /* `size` bytes, or units, are needed, and there is room for fewer; nothing is written */
   JSSTR_UNMAPPED = 11    /* unit number `at` has no bytes; nothing is written */
 };
 
@@ -151,6 +151,10 @@ jsstr_answer jsstr_settle(jsstr_agent *agent, jsstr_id s);
    DONE. Settles s. Condition: from + len is at most its length. */
 uint32_t jsstr_read(jsstr_agent *agent, jsstr_id s, uint32_t from, uint16_t *out, size_t len);
 
+/* All units of s into `out`, or none: `size` is how many were written, with NO_ROOM how many there are.
+   Settles s. */
+jsstr_bytes jsstr_read_all(jsstr_agent *agent, jsstr_id s, uint16_t *out, size_t room);
+
 /* Unit number `place` of s. Settles s. Condition: place is below its length. */
 jsstr_number jsstr_unit_at(jsstr_agent *agent, jsstr_id s, uint32_t place);
 
@@ -170,6 +174,10 @@ jsstr_bytes jsstr_to_latin1(jsstr_agent *agent, jsstr_id s, uint8_t *out, size_t
 /* The hash by which the string table looks for the units of s: from 0, for each unit 31 times it plus the unit,
    modulo 2^32. Equal strings have equal ones, in every heap. Settles s. */
 jsstr_number jsstr_hash(jsstr_agent *agent, jsstr_id s);
+
+/* The number of s as an array index of ECMA-262: s is its decimal digits, and it is at most 2^32 - 2. NONE where s
+   is none, as "01". Settles s. */
+jsstr_number jsstr_array_index(jsstr_agent *agent, jsstr_id s);
 
 /* Whether s is settled, which it then stays. */
 jsstr_truth jsstr_is_settled(jsstr_agent *agent, jsstr_id s);
@@ -236,6 +244,12 @@ jsstr_answer jsstr_find_units(jsstr_agent *agent, const uint16_t *units, size_t 
 jsstr_answer jsstr_find_latin1(jsstr_agent *agent, const uint8_t *bytes, size_t len);
 jsstr_answer jsstr_find_utf8(jsstr_agent *agent, const uint8_t *bytes, size_t len);
 
+/* In the heap of `to`, which may be that of `from`: a new string with the units of s, settled; and the one string
+   of the string table there with them. Memory is allocated for the duration of the call. Settles s: NO_WORDS may
+   be of its own heap, with `to` unchanged; any other report is of `to`. Condition: `to` isn't zero. */
+jsstr_answer jsstr_copy_into(jsstr_agent *from, jsstr_id s, jsstr_agent *to);
+jsstr_answer jsstr_intern_into(jsstr_agent *from, jsstr_id s, jsstr_agent *to);
+
 /* Whether s is an interned string of this agent: one that a call above answered, to it or to an agent from which
    it knows its strings. Any number is allowed. */
 jsstr_truth jsstr_is_interned(jsstr_agent *agent, jsstr_id s);
@@ -266,10 +280,12 @@ jsstr_answer jsstr_slice_unchecked(jsstr_agent *agent, jsstr_id s, uint32_t from
 uint32_t jsstr_length_unchecked(jsstr_agent *agent, jsstr_id s);
 jsstr_answer jsstr_settle_unchecked(jsstr_agent *agent, jsstr_id s);
 void jsstr_read_unchecked(jsstr_agent *agent, jsstr_id s, uint32_t from, uint16_t *out, size_t len);
+jsstr_bytes jsstr_read_all_unchecked(jsstr_agent *agent, jsstr_id s, uint16_t *out, size_t room);
 uint16_t jsstr_unit_at_unchecked(jsstr_agent *agent, jsstr_id s, uint32_t place);
 jsstr_bytes jsstr_to_utf8_unchecked(jsstr_agent *agent, jsstr_id s, uint32_t unpaired, uint8_t *out, size_t room);
 jsstr_bytes jsstr_to_latin1_unchecked(jsstr_agent *agent, jsstr_id s, uint8_t *out, size_t room);
 uint32_t jsstr_hash_unchecked(jsstr_agent *agent, jsstr_id s);
+jsstr_number jsstr_array_index_unchecked(jsstr_agent *agent, jsstr_id s);
 bool jsstr_is_settled_unchecked(jsstr_agent *agent, jsstr_id s);
 jsstr_words jsstr_window_unchecked(jsstr_agent *agent, jsstr_id s, uint32_t at, uint64_t *out, size_t room);
 int32_t jsstr_compare_unchecked(jsstr_agent *agent, jsstr_id a, jsstr_id b);
@@ -286,6 +302,8 @@ jsstr_answer jsstr_intern_utf8_unchecked(jsstr_agent *agent, const uint8_t *byte
 jsstr_answer jsstr_find_units_unchecked(jsstr_agent *agent, const uint16_t *units, size_t len);
 jsstr_answer jsstr_find_latin1_unchecked(jsstr_agent *agent, const uint8_t *bytes, size_t len);
 jsstr_answer jsstr_find_utf8_unchecked(jsstr_agent *agent, const uint8_t *bytes, size_t len);
+jsstr_answer jsstr_copy_into_unchecked(jsstr_agent *from, jsstr_id s, jsstr_agent *to);
+jsstr_answer jsstr_intern_into_unchecked(jsstr_agent *from, jsstr_id s, jsstr_agent *to);
 bool jsstr_is_interned_unchecked(jsstr_agent *agent, jsstr_id s);
 bool jsstr_same_unchecked(const jsstr_agent *agent, jsstr_id a, jsstr_id b);
 jsstr_use jsstr_totals_unchecked(jsstr_agent *agent);

@@ -242,6 +242,12 @@ public:
     return given(bytes([&](std::uint8_t *out, std::size_t room) { return jsstr_to_latin1(handle(), s.id(), out, room); }));
   }
 
+  /// The number of s as an array index, a property key in ECMA-262, if it is one.
+  answer<std::optional<std::uint32_t>> array_index(string s) {
+    const jsstr_number found = jsstr_array_index(handle(), s.id());
+    return given(place({found.status, found.value}));
+  }
+
   /// The hash of the units of s by which the string table looks for them.
   answer<std::uint32_t> hash(string s) { return given(number(jsstr_hash(handle(), s.id()))); }
   answer<bool> is_settled(string s) { return given(truth(jsstr_is_settled(handle(), s.id()))); }
@@ -306,6 +312,17 @@ public:
   }
   answer<std::optional<key>> find_utf8(std::string_view bytes) {
     return given(found(jsstr_find_utf8(handle(), data(bytes), bytes.size())));
+  }
+
+  /// A new string of another heap with the units of s, a string of this one, and the one string of its string
+  /// table with them. Where both agents are of one heap, s is copied within it.
+  answer<string> copy_into(string s, agent &to) {
+    if (!line || !to.line || &to == this) return given(refused<string>(JSSTR_BAD_ARGUMENT));
+    return given(made<string>(jsstr_copy_into(handle(), s.id(), to.handle())));
+  }
+  answer<key> intern_into(string s, agent &to) {
+    if (!line || !to.line || &to == this) return given(refused<key>(JSSTR_BAD_ARGUMENT));
+    return given(made<key>(jsstr_intern_into(handle(), s.id(), to.handle())));
   }
 
   /// Whether s is an interned string of this agent, so that its number makes a key.
@@ -393,12 +410,15 @@ private:
   }
 
   result<std::u16string> units_of(string s) {
-    const jsstr_number length = jsstr_length(handle(), s.id());
-    if (length.status != JSSTR_DONE) return refused<std::u16string>(length.status);
-    std::u16string read(length.value, u'\0');
-    const std::uint32_t code = jsstr_read(handle(), s.id(), 0, reinterpret_cast<std::uint16_t *>(read.data()), read.size());
-    if (code != JSSTR_DONE) return refused<std::u16string>(code);
-    return read;
+    std::uint16_t none = 0;
+    std::u16string out;
+    jsstr_bytes answer = jsstr_read_all(handle(), s.id(), &none, 0);
+    if (answer.status == JSSTR_NO_ROOM) {
+      out.resize(answer.size);
+      answer = jsstr_read_all(handle(), s.id(), reinterpret_cast<std::uint16_t *>(out.data()), out.size());
+    }
+    if (answer.status != JSSTR_DONE) return refused<std::u16string>(answer.status);
+    return out;
   }
 
   // The bytes that a call writes, whose number it says where there is no room.

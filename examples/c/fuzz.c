@@ -84,8 +84,8 @@ static void answered(agent *a, jsstr_answer s, const uint16_t *units, uint32_t l
 }
 
 static uint32_t some_units(uint16_t *units) {
-  uint32_t len = chance(8) ? chance(20) : chance(100), wide = chance(3) == 0;
-  for (uint32_t i = 0; i < len; i++) units[i] = (uint16_t)(chance(3) + (wide && chance(2) ? 0x4E00 : 'a'));
+  uint32_t len = chance(8) ? chance(20) : chance(100), wide = chance(3) == 0, digits = chance(20) == 0;
+  for (uint32_t i = 0; i < len; i++) units[i] = (uint16_t)(chance(3) + (digits ? '0' : wide && chance(2) ? 0x4E00 : 'a'));
   return len;
 }
 
@@ -165,6 +165,44 @@ static void read(agent *a) {
   if (from + n > len) { CHECK(status == JSSTR_BAD_ARGUMENT); return; }
   if (refused_for_room(status)) return;
   CHECK(status == JSSTR_DONE && memcmp(units, texts[s].units + from, n * 2) == 0);
+}
+
+/* All units at once, and the number as an array index, which strings by chance rarely have. */
+static void read_out(agent *a) {
+  uint16_t units[LIMIT + 1];
+  char text[LIMIT + 1], again[16];
+  jsstr_id s = some_id(a);
+  uint32_t len = knows(a, s) ? texts[s].len : 9, room = chance(2) ? len : chance(LIMIT + 1);
+  memset(units, 0x5A, sizeof units);
+  jsstr_bytes all = jsstr_read_all(&a->handle, s, units, room);
+  jsstr_number n = jsstr_array_index(&a->handle, s);
+  if (!knows(a, s)) { CHECK(all.status == JSSTR_BAD_ARGUMENT && n.status == JSSTR_BAD_ARGUMENT && units[0] == 0x5A5A); return; }
+  lawful++;
+  if (refused_for_room(all.status)) return;
+  CHECK(all.size == len && !all.at && all.status == (room < len ? JSSTR_NO_ROOM : JSSTR_DONE));
+  CHECK(room < len ? units[0] == 0x5A5A : memcmp(units, texts[s].units, len * 2) == 0 && units[len] == 0x5A5A);
+  if (refused_for_room(n.status)) return;
+  for (uint32_t i = 0; i < len; i++) text[i] = texts[s].units[i] < 128 ? (char)texts[s].units[i] : 'x';
+  text[len] = 0;
+  uint64_t value = len && len <= 10 && strspn(text, "0123456789") == len ? strtoull(text, 0, 10) : UINT64_MAX;
+  if (value < UINT32_MAX) snprintf(again, sizeof again, "%llu", (unsigned long long)value);
+  int is = value < UINT32_MAX && strcmp(text, again) == 0;
+  CHECK(is ? n.status == JSSTR_DONE && n.value == value : n.status == JSSTR_NONE && !n.value);
+}
+
+/* A string of one agent for another one of the same heap; and for a stranger, which has room for little. */
+static void carry(agent *a, agent *b) {
+  if (a == b) return;
+  jsstr_id s = some_id(a);
+  if (chance(9) == 0) {
+    jsstr_answer t = jsstr_copy_into(&a->handle, s, &stranger.handle);
+    CHECK((t.status == JSSTR_BAD_ARGUMENT) == !knows(a, s));
+    return;
+  }
+  jsstr_answer t = jsstr_copy_into(&a->handle, s, &b->handle);
+  if (!knows(a, s) || !b->handle.live) { CHECK(t.status == JSSTR_BAD_ARGUMENT); return; }
+  lawful++;
+  answered(b, t, texts[s].units, texts[s].len);
 }
 
 static void window(agent *a) {
@@ -358,7 +396,7 @@ int main(int count_of, char **told) {
   for (call = 0; call < calls; call++) {
     agent *a = &agents[chance(AGENTS)], *b = &agents[chance(AGENTS)];
     if (!a->handle.live && chance(3)) a = &agents[0];
-    switch (chance(19)) {
+    switch (chance(21)) {
     case 0: case 1: make(a); break;
     case 2: case 3: concat(a); break;
     case 4: case 5: slice(a); break;
@@ -371,6 +409,8 @@ int main(int count_of, char **told) {
     case 14: split(a, b); break;
     case 15: window(a); break;
     case 16: case 17: key(a); break;
+    case 18: read_out(a); break;
+    case 19: carry(a, b); break;
     default: join(a, b);
     }
     if (full > 300) begin();

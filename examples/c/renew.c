@@ -47,24 +47,19 @@ static bool is_nearly_full(jsstr_agent *agent) {
 
 /* A string on its way: `went` has for each number of the old heap its new one, so that what was one string
    stays one. Interned strings go first. */
-typedef struct journey { jsstr_agent *from, *to; jsstr_id *went; uint16_t *units; size_t room; } journey;
+typedef struct journey { jsstr_agent *from, *to; jsstr_id *went; } journey;
 
 static jsstr_id carried(journey *j, jsstr_id s, bool is_key) {
   if (j->went[s] != JSSTR_NO_STRING) return j->went[s];
-  uint32_t length = jsstr_length(j->from, s).value;
-  if (length > j->room) {
-    j->room = length * 2;
-    CHECK((j->units = realloc(j->units, j->room * sizeof *j->units)) != NULL);
-  }
-  CHECK(jsstr_read(j->from, s, 0, j->units, length) == JSSTR_DONE); /* settles a rope: a quarter is left for that */
-  return j->went[s] = done((is_key ? jsstr_intern_units : jsstr_from_units)(j->to, j->units, length));
+  /* A rope is settled in the old heap: a quarter is left for that. */
+  return j->went[s] = done((is_key ? jsstr_intern_into : jsstr_copy_into)(j->from, s, j->to));
 }
 
 /* Goes over to a new heap, and answers how many seconds that took. */
 static double renew(host *h) {
   double began = seconds();
-  journey j = {&h->agents[h->now], &h->agents[!h->now], malloc(size.ids * sizeof *j.went), malloc(128), 64};
-  CHECK(j.went && j.units);
+  journey j = {&h->agents[h->now], &h->agents[!h->now], malloc(size.ids * sizeof *j.went)};
+  CHECK(j.went);
   memset(j.went, 0xFF, size.ids * sizeof *j.went); /* JSSTR_NO_STRING */
   CHECK(jsstr_make(size, 1, JSSTR_MAX_LENGTH, j.to) == JSSTR_DONE);
   for (entry *e = h->entries; e < h->entries + ENTRIES; e++) e->name = carried(&j, e->name, true);
@@ -72,7 +67,6 @@ static double renew(host *h) {
   CHECK(jsstr_free(j.from) == JSSTR_DONE);
   h->now = !h->now;
   free(j.went);
-  free(j.units);
   return seconds() - began;
 }
 

@@ -473,6 +473,129 @@ static void malformed_keys(void) {
   CHECK(has_used(&a, 1, 2) && jsstr_free(&a) == JSSTR_DONE);
 }
 
+/* The number of a string as an array index; -1 where it is none. */
+static int64_t index_of(jsstr_agent *a, const char *text) {
+  jsstr_id s = made(a, text);
+  jsstr_number n = jsstr_array_index(a, s), again = jsstr_array_index_unchecked(a, s);
+  CHECK(n.status == again.status && n.value == again.value);
+  CHECK(n.status == JSSTR_DONE || (n.status == JSSTR_NONE && !n.value));
+  return n.status == JSSTR_DONE ? (int64_t)n.value : -1;
+}
+
+static void array_indexes(void) {
+  jsstr_agent a = {0};
+  static const char *const none[] = {"", "00", "01", "007", "+1", "-0", "-1", "1.0", "1e3", " 1", "1 ", "4294967295", "4294967296", "9999999999", "10000000000", "42949672940", "x", "1x", "x1", "0x1", "/", ":"};
+  CHECK(jsstr_make((jsstr_size){2000, 2000, 10}, 1, 1000, &a) == JSSTR_DONE);
+  for (size_t i = 0; i < sizeof none / sizeof *none; i++) CHECK(index_of(&a, none[i]) == -1);
+  for (uint64_t n = 0; n < 4294967295u; n = n < 20 ? n + 1 : n * 10 / 7) {
+    char text[16];
+    snprintf(text, sizeof text, "%llu", (unsigned long long)n);
+    CHECK(index_of(&a, text) == (int64_t)n);
+  }
+  CHECK(index_of(&a, "4294967294") == 4294967294 && index_of(&a, "1000000000") == 1000000000);
+  static const uint16_t wide[] = {'1', 0xFF11}, past[] = {0x131};
+  CHECK(jsstr_array_index(&a, jsstr_from_units(&a, wide, 2).id).status == JSSTR_NONE);
+  CHECK(jsstr_array_index(&a, jsstr_from_units(&a, past, 1).id).status == JSSTR_NONE);
+  jsstr_id rope = jsstr_concat(&a, made(&a, "1234567"), made(&a, "890123")).id, part = jsstr_slice(&a, rope, 1, 10).id;
+  CHECK(jsstr_array_index(&a, rope).status == JSSTR_NONE && jsstr_array_index(&a, part).value == 234567890);
+  jsstr_number bad = jsstr_array_index(&a, UINT32_MAX);
+  CHECK(bad.status == JSSTR_BAD_ARGUMENT && !bad.value && jsstr_free(&a) == JSSTR_DONE);
+  CHECK(jsstr_array_index(&a, 0).status == JSSTR_BAD_ARGUMENT);
+}
+
+/* All units, with each room up to one more than they need, in both forms. */
+static void read_all(void) {
+  jsstr_agent a = {0};
+  uint16_t units[20], got[22];
+  CHECK(jsstr_make((jsstr_size){100, 200, 10}, 1, 1000, &a) == JSSTR_DONE);
+  for (int wide = 0; wide < 2; wide++)
+    for (uint32_t len = 0; len <= 20; len++) {
+      for (uint32_t i = 0; i < len; i++) units[i] = (uint16_t)(wide && i % 3 ? 0xD800 + i : i);
+      jsstr_id s = jsstr_from_units(&a, units, len).id;
+      for (uint32_t room = 0; room <= len + 1; room++)
+        for (int form = 0; form < 2; form++) {
+          memset(got, 0x5A, sizeof got);
+          jsstr_bytes b = form ? jsstr_read_all_unchecked(&a, s, got, room) : jsstr_read_all(&a, s, got, room);
+          CHECK(b.status == (room < len ? JSSTR_NO_ROOM : JSSTR_DONE) && b.size == len && !b.at);
+          uint32_t written = room < len ? 0 : len;
+          CHECK(!memcmp(units, got, written * 2));
+          for (uint32_t i = written; i < 22; i++) CHECK(got[i] == 0x5A5A);
+        }
+    }
+  got[0] = 7;
+  jsstr_bytes bad = jsstr_read_all(&a, 99, got, 22);
+  CHECK(bad.status == JSSTR_BAD_ARGUMENT && !bad.size && !bad.at && got[0] == 7 && jsstr_free(&a) == JSSTR_DONE);
+  CHECK(jsstr_read_all(&a, 0, got, 22).status == JSSTR_BAD_ARGUMENT && got[0] == 7);
+}
+
+static int has_units(jsstr_agent *a, jsstr_id s, const uint16_t *units, uint32_t len) {
+  uint16_t got[64];
+  jsstr_bytes b = jsstr_read_all(a, s, got, 64);
+  return b.status == JSSTR_DONE && b.size == len && !memcmp(units, got, len * 2);
+}
+
+/* Strings carried to another heap: each form of string, what they use there, each refusal, the same heap. */
+static void copies(void) {
+  jsstr_agent a = {0}, b = {0}, c = {0};
+  uint16_t units[40];
+  CHECK(jsstr_make((jsstr_size){200, 400, 10}, 2, 1000, &a) == JSSTR_DONE);
+  CHECK(jsstr_make((jsstr_size){200, 400, 10}, 1, 1000, &b) == JSSTR_DONE);
+  for (int wide = 0; wide < 2; wide++)
+    for (uint32_t len = 0; len <= 40; len += len < 10 ? 1 : 15) {
+      for (uint32_t i = 0; i < len; i++) units[i] = (uint16_t)(wide && i % 3 ? 0xD800 + i : i + 1);
+      jsstr_id s = jsstr_from_units(&a, units, len).id;
+      jsstr_used use = jsstr_totals(&b), mine = jsstr_totals(&a);
+      jsstr_answer copy = jsstr_copy_into(&a, s, &b), again = jsstr_copy_into_unchecked(&a, s, &b);
+      uint32_t lanes = wide && len > 1 ? 4 : 8, words = (len + lanes - 1) / lanes;
+      CHECK(is_string(copy, copy.id) && is_string(again, again.id) && copy.id != again.id);
+      CHECK(has_used(&b, use.ids + 2, use.words + 2 * words) && has_used(&a, mine.ids, mine.words));
+      CHECK(has_units(&b, copy.id, units, len) && has_units(&b, again.id, units, len) && jsstr_is_settled(&b, copy.id).holds);
+      CHECK(!jsstr_is_interned(&b, copy.id).holds);
+    }
+  for (uint32_t i = 0; i < 30; i++) units[i] = (uint16_t)('a' + i);
+  jsstr_id left = jsstr_from_units(&a, units, 15).id, rope = jsstr_concat(&a, left, jsstr_from_units(&a, units + 15, 15).id).id;
+  jsstr_id part = jsstr_slice(&a, rope, 3, 20).id;
+  CHECK(has_units(&b, jsstr_copy_into(&a, rope, &b).id, units, 30) && has_units(&b, jsstr_copy_into(&a, part, &b).id, units + 3, 17));
+  jsstr_id key = jsstr_intern_into(&a, part, &b).id;
+  jsstr_used use = jsstr_totals(&b);
+  CHECK(is_string(jsstr_intern_into(&a, part, &b), key) && is_string(jsstr_intern_into_unchecked(&a, part, &b), key));
+  CHECK(is_string(jsstr_find_units(&b, units + 3, 17), key) && jsstr_is_interned(&b, key).holds && has_used(&b, use.ids, use.words));
+  CHECK(jsstr_intern(&a, part).status == JSSTR_DONE && has_units(&b, jsstr_copy_into(&a, part, &b).id, units + 3, 17));
+  /* Within one heap. */
+  CHECK(jsstr_split(&a, 1, &c) == JSSTR_DONE);
+  jsstr_answer within = jsstr_copy_into(&a, left, &c);
+  CHECK(within.status == JSSTR_DONE && within.id != left && has_units(&c, within.id, units, 15));
+  CHECK(jsstr_intern_into(&a, part, &c).id == jsstr_intern(&c, part).id && jsstr_join(&a, &c) == JSSTR_DONE);
+  /* Bad arguments change neither heap. */
+  use = jsstr_totals(&b);
+  jsstr_used mine = jsstr_totals(&a);
+  CHECK(is_bare(jsstr_copy_into(&a, 199, &b), JSSTR_BAD_ARGUMENT) && is_bare(jsstr_intern_into(&a, UINT32_MAX, &b), JSSTR_BAD_ARGUMENT));
+  CHECK(is_bare(jsstr_copy_into(&a, left, &c), JSSTR_BAD_ARGUMENT) && is_bare(jsstr_intern_into(&a, left, &c), JSSTR_BAD_ARGUMENT));
+  CHECK(is_bare(jsstr_copy_into(&c, left, &a), JSSTR_BAD_ARGUMENT) && is_bare(jsstr_intern_into(&c, left, &a), JSSTR_BAD_ARGUMENT));
+  CHECK(has_used(&a, mine.ids, mine.words) && has_used(&b, use.ids, use.words) && !c.at && !c.live);
+  CHECK(jsstr_free(&a) == JSSTR_DONE && jsstr_free(&b) == JSSTR_DONE);
+}
+
+/* The other heap is full in each of its ways; and the rope has no words in its own. */
+static void refuse_copies(void) {
+  jsstr_agent a = {0}, b = {0};
+  CHECK(jsstr_make((jsstr_size){20, 3, 9}, 1, 100, &a) == JSSTR_DONE);
+  jsstr_id s = made(&a, "12345678"), x = made(&a, "x"), rope = jsstr_concat(&a, s, s).id;
+  CHECK(jsstr_make((jsstr_size){2, 9, 1}, 1, 100, &b) == JSSTR_DONE);
+  jsstr_answer unsettled = jsstr_copy_into(&a, rope, &b);
+  CHECK(unsettled.status == JSSTR_NO_WORDS && unsettled.at == 2 && unsettled.want == 2 && unsettled.end == 3 && has_used(&b, 0, 0));
+  CHECK(jsstr_intern_into(&a, rope, &b).status == JSSTR_NO_WORDS && has_used(&b, 0, 0));
+  CHECK(is_string(jsstr_intern_into(&a, x, &b), 0) && jsstr_intern_into(&a, s, &b).status == JSSTR_NO_SLOTS && has_used(&b, 1, 1));
+  CHECK(jsstr_copy_into(&a, s, &b).status == JSSTR_DONE);
+  jsstr_answer ids = jsstr_copy_into(&a, x, &b);
+  CHECK(ids.status == JSSTR_NO_IDS && ids.at == 2 && ids.want == 1 && ids.end == 2 && is_string(jsstr_intern_into(&a, x, &b), 0));
+  CHECK(jsstr_free(&b) == JSSTR_DONE && jsstr_make((jsstr_size){9, 1, 1}, 1, 100, &b) == JSSTR_DONE);
+  CHECK(jsstr_copy_into(&a, x, &b).status == JSSTR_DONE);
+  jsstr_answer words = jsstr_copy_into(&a, s, &b);
+  CHECK(words.status == JSSTR_NO_WORDS && words.at == 1 && words.want == 1 && words.end == 1);
+  CHECK(jsstr_length(&a, s).value == 8 && jsstr_free(&a) == JSSTR_DONE && jsstr_free(&b) == JSSTR_DONE);
+}
+
 /* A rope that can't be settled for lack of words: what needs it settled is refused, and the rope stays. */
 static void refuse_settling(void) {
   jsstr_agent a = {0};
@@ -482,6 +605,7 @@ static void refuse_settling(void) {
   CHECK(jsstr_settle(&a, t).status == JSSTR_NO_WORDS && jsstr_slice(&a, t, 1, 20).status == JSSTR_NO_WORDS);
   CHECK(jsstr_read(&a, t, 0, got, 16) == JSSTR_NO_WORDS && jsstr_compare(&a, s, t).status == JSSTR_NO_WORDS);
   CHECK(jsstr_equal(&a, t, s).status == JSSTR_NO_WORDS && jsstr_intern(&a, t).status == JSSTR_NO_WORDS);
+  CHECK(jsstr_array_index(&a, t).status == JSSTR_NO_WORDS && jsstr_read_all(&a, t, got, 16).status == JSSTR_NO_WORDS);
   CHECK(jsstr_starts_with(&a, t, s, 0).status == JSSTR_NO_WORDS && jsstr_index_of(&a, t, s, 0).status == JSSTR_NO_WORDS);
   CHECK(jsstr_last_index_of(&a, t, s, 9).status == JSSTR_NO_WORDS && jsstr_length(&a, t).value == 24);
   CHECK(jsstr_free(&a) == JSSTR_DONE);
@@ -496,6 +620,10 @@ int main(void) {
   intern_units();
   refuse_keys();
   malformed_keys();
+  array_indexes();
+  read_all();
+  copies();
+  refuse_copies();
   unchecked();
   refuse_sizes();
   refuse_calls();

@@ -57,6 +57,21 @@ static void reads_out(jsstr::agent &agent) {
   CHECK(agent.equal_utf8(text, "\xFF").error().why == status::not_utf8);
 }
 
+static void carries(jsstr::agent &agent) {
+  jsstr::agent other = jsstr::agent::make({64, 64, 31}).value(), gone = jsstr::agent::make({1, 1, 1}).value();
+  jsstr::string text = agent.from(std::u16string(u"x\xDC00\x20AC")).value();
+  jsstr::string copy = agent.copy_into(text, other).value();
+  jsstr::key key = agent.intern_into(text, other).value();
+  CHECK(other.units(copy).value() == agent.units(text).value() && other.intern(copy).value() == key && other.is_interned(key).value());
+  CHECK(agent.copy_into(text, agent).error().why == status::bad_argument && agent.intern_into({}, other).error().why == status::bad_argument);
+  jsstr::agent moved = std::move(gone);
+  CHECK(agent.copy_into(text, gone).error().why == status::bad_argument && gone.intern_into(text, gone).error().why == status::bad_argument);
+  CHECK(agent.copy_into(agent.from(u"twenty units and more"_js).value(), moved).error().why == status::no_words);
+  CHECK(agent.array_index(agent.from(u"4294967294"_js).value()).value() == 4294967294u && agent.array_index(agent.from(u"0"_js).value()).value() == 0u);
+  CHECK(!agent.array_index(agent.from(u"4294967295"_js).value()).value() && !agent.array_index(agent.from(u"01"_js).value()).value());
+  CHECK(agent.array_index({}).error().why == status::bad_argument && agent.units(agent.from(u""_js).value()).value().empty());
+}
+
 static void interns(jsstr::agent &agent) {
   std::unordered_map<jsstr::key, int> counts;
   for (const char *word : {"one", "two", "one", "three", "one"}) counts[agent.intern_utf8(word).value()]++;
@@ -114,6 +129,7 @@ int main() {
   jsstr::agent agent = jsstr::agent::make({4096, 8192, 1031}, 4).value();
   makes_and_reads(agent);
   reads_out(agent);
+  carries(agent);
   interns(agent);
   splits_and_joins(agent);
   CHECK(agent.count_interned().value() == 4);

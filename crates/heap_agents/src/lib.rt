@@ -6,12 +6,10 @@
 #![tactic(auto)]
 
 mod counts;
-mod encoding;
 mod held;
 mod ids;
 mod keys;
 mod life;
-mod lists;
 mod making;
 mod out;
 mod reading;

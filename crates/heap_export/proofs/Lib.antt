@@ -3,3 +3,5 @@ pub mod Filling
 pub mod Spelling
 pub mod UnitByUnit
 pub mod Windows
+pub mod Decimals
+pub mod Whole

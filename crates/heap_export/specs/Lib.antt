@@ -1,2 +1,4 @@
 pub mod Encoded
+pub mod Index
 pub mod Points
+pub mod Digits

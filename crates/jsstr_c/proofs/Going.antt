@@ -15,6 +15,7 @@ use Rattle.heap_agents.proofs.Interned.{continued}
 use Rattle.heap_agents.proofs.Marks.{same_trans}
 use Rattle.heap_agents.specs.Ready.{HandleLeaves, Searches, IsReady, HandleKnows, handle_view}
 use Rattle.jsstr_c.specs.declared.answer.JsAnswer.{JsAnswer}
+use Rattle.jsstr_c.specs.Given.{Tests}
 use Rattle.jsstr_c.specs.Checked.{Follows, IsPairRefused, IsUnsettled, Reaches}
 
 marks_trans : (x y z : Held) → KeepsMarks x y → KeepsMarks y z → KeepsMarks x z
@@ -101,3 +102,7 @@ pub searches_strings : (o p : Option Held) → Searches o p → KeepsStrings (ha
 searches_strings None p g = absurd g
 searches_strings (Some x) None g = absurd g
 searches_strings (Some x) (Some y) g = g.strings
+
+-- a tested call on given units that is done did what it does
+pub does_done : (does : Option Held → Option Held → List ℕ → JsAnswer → Type 0) (o p : Option Held) (us : List ℕ) (r : JsAnswer) → Tests does o p us r → r.status ≡ 0 → does o p us r
+does_done does o p us r t e = t.does (λ (x : r.status ≡ 9). absurd (omega (arith, x, e)))

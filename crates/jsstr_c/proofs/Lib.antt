@@ -4,3 +4,4 @@ pub mod Ready
 pub mod Going
 pub mod Same
 pub mod Decoded
+pub mod Copied

@@ -3,6 +3,7 @@ pub mod Handles
 pub mod Reports
 pub mod Decoded
 pub mod Bytes
-pub mod Keys
+pub mod Given
+pub mod Sources
 pub mod Checked
 pub mod Lists

@@ -11,6 +11,7 @@ use Rattle.heap_intern.specs.declared.table.faults.TableFull.{TableFull}
 use Rattle.heap_intern.specs.declared.table.faults.TableFull.TheVariants as table
 use Rattle.heap_rule.specs.declared.size.HeapSize.{HeapSize}
 use Rattle.jsstr_c.specs.declared.answer.JsAnswer.{JsAnswer}
+use Rattle.jsstr_c.specs.declared.answer.JsNumber.{JsNumber}
 use Rattle.jsstr_c.specs.declared.answer.JsPlace.{JsPlace}
 use Rattle.jsstr_c.specs.declared.answer.JsSize.{JsSize}
 use Rattle.jsstr_c.specs.declared.answer.JsWords.{JsWords}
@@ -60,14 +61,18 @@ BAD_ARGUMENT = 9
 abbrev pub done : ℕ → JsAnswer
 done id = record { status = DONE; id = id; at = 0; want = 0; end = 0 }
 
+-- a refusal with its numbers
+abbrev pub refusal : ℕ → ℕ → ℕ → ℕ → JsAnswer
+refusal status at want end = record { status = status; id = 0; at = at; want = want; end = end }
+
 -- a counter was full: its number, what was requested and its end
 abbrev pub text_report : TextFull → JsAnswer
-text_report (Ids f) = record { status = NO_IDS; id = 0; at = f.at; want = f.want; end = f.end }
-text_report (Words f) = record { status = NO_WORDS; id = 0; at = f.at; want = f.want; end = f.end }
+text_report (Ids f) = refusal NO_IDS f.at f.want f.end
+text_report (Words f) = refusal NO_WORDS f.at f.want f.end
 
 -- the lengths of two strings that are too long together, or a full counter
 abbrev pub join_report : JoinFault → JsAnswer
-join_report (TooLong left right) = record { status = TOO_LONG; id = 0; at = left; want = right; end = 0 }
+join_report (TooLong left right) = refusal TOO_LONG left right 0
 join_report (Full f) = text_report f
 
 -- the string, or the full counter
@@ -82,9 +87,9 @@ join_answer (Err f) = join_report f
 
 -- a full counter, or a string table that is full: the number of its slots
 abbrev pub table_report : TableFull → JsAnswer
-table_report (table.Ids f) = record { status = NO_IDS; id = 0; at = f.at; want = f.want; end = f.end }
-table_report (table.Words f) = record { status = NO_WORDS; id = 0; at = f.at; want = f.want; end = f.end }
-table_report (table.Slots n) = record { status = NO_SLOTS; id = 0; at = 0; want = 0; end = n }
+table_report (table.Ids f) = refusal NO_IDS f.at f.want f.end
+table_report (table.Words f) = refusal NO_WORDS f.at f.want f.end
+table_report (table.Slots n) = refusal NO_SLOTS 0 0 n
 
 -- the interned string, or what was full
 abbrev pub table_answer : Result ℕ TableFull → JsAnswer
@@ -93,7 +98,7 @@ table_answer (Err f) = table_report f
 
 -- no string of the table has these units, and nothing else is reported
 abbrev pub not_interned : JsAnswer
-not_interned = record { status = NONE; id = 0; at = 0; want = 0; end = 0 }
+not_interned = refusal NONE 0 0 0
 
 -- the interned string, or that there is none
 abbrev pub found_answer : Option ℕ → JsAnswer
@@ -102,11 +107,11 @@ found_answer None = not_interned
 
 -- memory runs out, and nothing else is reported
 abbrev pub no_memory : JsAnswer
-no_memory = record { status = NO_MEMORY; id = 0; at = 0; want = 0; end = 0 }
+no_memory = refusal NO_MEMORY 0 0 0
 
 -- the bytes stop to be UTF-8 at this place
 abbrev pub not_utf8 : ℕ → JsAnswer
-not_utf8 n = record { status = NOT_UTF8; id = 0; at = n; want = 0; end = 0 }
+not_utf8 n = refusal NOT_UTF8 n 0 0
 
 -- the sizes that C gives, as those of a heap
 abbrev pub size_for : JsSize → HeapSize
@@ -114,7 +119,7 @@ size_for z = record { ids = z.ids; words = z.words; slots = z.slots }
 
 -- the condition of the call doesn't hold
 abbrev pub bad_argument : JsAnswer
-bad_argument = record { status = BAD_ARGUMENT; id = 0; at = 0; want = 0; end = 0 }
+bad_argument = refusal BAD_ARGUMENT 0 0 0
 
 -- the order as C has it: -1, 0 or 1
 abbrev pub order_number : Ordering → ℤ
@@ -126,6 +131,15 @@ order_number Greater = pos 1
 abbrev pub place_answer : Option ℕ → JsPlace
 place_answer (Some k) = record { status = DONE; at = k }
 place_answer None = record { status = NONE; at = 0 }
+
+-- a refusal, with no number
+abbrev pub no_number : ℕ → JsNumber
+no_number status = record { status = status; value = 0 }
+
+-- the number, or that there is none
+abbrev pub number_answer : Option ℕ → JsNumber
+number_answer (Some n) = record { status = DONE; value = n }
+number_answer None = no_number NONE
 
 -- what is shown, and what an answer says of it
 abbrev pub words_answer : Shown → JsWords

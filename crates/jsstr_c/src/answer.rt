@@ -1,11 +1,10 @@
 // What a call answers.
-ghost use Rattle.std.specs.Prelude.{◌≡◌, ◌≢◌};
+ghost use Rattle.std.specs.Prelude.{◌≡◌, ◌≢◌, false};
 ghost use Rattle.jsstr_c.specs.Reports as reports;
-ghost use Rattle.jsstr_c.specs.Reports.{found_answer, join_answer, no_words, order_number, place_answer, table_answer, text_answer, words_answer};
+ghost use Rattle.jsstr_c.specs.Reports.{found_answer, join_answer, no_number, no_words, number_answer, order_number, place_answer, table_answer, text_answer, words_answer};
 
 use heap_agents::Shown;
 use heap_intern::TableFull;
-use heap_table::CounterFull;
 use heap_text::{JoinFault, JsStr, TextFull};
 use std::cmp::Ordering;
 
@@ -125,19 +124,25 @@ fn done(s: JsStr) -> JsAnswer
     }
 }
 
-fn report(full: TextFull) -> JsAnswer
-    ensures { result ≡ reports.text_report full }
+// A refusal with its numbers.
+fn refusal(status: u32, at: u32, want: u32, end: u32) -> JsAnswer
+    ensures { result ≡ reports.refusal status at want end }
 {
-    let (status, full) = match full {
-        TextFull::Ids(full) => (NO_IDS, full),
-        TextFull::Words(full) => (NO_WORDS, full),
-    };
     JsAnswer {
         status,
         id: 0,
-        at: full.at,
-        want: full.want,
-        end: full.end,
+        at,
+        want,
+        end,
+    }
+}
+
+fn report(full: TextFull) -> JsAnswer
+    ensures { result ≡ reports.text_report full }
+{
+    match full {
+        TextFull::Ids(full) => refusal(NO_IDS, full.at, full.want, full.end),
+        TextFull::Words(full) => refusal(NO_WORDS, full.at, full.want, full.end),
     }
 }
 
@@ -160,13 +165,7 @@ pub(crate) fn of_join(answer: Result<JsStr, JoinFault>) -> JsAnswer
     match answer {
         Ok(s) => done(s),
         Err(JoinFault::Full(full)) => report(full),
-        Err(JoinFault::TooLong { left, right }) => JsAnswer {
-            status: TOO_LONG,
-            id: 0,
-            at: left,
-            want: right,
-            end: 0,
-        },
+        Err(JoinFault::TooLong { left, right }) => refusal(TOO_LONG, left, right, 0),
     }
 }
 
@@ -174,25 +173,11 @@ pub(crate) fn of_table(answer: Result<u32, TableFull>) -> JsAnswer
     ensures value { result ≡ table_answer answer }
     ensures told { result.status ≢ reports.BAD_ARGUMENT }
 {
-    let (status, full) = match answer {
-        Ok(id) => return done(JsStr { id }),
-        Err(TableFull::Ids(full)) => (NO_IDS, full),
-        Err(TableFull::Words(full)) => (NO_WORDS, full),
-        Err(TableFull::Slots { slots }) => {
-            let full = CounterFull {
-                at: 0,
-                want: 0,
-                end: slots,
-            };
-            (NO_SLOTS, full)
-        }
-    };
-    JsAnswer {
-        status,
-        id: 0,
-        at: full.at,
-        want: full.want,
-        end: full.end,
+    match answer {
+        Ok(id) => done(JsStr { id }),
+        Err(TableFull::Ids(full)) => refusal(NO_IDS, full.at, full.want, full.end),
+        Err(TableFull::Words(full)) => refusal(NO_WORDS, full.at, full.want, full.end),
+        Err(TableFull::Slots { slots }) => refusal(NO_SLOTS, 0, 0, slots),
     }
 }
 
@@ -202,38 +187,20 @@ pub(crate) fn of_found(answer: Option<u32>) -> JsAnswer
 {
     match answer {
         Some(id) => done(JsStr { id }),
-        None => JsAnswer {
-            status: NONE,
-            id: 0,
-            at: 0,
-            want: 0,
-            end: 0,
-        },
+        None => refusal(NONE, 0, 0, 0),
     }
 }
 
 pub(crate) fn bad_argument() -> JsAnswer
     ensures { result ≡ reports.bad_argument }
 {
-    JsAnswer {
-        status: BAD_ARGUMENT,
-        id: 0,
-        at: 0,
-        want: 0,
-        end: 0,
-    }
+    refusal(BAD_ARGUMENT, 0, 0, 0)
 }
 
 pub(crate) fn no_memory() -> JsAnswer
     ensures { result ≡ reports.no_memory }
 {
-    JsAnswer {
-        status: NO_MEMORY,
-        id: 0,
-        at: 0,
-        want: 0,
-        end: 0,
-    }
+    refusal(NO_MEMORY, 0, 0, 0)
 }
 
 pub(crate) fn of_place(answer: Option<u32>) -> JsPlace
@@ -246,6 +213,35 @@ pub(crate) fn of_place(answer: Option<u32>) -> JsPlace
             status: NONE,
             at: 0,
         },
+    }
+}
+
+pub(crate) fn of_number(answer: Option<u32>) -> JsNumber
+    ensures value { result ≡ number_answer answer }
+    ensures told { result.status ≢ reports.BAD_ARGUMENT }
+{
+    match answer {
+        Some(value) => JsNumber {
+            status: DONE,
+            value,
+        },
+        None => without_number(NONE),
+    }
+}
+
+pub(crate) fn without_number(status: u32) -> JsNumber
+    ensures { result ≡ no_number status }
+{
+    JsNumber { status, value: 0 }
+}
+
+pub(crate) fn without_truth(status: u32) -> JsTruth
+    ensures status { result.status ≡ status }
+    ensures unused { result.holds ≡ false }
+{
+    JsTruth {
+        status,
+        holds: false,
     }
 }
 
@@ -262,13 +258,7 @@ pub(crate) fn of_order(answer: Ordering) -> i32
 pub(crate) fn not_utf8(at: u32) -> JsAnswer
     ensures { result ≡ reports.not_utf8 at }
 {
-    JsAnswer {
-        status: NOT_UTF8,
-        id: 0,
-        at,
-        want: 0,
-        end: 0,
-    }
+    refusal(NOT_UTF8, at, 0, 0)
 }
 
 pub(crate) fn of_words(shown: Shown) -> JsWords

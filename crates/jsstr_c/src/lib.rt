@@ -13,6 +13,7 @@ mod answer;
 mod bytes;
 mod checked;
 mod decoding;
+mod given;
 mod handle;
 mod parts;
 mod unchecked;

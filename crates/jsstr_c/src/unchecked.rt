@@ -1,12 +1,10 @@
 // The calls whose conditions are the caller's to keep: none of them tests anything.
+pub(crate) mod copying;
 pub(crate) mod counts;
-pub(crate) mod decoding;
-pub(crate) mod encoding;
-pub(crate) mod keys;
 pub(crate) mod life;
 pub(crate) mod lists;
-pub(crate) mod looking;
 pub(crate) mod making;
 pub(crate) mod reading;
 pub(crate) mod search;
 pub(crate) mod table;
+pub(crate) mod units;

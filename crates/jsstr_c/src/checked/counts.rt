@@ -10,7 +10,7 @@ ghost use Rattle.jsstr_c.specs.Handles.{IsHandle};
 ghost use Rattle.jsstr_c.specs.Reports as reports;
 
 use crate::agent::JsAgent;
-use crate::answer::{BAD_ARGUMENT, DONE, JsNumber, JsTotals};
+use crate::answer::{BAD_ARGUMENT, DONE, JsNumber, JsTotals, without_number};
 use crate::unchecked::counts::{
     jsstr_count_interned_unchecked, jsstr_share_unchecked, jsstr_totals_unchecked,
 };
@@ -27,10 +27,7 @@ pub extern "C" fn jsstr_share(alloc: Global, agent: &mut JsAgent) -> JsNumber
     ensures share { result.value ≡ share_in agent.old.at.value }
 {
     if agent.is_empty() {
-        return JsNumber {
-            status: BAD_ARGUMENT,
-            value: 0,
-        };
+        return without_number(BAD_ARGUMENT);
     }
     let value = jsstr_share_unchecked(alloc, agent);
     JsNumber {
@@ -88,10 +85,7 @@ pub extern "C" fn jsstr_count_interned(alloc: Global, agent: &mut JsAgent) -> Js
         → result.value ≡ different (history (handle_view agent.old.at.value)) }
 {
     if !agent.has_whole(alloc) {
-        return JsNumber {
-            status: BAD_ARGUMENT,
-            value: 0,
-        };
+        return without_number(BAD_ARGUMENT);
     }
     let value = jsstr_count_interned_unchecked(alloc, agent);
     JsNumber {

@@ -9,21 +9,12 @@ ghost use Rattle.jsstr_c.specs.Lists.{IsUnread, OrdersUnits, ComparesUnits};
 ghost use Rattle.jsstr_c.specs.Reports as reports;
 
 use crate::agent::JsAgent;
-use crate::answer::{BAD_ARGUMENT, DONE, JsOrder, JsTruth};
+use crate::answer::{BAD_ARGUMENT, DONE, JsOrder, JsTruth, without_truth};
 use crate::checked::settling::settle_known;
 use crate::decoding::{latin1_units, utf8_units};
 use crate::unchecked::lists::{jsstr_compare_units_unchecked, jsstr_equals_units_unchecked};
 use heap_rule::MAX;
 use std::alloc::Global;
-
-fn no_truth(status: u32) -> JsTruth
-    ensures { result.status ≡ status }
-{
-    JsTruth {
-        status,
-        holds: false,
-    }
-}
 
 fn no_order(status: u32) -> JsOrder
     ensures { result.status ≡ status }
@@ -48,7 +39,7 @@ pub extern "C" fn jsstr_equals_units(
 {
     let status = settle_known(alloc, agent, s);
     if status != DONE {
-        return no_truth(status);
+        return without_truth(status);
     }
     let holds = jsstr_equals_units_unchecked(alloc, agent, s, units);
     JsTruth {
@@ -74,11 +65,11 @@ pub extern "C" fn jsstr_equals_latin1(
         ⊎ ComparesUnits agent.old.at.value agent.new.at.value s bytes.now result }
 {
     if !agent.knows(alloc, s) {
-        return no_truth(BAD_ARGUMENT);
+        return without_truth(BAD_ARGUMENT);
     }
     match latin1_units(alloc, bytes) {
         Ok(units) => jsstr_equals_units(alloc, agent, s, units.as_slice()),
-        Err(refusal) => no_truth(refusal.status),
+        Err(refusal) => without_truth(refusal.status),
     }
 }
 
@@ -102,11 +93,11 @@ pub extern "C" fn jsstr_equals_utf8(
         × ComparesUnits agent.old.at.value agent.new.at.value s (utf8_decoded bytes.now) result) }
 {
     if bytes.len() > MAX as usize || !agent.knows(alloc, s) {
-        return no_truth(BAD_ARGUMENT);
+        return without_truth(BAD_ARGUMENT);
     }
     match utf8_units(alloc, bytes) {
         Ok(units) => jsstr_equals_units(alloc, agent, s, units.as_slice()),
-        Err(refusal) => no_truth(refusal.status),
+        Err(refusal) => without_truth(refusal.status),
     }
 }
 

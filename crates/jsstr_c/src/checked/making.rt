@@ -1,93 +1,23 @@
-// Strings of given units, of two strings, and of a part of one.
-ghost use Rattle.std.specs.Prelude.{◌≡◌, ◌≢◌, ◌↔◌, ℕ, ◌-◌, ◌++◌, ◌⊎◌, ◌≤◌, List, Result, length};
-ghost use Rattle.js_units.specs.Lanes.{is_wide, words_over};
+// Strings made of two strings, and of a part of one.
+ghost use Rattle.std.specs.Prelude.{◌≡◌, ◌≢◌, ◌↔◌, ℕ, ◌-◌, ◌++◌, ◌⊎◌, ◌≤◌, List, Result};
 ghost use Rattle.heap_read.specs.declared.string.JsStr as js_str;
 ghost use Rattle.heap_rule.specs.Births.{part};
-ghost use Rattle.heap_rule.specs.Layout.{MAX};
 ghost use Rattle.heap_rule.specs.Maps.{Has};
 ghost use Rattle.heap_rule.specs.Views.{IsSeenSettled};
 ghost use Rattle.heap_text.specs.declared.faults.JoinFault as join_fault;
-ghost use Rattle.heap_text.specs.declared.faults.TextFull as text_full;
 ghost use Rattle.heap_text.specs.Joins.{IsJoined};
-ghost use Rattle.heap_text.specs.Texts.{Told, UsesExactly};
-ghost use Rattle.heap_agents.specs.Ready.{HandleLeaves, IsReady, HandleKnows, handle_limit, size_in, handle_view};
+ghost use Rattle.heap_agents.specs.Ready.{HandleLeaves, HandleKnows, handle_limit, size_in, handle_view};
 ghost use Rattle.jsstr_c.specs.Checked.{Follows, IsCutIn, IsUnsettled, Reaches};
 ghost use Rattle.jsstr_c.specs.Handles.{IsHandle};
-ghost use Rattle.jsstr_c.specs.Reports.{join_answer, text_report};
+ghost use Rattle.jsstr_c.specs.Reports.{join_answer};
 ghost use Rattle.jsstr_c.specs.Reports as reports;
 
 use crate::agent::JsAgent;
 use crate::answer::{DONE, JsAnswer, bad_argument};
 use crate::checked::reading::reaches;
-use crate::unchecked::making::{
-    jsstr_concat_unchecked, jsstr_from_latin1_unchecked, jsstr_from_units_unchecked,
-    jsstr_slice_unchecked,
-};
+use crate::unchecked::making::{jsstr_concat_unchecked, jsstr_slice_unchecked};
 use crate::unchecked::reading::jsstr_settle_unchecked;
-use heap_rule::MAX;
 use std::alloc::Global;
-
-/// A new string with these units, settled.
-#[unsafe(no_mangle)]
-pub extern "C" fn jsstr_from_units(alloc: Global, agent: &mut JsAgent, units: &[u16]) -> JsAnswer
-    requires { IsHandle agent.old }
-    ensures handle { IsHandle agent.new }
-    ensures bad { result.status ≡ reports.BAD_ARGUMENT
-        ↔ ¬ (IsReady agent.old.at.value × (length units.now ≤ MAX)) }
-    ensures unchanged { result.status ≡ reports.BAD_ARGUMENT
-        → (result ≡ reports.bad_argument) × (agent.new.at.value ≡ agent.old.at.value) }
-    ensures whole { result.status ≡ reports.DONE → result ≡ reports.done result.id }
-    ensures goes { result.status ≢ reports.BAD_ARGUMENT → HandleLeaves agent.old.at.value agent.new.at.value }
-    ensures marked { result.status ≡ reports.DONE → HandleKnows agent.new.at.value result.id }
-    ensures units { result.status ≡ reports.DONE
-        → Has (handle_view agent.new.at.value).units result.id units.now }
-    ensures settled { result.status ≡ reports.DONE
-        → IsSeenSettled (handle_view agent.new.at.value) result.id }
-    ensures used { result.status ≡ reports.DONE
-        → UsesExactly (handle_view agent.old.at.value) (handle_view agent.new.at.value) 1
-        (words_over (is_wide units.now) (length units.now)) }
-    ensures refused { result.status ≢ reports.DONE → result.status ≢ reports.BAD_ARGUMENT
-        → (f : text_full.TextFull) × (result ≡ text_report f)
-        × Told (handle_view agent.new.at.value) (size_in agent.old.at.value)
-        (words_over (is_wide units.now) (length units.now)) f }
-{
-    if agent.is_empty() || units.len() > MAX as usize {
-        return bad_argument();
-    }
-    jsstr_from_units_unchecked(alloc, agent, units)
-}
-
-/// A new string of one-byte units, as Latin-1 is, settled. It allocates for the duration of the call.
-#[unsafe(no_mangle)]
-pub extern "C" fn jsstr_from_latin1(alloc: Global, agent: &mut JsAgent, bytes: &[u8]) -> JsAnswer
-    requires { IsHandle agent.old }
-    ensures handle { IsHandle agent.new }
-    ensures bad { result.status ≡ reports.BAD_ARGUMENT
-        ↔ ¬ (IsReady agent.old.at.value × (length bytes.now ≤ MAX)) }
-    ensures unchanged { result.status ≡ reports.BAD_ARGUMENT
-        → (result ≡ reports.bad_argument) × (agent.new.at.value ≡ agent.old.at.value) }
-    ensures memory { result.status ≡ reports.NO_MEMORY → agent.new.at.value ≡ agent.old.at.value }
-    ensures whole { result.status ≡ reports.DONE → result ≡ reports.done result.id }
-    ensures goes { result.status ≢ reports.BAD_ARGUMENT → HandleLeaves agent.old.at.value agent.new.at.value }
-    ensures marked { result.status ≡ reports.DONE → HandleKnows agent.new.at.value result.id }
-    ensures units { result.status ≡ reports.DONE
-        → Has (handle_view agent.new.at.value).units result.id bytes.now }
-    ensures settled { result.status ≡ reports.DONE
-        → IsSeenSettled (handle_view agent.new.at.value) result.id }
-    ensures used { result.status ≡ reports.DONE
-        → UsesExactly (handle_view agent.old.at.value) (handle_view agent.new.at.value) 1
-        (words_over (is_wide bytes.now) (length bytes.now)) }
-    ensures refused { result.status ≢ reports.DONE → result.status ≢ reports.BAD_ARGUMENT
-        → (result ≡ reports.no_memory)
-        ⊎ ((f : text_full.TextFull) × (result ≡ text_report f)
-        × Told (handle_view agent.new.at.value) (size_in agent.old.at.value)
-        (words_over (is_wide bytes.now) (length bytes.now)) f) }
-{
-    if agent.is_empty() || bytes.len() > MAX as usize {
-        return bad_argument();
-    }
-    jsstr_from_latin1_unchecked(alloc, agent, bytes)
-}
 
 /// The units of one string, and then those of another.
 #[unsafe(no_mangle)]

@@ -12,7 +12,7 @@ ghost use Rattle.jsstr_c.specs.Reports.{order_number, place_answer};
 ghost use Rattle.jsstr_c.specs.Reports as reports;
 
 use crate::agent::JsAgent;
-use crate::answer::{BAD_ARGUMENT, DONE, JsOrder, JsPlace, JsTruth};
+use crate::answer::{BAD_ARGUMENT, DONE, JsOrder, JsPlace, JsTruth, without_truth};
 use crate::checked::reading::reaches;
 use crate::checked::settling::settle_both;
 use crate::unchecked::search::{
@@ -71,10 +71,7 @@ pub extern "C" fn jsstr_equal(alloc: Global, agent: &mut JsAgent, a: u32, b: u32
 {
     let status = settle_both(alloc, agent, a, b);
     if status != DONE {
-        return JsTruth {
-            status,
-            holds: false,
-        };
+        return without_truth(status);
     }
     let holds = jsstr_equal_unchecked(alloc, agent, a, b);
     JsTruth {
@@ -111,10 +108,7 @@ pub extern "C" fn jsstr_starts_with(
 {
     let status = settle_both(alloc, agent, hay, needle);
     if status != DONE {
-        return JsTruth {
-            status,
-            holds: false,
-        };
+        return without_truth(status);
     }
     let holds = jsstr_starts_with_unchecked(alloc, agent, hay, needle, at);
     JsTruth {

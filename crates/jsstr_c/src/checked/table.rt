@@ -9,7 +9,7 @@ ghost use Rattle.jsstr_c.specs.Handles.{IsHandle};
 ghost use Rattle.jsstr_c.specs.Reports as reports;
 
 use crate::agent::JsAgent;
-use crate::answer::{BAD_ARGUMENT, DONE, JsAnswer, JsTruth, bad_argument};
+use crate::answer::{BAD_ARGUMENT, DONE, JsAnswer, JsTruth, bad_argument, without_truth};
 use crate::unchecked::reading::jsstr_settle_unchecked;
 use crate::unchecked::table::{jsstr_intern_unchecked, jsstr_is_interned_unchecked};
 use std::alloc::Global;
@@ -56,10 +56,7 @@ pub extern "C" fn jsstr_is_interned(alloc: Global, agent: &mut JsAgent, s: u32) 
     ensures interned { IsTrue result.holds ↔ HasInterned agent.old.at.value s }
 {
     if agent.is_empty() {
-        return JsTruth {
-            status: BAD_ARGUMENT,
-            holds: false,
-        };
+        return without_truth(BAD_ARGUMENT);
     }
     let holds = jsstr_is_interned_unchecked(alloc, agent, s);
     JsTruth {
@@ -83,10 +80,7 @@ pub extern "C" fn jsstr_same(alloc: Global, agent: &mut JsAgent, a: u32, b: u32)
         → Has (handle_view agent.old.at.value).units b vs → IsTrue result.holds ↔ (us ≡ vs) }
 {
     if !agent.has_interned(alloc, a) || !agent.has_interned(alloc, b) {
-        return JsTruth {
-            status: BAD_ARGUMENT,
-            holds: false,
-        };
+        return without_truth(BAD_ARGUMENT);
     }
     JsTruth {
         status: DONE,

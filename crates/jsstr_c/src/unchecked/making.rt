@@ -1,99 +1,21 @@
-// Strings of given units, of two strings, and of a part of one.
-ghost use Rattle.std.specs.Prelude.{◌≡◌, ◌≢◌, ℕ, ◌+◌, ◌-◌, ◌++◌, ◌⊎◌, ◌≤◌, List, length, Result};
-ghost use Rattle.js_units.specs.Lanes.{is_wide, words_over};
+// Strings made of two strings, and of a part of one.
+ghost use Rattle.std.specs.Prelude.{◌≡◌, ◌≢◌, ℕ, ◌-◌, ◌++◌, ◌≤◌, List, length, Result};
 ghost use Rattle.heap_read.specs.declared.string.JsStr as js_str;
 ghost use Rattle.heap_rule.specs.Births.{part};
-ghost use Rattle.heap_rule.specs.Layout.{MAX};
 ghost use Rattle.heap_rule.specs.Maps.{Has, HasKey};
 ghost use Rattle.heap_rule.specs.Views.{IsSeenSettled};
 ghost use Rattle.heap_text.specs.declared.faults.JoinFault as join_fault;
 ghost use Rattle.heap_text.specs.declared.faults.TextFull as text_full;
 ghost use Rattle.heap_text.specs.Joins.{IsCut, IsJoined};
-ghost use Rattle.heap_text.specs.Texts.{Told, UsesExactly};
 ghost use Rattle.heap_agents.specs.Ready.{HandleLeaves, IsReady, HandleKnows, handle_limit, size_in, handle_view};
 ghost use Rattle.jsstr_c.specs.Handles.{IsHandle};
-ghost use Rattle.jsstr_c.specs.Reports.{join_answer, text_answer, text_report};
+ghost use Rattle.jsstr_c.specs.Reports.{join_answer, text_answer};
 ghost use Rattle.jsstr_c.specs.Reports as reports;
 
 use crate::agent::JsAgent;
 use crate::answer::{JsAnswer, of_join, of_text};
-use crate::decoding::latin1_units;
 use heap_text::JsStr;
 use std::alloc::Global;
-
-/// A new string with these units, settled.
-#[unsafe(no_mangle)]
-pub extern "C" fn jsstr_from_units_unchecked(
-    alloc: Global,
-    agent: &mut JsAgent,
-    units: &[u16],
-) -> JsAnswer
-    requires ready { IsReady agent.old.at.value }
-    requires short { length units.now ≤ MAX }
-    ensures handle { IsHandle agent.new }
-    ensures goes { HandleLeaves agent.old.at.value agent.new.at.value }
-    ensures marked { result.status ≡ reports.DONE → HandleKnows agent.new.at.value result.id }
-    ensures told { result.status ≢ reports.BAD_ARGUMENT }
-    ensures memory { result.status ≢ reports.NO_MEMORY }
-    ensures whole { result.status ≡ reports.DONE → result ≡ reports.done result.id }
-    ensures units { result.status ≡ reports.DONE
-        → Has (handle_view agent.new.at.value).units result.id units.now }
-    ensures settled { result.status ≡ reports.DONE
-        → IsSeenSettled (handle_view agent.new.at.value) result.id }
-    ensures used { result.status ≡ reports.DONE
-        → UsesExactly (handle_view agent.old.at.value) (handle_view agent.new.at.value) 1
-        (words_over (is_wide units.now) (length units.now)) }
-    ensures refused { result.status ≢ reports.DONE
-        → (f : text_full.TextFull) × (result ≡ text_report f)
-        × Told (handle_view agent.new.at.value) (size_in agent.old.at.value)
-        (words_over (is_wide units.now) (length units.now)) f }
-{
-    let mut held = agent.take(alloc);
-    let answer = held.from_units(units);
-    agent.put(held);
-    of_text(answer)
-}
-
-/// A new string of one-byte units, as Latin-1 is, settled. It allocates for the duration of the call.
-#[unsafe(no_mangle)]
-pub extern "C" fn jsstr_from_latin1_unchecked(
-    alloc: Global,
-    agent: &mut JsAgent,
-    bytes: &[u8],
-) -> JsAnswer
-    requires ready { IsReady agent.old.at.value }
-    requires short { length bytes.now ≤ MAX }
-    ensures handle { IsHandle agent.new }
-    ensures goes { HandleLeaves agent.old.at.value agent.new.at.value }
-    ensures marked { result.status ≡ reports.DONE → HandleKnows agent.new.at.value result.id }
-    ensures told { result.status ≢ reports.BAD_ARGUMENT }
-    ensures unchanged { result.status ≡ reports.NO_MEMORY → agent.new.at.value ≡ agent.old.at.value }
-    ensures whole { result.status ≡ reports.DONE → result ≡ reports.done result.id }
-    ensures units { result.status ≡ reports.DONE
-        → Has (handle_view agent.new.at.value).units result.id bytes.now }
-    ensures settled { result.status ≡ reports.DONE
-        → IsSeenSettled (handle_view agent.new.at.value) result.id }
-    ensures used { result.status ≡ reports.DONE
-        → UsesExactly (handle_view agent.old.at.value) (handle_view agent.new.at.value) 1
-        (words_over (is_wide bytes.now) (length bytes.now)) }
-    ensures refused { result.status ≢ reports.DONE → (result ≡ reports.no_memory)
-        ⊎ ((f : text_full.TextFull) × (result ≡ text_report f)
-        × Told (handle_view agent.new.at.value) (size_in agent.old.at.value)
-        (words_over (is_wide bytes.now) (length bytes.now)) f) }
-{
-    let mut held = agent.take(alloc);
-    match latin1_units(alloc, bytes) {
-        Ok(units) => {
-            let answer = held.from_units(units.as_slice());
-            agent.put(held);
-            of_text(answer)
-        }
-        Err(refusal) => {
-            agent.put(held);
-            refusal
-        }
-    }
-}
 
 /// The units of one string, and then those of another.
 #[unsafe(no_mangle)]

@@ -5,4 +5,4 @@ use Rattle.jsstr_c.proofs.uses.searched.Goals as goal
 pub jsstr_intern_unchecked-one-requires-clause-settled : goal.jsstr_intern_unchecked-one-requires-clause-settled
 jsstr_intern_unchecked-one-requires-clause-settled c = let m = c.if-made-ne-DONE.false in let made = c.jsstr_from_units_unchecked-made in let equal = c.jsstr_equal_unchecked-equal in
     let done : made.result.status ≡ 0 = omega arith in
-    (searches_strings made.new.agent.at.value equal.new.agent.at.value equal.ensures.searches).settled made.result.id (made.ensures.settled done)
+    (searches_strings made.new.agent.at.value equal.new.agent.at.value equal.ensures.searches).settled made.result.id (made.ensures.makes.settled done)

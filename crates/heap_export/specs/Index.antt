@@ -1,0 +1,8 @@
+-- Array indexes (ECMA-262, "array index"): the integers of 0 to 2^32 - 2 as property keys.
+use Rattle.std.specs.Prelude.{◌≡◌, ℕ, ◌≤◌, List, Option, Some, None, decimal}
+
+-- The array index that these units are: the number of which they are the text ("Number::toString"); None
+-- where they are the text of no such number.
+abbrev pub IsIndex : List ℕ → Option ℕ → Type 0
+IsIndex us (Some n) = (n ≤ 4294967294) × (us ≡ decimal n)
+IsIndex us None = (n : ℕ) → n ≤ 4294967294 → ¬ (us ≡ decimal n)

@@ -1,0 +1,29 @@
+use Rattle.std.proofs.Common.{◌≤◌, ℕ, List, length, drop, subst, sym, arith}
+use Rattle.heap_rule.specs.Layout.{MAX}
+use Rattle.heap_rule.proofs.MapLemmas.{has_key}
+use Rattle.heap_rule.proofs.Possible.{possible_short}
+use Rattle.heap_read.proofs.Loaded.{reads_trans}
+use Rattle.heap_agents.specs.Ready.{handle_view}
+use Rattle.jsstr_c.proofs.Copied.{read_over}
+use Rattle.jsstr_c.proofs.Going.{goes_trans, goes_units}
+use Rattle.jsstr_c.proofs.Ready.{possible}
+use Rattle.jsstr_c.proofs.given.copied.Goals as goal
+
+pub returns-clause-goes : goal.returns-clause-goes
+returns-clause-goes c = let one = c.jsstr_length_unchecked-len in let two = c.jsstr_read_unchecked in goes_trans c.args.agent.now.at.value one.new.agent.at.value two.new.agent.at.value one.ensures.goes two.ensures.goes
+
+pub returns-clause-reads : goal.returns-clause-reads
+returns-clause-reads c = reads_trans _ _ _ c.jsstr_length_unchecked-len.ensures.reads c.jsstr_read_unchecked.ensures.reads
+
+pub returns-clause-units : goal.returns-clause-units
+returns-clause-units c = λ us h. let one = c.jsstr_length_unchecked-len in let two = c.jsstr_read_unchecked in let made = c.in_ok-units in let out = c.as_mut_slice in
+    let is = one.ensures.length us h in let n : ℕ = length out.result.now in
+    read_over us two.new.out (drop (length two.new.out) made.units.items) n made.units.len
+    (omega (arith, is, made.ensures.len, out.ensures.len))
+    (omega (arith, is, made.ensures.len, out.ensures.len))
+    (omega (arith, two.auto.out))
+    (two.ensures.units us (goes_units c.args.agent.now.at.value one.new.agent.at.value one.ensures.goes c.args.s us h))
+
+pub returns-clause-short : goal.returns-clause-short
+returns-clause-short c = let v = handle_view c.args.agent.now.at.value in let u = has_key v.units c.args.s c.requires.known in
+    subst (λ (us : List ℕ). length us ≤ MAX) (sym (returns-clause-units c u.0 u.1)) (possible_short v (possible c.args.agent.now.at.value c.requires.ready) c.args.s u.0 u.1)

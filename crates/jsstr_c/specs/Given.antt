@@ -1,0 +1,55 @@
+-- What calls on units that C gives leave and answer: units are made into a string, interned or looked for,
+-- and may be given as bytes that spell them.
+use Rattle.std.specs.Prelude.{◌≡◌, ◌≢◌, ◌⊎◌, ℕ, List, length, Option, Result}
+use Rattle.std.specs.Str.{IsUtf8}
+use Rattle.js_units.specs.Lanes.{is_wide, words_over}
+use Rattle.heap_rule.specs.Maps.{Has}
+use Rattle.heap_rule.specs.Views.{IsSeenSettled}
+use Rattle.heap_text.specs.declared.faults.TextFull.{TextFull}
+use Rattle.heap_text.specs.Texts.{Told, UsesExactly}
+use Rattle.heap_intern.specs.declared.table.faults.TableFull.{TableFull}
+use Rattle.heap_agents.specs.declared.held.Held.{Held}
+use Rattle.heap_agents.specs.Keys.{FindsUnits, InternsUnits}
+use Rattle.heap_agents.specs.Ready.{HandleLeaves, HandleKnows, size_in, handle_view}
+use Rattle.jsstr_c.specs.declared.answer.JsAnswer.{JsAnswer}
+use Rattle.jsstr_c.specs.Decoded.{IsUndecoded, utf8_decoded}
+use Rattle.jsstr_c.specs.Reports.{BAD_ARGUMENT, DONE, NO_MEMORY, bad_argument, done, found_answer, no_memory, table_answer, text_report}
+
+-- the units us were made into a new string, with r as the answer
+pub record Makes (o p : Option Held) (us : List ℕ) (r : JsAnswer) : Type 0 where
+  pub goes : HandleLeaves o p
+  pub memory : r.status ≢ NO_MEMORY
+  pub whole : r.status ≡ DONE → r ≡ done r.id
+  pub marked : r.status ≡ DONE → HandleKnows p r.id
+  pub units : r.status ≡ DONE → Has (handle_view p).units r.id us
+  pub settled : r.status ≡ DONE → IsSeenSettled (handle_view p) r.id
+  pub used : r.status ≡ DONE
+      → UsesExactly (handle_view o) (handle_view p) 1 (words_over (is_wide us) (length us))
+  pub refused : r.status ≢ DONE → (f : TextFull) × (r ≡ text_report f)
+      × Told (handle_view p) (size_in o) (words_over (is_wide us) (length us)) f
+
+-- the units us were interned, with r as the answer
+abbrev pub IsInterning : Option Held → Option Held → List ℕ → JsAnswer → Type 0
+IsInterning o p us r = (t : Result ℕ TableFull) × (r ≡ table_answer t) × InternsUnits o p us t
+
+-- the units us were looked for, with r as the answer
+abbrev pub IsFinding : Option Held → Option Held → List ℕ → JsAnswer → Type 0
+IsFinding o p us r = (t : Option ℕ) × (r ≡ found_answer t) × FindsUnits o p us t
+
+-- What a call does with units that it first copies; or memory runs out, and nothing has changed. Bytes of
+-- Latin-1 are a unit each.
+abbrev pub OrNoMemory : (Option Held → Option Held → List ℕ → JsAnswer → Type 0) → Option Held → Option Held
+    → List ℕ → JsAnswer → Type 0
+OrNoMemory does o p us r = ((r ≡ no_memory) × (p ≡ o)) ⊎ does o p us r
+
+-- What a call does with the units that bytes of UTF-8 spell; or they spell none, or memory runs out, and
+-- nothing has changed.
+abbrev pub OnUtf8 : (Option Held → Option Held → List ℕ → JsAnswer → Type 0) → Option Held → Option Held
+    → List ℕ → JsAnswer → Type 0
+OnUtf8 does o p bytes r = (IsUndecoded bytes r × (p ≡ o)) ⊎ (IsUtf8 bytes × does o p (utf8_decoded bytes) r)
+
+-- a call on units or bytes that are given does this, unless its condition fails, and then nothing has changed
+pub record Tests (call : Option Held → Option Held → List ℕ → JsAnswer → Type 0) (o p : Option Held)
+    (given : List ℕ) (r : JsAnswer) : Type 0 where
+  pub unchanged : r.status ≡ BAD_ARGUMENT → (r ≡ bad_argument) × (p ≡ o)
+  pub does : r.status ≢ BAD_ARGUMENT → call o p given r

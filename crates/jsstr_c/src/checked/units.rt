@@ -1,0 +1,127 @@
+// Units that C gives: made into strings, interned, and looked for in the string table.
+ghost use Rattle.std.specs.Prelude.{◌≡◌, ◌≢◌, ◌↔◌, ◌≤◌, length};
+ghost use Rattle.heap_rule.specs.Layout.{MAX};
+ghost use Rattle.heap_agents.specs.Ready.{HandleLeaves, IsReady};
+ghost use Rattle.jsstr_c.specs.Given.{IsFinding, IsInterning, Makes, OrNoMemory, OnUtf8, Tests};
+ghost use Rattle.jsstr_c.specs.Handles.{IsHandle};
+ghost use Rattle.jsstr_c.specs.Reports as reports;
+
+use crate::agent::JsAgent;
+use crate::answer::JsAnswer;
+use crate::given::{Source, Task, tested};
+use std::alloc::Global;
+
+/// A new string with these units, settled.
+#[unsafe(no_mangle)]
+pub extern "C" fn jsstr_from_units(alloc: Global, agent: &mut JsAgent, units: &[u16]) -> JsAnswer
+    requires { IsHandle agent.old }
+    ensures handle { IsHandle agent.new }
+    ensures bad { result.status ≡ reports.BAD_ARGUMENT
+        ↔ ¬ (IsReady agent.old.at.value × (length units.now ≤ MAX)) }
+    ensures makes { Tests Makes agent.old.at.value agent.new.at.value units.now result }
+{
+    tested(alloc, agent, Task::Make, Source::Units(units))
+}
+
+/// A new string of one-byte units, as Latin-1 is, settled. It allocates for the duration of the call.
+#[unsafe(no_mangle)]
+pub extern "C" fn jsstr_from_latin1(alloc: Global, agent: &mut JsAgent, bytes: &[u8]) -> JsAnswer
+    requires { IsHandle agent.old }
+    ensures handle { IsHandle agent.new }
+    ensures bad { result.status ≡ reports.BAD_ARGUMENT
+        ↔ ¬ (IsReady agent.old.at.value × (length bytes.now ≤ MAX)) }
+    ensures goes { result.status ≢ reports.BAD_ARGUMENT → HandleLeaves agent.old.at.value agent.new.at.value }
+    ensures makes { Tests (OrNoMemory Makes) agent.old.at.value agent.new.at.value bytes.now result }
+{
+    tested(alloc, agent, Task::Make, Source::Latin1(bytes))
+}
+
+/// A new string decoded from these bytes of UTF-8, settled. Other bytes are refused
+/// before anything is done. It allocates for the duration of the call.
+#[unsafe(no_mangle)]
+pub extern "C" fn jsstr_from_utf8(alloc: Global, agent: &mut JsAgent, bytes: &[u8]) -> JsAnswer
+    requires { IsHandle agent.old }
+    ensures handle { IsHandle agent.new }
+    ensures bad { result.status ≡ reports.BAD_ARGUMENT
+        ↔ ¬ (IsReady agent.old.at.value × (length bytes.now ≤ MAX)) }
+    ensures goes { result.status ≢ reports.BAD_ARGUMENT → HandleLeaves agent.old.at.value agent.new.at.value }
+    ensures makes { Tests (OnUtf8 Makes) agent.old.at.value agent.new.at.value bytes.now result }
+{
+    tested(alloc, agent, Task::Make, Source::Utf8(bytes))
+}
+
+/// The one string of the table with these units. No string is made first: where it is in the table,
+/// nothing is used.
+#[unsafe(no_mangle)]
+pub extern "C" fn jsstr_intern_units(alloc: Global, agent: &mut JsAgent, units: &[u16]) -> JsAnswer
+    requires { IsHandle agent.old }
+    ensures handle { IsHandle agent.new }
+    ensures bad { result.status ≡ reports.BAD_ARGUMENT
+        ↔ ¬ (IsReady agent.old.at.value × (length units.now ≤ MAX)) }
+    ensures interns { Tests IsInterning agent.old.at.value agent.new.at.value units.now result }
+{
+    tested(alloc, agent, Task::Intern, Source::Units(units))
+}
+
+/// The one string of the table with one-byte units, as Latin-1 is. It allocates for the duration of the call.
+#[unsafe(no_mangle)]
+pub extern "C" fn jsstr_intern_latin1(alloc: Global, agent: &mut JsAgent, bytes: &[u8]) -> JsAnswer
+    requires { IsHandle agent.old }
+    ensures handle { IsHandle agent.new }
+    ensures bad { result.status ≡ reports.BAD_ARGUMENT
+        ↔ ¬ (IsReady agent.old.at.value × (length bytes.now ≤ MAX)) }
+    ensures interns { Tests (OrNoMemory IsInterning) agent.old.at.value agent.new.at.value bytes.now result }
+{
+    tested(alloc, agent, Task::Intern, Source::Latin1(bytes))
+}
+
+/// The one string of the table that these bytes of UTF-8 spell. Other bytes are refused
+/// before anything is done. It allocates for the duration of the call.
+#[unsafe(no_mangle)]
+pub extern "C" fn jsstr_intern_utf8(alloc: Global, agent: &mut JsAgent, bytes: &[u8]) -> JsAnswer
+    requires { IsHandle agent.old }
+    ensures handle { IsHandle agent.new }
+    ensures bad { result.status ≡ reports.BAD_ARGUMENT
+        ↔ ¬ (IsReady agent.old.at.value × (length bytes.now ≤ MAX)) }
+    ensures interns { Tests (OnUtf8 IsInterning) agent.old.at.value agent.new.at.value bytes.now result }
+{
+    tested(alloc, agent, Task::Intern, Source::Utf8(bytes))
+}
+
+/// The one string of the table with these units, if it is there. Nothing is used, ever.
+#[unsafe(no_mangle)]
+pub extern "C" fn jsstr_find_units(alloc: Global, agent: &mut JsAgent, units: &[u16]) -> JsAnswer
+    requires { IsHandle agent.old }
+    ensures handle { IsHandle agent.new }
+    ensures bad { result.status ≡ reports.BAD_ARGUMENT
+        ↔ ¬ (IsReady agent.old.at.value × (length units.now ≤ MAX)) }
+    ensures finds { Tests IsFinding agent.old.at.value agent.new.at.value units.now result }
+{
+    tested(alloc, agent, Task::Find, Source::Units(units))
+}
+
+/// The one string of the table with one-byte units, as Latin-1 is, if it is there. It allocates for
+/// the duration of the call.
+#[unsafe(no_mangle)]
+pub extern "C" fn jsstr_find_latin1(alloc: Global, agent: &mut JsAgent, bytes: &[u8]) -> JsAnswer
+    requires { IsHandle agent.old }
+    ensures handle { IsHandle agent.new }
+    ensures bad { result.status ≡ reports.BAD_ARGUMENT
+        ↔ ¬ (IsReady agent.old.at.value × (length bytes.now ≤ MAX)) }
+    ensures finds { Tests (OrNoMemory IsFinding) agent.old.at.value agent.new.at.value bytes.now result }
+{
+    tested(alloc, agent, Task::Find, Source::Latin1(bytes))
+}
+
+/// The one string of the table that these bytes of UTF-8 spell, if it is there. Bytes that
+/// are none are refused before anything is done. It allocates for the duration of the call.
+#[unsafe(no_mangle)]
+pub extern "C" fn jsstr_find_utf8(alloc: Global, agent: &mut JsAgent, bytes: &[u8]) -> JsAnswer
+    requires { IsHandle agent.old }
+    ensures handle { IsHandle agent.new }
+    ensures bad { result.status ≡ reports.BAD_ARGUMENT
+        ↔ ¬ (IsReady agent.old.at.value × (length bytes.now ≤ MAX)) }
+    ensures finds { Tests (OnUtf8 IsFinding) agent.old.at.value agent.new.at.value bytes.now result }
+{
+    tested(alloc, agent, Task::Find, Source::Utf8(bytes))
+}

@@ -1,0 +1,167 @@
+// Calls on units that C gives, each once for all ways to give them.
+ghost use Rattle.std.specs.Prelude.{◌≡◌, ◌≢◌, ◌↔◌, ◌≤◌, ℕ, List, length, IfOk};
+ghost use Rattle.heap_rule.specs.Layout.{MAX};
+ghost use Rattle.heap_rule.specs.Maps.{Has, HasKey};
+ghost use Rattle.heap_rule.specs.Views.{IsSeenSettled};
+ghost use Rattle.heap_read.specs.Reads.{OnlyLoads};
+ghost use Rattle.heap_agents.specs.Ready.{HandleLeaves, IsReady, handle_view};
+ghost use Rattle.jsstr_c.specs.Given.{OrNoMemory};
+ghost use Rattle.jsstr_c.specs.Handles.{IsHandle};
+ghost use Rattle.jsstr_c.specs.Reports as reports;
+ghost use Rattle.jsstr_c.specs.Sources.{Does, DoesOn, Leaves, given};
+
+use crate::agent::JsAgent;
+use crate::answer::{JsAnswer, bad_argument, no_memory};
+use crate::decoding::{latin1_units, utf8_units};
+use crate::unchecked::reading::{jsstr_length_unchecked, jsstr_read_unchecked};
+use crate::unchecked::units::{
+    jsstr_find_units_unchecked, jsstr_from_units_unchecked, jsstr_intern_units_unchecked,
+};
+use heap_rule::MAX;
+use std::alloc::{AllocError, Global};
+
+/// Units as they are given: as they are, in a byte each, as Latin-1 has them, or in UTF-8.
+#[derive(Clone, Copy)]
+pub enum Source<'u> {
+    Units(&'u [u16]),
+    Latin1(&'u [u8]),
+    Utf8(&'u [u8]),
+}
+
+impl Source<'_> {
+    // How many units or bytes are given.
+    fn len(self) -> usize
+        ensures { result ≡ length (given self.entry) }
+    {
+        match self {
+            Source::Units(units) => units.len(),
+            Source::Latin1(bytes) => bytes.len(),
+            Source::Utf8(bytes) => bytes.len(),
+        }
+    }
+}
+
+/// What is done with units that are in no string.
+#[derive(Clone, Copy)]
+pub enum Task {
+    /// A string is made of them.
+    Make,
+    /// They are interned.
+    Intern,
+    /// They are looked for in the string table.
+    Find,
+}
+
+// A task on units.
+fn on_units(alloc: Global, agent: &mut JsAgent, task: Task, units: &[u16]) -> JsAnswer
+    requires ready { IsReady agent.old.at.value }
+    requires short { length units.now ≤ MAX }
+    ensures handle { IsHandle agent.new }
+    ensures told { result.status ≢ reports.BAD_ARGUMENT }
+    ensures does { Does task agent.old.at.value agent.new.at.value units.now result }
+    ensures leaves { Leaves task agent.old.at.value agent.new.at.value }
+{
+    match task {
+        Task::Make => jsstr_from_units_unchecked(alloc, agent, units),
+        Task::Intern => jsstr_intern_units_unchecked(alloc, agent, units),
+        Task::Find => jsstr_find_units_unchecked(alloc, agent, units),
+    }
+}
+
+// A refusal that leaves the agent as it was.
+fn left(alloc: Global, agent: &mut JsAgent, refusal: JsAnswer) -> JsAnswer
+    requires { IsReady agent.old.at.value }
+    ensures handle { IsHandle agent.new }
+    ensures same { agent.new.at.value ≡ agent.old.at.value }
+    ensures answer { result ≡ refusal }
+{
+    let held = agent.take(alloc);
+    agent.put(held);
+    refusal
+}
+
+/// A task on the units of a source.
+pub(crate) fn on_source(alloc: Global, agent: &mut JsAgent, task: Task, source: Source) -> JsAnswer
+    requires ready { IsReady agent.old.at.value }
+    requires short { length (given source) ≤ MAX }
+    ensures handle { IsHandle agent.new }
+    ensures told { result.status ≢ reports.BAD_ARGUMENT }
+    ensures does { DoesOn task source.entry agent.old.at.value agent.new.at.value result }
+    ensures leaves { Leaves task agent.old.at.value agent.new.at.value }
+{
+    match source {
+        Source::Units(units) => on_units(alloc, agent, task, units),
+        Source::Latin1(bytes) => match latin1_units(alloc, bytes) {
+            Ok(units) => on_units(alloc, agent, task, units.as_slice()),
+            Err(refusal) => left(alloc, agent, refusal),
+        },
+        Source::Utf8(bytes) => match utf8_units(alloc, bytes) {
+            Ok(units) => on_units(alloc, agent, task, units.as_slice()),
+            Err(refusal) => left(alloc, agent, refusal),
+        },
+    }
+}
+
+/// The same, where its condition holds: there is an agent, and no more is given than a string may have.
+pub(crate) fn tested(alloc: Global, agent: &mut JsAgent, task: Task, source: Source) -> JsAnswer
+    requires { IsHandle agent.old }
+    ensures handle { IsHandle agent.new }
+    ensures bad { result.status ≡ reports.BAD_ARGUMENT
+        ↔ ¬ (IsReady agent.old.at.value × (length (given source.entry) ≤ MAX)) }
+    ensures unchanged { result.status ≡ reports.BAD_ARGUMENT
+        → (result ≡ reports.bad_argument) × (agent.new.at.value ≡ agent.old.at.value) }
+    ensures does { result.status ≢ reports.BAD_ARGUMENT
+        → DoesOn task source.entry agent.old.at.value agent.new.at.value result }
+    ensures leaves { result.status ≢ reports.BAD_ARGUMENT
+        → Leaves task agent.old.at.value agent.new.at.value }
+{
+    if agent.is_empty() || source.len() > MAX as usize {
+        return bad_argument();
+    }
+    on_source(alloc, agent, task, source)
+}
+
+// The units of a settled string, copied.
+fn copied(alloc: Global, agent: &mut JsAgent, s: u32) -> Result<Vec<u16>, AllocError>
+    requires ready { IsReady agent.old.at.value }
+    requires known { HasKey (handle_view agent.old.at.value).units s }
+    requires settled { IsSeenSettled (handle_view agent.old.at.value) s }
+    ensures handle { IsHandle agent.new }
+    ensures goes { HandleLeaves agent.old.at.value agent.new.at.value }
+    ensures reads { OnlyLoads (handle_view agent.old.at.value) (handle_view agent.new.at.value) }
+    ensures units { IfOk result (λ v. (us : List ℕ) → Has (handle_view agent.old.at.value).units s us
+        → v.items ≡ us) }
+    ensures short { IfOk result (λ v. length v.items ≤ MAX) }
+{
+    let len = jsstr_length_unchecked(alloc, agent, s);
+    let mut units = Vec::from_elem(alloc, 0u16, len as usize)?;
+    jsstr_read_unchecked(alloc, agent, s, 0, units.as_mut_slice());
+    Ok(units)
+}
+
+/// A task in one heap on the units of a settled string of another.
+pub(crate) fn on_string(
+    alloc: Global,
+    from: &mut JsAgent,
+    s: u32,
+    to: &mut JsAgent,
+    task: Task,
+) -> JsAnswer
+    requires ready { IsReady from.old.at.value }
+    requires known { HasKey (handle_view from.old.at.value).units s }
+    requires settled { IsSeenSettled (handle_view from.old.at.value) s }
+    requires other { IsReady to.old.at.value }
+    ensures handle { IsHandle from.new }
+    ensures other_handle { IsHandle to.new }
+    ensures goes { HandleLeaves from.old.at.value from.new.at.value }
+    ensures reads { OnlyLoads (handle_view from.old.at.value) (handle_view from.new.at.value) }
+    ensures told { result.status ≢ reports.BAD_ARGUMENT }
+    ensures leaves { Leaves task to.old.at.value to.new.at.value }
+    ensures does { (us : List ℕ) → Has (handle_view from.old.at.value).units s us
+        → OrNoMemory (Does task) to.old.at.value to.new.at.value us result }
+{
+    match copied(alloc, from, s) {
+        Ok(units) => on_units(alloc, to, task, units.as_slice()),
+        Err(_) => left(alloc, to, no_memory()),
+    }
+}

@@ -1,0 +1,172 @@
+// Units that C gives: made into strings, interned, and looked for in the string table.
+ghost use Rattle.std.specs.Prelude.{◌≡◌, ◌≢◌, ◌≤◌, length};
+ghost use Rattle.heap_rule.specs.Layout.{MAX};
+ghost use Rattle.heap_agents.specs.Ready.{HandleLeaves, IsReady};
+ghost use Rattle.jsstr_c.specs.Given.{IsFinding, IsInterning, Makes, OrNoMemory, OnUtf8};
+ghost use Rattle.jsstr_c.specs.Handles.{IsHandle};
+ghost use Rattle.jsstr_c.specs.Reports as reports;
+
+use crate::agent::JsAgent;
+use crate::answer::{JsAnswer, of_found, of_table, of_text};
+use crate::given::{Source, Task, on_source};
+use std::alloc::Global;
+
+/// A new string with these units, settled.
+#[unsafe(no_mangle)]
+pub extern "C" fn jsstr_from_units_unchecked(
+    alloc: Global,
+    agent: &mut JsAgent,
+    units: &[u16],
+) -> JsAnswer
+    requires ready { IsReady agent.old.at.value }
+    requires short { length units.now ≤ MAX }
+    ensures handle { IsHandle agent.new }
+    ensures told { result.status ≢ reports.BAD_ARGUMENT }
+    ensures makes { Makes agent.old.at.value agent.new.at.value units.now result }
+{
+    let mut held = agent.take(alloc);
+    let answer = held.from_units(units);
+    agent.put(held);
+    of_text(answer)
+}
+
+/// A new string of one-byte units, as Latin-1 is, settled. It allocates for the duration of the call.
+#[unsafe(no_mangle)]
+pub extern "C" fn jsstr_from_latin1_unchecked(
+    alloc: Global,
+    agent: &mut JsAgent,
+    bytes: &[u8],
+) -> JsAnswer
+    requires ready { IsReady agent.old.at.value }
+    requires short { length bytes.now ≤ MAX }
+    ensures handle { IsHandle agent.new }
+    ensures told { result.status ≢ reports.BAD_ARGUMENT }
+    ensures goes { HandleLeaves agent.old.at.value agent.new.at.value }
+    ensures makes { OrNoMemory Makes agent.old.at.value agent.new.at.value bytes.now result }
+{
+    on_source(alloc, agent, Task::Make, Source::Latin1(bytes))
+}
+
+/// A new string decoded from these bytes of UTF-8, settled. Other bytes are refused
+/// before anything is done. It allocates for the duration of the call.
+#[unsafe(no_mangle)]
+pub extern "C" fn jsstr_from_utf8_unchecked(
+    alloc: Global,
+    agent: &mut JsAgent,
+    bytes: &[u8],
+) -> JsAnswer
+    requires ready { IsReady agent.old.at.value }
+    requires short { length bytes.now ≤ MAX }
+    ensures handle { IsHandle agent.new }
+    ensures told { result.status ≢ reports.BAD_ARGUMENT }
+    ensures goes { HandleLeaves agent.old.at.value agent.new.at.value }
+    ensures makes { OnUtf8 Makes agent.old.at.value agent.new.at.value bytes.now result }
+{
+    on_source(alloc, agent, Task::Make, Source::Utf8(bytes))
+}
+
+/// The one string of the table with these units. No string is made first: where it is in the table,
+/// nothing is used.
+#[unsafe(no_mangle)]
+pub extern "C" fn jsstr_intern_units_unchecked(
+    alloc: Global,
+    agent: &mut JsAgent,
+    units: &[u16],
+) -> JsAnswer
+    requires ready { IsReady agent.old.at.value }
+    requires short { length units.now ≤ MAX }
+    ensures handle { IsHandle agent.new }
+    ensures told { result.status ≢ reports.BAD_ARGUMENT }
+    ensures interns { IsInterning agent.old.at.value agent.new.at.value units.now result }
+{
+    let mut held = agent.take(alloc);
+    let answer = held.intern_units(units);
+    agent.put(held);
+    of_table(answer)
+}
+
+/// The one string of the table with one-byte units, as Latin-1 is. It allocates for the duration of the call.
+#[unsafe(no_mangle)]
+pub extern "C" fn jsstr_intern_latin1_unchecked(
+    alloc: Global,
+    agent: &mut JsAgent,
+    bytes: &[u8],
+) -> JsAnswer
+    requires ready { IsReady agent.old.at.value }
+    requires short { length bytes.now ≤ MAX }
+    ensures handle { IsHandle agent.new }
+    ensures told { result.status ≢ reports.BAD_ARGUMENT }
+    ensures interns { OrNoMemory IsInterning agent.old.at.value agent.new.at.value bytes.now result }
+{
+    on_source(alloc, agent, Task::Intern, Source::Latin1(bytes))
+}
+
+/// The one string of the table that these bytes of UTF-8 spell. Other bytes are refused
+/// before anything is done. It allocates for the duration of the call.
+#[unsafe(no_mangle)]
+pub extern "C" fn jsstr_intern_utf8_unchecked(
+    alloc: Global,
+    agent: &mut JsAgent,
+    bytes: &[u8],
+) -> JsAnswer
+    requires ready { IsReady agent.old.at.value }
+    requires short { length bytes.now ≤ MAX }
+    ensures handle { IsHandle agent.new }
+    ensures told { result.status ≢ reports.BAD_ARGUMENT }
+    ensures interns { OnUtf8 IsInterning agent.old.at.value agent.new.at.value bytes.now result }
+{
+    on_source(alloc, agent, Task::Intern, Source::Utf8(bytes))
+}
+
+/// The one string of the table with these units, if it is there. Nothing is used, ever.
+#[unsafe(no_mangle)]
+pub extern "C" fn jsstr_find_units_unchecked(
+    alloc: Global,
+    agent: &mut JsAgent,
+    units: &[u16],
+) -> JsAnswer
+    requires ready { IsReady agent.old.at.value }
+    requires short { length units.now ≤ MAX }
+    ensures handle { IsHandle agent.new }
+    ensures told { result.status ≢ reports.BAD_ARGUMENT }
+    ensures finds { IsFinding agent.old.at.value agent.new.at.value units.now result }
+{
+    let mut held = agent.take(alloc);
+    let answer = held.find_units(units);
+    agent.put(held);
+    of_found(answer)
+}
+
+/// The one string of the table with one-byte units, as Latin-1 is, if it is there. It allocates for
+/// the duration of the call.
+#[unsafe(no_mangle)]
+pub extern "C" fn jsstr_find_latin1_unchecked(
+    alloc: Global,
+    agent: &mut JsAgent,
+    bytes: &[u8],
+) -> JsAnswer
+    requires ready { IsReady agent.old.at.value }
+    requires short { length bytes.now ≤ MAX }
+    ensures handle { IsHandle agent.new }
+    ensures told { result.status ≢ reports.BAD_ARGUMENT }
+    ensures finds { OrNoMemory IsFinding agent.old.at.value agent.new.at.value bytes.now result }
+{
+    on_source(alloc, agent, Task::Find, Source::Latin1(bytes))
+}
+
+/// The one string of the table that these bytes of UTF-8 spell, if it is there. Bytes that
+/// are none are refused before anything is done. It allocates for the duration of the call.
+#[unsafe(no_mangle)]
+pub extern "C" fn jsstr_find_utf8_unchecked(
+    alloc: Global,
+    agent: &mut JsAgent,
+    bytes: &[u8],
+) -> JsAnswer
+    requires ready { IsReady agent.old.at.value }
+    requires short { length bytes.now ≤ MAX }
+    ensures handle { IsHandle agent.new }
+    ensures told { result.status ≢ reports.BAD_ARGUMENT }
+    ensures finds { OnUtf8 IsFinding agent.old.at.value agent.new.at.value bytes.now result }
+{
+    on_source(alloc, agent, Task::Find, Source::Utf8(bytes))
+}
