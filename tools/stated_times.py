@@ -6,7 +6,7 @@ tools/measure-times measures them. tools/check-repository compares what the docu
 MINUTES = {
     "quick run": 1.6,
     "--test": 7.3,
-    "--build": 97,
+    "--build": 121,
     "--library": 27,
     "gate": 153,
 }
