@@ -25,7 +25,7 @@ function boxOf(heap, i, {x, y}, {w, h}, {names, changed, matching, chosen}) {
   const form = heap.form(i), length = heap.length(i), slot = heap.slotOf.get(i), own = names.get(i) || [];
   const was = changed.was.get(i), isNew = changed.made.includes(i), wide = Math.floor((w - 18) / 7.9);
   const kinds = [form.tag, form.fixed && "fixed", i == chosen && "chosen", was && "changed", isNew && "new", !matching.has(i) && "faint"].filter(Boolean).join(" ");
-  const tag = slot === undefined ? "" : `<g class="tag"><rect x="${x + w - 65}" y="${y - 9}" width="58" height="16" rx="8"/><text x="${x + w - 36}" y="${y + 3}">slot ${slot}</text></g>`;
+  const pill = 36 + 7 * String(slot).length, tag = slot === undefined ? "" : `<g class="tag"><rect x="${x + w - 7 - pill}" y="${y - 9}" width="${pill}" height="16" rx="8"/><text x="${x + w - 7 - pill / 2}" y="${y + 3}">slot ${slot}</text></g>`;
   const room = Math.floor((w - 64) / 7), all = own.join(", ");
   const title = all.length > room ? `${all.slice(0, Math.max(1, room - 1))}…` : all;
   const detail = was ? `was ${was.tag}: ${spelled(form, length)}` : `${plural(length, "unit")}, ${spelled(form, length)}`, most = Math.floor((w - 16) / 5.1);

@@ -41,6 +41,13 @@ impl<R: Drop> Env<R> {
         }
     }
 
+    /// The bindings.
+    pub fn list(&self) -> &[Binding<Value<R>>]
+        ensures { result.now ≡ self.now }
+    {
+        self.top.list()
+    }
+
     /// The same names once more, bound to the same values.
     pub fn copy(&self) -> Result<Env<R>, NoMemory>
     where
