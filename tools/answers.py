@@ -21,6 +21,7 @@ CALLS = {
     "tools/jsstr --test": f"runs all tests, and all cases but twelve long ones, and proves nothing; {stated_times.stated('--test')}",
     "tools/jsstr --install PREFIX": "puts the built program, jsstr-where, their man pages and completions for shells below PREFIX, as in PREFIX/bin",
     "tools/jsstr --library PREFIX": f"proves and builds the heap for C, and puts it into PREFIX/include and PREFIX/lib; from nothing {stated_times.stated('--library')}",
+    "tools/jsstr --page FILE": "proves the engine of a page, compiles it for a browser, and writes the page with all that it needs into one file; from nothing it takes about as long as --build",
     "tools/jsstr --uninstall PREFIX": "removes what --install and --library put there",
     "tools/jsstr --version": "the version, the commit, and whether the built program is proved and of this commit",
 }

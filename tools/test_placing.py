@@ -1,5 +1,8 @@
 """Tests of what puts files below a prefix, and of tools/release."""
 
+import base64
+import hashlib
+import json
 import os
 import re
 import shutil
@@ -84,15 +87,27 @@ def another_program(house):
 
 
 def make_kit(house):
-    """The headers, and a made-up archive of the toolchain."""
+    """The headers, a made-up archive of the toolchain, its rt, and a compiler that writes what it is called by."""
     for it in HEADERS:
         house.write(it, read(REPOSITORY, it))
     kit = f"{house.room}/kit/c"
     with open(f"{kit}/malloc.o", "w", encoding="ascii") as file:
         file.write("malloc\n")
     subprocess.run(["ar", "rcs", f"{kit}/liblibc_c.a", f"{kit}/malloc.o"], check=True)
+    for folder in ("bin", "toolchain/bin", "toolchain/lib"):
+        os.makedirs(f"{house.room}/kit/{folder}")
+    shutil.copy(f"{house.room}/bin/rt", f"{house.room}/kit/bin")
+    for path, text in (("bin/rtlib.py", ""), ("toolchain/bin/clang", CLANG)):
+        with open(f"{house.room}/kit/{path}", "w", encoding="ascii") as file:
+            file.write(text)
+    os.chmod(f"{house.room}/kit/toolchain/bin/clang", 0o755)
+    for it in ("report.js", "report.out"):
+        house.write(f"demo/{it}", "apple\n")
 
 
+CLANG = """#!/bin/sh
+while [ $# -gt 1 ]; do [ "$1" = -o ] && { echo 'target triple = "x86"'; basename "$0"; } >"$2"; shift; done
+"""
 CMAKE = """cmake_minimum_required(VERSION 3.10)
 project(some NONE)
 find_package(jsstr {} REQUIRED)
@@ -144,13 +159,33 @@ def libraries(house):
     house.write("crates/jsstr_c/src/lib.rt", "// jsstr_c\n")
 
 
+def whole_page(house):
+    """The page is one file, with the engine, the demos and what it was built from."""
+    if not shutil.which("ar"):
+        return
+    status, out, err = house.call("--page", "out/a.html")
+    text = read(house.path_of("out/a.html"))
+    check("the page is written", (status, out) == (0, "") and text.startswith("<!DOCTYPE html>"), err)
+    engine = base64.b64decode(re.search(r'id="wasm"[^>]*>([^<]*)<', text)[1]).decode()
+    check("with the engine as the linker wrote it", engine.endswith("wasm-ld\n"), engine)
+    data = {it: json.loads(re.search(rf'id="{it}-data"[^>]*>([^<]*)<', text)[1]) for it in ("samples", "hints", "built")}
+    check("the demos and the examples", data["samples"]["report"] == "apple\n" and "cons" in data["samples"] and len(data["hints"]) > 50, str(data["samples"].keys()))
+    check("and what it was built from", (data["built"]["kit"], data["built"]["sha256 of the engine"]) == ("rattle-kit-0", hashlib.sha256(engine.encode()).hexdigest()), str(data["built"]))
+    check("nothing is left to be filled in, and nothing is fetched", not re.search(r"@[A-Z]+[^@\n]*@|src=|https?:(?!//www\.w3\.org/2000/svg)", text.replace(engine, "")))
+    status, _, err = house.call("--page", "out/none/a.html")
+    check("a file in no folder is refused", (status, err.count("\n")) == (125, 1), err)
+    house.write("crates/jsstr_web/src/lib.rt", "// broken\n")
+    shutil.rmtree(house.path_of("crates/jsstr_web/out"))
+    status, out, err = house.call("--page", "out/b.html")
+    check("a page that isn't proved isn't written", status == 125 and "error: it is broken" in err and not house.has("out/b.html"), out + err)
+    house.write("crates/jsstr_web/src/lib.rt", "// jsstr_web\n")
+
+
 def releases(house):
     """A release, whose program is made to be `cat`."""
     if not shutil.which("ar"):
         return
     make_kit(house)
-    for it in ("report.js", "report.out"):
-        house.write(f"demo/{it}", "apple\n")
     house.commit()
     house.write("gate.log", "rt: ok\n5 passed, 0 failed, 3 s\nprocessor time: 1 minute\n")
     house.write("failed.log", "4 passed, 1 failed\n")
@@ -167,7 +202,7 @@ def releases(house):
     status, out, err = house.call("out/release", "gate.log", tool="release")
     name = f"jsstr-{read(REPOSITORY, 'VERSION').strip()}-{os.uname().machine}-linux"
     made = below(house.path_of("out/release"))
-    check("a release is an archive, a record and sums", (status, made) == (0, sorted([f"{name}.tar.gz", f"{name.rsplit('-', 2)[0]}.record", "SHA256SUMS"])), err + str(made))
+    check("a release is an archive, a page, a record and sums", (status, made) == (0, sorted([f"{name}.tar.gz", *(f"{name.rsplit('-', 2)[0]}.{it}" for it in ("html", "record")), "SHA256SUMS"])), err + str(made))
     check("it was tried", "in an empty folder" in err and (os.geteuid() != 0 or "in an empty root" in err), err)
     ran = subprocess.run(["sha256sum", "--quiet", "-c", "SHA256SUMS"], cwd=house.path_of("out/release"), capture_output=True, text=True)
     check("the sums are right", ran.returncode == 0, ran.stdout + ran.stderr)

@@ -31,7 +31,7 @@ def own_answers(house):
     for words in (["--help"], ["-h"]):
         status, out, err = house.call(*words)
         check(f"{words} is answered", (status, err) == (0, "") and all(it in out for it in arguments.OPTIONS), out + err)
-    for it in ("--where", "--check", "--unproved", "--build", "--test", "--install", "--library", "--uninstall", "--version"):
+    for it in ("--where", "--check", "--unproved", "--build", "--test", "--install", "--library", "--page", "--uninstall", "--version"):
         check(f"--help has {it}", f"tools/jsstr {it}" in out)
     check("with the ranges, the statuses and the limits of the quick run", all(it in out for it in ("1 to 536870911, else 65536", "0 to 4294967295", "125", "3600 seconds")), out)
     status, out, err = house.call("--version")

@@ -13,8 +13,7 @@ class Engine {
 
   static async of(bytes) { return new Engine((await WebAssembly.instantiate(bytes, {})).instance.exports); }
 
-  // The bytes of a text, a string or bytes; none for null.
-  static bytes(text) { return typeof text == "string" ? new TextEncoder().encode(text) : text || new Uint8Array(0); }
+  static bytes(text) { return typeof text == "string" ? new TextEncoder().encode(text) : text; }
 
   take(size) {
     const at = this.exports.web_take(BigInt(Math.max(1, size)));
@@ -24,29 +23,28 @@ class Engine {
 
   view(Kind, at, length) { return new Kind(this.exports.memory.buffer, Number(at), length); }
 
-  // Reads the texts, runs them on a heap of these sizes, and tells what came of them.
-  async run({ids, words, slots, limit = 64, prelude = null, script, statements = 0xFFFFFFFF}) {
-    const before = Engine.bytes(prelude), text = Engine.bytes(script), count = ids + words + slots > 2 ** 29 ? 0 : 2 + slots + 2 * ids + words;
-    const sizes = [20, before.length, text.length, Engine.ROOM, Engine.NAMES, 8 * count, 40], at = sizes.map(size => this.take(size));
+  // Reads a text, runs its first statements on a heap of these sizes, and tells what came of them.
+  async run({ids, words, slots, limit = 64, script, statements = 0xFFFFFFFF}) {
+    const text = Engine.bytes(script), count = ids + words + slots > 2 ** 29 ? 0 : 2 + slots + 2 * ids + words;
+    const sizes = [20, text.length, Engine.ROOM, Engine.NAMES, 8 * count, 40], at = sizes.map(size => this.take(size));
     this.view(Uint32Array, at[0], 5).set([ids, words, slots, limit, statements]);
-    this.view(Uint8Array, at[1], before.length).set(before);
-    this.view(Uint8Array, at[2], text.length).set(text);
-    this.view(Uint8Array, at[4], 1)[0] = 0;
+    this.view(Uint8Array, at[1], text.length).set(text);
+    this.view(Uint8Array, at[3], 1)[0] = 0;
     const began = performance.now();
-    await this.call(at[0], at[1], BigInt(before.length), at[2], BigInt(text.length), at[3], BigInt(Engine.ROOM), at[4], BigInt(Engine.NAMES), at[5], BigInt(count), at[6]);
+    await this.call(at[0], at[1], BigInt(text.length), at[2], BigInt(Engine.ROOM), at[3], BigInt(Engine.NAMES), at[4], BigInt(count), at[5]);
     const told = this.told(at, count, performance.now() - began);
     at.forEach(it => this.exports.web_give(it));
     return told;
   }
 
   told(at, count, ms) {
-    const [number, kind, offset, want, end, file] = this.view(Uint32Array, at[6], 6), [statements, length] = this.view(BigUint64Array, at[6] + 24n, 2);
-    const bytes = this.view(Uint8Array, at[3], Math.min(Number(length), Engine.ROOM)).slice(), isRefused = number == 7;
+    const [number, kind, offset, want, end] = this.view(Uint32Array, at[5], 5), [statements, length] = this.view(BigUint64Array, at[5] + 24n, 2);
+    const bytes = this.view(Uint8Array, at[2], Math.min(Number(length), Engine.ROOM)).slice(), isRefused = number == 7;
     return {
-      status: number == 10 ? 6 : number, kind: number == 1 ? Engine.KINDS[kind] : null, at: offset, want, end, file: file ? "prelude" : "script",
+      status: number == 10 ? 6 : number, kind: number == 1 ? Engine.KINDS[kind] : null, at: offset, want, end,
       statements: Number(statements), printed: isRefused ? new Uint8Array(0) : bytes, length: isRefused ? 0 : Number(length),
-      refusal: isRefused ? new TextDecoder().decode(bytes) : null, words: number < 7 ? this.view(BigUint64Array, at[5], count).slice() : null,
-      names: number < 7 ? this.names(at[4]) : [], ms,
+      refusal: isRefused ? new TextDecoder().decode(bytes) : null, words: number < 7 ? this.view(BigUint64Array, at[4], count).slice() : null,
+      names: number < 7 ? this.names(at[3]) : [], ms,
     };
   }
 

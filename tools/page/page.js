@@ -55,7 +55,7 @@ function start() {
 function step(k) {
   const of = run, known = of.told.get(k === null ? of.count : k);
   if (known) { show(of, known); return; }
-  ask({...of.sizes, script: of.text, prelude: null, ...k === null ? {} : {statements: k}}, ({told, fault}) => {
+  ask({...of.sizes, script: of.text, ...k === null ? {} : {statements: k}}, ({told, fault}) => {
     if (of !== run) return;
     if (fault) { showEnd(`<b>The engine stopped</b> (${escaped(fault)}), and starts anew at the next run.`, true); shown = null; clearHeap(); return; }
     if (k === null) { of.count = told.statements; of.statements = statementsOf(of.text.length < 200000 ? of.text : ""); }
@@ -71,7 +71,7 @@ function compare(of, told) {
   const before = of.told.get(told.k - 1);
   if (!told.heap || told.k == 0) return told.heap && told.k == 0 ? changes(null, told.heap) : null;
   if (before) return before.heap ? changes(before.heap, told.heap) : null;
-  ask({...of.sizes, script: of.text, prelude: null, statements: told.k - 1}, ({told: earlier}) => {
+  ask({...of.sizes, script: of.text, statements: told.k - 1}, ({told: earlier}) => {
     if (of !== run || !earlier) return;
     of.told.set(earlier.k = told.k - 1, Object.assign(earlier, {heap: earlier.words ? new Heap(earlier.words, of.sizes) : null}));
     if (shown === told) show(of, told);
