@@ -46,7 +46,7 @@ class Page:
         self.process = subprocess.Popen([*words, "about:blank"], preexec_fn=pipes, **quiet)
         os.close(their_in)
         os.close(their_out)
-        self.out, self.into, self.read, self.count, self.session, self.events = our_out, our_in, b"", 0, None, []
+        self.out, self.into, self.read, self.count, self.session, self.events, self.size = our_out, our_in, b"", 0, None, [], (800, 600)
 
     def attach(self):
         """Waits for the tab, and takes it."""
@@ -112,8 +112,12 @@ class Page:
         self.call("Page.navigate", url="about:blank")
         self.call("Page.navigate", url=address)
 
-    def look(self, width, height, dark=False):
+    def resize(self, width, height):
         self.call("Emulation.setDeviceMetricsOverride", width=width, height=height, deviceScaleFactor=1, mobile=False)
+
+    def look(self, width, height, dark=False):
+        self.size = width, height
+        self.resize(width, height)
         self.call("Emulation.setEmulatedMedia", features=[{"name": "prefers-color-scheme", "value": "dark" if dark else "light"}])
 
     def key(self, name, ctrl=False):
@@ -126,7 +130,14 @@ class Page:
         self.call("Input.insertText", text=text)
 
     def picture(self, path, whole=False):
-        data = self.call("Page.captureScreenshot", format="png", captureBeyondViewport=whole)["data"]
+        """A picture of what is seen, or of the whole page, in a window that is high enough for it."""
+        width, height = self.size
+        for _ in range(2 * whole):
+            # (a part may be higher in a higher window)
+            self.resize(width, self.value("scrollTo(0, 0), document.documentElement.scrollHeight"))
+        data = self.call("Page.captureScreenshot", format="png")["data"]
+        if whole:
+            self.resize(width, height)
         with open(path, "wb") as file:
             file.write(base64.b64decode(data))
 

@@ -21,27 +21,37 @@ function drawnIds(heap, view) {
   return {ids: [...found].sort((a, b) => a - b), matching, all: matching.size};
 }
 
+const cut = (text, most) => text.length > most ? `${text.slice(0, most - 1)}…` : text;
+/** A text in at most so many lines, each from a space on; the last is cut. */
+function inLines(text, most, count) {
+  const at = count > 1 && text.length > most ? text.lastIndexOf(" ", most) : -1;
+  return at < 0 ? [cut(text, most)] : [text.slice(0, at), ...inLines(text.slice(at + 1), most, count - 1)];
+}
 function boxOf(heap, i, {x, y}, {w, h}, {names, changed, matching, chosen}) {
   const form = heap.form(i), length = heap.length(i), slot = heap.slotOf.get(i), own = names.get(i) || [];
   const was = changed.was.get(i), isNew = changed.made.includes(i), wide = Math.floor((w - 18) / 7.9);
   const kinds = [form.tag, form.fixed && "fixed", i == chosen && "chosen", was && "changed", isNew && "new", !matching.has(i) && "faint"].filter(Boolean).join(" ");
   const pill = 36 + 7 * String(slot).length, tag = slot === undefined ? "" : `<g class="tag"><rect x="${x + w - 7 - pill}" y="${y - 9}" width="${pill}" height="16" rx="8"/><text x="${x + w - 7 - pill / 2}" y="${y + 3}">slot ${slot}</text></g>`;
   const room = Math.floor((w - 64) / 7), all = own.join(", ");
-  const title = all.length > room ? `${all.slice(0, Math.max(1, room - 1))}…` : all;
-  const detail = was ? `was ${was.tag}: ${spelled(form, length)}` : `${plural(length, "unit")}, ${spelled(form, length)}`, most = Math.floor((w - 16) / 5.1);
+  const detail = was ? `was ${was.tag}: ${spelled(form, length)}` : `${plural(length, "unit")}, ${spelled(form, length)}`;
   return `<g class="s ${kinds}" data-id="${i}" tabindex="${i == chosen ? 0 : -1}" role="button" aria-label="id ${i}${all ? ` of ${escaped(all)}` : ""}: ${escaped(heap.quoted(i, 30))}, ${spelled(form, length)}" style="--who:var(--${form.tag})">` +
     `<title>${escaped(`${all ? `${all}: ` : ""}id ${i}, ${plural(length, "unit")}, ${spelled(form, length)}`)}</title><rect class="box" x="${x}" y="${y}" width="${w}" height="${h}" rx="8"/>` +
-    `<text class="name" x="${x + 9}" y="${y + 18}">id ${i}<tspan class="own" dx="7">${escaped(title)}</tspan></text>${tag}` +
+    `<text class="name" x="${x + 9}" y="${y + 18}">id ${i}<tspan class="own" dx="7">${escaped(cut(all, Math.max(2, room)))}</tspan></text>${tag}` +
     `<text class="units" x="${x + 9}" y="${y + 36}">${escaped(heap.quoted(i, wide - 3))}</text>` +
-    `<text class="small" x="${x + 9}" y="${y + 52}">${detail.length > most ? `${detail.slice(0, most - 1)}…` : detail}</text></g>`;
+    `${inLines(detail, Math.floor((w - 16) / 5.1), h > 70 ? 2 : 1).map((line, k) => `<text class="small" x="${x + 9}" y="${y + 52 + 13 * k}">${line}</text>`).join("")}</g>`;
 }
 
+/** The sizes of boxes to try, the largest first. Where the room is narrow, a box is higher, and a row has only as many as there is room for. */
+function sizesFor(room) {
+  if (room >= 600) return [176, 152].map(w => ({w, h: 60, gapX: 14, gapY: 40}));
+  const gapX = 12, most = Math.max(1, Math.floor((room + gapX) / 150));
+  return [...Array(most).keys()].flatMap(k => [0, 14, 28, 42].map(less => ({most: most - k, w: Math.min(176, Math.floor((room + gapX) / (most - k)) - gapX) - less, h: 74, gapX, gapY: 40, way: gapX})));
+}
 /** Draws into a box of the page; answers how many strings are drawn of how many, and the drawing's rows for the keyboard. */
 function drawHeap(box, heap, view) {
   const {ids, matching, all} = drawnIds(heap, view), room = box.clientWidth - 12;
-  const sizeOf = w => ({w, h: 60, gapX: 14, gapY: 40}), widths = room < 400 ? [Math.max(140, Math.floor((room - 14) / 2))] : [176, 152];
   let size, placed;
-  for (const w of widths) { size = sizeOf(w); placed = layered(ids, i => heap.below(i), size, room); if (placed.width <= room) break; }
+  for (size of sizesFor(room)) { placed = layered(ids, i => heap.below(i), size, room); if (placed.width <= room) break; }
   const {at, routes, width, height} = placed;
   const arrows = routes.map(route => {
     const [d, head] = arrowPaths(route), tag = heap.form(route.from).tag;
@@ -50,7 +60,7 @@ function drawHeap(box, heap, view) {
   });
   const boxes = ids.map(i => boxOf(heap, i, at.get(i), size, {...view, matching}));
   const empty = ids.length ? "" : `<text class="small" x="6" y="24">No string is here.</text>`;
-  box.innerHTML = `<svg width="${Math.max(width, 200) + 8}" height="${Math.max(height, 30) + 16}" viewBox="-4 -12 ${Math.max(width, 200) + 8} ${Math.max(height, 30) + 16}" role="group" aria-label="The strings of the heap">${arrows.join("")}${boxes.join("")}${empty}</svg>`;
+  box.innerHTML = `<svg${size.most ? ' class="fits"' : ""} width="${Math.max(width, 200) + 8}" height="${Math.max(height, 30) + 16}" viewBox="-4 -12 ${Math.max(width, 200) + 8} ${Math.max(height, 30) + 16}" role="group" aria-label="The strings of the heap">${arrows.join("")}${boxes.join("")}${empty}</svg>`;
   const first = box.querySelector("g.chosen") || box.querySelector("g.s");
   if (first) first.setAttribute("tabindex", 0);
   return {drawn: ids.length, all, at};

@@ -2,17 +2,18 @@
 
 /**
  * Places boxes. `below(id)` gives the ids that its arrows go to, a cons's two sides in their order.
- * `size` is {w, h, gapX, gapY}, `room` the width that there is. The answer has the place of each box, and for each
- * arrow the points that it goes through, the first at the foot of a box and the last over another.
+ * `size` is {w, h, gapX, gapY}, `room` the width that there is. Where the size has a `most`, a row has at most so many
+ * boxes, and the arrows to one box join on their way; its `way` is the width that a way past boxes takes. The answer
+ * has the place of each box, and for each arrow the points that it goes through, the first at the foot of a box and
+ * the last over another.
  */
 function layered(ids, below, size, room) {
   const inside = new Set(ids), arrows = [];
   for (const from of ids) {
-    const to = below(from).filter(id => inside.has(id)), all = below(from);
+    const all = below(from);
     all.forEach((id, k) => { if (inside.has(id)) arrows.push({from, to: id, side: all.length == 2 ? 2 * k - 1 : 0}); });
-    if (!to.length) continue;
   }
-  const parts = components(ids, arrows).map(part => placedPart(part, size));
+  const parts = components(ids, arrows).map(part => placedPart(part, size, room));
   parts.sort((a, b) => b.height - a.height || b.ids.length - a.ids.length || a.ids[0] - b.ids[0]);
   const at = new Map(), routes = [];
   let x = 0, y = 0, high = 0, width = 0;
@@ -53,21 +54,41 @@ function rowsOf({ids, arrows}) {
   return row;
 }
 
-// Rows of cells: boxes, and for an arrow past rows a narrow cell in each of them. A link joins cells of two rows.
+// The row of each box where a row has at most so many. A box comes behind all that point to it; of two sides the deeper one comes last.
+function narrowRowsOf({ids, arrows}, most) {
+  const under = new Map(ids.map(id => [id, []])), isUnder = new Set(arrows.map(it => it.to)), heights = new Map(), order = new Set(), row = new Map();
+  for (const {from, to} of arrows) under.get(from).push(to);
+  const height = id => { if (!heights.has(id)) heights.set(id, Math.max(-1, ...under.get(id).map(height)) + 1); return heights.get(id); };
+  const visit = id => { if (order.has(id)) return; [...under.get(id)].sort((a, b) => height(b) - height(a)).forEach(visit); order.add(id); };
+  ids.filter(id => !isUnder.has(id)).sort((a, b) => height(a) - height(b)).forEach(visit);
+  let last = [], r = 0;
+  for (const id of [...order].reverse()) {
+    if (last.length == most || last.some(it => under.get(it).includes(id))) { r++; last = []; }
+    row.set(id, r); last.push(id);
+  }
+  return row;
+}
+
+// Rows of cells: boxes, and for an arrow past rows a narrow cell in each of them. A link joins cells of two rows. A cell's width has its gap in it.
 function cellsOf(part, size) {
-  const row = rowsOf(part), rows = [], links = [], cells = new Map();
+  const row = size.most ? narrowRowsOf(part, size.most) : rowsOf(part), rows = [], cells = new Map(), ways = new Map();
   const add = (r, cell) => { (rows[r] ||= []).push(cell); Object.assign(cell, {row: r, up: [], down: []}); return cell; };
-  for (const id of part.ids) cells.set(id, add(row.get(id), {id, w: size.w}));
+  for (const id of part.ids) cells.set(id, add(row.get(id), {id, w: size.w + size.gapX}));
+  const wayTo = (to, r) => {
+    const name = `${to} ${r}`;
+    if (!size.most || !ways.has(name)) ways.set(name, add(r, {w: size.way ?? 6 + size.gapX}));
+    return ways.get(name);
+  };
   for (const arrow of part.arrows) {
     arrow.cells = [cells.get(arrow.from)];
-    for (let r = row.get(arrow.from) + 1; r < row.get(arrow.to); r++) arrow.cells.push(add(r, {w: 6}));
+    for (let r = row.get(arrow.from) + 1; r < row.get(arrow.to); r++) arrow.cells.push(wayTo(arrow.to, r));
     arrow.cells.push(cells.get(arrow.to));
     arrow.cells.slice(1).forEach((b, k) => {
       const a = arrow.cells[k], link = {a, b, side: k ? 0 : arrow.side};
-      a.down.push(link); b.up.push(link); links.push(link);
+      if (!k || !a.down.length) { a.down.push(link); b.up.push(link); }
     });
   }
-  return {rows, links, cells};
+  return {rows, cells};
 }
 
 const crossed = row => {
@@ -100,12 +121,12 @@ function ordered(rows) {
   return best;
 }
 
-// The places nearest to the wanted ones at which the cells of a row keep their order and their gaps.
-function spread(row, wanted, gap) {
-  const blocks = [];
+// The places nearest to the wanted ones at which the cells of a row keep their order and their gaps, and the row its room, whose middle is 0.
+function spread(row, wanted, room) {
+  const blocks = [], width = row.reduce((sum, cell) => sum + cell.w, 0), first = (row[0].w - width) / 2, spare = Math.max(0, room - width) / 2;
   let from = 0;
   row.forEach((cell, k) => {
-    if (k) from += (row[k - 1].w + cell.w) / 2 + gap;
+    if (k) from += (row[k - 1].w + cell.w) / 2;
     const weight = cell.id === undefined ? 4 : 1;
     let block = {sum: weight * (wanted[k] - from), weight, froms: [from]};
     while (blocks.length && blocks.at(-1).sum / blocks.at(-1).weight > block.sum / block.weight) {
@@ -114,19 +135,19 @@ function spread(row, wanted, gap) {
     }
     blocks.push(block);
   });
-  blocks.flatMap(it => it.froms.map(from => it.sum / it.weight + from)).forEach((x, k) => { row[k].x = x; });
+  blocks.flatMap(it => it.froms.map(from => Math.max(first - spare, Math.min(first + spare, it.sum / it.weight)) + from)).forEach((x, k) => { row[k].x = x; });
 }
 
 // One part of the drawing, its boxes' places from 0 on.
-function placedPart(part, size) {
-  const {rows: made, cells} = cellsOf(part, size), rows = ordered(made), port = size.w / 5;
-  for (const row of rows) spread(row, row.map(() => 0), size.gapX);
+function placedPart(part, size, room) {
+  const {rows: made, cells} = cellsOf(part, size), rows = ordered(made), port = size.w / 5, most = size.most ? room + size.gapX : Infinity;
+  for (const row of rows) spread(row, row.map(() => 0), most);
   for (let turn = 0; turn < 12; turn++) {
     const up = cell => cell.up.map(it => it.a.x + it.side * port), down = cell => cell.down.map(it => it.b.x - it.side * port);
     const wish = turn > 9 ? cell => mean([...up(cell), ...down(cell)], cell.x) : turn % 2 ? cell => mean(down(cell), cell.x) : cell => mean(up(cell), cell.x);
-    for (const row of turn % 2 ? [...rows].reverse() : rows) spread(row, row.map(wish), size.gapX);
+    for (const row of turn % 2 ? [...rows].reverse() : rows) spread(row, row.map(wish), most);
   }
-  const all = rows.flat(), left = Math.min(...all.map(it => it.x - it.w / 2)), top = it => it.row * (size.h + size.gapY);
+  const all = rows.flat(), left = Math.min(...all.map(it => it.x - it.w / 2)) + size.gapX / 2, top = it => it.row * (size.h + size.gapY);
   all.forEach(it => { it.x -= left; });
   const at = new Map([...cells].map(([id, it]) => [id, {x: it.x - size.w / 2, y: top(it)}]));
   // (arrows to one box end side by side, in the order in which they come)
@@ -142,7 +163,7 @@ function placedPart(part, size) {
     points.push([end.x + ends.get(link), top(end)]);
     return {from, to, side, points};
   });
-  return {ids: part.ids, at, routes, width: Math.max(...all.map(it => it.x + it.w / 2)), height: rows.length * (size.h + size.gapY) - size.gapY};
+  return {ids: part.ids, at, routes, width: Math.max(...all.map(it => it.x + it.w / 2)) - size.gapX / 2, height: rows.length * (size.h + size.gapY) - size.gapY};
 }
 
 /** The path of an arrow through its points, and the path of its head. */
