@@ -38,7 +38,7 @@ function boxOf(heap, i, {x, y}, {w, h}, {names, changed, matching, chosen}) {
     `<title>${escaped(`${all ? `${all}: ` : ""}id ${i}, ${plural(length, "unit")}, ${spelled(form, length)}`)}</title><rect class="box" x="${x}" y="${y}" width="${w}" height="${h}" rx="8"/>` +
     `<text class="name" x="${x + 9}" y="${y + 18}">id ${i}<tspan class="own" dx="7">${escaped(cut(all, Math.max(2, room)))}</tspan></text>${tag}` +
     `<text class="units" x="${x + 9}" y="${y + 36}">${escaped(heap.quoted(i, wide - 3))}</text>` +
-    `${inLines(detail, Math.floor((w - 16) / 5.1), h > 70 ? 2 : 1).map((line, k) => `<text class="small" x="${x + 9}" y="${y + 52 + 13 * k}">${line}</text>`).join("")}</g>`;
+    `${inLines(detail, Math.floor((w - 16) / (h > 70 ? 5.5 : 5.1)), h > 70 ? 2 : 1).map((line, k) => `<text class="small" x="${x + 9}" y="${y + 52 + 13 * k}">${line}</text>`).join("")}</g>`;
 }
 
 /** The sizes of boxes to try, the largest first. Where the room is narrow, a box is higher, and a row has only as many as there is room for. */
