@@ -1,7 +1,7 @@
 // The two stores, with room for what a measure makes.
 use crate::measures::NoRoom;
 use crate::over_stores::{StoreMeasure, run_on};
-use heap_intern::Session;
+use heap_session::Session;
 use heap_rule::HeapSize;
 use heap_table::Heap;
 use js_store::Limit;

@@ -14,10 +14,10 @@ use Rattle.heap_rule.specs.Maps.{Has}
 use Rattle.heap_table.specs.declared.agent.Agent.{Agent}
 use Rattle.heap_table.specs.declared.heap.Heap.{Heap}
 use Rattle.heap_table.specs.Agents.{Belongs, view_of}
-use Rattle.heap_intern.specs.declared.session.Session.{Session}
-use Rattle.heap_intern.specs.Sessions.{state_by, state_in, table_of, session_view}
-use Rattle.heap_intern.specs.Shares.{BelongsAs}
-use Rattle.heap_intern.proofs.States.{settled_test, test_settled, text_is}
+use Rattle.heap_session.specs.declared.session.Session.{Session}
+use Rattle.heap_session.specs.Sessions.{state_by, state_in, table_of, session_view}
+use Rattle.heap_session.specs.Shares.{BelongsAs}
+use Rattle.heap_session.proofs.States.{settled_test, test_settled, text_is}
 use Rattle.js_search.specs.Order.{Precedes}
 use Rattle.heap_read.specs.declared.heap_ref.HeapRef.{Ghosts}
 use Rattle.heap_agents.specs.declared.held.Held.{Held}

@@ -4,7 +4,7 @@ use Rattle.std.specs.List.{Contains}
 use Rattle.heap_rule.specs.declared.view.View.{View}
 use Rattle.heap_rule.specs.Maps.{Has}
 use Rattle.heap_rule.specs.Views.{history}
-use Rattle.heap_intern.specs.Sound.{possible_agrees, possible_legal}
+use Rattle.heap_session.specs.Sound.{possible_agrees, possible_legal}
 use Rattle.heap_agents.specs.declared.held.Held.{Held}
 use Rattle.heap_agents.specs.Ready.{HasInterned, IsReady, handle_view}
 use Rattle.jsstr_c.specs.Handles.{HasAs}

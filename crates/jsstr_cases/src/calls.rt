@@ -3,7 +3,7 @@
 
 use crate::case::Fault;
 use eval_tree::{Names, Script};
-use heap_intern::Session;
+use heap_session::Session;
 use heap_rule::HeapSize;
 use heap_table::Heap;
 use js_eval::{End, Env, Lines, eval};

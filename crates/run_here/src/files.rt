@@ -7,14 +7,14 @@ ghost use Rattle.js_eval.specs.declared.ending.End.TheVariants.{Done};
 ghost use Rattle.js_eval.specs.Evaluates.{Evaluates};
 ghost use Rattle.js_eval.specs.Script.{meaning};
 ghost use Rattle.js_eval.specs.Seen.{BoundsFine, bounds_seen};
-ghost use Rattle.heap_intern.specs.Sessions.{state_in};
+ghost use Rattle.heap_session.specs.Sessions.{state_in};
 ghost use Rattle.run_program.specs.Jobs.{number};
 ghost use Rattle.run_program.specs.Ran.{tree_if};
 ghost use Rattle.run_program.specs.Stages.{HaveRunFrom, IsUnused};
 ghost use Rattle.run_here.specs.Left.{HasLeftFrom};
 
 use eval_tree::Script;
-use heap_intern::Session;
+use heap_session::Session;
 use heap_read::JsStr;
 use heap_table::Heap;
 use js_eval::{End, Env, Lines, eval};

@@ -6,7 +6,7 @@ ghost use Rattle.eval_scopes.specs.Seen.{bounds_of};
 ghost use Rattle.heap_rule.specs.Agents.{first_view};
 ghost use Rattle.heap_table.specs.Agents.{Belongs, size_of, view_of};
 ghost use Rattle.heap_table.specs.MayMake.{MayMake};
-ghost use Rattle.heap_intern.specs.Sessions.{state_by, table_of};
+ghost use Rattle.heap_session.specs.Sessions.{state_by, table_of};
 ghost use Rattle.run_program.specs.Ran.{tree_if};
 ghost use Rattle.run_program.specs.Stages.{IsTold};
 ghost use Rattle.run_here.specs.Here.{IsHere, one_agent};
@@ -14,7 +14,7 @@ ghost use Rattle.run_here.specs.Left.{HasLeft, script_by};
 
 use crate::files::run_files;
 use eval_tree::Script;
-use heap_intern::{Session, whole_has_all};
+use heap_session::{Session, whole_has_all};
 use heap_read::JsStr;
 use heap_rule::HeapSize;
 use heap_table::{Agent, Heap};

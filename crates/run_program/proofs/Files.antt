@@ -16,9 +16,9 @@ use Rattle.js_eval.specs.declared.ending.End.{End}
 use Rattle.js_eval.specs.declared.ending.End.TheVariants.{Done, Threw, Unsupported, Full, Memory}
 use Rattle.js_eval.specs.Evaluates.{Evaluates}
 use Rattle.js_eval.specs.Script.{Flow}
-use Rattle.heap_intern.specs.Sessions.{SessionFrame}
-use Rattle.heap_intern.specs.Shares.{total_by}
-use Rattle.heap_intern.specs.Whole.{HasWholeCounts}
+use Rattle.heap_session.specs.Sessions.{SessionFrame}
+use Rattle.heap_session.specs.Shares.{total_by}
+use Rattle.heap_session.specs.Whole.{HasWholeCounts}
 use Rattle.run_program.specs.declared.job.Job.{Job}
 use Rattle.run_program.specs.declared.job.Outcome.{Outcome}
 use Rattle.run_program.specs.Jobs.{JobUse, Reports, Whole, Broken, HasJobEnd, CameOf, AtEach, pairs_of, ids_of, words_of, Later, RanJobs}

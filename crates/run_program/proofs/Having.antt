@@ -14,7 +14,7 @@ use Rattle.js_eval.specs.Evaluates.{Evaluates, Finished}
 use Rattle.js_eval.specs.Script.{Flow, meaning}
 use Rattle.js_eval.specs.Seen.{bounds_seen}
 use Rattle.heap_read.specs.declared.string.JsStr.{JsStr}
-use Rattle.heap_intern.specs.Sessions.{SessionFrame}
+use Rattle.heap_session.specs.Sessions.{SessionFrame}
 use Rattle.run_program.specs.declared.job.Job.{Job}
 use Rattle.run_program.specs.declared.job.Outcome.{Outcome}
 use Rattle.run_program.specs.Jobs.{JobUse, Runs, number, means}

@@ -14,8 +14,8 @@ use Rattle.js_eval.specs.Script.{Flow, meaning}
 use Rattle.js_eval.specs.Seen.{BoundsFine, bounds_seen}
 use Rattle.heap_rule.specs.Paths.{StartsWith}
 use Rattle.heap_read.specs.declared.string.JsStr.{JsStr}
-use Rattle.heap_intern.specs.Sessions.{SessionFrame}
-use Rattle.heap_intern.specs.Shares.{IsSessionJoined, MayJoinSession, giver_after, right_by}
+use Rattle.heap_session.specs.Sessions.{SessionFrame}
+use Rattle.heap_session.specs.Shares.{IsSessionJoined, MayJoinSession, giver_after, right_by}
 use Rattle.run_program.specs.declared.job.Job.{Job}
 use Rattle.run_program.specs.declared.job.Outcome.{Outcome}
 use Rattle.run_program.specs.Jobs.{number, means, CameOf, pairs_of, Later, RanJobs, Runs, HasNoLines, MayRun}

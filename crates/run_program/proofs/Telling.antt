@@ -12,11 +12,11 @@ use Rattle.heap_rule.specs.declared.view.View.{View}
 use Rattle.heap_table.specs.Agents.{Belongs, size_of, view_of}
 use Rattle.heap_table.specs.declared.heap.Heap.{Heap}
 use Rattle.heap_intern.specs.Counting.{different}
-use Rattle.heap_intern.specs.Sessions.{SessionFrame, state_by, table_of}
-use Rattle.heap_intern.specs.Shares.{IsWhole, IsOf, total_by}
-use Rattle.heap_intern.specs.Sound.{session_sound}
-use Rattle.heap_intern.specs.Whole.{HasWholeCounts}
-use Rattle.heap_intern.proofs.Whole.{whole_all}
+use Rattle.heap_session.specs.Sessions.{SessionFrame, state_by, table_of}
+use Rattle.heap_session.specs.Shares.{IsWhole, IsOf, total_by}
+use Rattle.heap_session.specs.Sound.{session_sound}
+use Rattle.heap_session.specs.Whole.{HasWholeCounts}
+use Rattle.heap_session.proofs.Whole.{whole_all}
 use Rattle.run_program.specs.declared.job.Outcome.{Outcome}
 use Rattle.run_program.specs.Files.{RunFile, AreRun}
 use Rattle.run_program.proofs.Files.{run_stays, run_totals}

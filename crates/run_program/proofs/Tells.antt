@@ -18,8 +18,8 @@ use Rattle.js_eval.specs.declared.ending.End.TheVariants.{Done, Threw, Unsupport
 use Rattle.js_eval.specs.Evaluates.{script_end}
 use Rattle.js_eval.specs.Script.{Flow, interned, need_words}
 use Rattle.heap_intern.specs.Counting.{different}
-use Rattle.heap_intern.specs.Sessions.{SessionFrame}
-use Rattle.heap_intern.specs.Whole.{HasWholeCounts}
+use Rattle.heap_session.specs.Sessions.{SessionFrame}
+use Rattle.heap_session.specs.Whole.{HasWholeCounts}
 use Rattle.run_program.specs.Jobs.{JobUse, Whole, Broken, HasJobEnd, fault_in, pairs_of, ids_of, words_of}
 use Rattle.run_program.specs.Fits.{Fits, count_different, ids_needed, words_needed, lists_interned}
 use Rattle.run_program.specs.Files.{RunFile, WasFileRun, AreRun, IsAsMeant, IsOwnEnd, means_of, parts_of}

@@ -19,7 +19,7 @@ use Rattle.js_eval.specs.Script.{Flow, meaning, need_ids, need_words}
 use Rattle.js_eval.specs.Seen.{BoundsFine, bounds_seen}
 use Rattle.heap_rule.specs.Paths.{StartsWith}
 use Rattle.heap_read.specs.declared.string.JsStr.{JsStr}
-use Rattle.heap_intern.specs.Sessions.{SessionFrame}
+use Rattle.heap_session.specs.Sessions.{SessionFrame}
 use Rattle.run_program.specs.declared.job.Job.{Job}
 use Rattle.run_program.specs.declared.job.Outcome.{Outcome}
 

@@ -12,9 +12,9 @@ use Rattle.js_eval.specs.Evaluates.{Evaluates}
 use Rattle.js_eval.specs.Script.{Flow, meaning}
 use Rattle.heap_rule.specs.Agents.{first_view}
 use Rattle.heap_rule.specs.declared.size.HeapSize.{HeapSize}
-use Rattle.heap_intern.specs.Sessions.{SessionFrame, state_by}
-use Rattle.heap_intern.specs.Shares.{total_by}
-use Rattle.heap_intern.specs.Whole.{HasWholeCounts}
+use Rattle.heap_session.specs.Sessions.{SessionFrame, state_by}
+use Rattle.heap_session.specs.Shares.{total_by}
+use Rattle.heap_session.specs.Whole.{HasWholeCounts}
 use Rattle.run_program.specs.declared.job.Job.{Job}
 use Rattle.run_program.specs.declared.job.Outcome.{Outcome}
 use Rattle.run_program.specs.Jobs.{JobUse, RanJobs}

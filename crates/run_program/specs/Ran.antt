@@ -8,8 +8,8 @@ use Rattle.eval_tree.specs.Tree.{Tree, tree_of}
 use Rattle.js_eval.specs.Script.{Flow}
 use Rattle.heap_table.specs.Agents.{Belongs, size_of, view_of}
 use Rattle.heap_intern.specs.Counting.{different}
-use Rattle.heap_intern.specs.Sessions.{SessionFrame, state_by, table_of}
-use Rattle.heap_intern.specs.Shares.{IsWhole}
+use Rattle.heap_session.specs.Sessions.{SessionFrame, state_by, table_of}
+use Rattle.heap_session.specs.Shares.{IsWhole}
 use Rattle.run_program.specs.declared.job.Outcome.{Outcome}
 use Rattle.run_program.specs.Fits.{all_meant}
 use Rattle.run_program.specs.Files.{RunFile, AreRun, AreFilesOf}

@@ -12,8 +12,8 @@ use Rattle.js_eval.specs.Evaluates.{script_end}
 use Rattle.js_eval.specs.Script.{Flow, interned, texts, need_words}
 use Rattle.heap_rule.specs.Paths.{IsLegal}
 use Rattle.heap_intern.specs.Counting.{different}
-use Rattle.heap_intern.specs.Sessions.{SessionFrame}
-use Rattle.heap_intern.specs.Shares.{IsWhole}
+use Rattle.heap_session.specs.Sessions.{SessionFrame}
+use Rattle.heap_session.specs.Shares.{IsWhole}
 use Rattle.run_program.specs.Jobs.{JobUse}
 use Rattle.run_program.specs.Fits.{FitsIds, FitsWords, FitsSlots, Fits, count_different, all_meant, ids_needed, words_needed, lists_interned}
 use Rattle.run_program.specs.Files.{RunFile, AreRun, AreFilesOf, IsAsMeant, IsOwnEnd, means_of}

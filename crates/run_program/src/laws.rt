@@ -1,9 +1,9 @@
 // Laws of files that were run on one heap, which a call brings into a proof.
-ghost use Rattle.heap_intern.specs.Sessions.{state_in};
+ghost use Rattle.heap_session.specs.Sessions.{state_in};
 ghost use Rattle.run_program.specs.Laws.{JobsRun, NoneRun, ScriptRun, StaysRun, TotalsRun};
 ghost use Rattle.run_program.specs.Tells.{WholeTells};
 
-use heap_intern::Session;
+use heap_session::Session;
 use heap_table::Heap;
 
 /// No file was run on a heap that was just made. After others a script is evaluated, or jobs are

@@ -2,13 +2,13 @@
 ghost use Rattle.std.specs.Prelude.{◌≡◌, ◌≤◌, ◌<◌, ◌+◌, ℕ, List, length, All};
 ghost use Rattle.eval_scopes.specs.Seen.{bounds_of};
 ghost use Rattle.js_eval.specs.Seen.{BoundsFine};
-ghost use Rattle.heap_intern.specs.Sessions.{state_in};
+ghost use Rattle.heap_session.specs.Sessions.{state_in};
 ghost use Rattle.run_program.specs.Jobs.{number, HasNoLines, Runs, means, job_ids_needed, job_words_needed, most_ids_wanted, most_words_wanted};
 
 use crate::group::run_in_order;
 use crate::halves::run_groups;
 use crate::job::{Job, Outcome};
-use heap_intern::Session;
+use heap_session::Session;
 use heap_read::JsStr;
 use heap_table::Heap;
 use js_eval::Env;

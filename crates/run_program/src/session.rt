@@ -1,14 +1,14 @@
 // A session on the heap is split among threads, and joined again.
 use crate::shared::Shared;
 use eval_tree::Script;
-use heap_intern::Session;
+use heap_session::Session;
 use heap_read::JsStr;
 use heap_table::Heap;
 use js_eval::{End, Env, Lines, eval};
 use std::alloc::Global;
 
 impl<'h> Shared for Session<&'h Heap> {
-    ghost use Rattle.heap_intern.specs.Sessions.{state_in};
+    ghost use Rattle.heap_session.specs.Sessions.{state_in};
 
     ghost state = { λ s. state_in s };
 

@@ -6,8 +6,8 @@ ghost use Rattle.eval_scopes.specs.Seen.{bounds_of};
 ghost use Rattle.js_eval.specs.Script.{meaning};
 ghost use Rattle.js_eval.specs.Seen.{BoundsFine, bounds_seen};
 ghost use Rattle.js_eval.specs.Evaluates.{Evaluates};
-ghost use Rattle.heap_intern.specs.Sessions.{SessionFrame};
-ghost use Rattle.heap_intern.specs.Shares.{IsSessionJoined, MayJoinSession, giver_after, right_by};
+ghost use Rattle.heap_session.specs.Sessions.{SessionFrame};
+ghost use Rattle.heap_session.specs.Shares.{IsSessionJoined, MayJoinSession, giver_after, right_by};
 ghost use Rattle.run_program.specs.Jobs.{number};
 
 use eval_tree::Script;

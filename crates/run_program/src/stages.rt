@@ -3,7 +3,7 @@ ghost use Rattle.std.specs.Prelude.{◌≡◌, ◌≤◌, ◌↔◌, length, All
 ghost use Rattle.js_store.specs.State.{Grows};
 ghost use Rattle.eval_tree.specs.Tree.{tree_of};
 ghost use Rattle.js_eval.specs.declared.ending.End.TheVariants.{Done};
-ghost use Rattle.heap_intern.specs.Sessions.{state_in};
+ghost use Rattle.heap_session.specs.Sessions.{state_in};
 ghost use Rattle.run_program.specs.Jobs.{HasNoLines};
 ghost use Rattle.run_program.specs.Ran.{tree_if};
 ghost use Rattle.run_program.specs.Stages.{AreNumbered, HaveRunFrom, IsUnused, job_trees};
@@ -11,7 +11,7 @@ ghost use Rattle.run_program.specs.Stages.{AreNumbered, HaveRunFrom, IsUnused, j
 use crate::job::{Job, Outcome};
 use crate::on_heap::run_all;
 use eval_tree::Script;
-use heap_intern::Session;
+use heap_session::Session;
 use heap_table::Heap;
 use js_eval::{End, Env, Lines, eval};
 use js_io::Gate;

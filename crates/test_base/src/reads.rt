@@ -2,7 +2,7 @@
 ghost use Rattle.std.specs.Prelude.{◌≡◌, ◌<◌, length};
 ghost use Rattle.js_store.specs.State.{IsKnown, IsSettled, text};
 
-use heap_intern::Session;
+use heap_session::Session;
 use heap_rule::HeapSize;
 use heap_table::Heap;
 use js_store::{Limit, StoreFault, Strings};

@@ -1,5 +1,5 @@
 // Strings of one unit, of which a session makes that of each unit below 256 once.
-use heap_intern::Session;
+use heap_session::Session;
 use heap_rule::HeapSize;
 use heap_table::Heap;
 use heap_text::JsStr;

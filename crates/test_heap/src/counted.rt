@@ -1,8 +1,8 @@
 // The loads of slots that a session makes when it interns, counted on heaps with few slots.
 ghost use Rattle.std.specs.Prelude.{◌≡◌, ℕ, ◌+◌, ◌*◌, ◌≤◌, ◌<◌, length};
-ghost use Rattle.heap_intern.specs.Sessions.{state_in};
+ghost use Rattle.heap_session.specs.Sessions.{state_in};
 
-use heap_intern::Session;
+use heap_session::Session;
 use heap_read::Steps;
 use heap_rule::HeapSize;
 use heap_table::Heap;

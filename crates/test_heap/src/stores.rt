@@ -1,7 +1,7 @@
 // A session by the calls of a store, through the bound, and the limits of length that it is given.
 ghost use Rattle.std.specs.Prelude.{◌≤◌, length};
 
-use heap_intern::Session;
+use heap_session::Session;
 use heap_rule::HeapSize;
 use heap_table::Heap;
 use js_store::{Limit, StoreFault, Strings};

@@ -8,8 +8,8 @@ use Rattle.heap_table.specs.declared.heap.Heap.{Heap}
 use Rattle.js_store.specs.Faults.{StoreStep, Uses}
 use Rattle.js_store.specs.declared.faults.StoreFault.{StoreFault}
 use Rattle.js_store.specs.State.{IsKnown, State}
-use Rattle.heap_intern.specs.Sessions.{SessionFrame, state_by}
-use Rattle.heap_intern.specs.Shares.{IsSessionJoined, IsOf, MayJoinSession, giver_after, right_by, total_by}
+use Rattle.heap_session.specs.Sessions.{SessionFrame, state_by}
+use Rattle.heap_session.specs.Shares.{IsSessionJoined, IsOf, MayJoinSession, giver_after, right_by, total_by}
 use Rattle.test_strings.specs.Sessions.{GoesOn, HasGoneOn, IsPlayed, IsSplit}
 use Rattle.test_strings.specs.Turns as there
 use Rattle.atomic_table.specs.Seated.{TableId}

@@ -3,8 +3,8 @@
 use Rattle.std.specs.Prelude.{◌≡◌, ℕ, ◌≤◌, Bool, true, List, Contains, IsSome, length}
 use Rattle.heap_rule.specs.Paths.{StartsWith}
 use Rattle.heap_table.specs.declared.heap.Heap.{Heap}
-use Rattle.heap_intern.specs.Sessions.{SessionFrame}
-use Rattle.heap_intern.specs.Shares.{IsOf, IsWhole, giver_after, right_by}
+use Rattle.heap_session.specs.Sessions.{SessionFrame}
+use Rattle.heap_session.specs.Shares.{IsOf, IsWhole, giver_after, right_by}
 use Rattle.js_store.specs.State.{State, IsKnown}
 
 -- what it knew it knows, its frame, sizes and limit stay, and its history goes on

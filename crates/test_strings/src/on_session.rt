@@ -2,13 +2,13 @@
 ghost use Rattle.std.specs.Prelude.{◌≡◌, ◌+◌, ◌≤◌, None, IfOk, IfSome, length};
 ghost use Rattle.js_store.specs.Faults.{Uses};
 ghost use Rattle.js_store.specs.State.{IsKnown, IsSettled, text};
-ghost use Rattle.heap_intern.specs.Sessions.{state_in};
-ghost use Rattle.heap_intern.specs.Shares.{IsOf, IsWhole, MayJoinSession};
+ghost use Rattle.heap_session.specs.Sessions.{state_in};
+ghost use Rattle.heap_session.specs.Shares.{IsOf, IsWhole, MayJoinSession};
 ghost use Rattle.test_strings.specs.Sessions.{GoesOn, HasGoneOn, IsPlayed, IsSplit};
 
 use crate::lines::{Told, Words, behind, fault, step_of, units_of, wrong, yes_if};
 use crate::on_text::{OnText, put, take_over};
-use heap_intern::Session;
+use heap_session::Session;
 use heap_rule::MAX;
 use heap_table::Heap;
 use heap_text::{JsStr, Text};

@@ -1,7 +1,7 @@
 use Rattle.std.proofs.Common.{◌≡◌, List, ◌∷◌, [], sym, subst, None}
 use Rattle.eval_tree.specs.Tree.{tree_of}
 use Rattle.eval_scopes.specs.Seen.{bounds_of}
-use Rattle.heap_intern.specs.Sessions.{state_in}
+use Rattle.heap_session.specs.Sessions.{state_in}
 use Rattle.run_program.specs.declared.job.Outcome.{Outcome}
 use Rattle.run_program.specs.Stages.{HaveRunFrom}
 use Rattle.run_here.specs.Left.{HasLeftFrom}

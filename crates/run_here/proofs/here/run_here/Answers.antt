@@ -2,7 +2,7 @@ use Rattle.std.proofs.Common.{◌∷◌, [], None, subst}
 use Rattle.js_store.specs.State.{State}
 use Rattle.eval_tree.specs.Tree.{tree_of}
 use Rattle.heap_rule.specs.declared.size.HeapSize.{HeapSize}
-use Rattle.heap_intern.specs.Sessions.{SessionFrame}
+use Rattle.heap_session.specs.Sessions.{SessionFrame}
 use Rattle.run_program.specs.declared.ran.Ran.{Ran}
 use Rattle.run_program.specs.Ran.{state_kept, tree_if}
 use Rattle.run_program.specs.Stages.{IsTold}

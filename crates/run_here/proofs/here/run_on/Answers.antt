@@ -6,7 +6,7 @@ use Rattle.eval_tree.specs.Tree.{tree_of}
 use Rattle.eval_scopes.specs.Seen.{bounds_of}
 use Rattle.heap_rule.specs.declared.view.View.{View}
 use Rattle.heap_table.specs.Agents.{size_of, view_of}
-use Rattle.heap_intern.specs.Sessions.{SessionFrame, state_by, state_in, table_of, session_view}
+use Rattle.heap_session.specs.Sessions.{SessionFrame, state_by, state_in, table_of, session_view}
 use Rattle.run_program.specs.Ran.{tree_if}
 use Rattle.run_program.specs.Stages.{IsTold}
 use Rattle.run_program.proofs.Telling.{begun, kept_limit, kept_of, kept_told, same_state}

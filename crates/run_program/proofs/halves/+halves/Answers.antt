@@ -1,7 +1,7 @@
 use Rattle.std.proofs.Common.{◌≡◌, ℕ, ◌-◌, ◌/◌, ◌<◌, ◌≤◌, ◌++◌, subst, List, ap₂, ◌∙◌, arith}
 use Rattle.std.proofs.lemmas.List.{take-append-drop}
 use Rattle.js_store.specs.State.{State}
-use Rattle.heap_intern.specs.Sessions.{SessionFrame}
+use Rattle.heap_session.specs.Sessions.{SessionFrame}
 use Rattle.run_program.specs.declared.job.Job.{Job}
 use Rattle.run_program.specs.Jobs.{Runs, means}
 use Rattle.run_program.proofs.Sharing.{beside_may_join, ran_beside, may_left, may_right}

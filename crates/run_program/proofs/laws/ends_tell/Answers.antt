@@ -1,7 +1,7 @@
 use Rattle.js_store.specs.Limits.{limit_units}
-use Rattle.heap_intern.specs.Sessions.{state_in, table_of, session_view}
-use Rattle.heap_intern.specs.Sound.{session_sound}
-use Rattle.heap_intern.proofs.Whole.{whole_all}
+use Rattle.heap_session.specs.Sessions.{state_in, table_of, session_view}
+use Rattle.heap_session.specs.Sound.{session_sound}
+use Rattle.heap_session.proofs.Whole.{whole_all}
 use Rattle.run_program.specs.Fits.{all_meant}
 use Rattle.run_program.proofs.First.{are_first}
 use Rattle.run_program.proofs.Tells.{tells}

@@ -1,6 +1,6 @@
 use Rattle.std.proofs.Common.{refl}
 use Rattle.heap_rule.specs.Agents.{first_view}
-use Rattle.heap_intern.specs.Sessions.{state_by}
+use Rattle.heap_session.specs.Sessions.{state_by}
 use Rattle.js_eval.specs.Script.{meaning}
 use Rattle.eval_tree.specs.Tree.{tree_of}
 use Rattle.run_program.proofs.Files.{run_jobs, run_none, run_one, run_stays, run_totals}

@@ -1,4 +1,4 @@
-use Rattle.heap_intern.specs.Sessions.{state_in}
+use Rattle.heap_session.specs.Sessions.{state_in}
 use Rattle.run_program.specs.Jobs.{means}
 use Rattle.run_program.proofs.Jobs.{ran_within_ids, ran_within_words}
 use Rattle.run_program.proofs.on_heap.run_group.Goals as goal

@@ -3,7 +3,7 @@ use Rattle.js_store.specs.Limits.{limit_units}
 use Rattle.js_store.specs.State.{State}
 use Rattle.heap_rule.specs.declared.view.View.{View}
 use Rattle.heap_table.specs.Agents.{view_of}
-use Rattle.heap_intern.specs.Sessions.{SessionFrame, state_by, state_in, table_of, session_view}
+use Rattle.heap_session.specs.Sessions.{SessionFrame, state_by, state_in, table_of, session_view}
 use Rattle.run_program.specs.Ran.{tree_if}
 use Rattle.run_program.specs.Stages.{IsTold, job_trees}
 use Rattle.run_program.proofs.Telling.{begun, kept_limit, kept_of, kept_told, same_state}

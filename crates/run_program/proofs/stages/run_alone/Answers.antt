@@ -2,7 +2,7 @@ use Rattle.std.proofs.Common.{subst, List}
 use Rattle.eval_scopes.specs.declared.binding_list.Binding.{Binding}
 use Rattle.js_item.specs.declared.item.Item.{Item}
 use Rattle.heap_read.specs.declared.string.JsStr.{JsStr}
-use Rattle.heap_intern.specs.Sessions.{state_in}
+use Rattle.heap_session.specs.Sessions.{state_in}
 use Rattle.run_program.specs.Jobs.{Runs}
 use Rattle.run_program.proofs.Having.{have_alone}
 use Rattle.run_program.proofs.stages.run_alone.Goals as goal

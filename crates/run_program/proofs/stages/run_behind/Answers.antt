@@ -10,7 +10,7 @@ use Rattle.js_eval.specs.Evaluates.{Evaluates}
 use Rattle.js_eval.specs.Script.{meaning}
 use Rattle.js_eval.specs.Seen.{bounds_seen}
 use Rattle.heap_read.specs.declared.string.JsStr.{JsStr}
-use Rattle.heap_intern.specs.Sessions.{state_in}
+use Rattle.heap_session.specs.Sessions.{state_in}
 use Rattle.run_program.specs.declared.job.Outcome.{Outcome}
 use Rattle.run_program.specs.Jobs.{means, number}
 use Rattle.run_program.specs.Stages.{HaveRunFrom, job_trees}

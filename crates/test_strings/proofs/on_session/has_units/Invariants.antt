@@ -1,7 +1,7 @@
 use Rattle.std.proofs.Common.{◌≡◌}
 use Rattle.std.specs.Prelude.{None}
 use Rattle.js_store.specs.Faults.{StoreStep}
-use Rattle.heap_intern.specs.Sessions.{state_in}
+use Rattle.heap_session.specs.Sessions.{state_in}
 use Rattle.test_strings.proofs.on_session.has_units.Given as goal
 
 abbrev pub invariant-loop-i : goal.invariant-loop-i

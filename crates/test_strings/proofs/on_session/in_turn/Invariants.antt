@@ -1,4 +1,4 @@
-use Rattle.heap_intern.specs.Sessions.{state_in}
+use Rattle.heap_session.specs.Sessions.{state_in}
 use Rattle.test_strings.specs.Sessions.{GoesOn}
 use Rattle.test_strings.proofs.on_session.in_turn.Given as goal
 

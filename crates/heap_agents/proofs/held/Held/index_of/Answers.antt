@@ -4,7 +4,7 @@ use Rattle.js_store.specs.declared.limit.Limit.TheVariants.{Bits64}
 use Rattle.js_store.specs.Limits.{limit_units}
 use Rattle.heap_table.specs.declared.heap.Heap.{Heap}
 use Rattle.heap_table.specs.Agents.{Belongs, view_of}
-use Rattle.heap_intern.specs.Sessions.{state_by, table_of}
+use Rattle.heap_session.specs.Sessions.{state_by, table_of}
 use Rattle.heap_agents.specs.declared.held.Held.{Held}
 use Rattle.heap_agents.specs.Held.{Searched}
 use Rattle.heap_agents.specs.Shared.{heap_of}

@@ -3,7 +3,7 @@ use Rattle.std.specs.Prelude.{IfOk}
 use Rattle.heap_read.specs.declared.string.JsStr.{JsStr}
 use Rattle.js_store.specs.declared.faults.StoreFault.{StoreFault}
 use Rattle.js_store.specs.State.{IsKnown}
-use Rattle.heap_intern.specs.Sessions.{state_in}
+use Rattle.heap_session.specs.Sessions.{state_in}
 use Rattle.test_strings.proofs.Going.{played_put}
 use Rattle.test_strings.proofs.on_session.OnSession.of_table.Goals as goal
 

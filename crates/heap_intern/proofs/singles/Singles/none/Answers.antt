@@ -1,6 +1,0 @@
-use Rattle.std.proofs.Common.{replicate}
-use Rattle.heap_intern.proofs.OneUnit.{singles_none, zeros}
-use Rattle.heap_intern.proofs.singles.Singles.none.Goals as goal
-
-pub returns : goal.returns
-returns c v = singles_none v (replicate 256 0) (zeros 256)

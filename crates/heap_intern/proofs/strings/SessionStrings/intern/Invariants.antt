@@ -1,4 +1,0 @@
-use Rattle.heap_intern.proofs.strings.SessionStrings.intern.Given as goal
-
-abbrev pub ghosts-intern_by : goal.ghosts-intern_by
-ghosts-intern_by g a = record { name = a.blank.name; parts = a.blank.parts }

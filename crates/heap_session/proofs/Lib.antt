@@ -1,0 +1,10 @@
+pub mod States
+pub mod Rows
+pub mod Owning
+pub mod Calls
+pub mod GoingByPlan
+pub mod Shares
+pub mod Lately
+pub mod OneUnit
+pub mod MadeLately
+pub mod Whole

@@ -1,0 +1,39 @@
+use Rattle.std.proofs.Common.{◌∙◌, subst, sym}
+use Rattle.js_store.specs.Limits.{limit_units}
+use Rattle.heap_rule.specs.declared.view.View.{View}
+use Rattle.heap_session.specs.Sessions.{state_by, table_of}
+use Rattle.heap_session.proofs.Shares.{state_left, state_right}
+use Rattle.heap_session.proofs.Lately.{kept_none}
+use Rattle.heap_session.specs.Lately.{IsWordKept}
+use Rattle.heap_session.specs.Singles.{AreSingles}
+use Rattle.heap_session.specs.Recent.{AreRecent}
+use Rattle.heap_session.proofs.sharing.Session+ref+Heap.split.Goals as goal
+
+pub invariant_of-result : goal.invariant_of-result
+invariant_of-result c = record {
+  one_limit = c.split.ensures.alike.1 ∙ c.args.self.now.one_limit;
+  last_kept = kept_none c.split.result.reader.agent.seat.me.0 c.none.result c.none.ensures;
+  older_kept = kept_none c.split.result.reader.agent.seat.me.0 c.none-2.result c.none-2.ensures;
+  singles_kept = c.none-3.ensures c.split.result.reader.agent.seat.me.0;
+  recent_kept = c.none-4.ensures c.split.result.reader.agent.seat.me.0;
+}
+
+pub returns-clause-left : goal.returns-clause-left
+returns-clause-left c = let s = c.args.self.now in let v : View = s.text.reader.agent.seat.me.0 in
+    (λ i. state_by (c.split.ensures.left i) (limit_units s.limit) (table_of (c.split.ensures.kept.heap i).now)) ∙ state_left v c.args.give (limit_units s.limit) (table_of s.text.reader.heap.now)
+
+pub returns-clause-right : goal.returns-clause-right
+returns-clause-right c = let s = c.args.self.now in let v : View = s.text.reader.agent.seat.me.0 in let l = limit_units s.limit in
+    (λ i. state_by (c.split.ensures.right i) l (table_of (c.split.ensures.alike.0 i))) ∙ state_right v c.args.give l (table_of s.text.reader.heap.now)
+
+pub invariant_of-self-clause-last_kept : goal.invariant_of-self-clause-last_kept
+invariant_of-self-clause-last_kept c = let s = c.args.self.now in subst (λ (w : View). IsWordKept w s.last) (sym c.split.ensures.left) s.last_kept
+
+pub invariant_of-self-clause-older_kept : goal.invariant_of-self-clause-older_kept
+invariant_of-self-clause-older_kept c = let s = c.args.self.now in subst (λ (w : View). IsWordKept w s.older) (sym c.split.ensures.left) s.older_kept
+
+pub invariant_of-self-clause-singles_kept : goal.invariant_of-self-clause-singles_kept
+invariant_of-self-clause-singles_kept c = let s = c.args.self.now in subst (λ (w : View). AreSingles w s.singles.ids) (sym c.split.ensures.left) s.singles_kept
+
+pub invariant_of-self-clause-recent_kept : goal.invariant_of-self-clause-recent_kept
+invariant_of-self-clause-recent_kept c = let s = c.args.self.now in subst (λ (w : View). AreRecent w s.recent.ids) (sym c.split.ensures.left) s.recent_kept

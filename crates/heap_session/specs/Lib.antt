@@ -1,0 +1,12 @@
+pub mod Settled
+pub mod Sessions
+pub mod Owning
+pub mod Faults
+pub mod Counted
+pub mod Shares
+pub mod Whole
+pub mod Ranges
+pub mod Sound
+pub mod Lately
+pub mod Singles
+pub mod Recent

@@ -1,0 +1,36 @@
+// A heap with the agent by which one thread uses it as a store.
+ghost use Rattle.std.specs.Prelude.{◌≡◌};
+ghost use Rattle.js_store.specs.Limits.{limit_units};
+ghost use Rattle.heap_table.specs.Agents.{view_of};
+ghost use Rattle.heap_session.specs.Lately.{IsWordKept};
+ghost use Rattle.heap_session.specs.Recent.{AreRecent};
+ghost use Rattle.heap_session.specs.Singles.{AreSingles};
+
+use crate::kept::KeptWord;
+use crate::recent::Recent;
+use crate::singles::Singles;
+use heap_read::HeapRef;
+use heap_text::Text;
+use js_store::Limit;
+
+/// A heap, and an agent by which one thread makes, reads and interns strings there. It belongs to
+/// one thread at a time and can be moved to another.
+///
+/// It keeps a word of each of the two strings that it read last, so that a run of reads
+/// costs few loads, the strings of single units below 256 that it made, so that such a string
+/// uses an id and a content word once, and 64 of the short strings that it made last, so that
+/// these use nothing when they are made again.
+#[derive(Drop)]
+pub struct Session<H: HeapRef> {
+    pub text: Text<H>,
+    pub(crate) limit: Limit,
+    pub(crate) last: KeptWord,
+    pub(crate) older: KeptWord,
+    pub(crate) singles: Singles,
+    pub(crate) recent: Recent,
+    ghost one_limit: { text.limit ≡ limit_units limit },
+    ghost last_kept: { IsWordKept (view_of text.reader.agent) last },
+    ghost older_kept: { IsWordKept (view_of text.reader.agent) older },
+    ghost singles_kept: { AreSingles (view_of text.reader.agent) singles.ids },
+    ghost recent_kept: { AreRecent (view_of text.reader.agent) recent.ids },
+}
