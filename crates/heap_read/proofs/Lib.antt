@@ -12,6 +12,7 @@ pub mod Seeing
 pub mod Learned
 pub mod Freezing
 pub mod WindowLemmas
+pub mod WordLanes
 pub mod WordsOf
 pub mod Comparison
 pub mod ShiftedLanes
