@@ -17,3 +17,4 @@ pub mod WordsOf
 pub mod Comparison
 pub mod ShiftedLanes
 pub mod Narrowness
+pub mod LanesAtOnce
