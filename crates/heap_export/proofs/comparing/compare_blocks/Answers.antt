@@ -1,4 +1,4 @@
-use Rattle.std.proofs.Common.{◌≡◌, ◌+◌, ◌∙◌, ℕ, ap, sym, length, drop, arith}
+use Rattle.std.proofs.Common.{◌+◌, ◌∙◌, ℕ, ap, sym, drop, arith}
 use Rattle.std.proofs.lemmas.List.{length-take-le}
 use Rattle.std.specs.Ordering.{ordering_then}
 use Rattle.js_search.specs.Order.{units_cmp}
