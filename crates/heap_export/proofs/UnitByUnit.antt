@@ -1,11 +1,11 @@
 -- Comparing unit by unit.
 use Rattle.std.proofs.Common.{◌≡◌, ◌⊎◌, inl, inr, true, false, Some, None, ◌++◌, ℕ, zero, suc, ◌+◌, ◌<◌, ◌≤◌, List, [], ◌∷◌, length, take, drop, get_or, drop-cons, ap, ap₂, sym, ◌∙◌, refl, arith}
-use Rattle.std.specs.Prelude.{◌≢◌, ◌==◌, nat_lt, not}
+use Rattle.std.specs.Prelude.{◌≢◌, ◌↔◌, ◌==◌, nat_lt, not}
 use Rattle.std.proofs.lemmas.Bool.{cases_lt, cond-true, cond-false, lt-ltb, le-ltb}
 use Rattle.std.specs.declared.cmp.Ordering.{Ordering}
 use Rattle.std.specs.declared.cmp.Ordering.TheVariants.{Less, Equal, Greater}
 use Rattle.std.specs.Ordering.{nat_cmp, ordering_index, ordering_then}
-use Rattle.std.proofs.lemmas.List.{take_all, take_more}
+use Rattle.std.proofs.lemmas.List.{drop_all, take_all, take_more}
 use Rattle.js_search.specs.Order.{units_cmp}
 use Rattle.heap_export.specs.Encoded.{past_latin1}
 
@@ -69,3 +69,17 @@ is_other Greater e = λ h. cc
 
 pub whole_same : (us vs : List ℕ) (i : ℕ) → length us ≤ i → length vs ≤ i → take i us ≡ take i vs → us ≡ vs
 whole_same us vs i l m h = sym (take_all i us l) ∙ (h ∙ take_all i vs m)
+
+-- the order of two lists of n units is that of their first n
+then_equal : (o : Ordering) → ordering_then o Equal ≡ o
+then_equal Less = refl
+then_equal Equal = refl
+then_equal Greater = refl
+
+pub whole_order : (us vs : List ℕ) (n : ℕ) (o : Ordering) → length us ≡ n → length vs ≡ n → units_cmp us vs ≡ ordering_then o (units_cmp (drop n us) (drop n vs)) → o ≡ units_cmp us vs
+whole_order us vs n o l m h = sym (h ∙ (ap₂ (λ (x y : List ℕ). ordering_then o (units_cmp x y)) (drop_all n us (omega arith)) (drop_all n vs (omega arith)) ∙ then_equal o))
+
+pub told_equal : (o : Ordering) → ((ordering_index o == 1) ≡ true) ↔ (o ≡ Equal)
+told_equal Less = (λ h. let f : false ≡ true = h in absurd (cc), λ e. absurd (cc))
+told_equal Equal = (λ h. refl, λ e. refl)
+told_equal Greater = (λ h. let f : false ≡ true = h in absurd (cc), λ e. absurd (cc))

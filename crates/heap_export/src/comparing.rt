@@ -1,5 +1,5 @@
 // Strings compared with lists of units.
-ghost use Rattle.std.specs.Prelude.{◌≡◌, ◌↔◌, ℕ, ◌≤◌, List, length, drop, IsTrue};
+ghost use Rattle.std.specs.Prelude.{◌≡◌, ◌↔◌, ℕ, ◌+◌, ◌≤◌, List, length, drop, slice_range, IsTrue};
 ghost use Rattle.std.specs.Ordering.{ordering_then};
 ghost use Rattle.js_search.specs.Order.{units_cmp};
 ghost use Rattle.heap_rule.specs.Maps.{Has, HasKey};
@@ -84,4 +84,150 @@ fn shows<H: HeapRef>(text: &mut Text<H>, w: Window, units: &[u16]) -> bool
         }
     }
     true
+}
+
+/// The order of two settled strings by units, where a proper prefix comes first.
+pub fn compare_strings<H: HeapRef>(text: &mut Text<H>, a: JsStr, b: JsStr) -> Ordering
+    requires left_known { HasKey (view_of text.old.reader.agent).units a.id }
+    requires left_settled { IsSeenSettled (view_of text.old.reader.agent) a.id }
+    requires right_known { HasKey (view_of text.old.reader.agent).units b.id }
+    requires right_settled { IsSeenSettled (view_of text.old.reader.agent) b.id }
+    ensures kept { KeepsText text.old text.new }
+    ensures reads { OnlyLoads (view_of text.old.reader.agent) (view_of text.new.reader.agent) }
+    ensures order { (us vs : List ℕ) → Has (view_of text.old.reader.agent).units a.id us
+        → Has (view_of text.old.reader.agent).units b.id vs → result ≡ units_cmp us vs }
+{
+    let left = text.len(a);
+    let right = text.len(b);
+    let front = compare_fronts(text, a, b, left.min(right));
+    front.then(left.cmp(&right))
+}
+
+/// Whether two settled strings have the same units.
+pub fn has_same_units<H: HeapRef>(text: &mut Text<H>, a: JsStr, b: JsStr) -> bool
+    requires left_known { HasKey (view_of text.old.reader.agent).units a.id }
+    requires left_settled { IsSeenSettled (view_of text.old.reader.agent) a.id }
+    requires right_known { HasKey (view_of text.old.reader.agent).units b.id }
+    requires right_settled { IsSeenSettled (view_of text.old.reader.agent) b.id }
+    ensures kept { KeepsText text.old text.new }
+    ensures reads { OnlyLoads (view_of text.old.reader.agent) (view_of text.new.reader.agent) }
+    ensures same { (us vs : List ℕ) → Has (view_of text.old.reader.agent).units a.id us
+        → Has (view_of text.old.reader.agent).units b.id vs → IsTrue result ↔ (us ≡ vs) }
+{
+    let size = text.len(a);
+    text.len(b) == size && compare_fronts(text, a, b, size) == Ordering::Equal
+}
+
+// Units of a block of short strings, and of long ones.
+const FEW: u32 = 32;
+
+const MANY: u32 = 256;
+
+// The order of the first `size` units of both strings.
+fn compare_fronts<H: HeapRef>(text: &mut Text<H>, a: JsStr, b: JsStr, size: u32) -> Ordering
+    requires left_known { HasKey (view_of text.old.reader.agent).units a.id }
+    requires left_settled { IsSeenSettled (view_of text.old.reader.agent) a.id }
+    requires left_long { (us : List ℕ) → Has (view_of text.old.reader.agent).units a.id us
+        → size ≤ length us }
+    requires right_known { HasKey (view_of text.old.reader.agent).units b.id }
+    requires right_settled { IsSeenSettled (view_of text.old.reader.agent) b.id }
+    requires right_long { (vs : List ℕ) → Has (view_of text.old.reader.agent).units b.id vs
+        → size ≤ length vs }
+    ensures kept { KeepsText text.old text.new }
+    ensures reads { OnlyLoads (view_of text.old.reader.agent) (view_of text.new.reader.agent) }
+    ensures order { (us vs : List ℕ) → Has (view_of text.old.reader.agent).units a.id us
+        → Has (view_of text.old.reader.agent).units b.id vs
+        → units_cmp us vs ≡ ordering_then result (units_cmp (drop size us) (drop size vs)) }
+{
+    if size > FEW {
+        return compare_blocks(text, a, b, size);
+    }
+    let (mut left, mut right) = ([0; 32], [0; 32]);
+    let (left, right) = (&mut left[..size as usize], &mut right[..size as usize]);
+    compare_block(text, a, b, 0, left, right)
+}
+
+// The same by blocks.
+fn compare_blocks<H: HeapRef>(text: &mut Text<H>, a: JsStr, b: JsStr, size: u32) -> Ordering
+    requires left_known { HasKey (view_of text.old.reader.agent).units a.id }
+    requires left_settled { IsSeenSettled (view_of text.old.reader.agent) a.id }
+    requires left_long { (us : List ℕ) → Has (view_of text.old.reader.agent).units a.id us
+        → size ≤ length us }
+    requires right_known { HasKey (view_of text.old.reader.agent).units b.id }
+    requires right_settled { IsSeenSettled (view_of text.old.reader.agent) b.id }
+    requires right_long { (vs : List ℕ) → Has (view_of text.old.reader.agent).units b.id vs
+        → size ≤ length vs }
+    ensures kept { KeepsText text.old text.new }
+    ensures reads { OnlyLoads (view_of text.old.reader.agent) (view_of text.new.reader.agent) }
+    ensures order { (us vs : List ℕ) → Has (view_of text.old.reader.agent).units a.id us
+        → Has (view_of text.old.reader.agent).units b.id vs
+        → units_cmp us vs ≡ ordering_then result (units_cmp (drop size us) (drop size vs)) }
+{
+    let (mut left, mut right) = ([0; 256], [0; 256]);
+    let mut done = 0;
+    while done < size {
+        let count = MANY.min(size - done);
+        let order = compare_block(
+            text,
+            a,
+            b,
+            done,
+            &mut left[..count as usize],
+            &mut right[..count as usize],
+        );
+        if order != Ordering::Equal {
+            return order;
+        }
+        done += count;
+    }
+    Ordering::Equal
+}
+
+// The order of the units of both strings from place `from` on, as many as two buffers of the same length
+// have room for. The window of the one is read before that of the other is looked for, which may find the
+// words of the one elsewhere.
+fn compare_block<H: HeapRef>(
+    text: &mut Text<H>,
+    a: JsStr,
+    b: JsStr,
+    from: u32,
+    left: &mut [u16],
+    right: &mut [u16],
+) -> Ordering
+    requires left_known { HasKey (view_of text.old.reader.agent).units a.id }
+    requires left_settled { IsSeenSettled (view_of text.old.reader.agent) a.id }
+    requires left_long { (us : List ℕ) → Has (view_of text.old.reader.agent).units a.id us
+        → from + length left.old ≤ length us }
+    requires right_known { HasKey (view_of text.old.reader.agent).units b.id }
+    requires right_settled { IsSeenSettled (view_of text.old.reader.agent) b.id }
+    requires right_long { (vs : List ℕ) → Has (view_of text.old.reader.agent).units b.id vs
+        → from + length left.old ≤ length vs }
+    requires alike { length right.old ≡ length left.old }
+    ensures kept { KeepsText text.old text.new }
+    ensures reads { OnlyLoads (view_of text.old.reader.agent) (view_of text.new.reader.agent) }
+    ensures order { (us vs : List ℕ) → Has (view_of text.old.reader.agent).units a.id us
+        → Has (view_of text.old.reader.agent).units b.id vs
+        → units_cmp (drop from us) (drop from vs) ≡ ordering_then result
+        (units_cmp (drop (from + length left.old) us) (drop (from + length left.old) vs)) }
+{
+    read_block(text, a, from, left);
+    read_block(text, b, from, right);
+    let left: &[u16] = left;
+    let right: &[u16] = right;
+    left.cmp(right)
+}
+
+// The units of a settled string from place `from` on, as many as there is room for.
+fn read_block<H: HeapRef>(text: &mut Text<H>, s: JsStr, from: u32, into: &mut [u16])
+    requires known { HasKey (view_of text.old.reader.agent).units s.id }
+    requires settled { IsSeenSettled (view_of text.old.reader.agent) s.id }
+    requires long { (us : List ℕ) → Has (view_of text.old.reader.agent).units s.id us
+        → from + length into.old ≤ length us }
+    ensures kept { KeepsText text.old text.new }
+    ensures reads { OnlyLoads (view_of text.old.reader.agent) (view_of text.new.reader.agent) }
+    ensures units { (us : List ℕ) → Has (view_of text.old.reader.agent).units s.id us
+        → into.new ≡ slice_range us from (from + length into.old) }
+{
+    let window = text.window(s);
+    text.read_in(window, from, into);
 }

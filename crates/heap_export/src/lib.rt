@@ -12,7 +12,7 @@ mod points;
 mod units;
 mod utf8;
 
-pub use comparing::{compare_units, has_units};
+pub use comparing::{compare_strings, compare_units, has_same_units, has_units};
 pub use faults::{Unpaired, WriteFault};
 pub use index::array_index;
 pub use latin1::write_latin1;

@@ -12,7 +12,9 @@ pub mod Seeing
 pub mod Learned
 pub mod Freezing
 pub mod WindowLemmas
+pub mod WordLanes
 pub mod WordsOf
 pub mod Comparison
 pub mod ShiftedLanes
 pub mod Narrowness
+pub mod LanesAtOnce

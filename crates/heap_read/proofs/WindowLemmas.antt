@@ -1,5 +1,5 @@
 -- Reading the units of a window a word at a time.
-use Rattle.std.proofs.Common.{◌≡◌, ℕ, ◌+◌, ◌-◌, ◌%◌, ◌<◌, ◌≤◌, List, ◌++◌, length, get_or, sym, ap, ◌∙◌, arith, ⊎_elim}
+use Rattle.std.proofs.Common.{◌≡◌, ℕ, ◌+◌, ◌-◌, ◌%◌, ◌<◌, ◌≤◌, Bool, true, false, refl, subst, List, ◌++◌, length, get_or, sym, ap, ◌∙◌, arith, ⊎_elim}
 use Rattle.std.specs.Prelude.{slice_range, take, drop}
 use Rattle.std.proofs.Common.{get_or-take, get_or-drop}
 use Rattle.std.proofs.lemmas.Bool.{cases_lt}
@@ -58,20 +58,38 @@ module _ (w : Window) (us : List ℕ) (i word lane : ℕ) (shows : ShowsOn w us 
       let g : 0 + (j - i) ≡ j - i = omega arith in
       none (j - i) (omega arith) (omega arith) (ap (lane_of w.wide word) g ∙ (first_on z (j - i) (omega arith) (omega arith) ∙ (ap (λ k. get_or us k 0) f ∙ e)))
 
+-- the lanes of a word whose lowest one is that of unit i
+pub whole_on : (w : Window) (us : List ℕ) (i word : ℕ) (wide : Bool) → wide ≡ w.wide → ShowsOn w us i word → (w.offset + i) % lane_count wide ≡ 0
+    → (k : ℕ) → k < lane_count wide → i + k < w.len → lane_of wide word k ≡ get_or us (i + k) 0
+whole_on w us i word wide e shows z k l m =
+    let z' : (w.offset + i) % lane_count w.wide ≡ 0 = subst (λ (b : Bool). (w.offset + i) % lane_count b ≡ 0) e z in
+    let l' : k < lane_count w.wide = subst (λ (b : Bool). k < lane_count b) e l in
+    ap (λ (b : Bool). lane_of b word k) e ∙ first_on w us i word ((w.offset + i) % lane_count w.wide) shows refl z' k l' m
+
+-- the first unit behind such a word is in a lowest lane too
+pub next_lowest : (wide : Bool) (o from i n : ℕ) → (o + (from + i)) % lane_count wide ≡ 0 → n ≡ lane_count wide → (o + (from + (i + n))) % lane_count wide ≡ 0
+next_lowest true o from i n z e = omega arith
+next_lowest false o from i n z e = omega arith
+
 -- what was searched before, and the word
 pub none_on : (us : List ℕ) (unit from i next : ℕ) → ((k : ℕ) → from ≤ k → k < i → get_or us k 0 ≡ unit → ⊥) → ((k : ℕ) → i ≤ k → k < next → get_or us k 0 ≡ unit → ⊥) → (k : ℕ) → from ≤ k → k < next → get_or us k 0 ≡ unit → ⊥
 none_on us unit from i next old new k a b e = ⊎_elim (λ l. old k a l e) (λ l. new k l b e) (cases_lt k i)
 
--- some more units after those that were copied
-pub read_more : (us : List ℕ) (from done count : ℕ) (old new : List ℕ) → ((k : ℕ) → k < done → get_or old k 0 ≡ get_or us (from + k) 0) → ((k : ℕ) → k < done → get_or new k 0 ≡ get_or old k 0)
-    → ((k : ℕ) → k < count → get_or new (done + k) 0 ≡ get_or us (from + done + k) 0) → (k : ℕ) → k < done + count → get_or new k 0 ≡ get_or us (from + k) 0
-read_more us from done count old new was before inside k l = ⊎_elim
-    (λ a. before k a ∙ was k a)
+-- some more units after those that were copied, from place `low` on
+pub read_on : (us : List ℕ) (from low done count : ℕ) (old new : List ℕ) → ((k : ℕ) → low ≤ k → k < done → get_or old k 0 ≡ get_or us (from + k) 0) → ((k : ℕ) → k < done → get_or new k 0 ≡ get_or old k 0)
+    → ((k : ℕ) → k < count → get_or new (done + k) 0 ≡ get_or us (from + done + k) 0) → (k : ℕ) → low ≤ k → k < done + count → get_or new k 0 ≡ get_or us (from + k) 0
+read_on us from low done count old new was before inside k from_low l = ⊎_elim
+    (λ a. before k a ∙ was k from_low a)
     (λ a.
     let e : done + (k - done) ≡ k = omega arith in
     let f : from + done + (k - done) ≡ from + k = omega arith in
     ap (λ j. get_or new j 0) (sym e) ∙ inside (k - done) (omega arith) ∙ ap (λ j. get_or us j 0) f)
     (cases_lt k done)
+
+-- from the first place on
+pub read_more : (us : List ℕ) (from done count : ℕ) (old new : List ℕ) → ((k : ℕ) → k < done → get_or old k 0 ≡ get_or us (from + k) 0) → ((k : ℕ) → k < done → get_or new k 0 ≡ get_or old k 0)
+    → ((k : ℕ) → k < count → get_or new (done + k) 0 ≡ get_or us (from + done + k) 0) → (k : ℕ) → k < done + count → get_or new k 0 ≡ get_or us (from + k) 0
+read_more us from done count old new was before inside k l = read_on us from 0 done count old new (λ j z. was j) before inside k (omega arith) l
 
 -- all of them
 pub read_all : (us : List ℕ) (from n : ℕ) (into : List ℕ) → length into ≡ n → from + n ≤ length us → ((k : ℕ) → k < n → get_or into k 0 ≡ get_or us (from + k) 0) → into ≡ slice_range us from (from + n)

@@ -13,6 +13,7 @@ ghost use Rattle.heap_read.specs.Windows.{IsWindow};
 ghost use Rattle.heap_read.specs.Written.{IsWritten};
 
 use crate::heap_ref::HeapRef;
+use crate::packing::{has_wide, pack};
 use crate::reader::Reader;
 use crate::shifting::has_wide_lane;
 use crate::source::UnitSource;
@@ -32,7 +33,7 @@ impl<H: HeapRef> Reader<H> {
         ensures forms { KeepsForms (view_in self.old) (view_in self.new) }
     {
         match source {
-            UnitSource::Units(units) => js_units::has_wide(units),
+            UnitSource::Units(units) => has_wide(units),
             UnitSource::Piece(piece) => self.is_wide_in(piece.window),
             UnitSource::Pieces(front, back) => self.is_wide_in(front.window)
                 || self.is_wide_in(back.window),
@@ -82,7 +83,7 @@ impl<H: HeapRef> Reader<H> {
         ensures forms { KeepsForms (view_in self.old) (view_in self.new) }
     {
         if let UnitSource::Units(units) = source {
-            return js_units::pack(units, wide, at);
+            return pack(units, wide, at);
         }
         let lanes = lanes(wide);
         let first = at * lanes;

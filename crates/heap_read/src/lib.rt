@@ -12,6 +12,7 @@ mod forms;
 mod hashing;
 mod heap_ref;
 mod lanes;
+mod packing;
 mod reader;
 mod reading;
 mod shifting;

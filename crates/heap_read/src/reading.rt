@@ -26,6 +26,7 @@ impl<H: HeapRef> Reader<H> {
     }
 
     /// A window on the units of a settled string, by at most three loads of a form.
+    #[inline(always)]
     pub fn window(&mut self, s: JsStr) -> Window
         requires known { HasKey (view_in self.old).units s.id }
         requires settled { IsSeenSettled (view_in self.old) s.id }

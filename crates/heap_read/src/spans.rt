@@ -28,16 +28,67 @@ impl<H: HeapRef> Reader<H> {
         while done < into.len() {
             let i = from + done as u32;
             let (_, lane) = word_and_lane(w.wide, w.offset + i);
-            let word = self.word_with(w, i);
             if lane == 0 && into.len() - done >= size as usize {
-                put_word(into, done, word, w.wide);
-                done += size as usize;
+                done = self.whole_words_into(w, from, into, done);
                 continue;
             }
+            let word = self.word_with(w, i);
             let count = ((size - lane) as usize).min(into.len() - done);
             put(into, done, &lanes_from(word, w.wide, lane), count);
             done += count;
         }
+    }
+
+    // Copies whole words of a window into `into` from place `done` on, as long as there is room for all
+    // lanes of the next one; the answer is the place behind them. The first unit is in a lowest lane.
+    fn whole_words_into(&mut self, w: Window, from: u32, into: &mut [u16], done: usize) -> usize
+        requires window { (us : List ℕ) × IsWindow (view_in self.old) w us }
+        requires within { from + length into.old ≤ w.len }
+        requires lowest { (w.offset + (from + done)) % lane_count w.wide ≡ 0 }
+        requires room { done + lane_count w.wide ≤ length into.old }
+        ensures reads { Moves OnlyLoads self.old self.new }
+        ensures forms { KeepsForms (view_in self.old) (view_in self.new) }
+        ensures more { (done < result) × (result ≤ length into.old) }
+        ensures before { (k : ℕ) → k < done → slice_index into.new k ≡ slice_index into.old k }
+        ensures inside { (us : List ℕ) → IsWindow (view_in self.old) w us → (k : ℕ) → done ≤ k → k < result
+            → slice_index into.new k ≡ slice_index us (from + k) }
+    {
+        if w.wide {
+            return self.lanes_into(w, true, from, into, done);
+        }
+        self.lanes_into(w, false, from, into, done)
+    }
+
+    // The same with the width of the lanes, so that there is a loop for each of the two.
+    #[inline(always)]
+    fn lanes_into(
+        &mut self,
+        w: Window,
+        wide: bool,
+        from: u32,
+        into: &mut [u16],
+        done: usize,
+    ) -> usize
+        requires window { (us : List ℕ) × IsWindow (view_in self.old) w us }
+        requires wide { wide ≡ w.wide }
+        requires within { from + length into.old ≤ w.len }
+        requires lowest { (w.offset + (from + done)) % lane_count wide ≡ 0 }
+        requires room { done + lane_count wide ≤ length into.old }
+        ensures reads { Moves OnlyLoads self.old self.new }
+        ensures forms { KeepsForms (view_in self.old) (view_in self.new) }
+        ensures more { (done < result) × (result ≤ length into.old) }
+        ensures before { (k : ℕ) → k < done → slice_index into.new k ≡ slice_index into.old k }
+        ensures inside { (us : List ℕ) → IsWindow (view_in self.old) w us → (k : ℕ) → done ≤ k → k < result
+            → slice_index into.new k ≡ slice_index us (from + k) }
+    {
+        let size = lanes(wide) as usize;
+        let mut next = done;
+        while into.len() - next >= size {
+            let word = self.word_with(w, from + next as u32);
+            put_word(into, next, word, wide);
+            next += size;
+        }
+        next
     }
 
     /// The least place from `from` on in a window whose unit is `unit`.
@@ -140,29 +191,30 @@ fn put_word(into: &mut [u16], at: usize, word: u64, wide: bool)
     ensures inside { (k : ℕ) → k < lane_count wide → slice_index into.new (at + k) ≡ lane_of wide word k }
 {
     if wide {
-        put(into, at, &wide_lanes(word), 4);
+        put_wide(into, at, word);
         return;
     }
-    put(into, at, &narrow_lanes(word), 8);
+    put_narrow(into, at, word);
 }
 
-// The two-byte lanes of a word.
+// Puts the two-byte lanes of a word into a slice, by one move of them all.
 #[inline(always)]
-fn wide_lanes(word: u64) -> [u16; 4]
-    ensures { (k : ℕ) → k < 4 → slice_index result k ≡ lane_of true word k }
+fn put_wide(into: &mut [u16], at: usize, word: u64)
+    requires { at + 4 ≤ length into.old }
+    ensures before { (k : ℕ) → k < at → slice_index into.new k ≡ slice_index into.old k }
+    ensures inside { (k : ℕ) → k < 4 → slice_index into.new (at + k) ≡ lane_of true word k }
 {
-    [
-        (word % 65536) as u16,
-        (word / 65536 % 65536) as u16,
-        (word / 4294967296 % 65536) as u16,
-        (word / 281474976710656 % 65536) as u16,
-    ]
+    let lanes = u16x4::from_le_bytes(u64x1::splat(word).to_le_bytes());
+    lanes.copy_to_slice(&mut into[at..]);
 }
 
-// The one-byte lanes of a word, by one move of them all.
+// The same of the one-byte lanes.
 #[inline(always)]
-fn narrow_lanes(word: u64) -> [u16; 8]
-    ensures { (k : ℕ) → k < 8 → slice_index result k ≡ lane_of false word k }
+fn put_narrow(into: &mut [u16], at: usize, word: u64)
+    requires { at + 8 ≤ length into.old }
+    ensures before { (k : ℕ) → k < at → slice_index into.new k ≡ slice_index into.old k }
+    ensures inside { (k : ℕ) → k < 8 → slice_index into.new (at + k) ≡ lane_of false word k }
 {
-    u64x1::splat(word).to_le_bytes().cast::<u16>().to_array()
+    let lanes = u64x1::splat(word).to_le_bytes().cast::<u16>();
+    lanes.copy_to_slice(&mut into[at..]);
 }

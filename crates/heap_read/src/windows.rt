@@ -20,6 +20,7 @@ use js_header::Form;
 
 impl<H: HeapRef> Reader<H> {
     // A window on all units of a string, which lie behind `before` others in the words of a Flat.
+    #[inline(always)]
     fn window_over(&mut self, of: JsStr, by: u32, run: Run, before: u32) -> Window
         requires known { HasKey (view_in self.old).units of.id }
         requires met { MayUse (view_in self.old) by }
@@ -39,6 +40,7 @@ impl<H: HeapRef> Reader<H> {
 
     /// The words of the fixed Flat to which a string forwards, by one load of its form. No form
     /// that was seen is another one afterwards.
+    #[inline(always)]
     pub fn target_run(&mut self, of: u32, target: u32) -> Run
         requires thin { Has (view_in self.old).forms of (Thin target) }
         requires met { MayUse (view_in self.old) target }
@@ -54,6 +56,7 @@ impl<H: HeapRef> Reader<H> {
     }
 
     // The words of a string that was seen as a Flat or a Thin.
+    #[inline(always)]
     fn solid_run(&mut self, id: u32, form: Form) -> Run
         requires seen { Has (view_in self.old).forms id form }
         requires solid { IsSolid form }
@@ -72,6 +75,7 @@ impl<H: HeapRef> Reader<H> {
     }
 
     /// A window on all units of a string that was seen as a Flat or a Thin.
+    #[inline(always)]
     pub fn solid_window(&mut self, of: JsStr, form: Form) -> Window
         requires known { HasKey (view_in self.old).units of.id }
         requires seen { Has (view_in self.old).forms of.id form }
@@ -97,6 +101,7 @@ impl<H: HeapRef> Reader<H> {
 
     /// A window on all units of a string that was seen as a Sliced of `parent`, and that one with
     /// the form `under`.
+    #[inline(always)]
     pub fn part_window(&mut self, of: JsStr, parent: u32, offset: u32, under: Form) -> Window
         requires known { HasKey (view_in self.old).units of.id }
         requires sliced { (wide : Bool) × Has (view_in self.old).forms of.id (Sliced wide parent offset) }
@@ -114,6 +119,7 @@ impl<H: HeapRef> Reader<H> {
     }
 
     /// A window on all units of a settled string, by at most three loads of a form.
+    #[inline(always)]
     pub fn window_on(&mut self, of: JsStr) -> Window
         requires known { HasKey (view_in self.old).units of.id }
         requires settled { IsSeenSettled (view_in self.old) of.id }

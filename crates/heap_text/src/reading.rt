@@ -29,6 +29,7 @@ impl<H: HeapRef> Text<H> {
     }
 
     /// A window on the units of a settled string, by at most three loads of a form.
+    #[inline(always)]
     pub fn window(&mut self, s: JsStr) -> Window
         requires known { HasKey (view_of self.old.reader.agent).units s.id }
         requires settled { IsSeenSettled (view_of self.old.reader.agent) s.id }

@@ -1,9 +1,9 @@
-use Rattle.std.proofs.Common.{◌+◌, length, arith, ◌∙◌}
+use Rattle.std.proofs.Common.{◌+◌, length, arith, ◌∙◌, ⊎_elim}
+use Rattle.std.proofs.lemmas.Bool.{cases_lt}
 use Rattle.heap_rule.specs.declared.view.View.{View}
 use Rattle.heap_read.proofs.Loaded.{reads_trans}
 use Rattle.heap_read.proofs.Showing.{place_small, window_length}
-use Rattle.js_units.proofs.Shifted.{lanes_most}
-use Rattle.heap_read.proofs.WindowLemmas.{first_on, forms_trans, frozen_later, lane_on, read_more, read_all, window_later}
+use Rattle.heap_read.proofs.WindowLemmas.{forms_trans, frozen_later, lane_on, read_more, read_all, window_later}
 use Rattle.heap_read.proofs.reader.Reader.units_into.Goals as goal
 
 pub word_with-word-requires-clause-frozen : goal.word_with-word-requires-clause-frozen
@@ -22,25 +22,24 @@ pub overflow_add-w : goal.overflow_add-w
 overflow_add-w g c = let v : View = c.args.self.now.agent.seat.me.0 in let u : View = c.loop-done.self.agent.seat.me.0 in let s = c.loop-done.invariant in
     let a = place_small u c.args.w (c.args.from + c.loop-done.done) c.loop-done.self.belongs.5 (frozen_later v u c.args.w c.requires.window.0 s.reads s.forms c.requires.window.1) (omega (arith, c.requires.within, c.loop-done-test.true)) in omega arith
 
+pub whole_words_into-done-requires-clause-window : goal.whole_words_into-done-requires-clause-window
+whole_words_into-done-requires-clause-window g c = let v : View = c.args.self.now.agent.seat.me.0 in let u : View = c.loop-done.self.agent.seat.me.0 in let s = c.loop-done.invariant in
+    (c.requires.window.0, window_later v u c.args.w c.requires.window.0 s.reads s.forms c.requires.window.1)
+
 pub loop-done-preserved-then-into-done : goal.loop-done-preserved-then-into-done
 loop-done-preserved-then-into-done g c =
     let v : View = c.args.self.now.agent.seat.me.0 in
     let u : View = c.loop-done.self.agent.seat.me.0 in
-    let x : View = c.word_with-word.new.self.agent.seat.me.0 in
+    let x : View = c.whole_words_into-done.new.self.agent.seat.me.0 in
     let s = c.loop-done.invariant in
-    let e = c.word_with-word.ensures in
-    let size = c.lanes-size.ensures in
-    let few = lanes_most c.args.w.wide in
-    let i = c.args.from + c.loop-done.done in
-    let within = c.requires.within in
-    let most = s.most in
-    let room = c.if-into-done.true in
+    let e = c.whole_words_into-done.ensures in
+    let more = e.more in
     record {
       most = omega arith;
-      same = λ us window.
-          let shows = e.word us (window_later v u c.args.w us s.reads s.forms window) in
-          read_more us c.args.from c.loop-done.done c.lanes-size.result c.loop-done.into c.put_word.new.into (s.same us window) c.put_word.ensures.before
-          (λ k l. c.put_word.ensures.inside k (omega arith) ∙ first_on c.args.w us i c.word_with-word.result c.word_and_lane-lane.result.1 shows c.word_and_lane-lane.ensures.1 c.if-lane-eq0.true k (omega arith) (omega arith));
+      same = λ us window k l. ⊎_elim
+          (λ a. e.before k a ∙ s.same us window k a)
+          (λ a. e.inside us (window_later v u c.args.w us s.reads s.forms window) k a l)
+          (cases_lt k c.loop-done.done);
       heap = e.reads.heap ∙ s.heap;
       reads = reads_trans v u x s.reads e.reads.view;
       forms = forms_trans v u x s.forms e.forms;
