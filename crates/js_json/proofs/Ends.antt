@@ -1,5 +1,5 @@
 -- The end of a loop over strings that it settles: nothing is left, or memory ran out.
-use Rattle.std.proofs.Common.{arith, ◌≡◌, ℕ, ◌+◌, ◌≤◌, List, length, take, drop, subst, sym, take_all, Result, Ok, Err}
+use Rattle.std.proofs.Common.{arith, ◌≡◌, ℕ, ◌+◌, ◌≤◌, List, length, take, subst, sym, take_all, Result, Ok, Err}
 use Rattle.std.specs.Prelude.{IfErr, None}
 use Rattle.js_store.specs.State.{State, Grows}
 use Rattle.js_store.specs.Faults.{Uses}

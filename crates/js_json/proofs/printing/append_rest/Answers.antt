@@ -1,4 +1,4 @@
-use Rattle.std.proofs.Common.{arith, ◌≡◌, ◌≤◌, List, length, [], ◌++◌, ◌∷◌, ap, sym, ◌∙◌, drop, ◌+◌}
+use Rattle.std.proofs.Common.{arith, ◌≡◌, ◌≤◌, length, [], ◌++◌, ◌∷◌, ap, sym, ◌∙◌, drop, ◌+◌}
 use Rattle.std.proofs.lemmas.List.{drop_all}
 use Rattle.std.proofs.lemmas.Result.{err_from_is_err_and}
 use Rattle.js_units.specs.Text.{utf8}

@@ -1,4 +1,4 @@
-use Rattle.std.proofs.Common.{arith, ◌≡◌, ℕ, List, ◌∙◌, ap, sym, subst, ◌-◌, ◌+◌, ◌++◌, ◌∷◌, [], length, take, drop, get_or}
+use Rattle.std.proofs.Common.{arith, ◌≡◌, ℕ, List, ◌∙◌, ap, subst, ◌-◌, ◌+◌, ◌++◌, ◌∷◌, [], length, take, drop, get_or}
 use Rattle.std.proofs.lemmas.List.{take_all}
 use Rattle.std.specs.Prelude.{None, slice_range}
 use Rattle.std.proofs.lemmas.Result.{err_from_is_err_and}

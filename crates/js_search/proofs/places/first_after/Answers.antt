@@ -1,4 +1,4 @@
-use Rattle.std.proofs.Common.{ℕ, List, ◌≡◌, ◌+◌, ◌<◌, length, subst, sym, arith, ◌∙◌}
+use Rattle.std.proofs.Common.{ℕ, List, ◌+◌, ◌<◌, length, subst, sym, arith, ◌∙◌}
 use Rattle.js_store.specs.State.{text}
 use Rattle.js_store.proofs.Laws.{step_trans, text_still}
 use Rattle.js_search.specs.Blocks.{IsPart}
