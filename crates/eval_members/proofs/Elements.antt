@@ -1,5 +1,5 @@
 -- The elements of an array joined.
-use Rattle.std.proofs.Common.{arith, ◌≡◌, ℕ, ◌+◌, ◌≤◌, List, length, subst, false, Result, Ok}
+use Rattle.std.proofs.Common.{arith, ◌≡◌, ℕ, ◌+◌, ◌≤◌, List, [], ◌∷◌, length, subst, false, true, Result, Ok, Err}
 use Rattle.js_store.specs.State.{State, Grows, text}
 use Rattle.js_store.proofs.Laws.{settle_words_most}
 use Rattle.js_texts.specs.Texts.{known_texts, AllKnown, settle_most}
@@ -7,13 +7,16 @@ use Rattle.js_texts.proofs.Lists.{texts_still}
 use Rattle.js_texts.specs.Use.{settling}
 use Rattle.js_item.specs.declared.item.Item.{Item}
 use Rattle.eval_values.specs.declared.value.Stop.{Stop}
-use Rattle.js_item.specs.Seen.{Val}
+use Rattle.js_item.specs.Seen.{Val, seen}
+use Rattle.js_item.specs.Fine.{IsFine}
 use Rattle.eval_values.specs.Need.{parts, parts_words}
 use Rattle.eval_values.specs.Conversions.{to_string, list_units, all_units, first_text_units}
 use Rattle.eval_values.specs.Arguments.{first_of, is_undefined}
 use Rattle.eval_members.specs.Arrays.{joined_with, join_call}
 use Rattle.eval_values.specs.Does.{GivesValue, GivesText}
-use Rattle.eval_values.proofs.TextArguments.{text_converts}
+use Rattle.eval_values.specs.Outcome.{free}
+use Rattle.eval_values.proofs.Compose.{did_after, ran_free}
+use Rattle.eval_values.proofs.TextArguments.{text_converts, text_fails}
 use Rattle.eval_values.proofs.Needs.{some_most, settle_few}
 
 module _ {F R : Type 0} (name : R → ℕ) where
@@ -34,3 +37,20 @@ module _ {F R : Type 0} (name : R → ℕ) where
       let second : GivesValue name b c r (joined_with a.limit t (known_texts b name rs) (text b (name w))) = subst (λ (q : ℕ). GivesValue name b c r (joined_with q t (known_texts b name rs) (text b (name w)))) g.limit first in
       let third : GivesValue name b c r (joined_with a.limit t (known_texts a name rs) (text b (name w))) = subst (λ (q : List (List ℕ)). GivesValue name b c r (joined_with a.limit t q (text b (name w)))) same second in
       rw e (text_converts name (parts (length (known_texts a name rs)) (list_units (known_texts a name rs) + all_units vs)) a b c w r (to_string a.limit (first_of vs)) (λ u. joined_with a.limit t (known_texts a name rs) u) d third)
+
+  -- a separator that is given and doesn't become a string
+  pub join_fails : (a b : State F) (rs : List R) (vs : List Val) (n : Stop) → is_undefined (first_of vs) ≡ false
+      → GivesText name a b (Err n) (to_string a.limit (first_of vs)) → GivesValue name a b (Err n) (join_call a.limit (known_texts a name rs) vs)
+  join_fails a b rs vs n e d =
+      let us = known_texts a name rs in
+      let t : ℕ = list_units us + first_text_units vs in
+      rw e (text_fails name (parts (length us) (list_units us + all_units vs)) a b n (to_string a.limit (first_of vs)) (λ u. joined_with a.limit t us u) d)
+
+  -- none is given, and the elements are joined with commas
+  pub commas_do : (a c : State F) (rs : List R) (vs : List Val) (r : Result (Item R) Stop) → is_undefined (first_of vs) ≡ true
+      → ((t : ℕ) → list_units (known_texts a name rs) ≤ t → GivesValue name a c r (joined_with a.limit t (known_texts a name rs) (44 ∷ [])))
+      → GivesValue name a c r (join_call a.limit (known_texts a name rs) vs)
+  commas_do a c rs vs r e f =
+      let us = known_texts a name rs in
+      let t : ℕ = list_units us + first_text_units vs in
+      rw e (did_after a a c (λ s v. seen s name v) (λ s v. IsFine s name v) free r (joined_with a.limit t us (44 ∷ [])) (ran_free a) (f t (omega arith)))

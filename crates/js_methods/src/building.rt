@@ -6,13 +6,14 @@ ghost use Rattle.js_store.specs.State.{NamesUnits, IsKnown, IsSettled, text};
 ghost use Rattle.js_store.specs.Rows.{flat_words, wide_words};
 ghost use Rattle.js_store.specs.Faults.{Uses};
 ghost use Rattle.js_texts.specs.Answers.{NeverThrows, ThrowsLong, full_of};
+ghost use Rattle.js_texts.specs.Texts.{full_fault_of};
 ghost use Rattle.js_number.specs.Places.{IsLawful};
 ghost use Rattle.js_number.specs.Arith.{modulo};
 ghost use Rattle.js_methods.specs.Waiting.{IsLeadOrNone, well_after};
 ghost use Rattle.js_methods.specs.Building.{is_code_point, code_units, code_units_of, ThrowsBadPoint, PointsAnswer};
 
 use js_number::Num;
-use js_store::Strings;
+use js_store::{StoreFault, Strings};
 use js_texts::{Cause, MethodFault};
 use js_units::{NoMemory, Units, is_lead, is_trail};
 use std::alloc::Global;
@@ -122,9 +123,24 @@ pub fn to_well_formed<S: Strings>(
         let length = u128::from(len);
         return Err(MethodFault::RangeError(Cause::TooLong { length }));
     }
-    store.settle(s)?;
-    let units = well_formed(alloc, store, s)?;
+    let units = settled_well_formed(alloc, store, s)?;
     Ok(store.from_units(units.as_slice())?)
+}
+
+// The units of a string, which is settled, with U+FFFD in the place of each unpaired surrogate.
+fn settled_well_formed<S: Strings>(
+    alloc: Global,
+    store: &mut S,
+    s: S::Ref,
+) -> Result<Units, StoreFault>
+    requires { IsKnown (S.state store.old) (S.number s) }
+    ensures value { IfOk result (λ u. u ≡ well (text (S.state store.old) (S.number s))) }
+    ensures settled { OnOk result (IsSettled (S.state store.new) (S.number s)) }
+    ensures uses { Uses (S.state store.old) (S.state store.new) (full_fault_of result)
+        0 (wide_words (length (text (S.state store.old) (S.number s)))) }
+{
+    store.settle(s)?;
+    Ok(well_formed(alloc, store, s)?)
 }
 
 // The units of a settled string with U+FFFD in the place of each unpaired surrogate.

@@ -1,11 +1,11 @@
 // Methods that read at one place.
-ghost use Rattle.std.specs.Prelude.{◌≡◌, ◌+◌, length, IfOk, OnOk, IsSome};
+ghost use Rattle.std.specs.Prelude.{◌≡◌, ◌+◌, ◌<◌, length, IfOk, OnOk, IsSome};
 ghost use Rattle.js_store.specs.State.{NamesUnits, IsKnown, IsSettled, text};
 ghost use Rattle.js_store.specs.Rows.{wide_words};
 ghost use Rattle.js_store.specs.Faults.{Uses};
 ghost use Rattle.js_texts.specs.Answers.{method_fault_of, MaybeHas, NeverThrows};
 ghost use Rattle.js_number.specs.Places.{IsLawful};
-ghost use Rattle.js_methods.specs.Places.{relative_place, exact_place, at_of, char_at_of, char_code_of, code_point_of};
+ghost use Rattle.js_methods.specs.Places.{relative_place, exact_place, at_of, char_at_of, char_code_of, code_point_from, code_point_of};
 
 use js_number::Num;
 use js_store::Strings;
@@ -103,17 +103,29 @@ pub fn code_point_at<S: Strings>(
         None => Ok(None),
         Some(k) => {
             store.settle(s)?;
-            let first = store.unit_at(s, k);
-            if !is_lead(first) || k + 1 == len {
-                return Ok(Some(u32::from(first)));
-            }
-            let second = store.unit_at(s, k + 1);
-            if is_trail(second) {
-                Ok(Some(code_point(first, second)))
-            } else {
-                Ok(Some(u32::from(first)))
-            }
+            Ok(Some(code_point_in(store, s, k, len)))
         }
+    }
+}
+
+// The code point at a place of a settled string.
+fn code_point_in<S: Strings>(store: &mut S, s: S::Ref, k: u32, len: u32) -> u32
+    requires known { IsKnown (S.state store.old) (S.number s) }
+    requires settled { IsSettled (S.state store.old) (S.number s) }
+    requires len { len ≡ length (text (S.state store.old) (S.number s)) }
+    requires within { k < len }
+    ensures value { result ≡ code_point_from (text (S.state store.old) (S.number s)) k }
+    ensures uses { Uses (S.state store.old) (S.state store.new) None 0 0 }
+{
+    let first = store.unit_at(s, k);
+    if !is_lead(first) || k + 1 == len {
+        return u32::from(first);
+    }
+    let second = store.unit_at(s, k + 1);
+    if is_trail(second) {
+        code_point(first, second)
+    } else {
+        u32::from(first)
     }
 }
 

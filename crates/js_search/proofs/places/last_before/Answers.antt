@@ -4,7 +4,16 @@ use Rattle.js_store.proofs.Laws.{step_trans, text_still}
 use Rattle.js_search.specs.Blocks.{IsPart}
 use Rattle.js_search.specs.Places.{IsLast, Stands}
 use Rattle.js_search.proofs.Pairing.{last_among, last_there, none_from}
+use Rattle.js_search.proofs.Passed.{last_none}
 use Rattle.js_search.proofs.places.last_before.Goals as goal
+
+pub returns-in-None-clause-greatest : goal.returns-in-None-clause-greatest
+returns-in-None-clause-greatest g c =
+    let s = c.loop-end.invariant in
+    let u : List ℕ = text (g.S.Strings.state c.args.store.now) (g.S.Strings.number c.args.hay) in
+    let w : List ℕ = text (g.S.Strings.state c.args.store.now) (g.S.Strings.number c.args.needle) in
+    let same = text_still s.step.grows _ c.requires.hay_known in
+    last_none u _ w c.pair_of-pair.result c.pair_of-pair.ensures.pair same c.args.most c.loop-end.end s.apart c.in-None.ensures.greatest
 
 pub returns-then-cost-most-clause-greatest : goal.returns-then-cost-most-clause-greatest
 returns-then-cost-most-clause-greatest g c =
