@@ -10,7 +10,7 @@ use Rattle.js_eval.specs.declared.ending.End.{End}
 use Rattle.js_eval.specs.declared.ending.End.TheVariants.{Done, Threw, Unsupported, Full, Memory}
 use Rattle.run_program.specs.declared.job.Outcome.{Outcome}
 use Rattle.run_sources.specs.Program.{FileName, Program, in_order}
-use Rattle.run_program.specs.declared.ran.Kept.{Kept}
+use Rattle.run_program.specs.Kept.{HeapKept}
 use Rattle.run_program.specs.declared.ran.Ran.{Ran}
 use Rattle.run_program.specs.Ran.{outcomes_in}
 use Rattle.js_parse.specs.Faults.{fault_offset, fault_words}
@@ -129,7 +129,7 @@ report_of NoMemory = Refusal 6 memory_line
 report_of (WasRun names ran) = Printed (status_of (ends_of ran)) (out_of ran) (err_of names ran)
 
 -- the heap and its agent, wherever files were run
-abbrev pub kept_of : Verdict → Option Kept
+abbrev pub kept_of : Verdict → Option HeapKept
 kept_of BadWords = None
 kept_of (NotRead name) = None
 kept_of (TooLarge name) = None

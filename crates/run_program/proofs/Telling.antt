@@ -133,7 +133,7 @@ is_ran setup prelude trees ran size belongs t = let h = t.have in
       tells = tells (setup_sizes setup) s (all_by setup prelude trees) h.files all (session_sound v setup.limit table belongs.5) h.run
           (are_first s (prelude_by setup prelude) (scripts_by setup prelude trees) h.files h.run.each h.are);
       sizes = size;
-      belongs = belongs;
+      of_heap = belongs.0;
       agents = t.agents;
       whole = t.whole;
       seen_ids = omega (arith, all.low_ids, t.seen_ids);

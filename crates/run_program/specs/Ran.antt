@@ -6,7 +6,7 @@ use Rattle.js_store.specs.State.{State, StoreSizes}
 use Rattle.eval_tree.specs.declared.tree.Script.{Script}
 use Rattle.eval_tree.specs.Tree.{Tree, tree_of}
 use Rattle.js_eval.specs.Script.{Flow}
-use Rattle.heap_table.specs.Agents.{Belongs, size_of, view_of}
+use Rattle.heap_table.specs.Agents.{size_of, view_of}
 use Rattle.heap_intern.specs.Counting.{different}
 use Rattle.heap_intern.specs.Sessions.{SessionFrame, state_by, table_of}
 use Rattle.heap_intern.specs.Shares.{IsWhole}
@@ -14,7 +14,7 @@ use Rattle.run_program.specs.declared.job.Outcome.{Outcome}
 use Rattle.run_program.specs.Fits.{all_meant}
 use Rattle.run_program.specs.Files.{RunFile, AreRun, AreFilesOf}
 use Rattle.run_program.specs.Tells.{FilesTell}
-use Rattle.run_program.specs.declared.ran.Kept.{Kept}
+use Rattle.run_program.specs.Kept.{HeapKept}
 use Rattle.run_program.specs.declared.ran.Ran.{Ran}
 use Rattle.run_program.specs.declared.ran.Setup.{Setup}
 use Rattle.run_program.specs.Meant.{prelude_meant, scripts_meant}
@@ -24,7 +24,7 @@ abbrev pub setup_sizes : Setup → StoreSizes
 setup_sizes setup = record { ids = setup.size.ids; words = setup.size.words; slots = setup.size.slots }
 
 -- what the kept agent knows and has, as a store reports it
-abbrev pub state_kept : Setup → Kept → State SessionFrame
+abbrev pub state_kept : Setup → HeapKept → State SessionFrame
 state_kept setup kept = state_by (view_of kept.agent) (limit_units setup.limit) (table_of kept.heap)
 
 abbrev pub tree_if : Option (Bor Script) → Option Tree
@@ -87,10 +87,10 @@ pub record IsRan (setup : Setup) (prelude : Option Tree) (scripts : List Tree) (
   -- what the agent says of the heap
   pub run : AreRun (setup_sizes setup) (state_kept setup ran.kept) files
   pub tells : FilesTell (setup_sizes setup) (state_kept setup ran.kept) (all_by setup prelude scripts) files
-  -- the heap of these sizes, and the agent with the whole share, which has seen both counters where they
-  -- are
+  -- the heap of these sizes, and an agent of it with the whole share, which has seen both counters where they
+  -- are (all that `Belongs` says of both is the invariant of their type)
   pub sizes : size_of ran.kept.heap ≡ setup.size
-  pub belongs : Belongs ran.kept.agent ran.kept.heap
+  pub of_heap : ran.kept.agent.seat.table_id ≡ table_of ran.kept.heap
   pub agents : (view_of ran.kept.agent).agents ≡ setup.jobs
   pub whole : IsWhole (state_kept setup ran.kept)
   pub seen_ids : (state_kept setup ran.kept).low_ids ≡ (state_kept setup ran.kept).used_ids
