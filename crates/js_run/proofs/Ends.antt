@@ -1,5 +1,5 @@
 -- How files ended that were run, and what is meant.
-use Rattle.std.proofs.Common.{◌≡◌, ◌⊎◌, inl, inr, ⊎_elim, ℕ, List, [], ◌∷◌, ◌++◌, map, Option, None, Some, refl, sym, ap, ap₂, ◌∙◌, append-nil, arith, subst}
+use Rattle.std.proofs.Common.{◌≡◌, ◌⊎◌, inl, inr, ⊎_elim, ℕ, List, [], ◌∷◌, ◌++◌, map, Option, None, Some, refl, sym, ap, ap₂, ◌∙◌, append-nil, arith, subst, option_to_list}
 use Rattle.std.specs.List.{concat}
 use Rattle.js_store.specs.State.{State, StoreSizes}
 use Rattle.eval_tree.specs.Tree.{Tree}
@@ -9,14 +9,15 @@ use Rattle.js_eval.specs.declared.ending.End.TheVariants.{Done, Threw, Unsupport
 use Rattle.js_eval.specs.Evaluates.{script_end}
 use Rattle.js_eval.specs.Script.{Flow}
 use Rattle.run_program.specs.declared.job.Outcome.{Outcome}
-use Rattle.run_program.specs.Files.{RunFile, IsAsMeant, means_of}
+use Rattle.run_program.specs.Files.{RunFile, IsAsMeant, WasFileRun, means_of}
 use Rattle.run_program.specs.Fits.{Fits, all_meant}
-use Rattle.run_program.specs.Tells.{EndTells, FileTells, IsMeantOrMemory}
+use Rattle.run_program.specs.Tells.{EndTells}
 use Rattle.run_program.proofs.First.{AreFirst, are_first}
+use Rattle.run_program.proofs.Tells.{lines_meant}
 use Rattle.run_command.specs.Words.{Request}
 use Rattle.run_sources.specs.Program.{FileName, Program, in_order}
 use Rattle.run_program.specs.declared.ran.Ran.{Ran}
-use Rattle.run_program.specs.Ran.{HasOutcome, IsRan, all_outcomes, prelude_by, scripts_by, setup_sizes, state_kept}
+use Rattle.run_program.specs.Ran.{HasOutcome, IsRan, prelude_by, scripts_by, setup_sizes, state_kept}
 use Rattle.js_run.specs.Asked.{setup_of}
 use Rattle.js_run.specs.Meant.{all_flows, ends_meant, printed_meant, report_meant, run_after, script_flows, status_meant, out_meant}
 use Rattle.js_run.specs.Rows.{FirstFull}
@@ -61,12 +62,15 @@ file_ends files = map (λ f. f.end) files
 -- ---- what files tell that were run
 
 module _ {F : Type 0} (z : StoreSizes) (s : State F) (means : List Flow) where
+  abbrev Tells : RunFile → Type 0
+  Tells f = EndTells z s means f.mean f.part f.end
+
   -- where all ended Done, all ended as they are meant
-  done_meant : (files : List RunFile) → Every (FileTells z s means) files → status_of (file_ends files) ≡ 0 → Every IsAsMeant files
+  done_meant : (files : List RunFile) → Every Tells files → status_of (file_ends files) ≡ 0 → Every IsAsMeant files
   done_meant [] tells is = tt
   done_meant (f ∷ files) tells is =
       let one = done_one f.end (status_of (file_ends files)) is in
-      let meant : Done ≡ script_end f.mean.out = subst (λ (e : End). EndTells z s means f.mean f.part e) one.0 tells.0.end in
+      let meant : Done ≡ script_end f.mean.out = subst (λ (e : End). EndTells z s means f.mean f.part e) one.0 tells.0 in
       (one.0 ∙ meant, done_meant files tells.1 one.1)
 
   early_one : (e : End) (f : RunFile) (later other : ℕ) → EndTells z s means f.mean f.part e → status_or e later ≡ 1 → (later ≡ 1 → other ≡ 1) → status_or (script_end f.mean.out) other ≡ 1
@@ -77,12 +81,12 @@ module _ {F : Type 0} (z : StoreSizes) (s : State F) (means : List Flow) where
   early_one Memory f later other tells is more = absurd (omega (arith, is))
 
   -- where the first file that didn't end Done has status 1, it is the first that isn't meant to end Done
-  early_meant : (files : List RunFile) (rest : List Flow) → Every (FileTells z s means) files → status_of (file_ends files) ≡ 1 → status_of (ends_meant (means_of files ++ rest)) ≡ 1
+  early_meant : (files : List RunFile) (rest : List Flow) → Every Tells files → status_of (file_ends files) ≡ 1 → status_of (ends_meant (means_of files ++ rest)) ≡ 1
   early_meant [] rest tells is = absurd (omega (arith, is))
   early_meant (f ∷ files) rest tells is =
-      early_one f.end f (status_of (file_ends files)) (status_of (ends_meant (means_of files ++ rest))) tells.0.end is (early_meant files rest tells.1)
+      early_one f.end f (status_of (file_ends files)) (status_of (ends_meant (means_of files ++ rest))) tells.0 is (early_meant files rest tells.1)
 
-  full_one : (f : RunFile) (files : List RunFile) (e : End) → f.end ≡ e → FileTells z s means f → status_or e (status_of (file_ends files)) ≡ 5
+  full_one : (f : RunFile) (files : List RunFile) (e : End) → f.end ≡ e → Tells f → status_or e (status_of (file_ends files)) ≡ 5
       → (status_of (file_ends files) ≡ 5 → FirstFull z s means files) → FirstFull z s means (f ∷ files)
   full_one f files Done is tells five more =
       let r = more five in
@@ -104,27 +108,27 @@ module _ {F : Type 0} (z : StoreSizes) (s : State F) (means : List Flow) where
     done = tt;
     report = report;
     full = is;
-    ran_out = subst (λ (x : End). EndTells z s means f.mean f.part x) is tells.end;
+    ran_out = subst (λ (x : End). EndTells z s means f.mean f.part x) is tells;
   }
   full_one f files (Threw k) is tells five more = absurd (omega (arith, five))
   full_one f files (Unsupported at) is tells five more = absurd (omega (arith, five))
   full_one f files Memory is tells five more = absurd (omega (arith, five))
 
   -- the first file that didn't end Done ended Full
-  first_full : (files : List RunFile) → Every (FileTells z s means) files → status_of (file_ends files) ≡ 5 → FirstFull z s means files
+  first_full : (files : List RunFile) → Every Tells files → status_of (file_ends files) ≡ 5 → FirstFull z s means files
   first_full [] tells is = absurd (omega (arith, is))
   first_full (f ∷ files) tells is = full_one f files f.end refl tells.0 is (first_full files tells.1)
 
   -- where all ended as they are meant, they printed what they are meant to
-  meant_lines : (files : List RunFile) → Every (FileTells z s means) files → Every IsAsMeant files → map (λ f. f.lines) files ≡ map (λ m. concat m.lines) (means_of files)
-  meant_lines [] tells all = refl
-  meant_lines (f ∷ files) tells all = ap₂ (λ l ls. l ∷ ls) (tells.0.lines all.0) (meant_lines files tells.1 all.1)
+  meant_lines : (files : List RunFile) → Every (WasFileRun s) files → Every IsAsMeant files → map (λ f. f.lines) files ≡ map (λ m. concat m.lines) (means_of files)
+  meant_lines [] run all = refl
+  meant_lines (f ∷ files) run all = ap₂ (λ l ls. l ∷ ls) (lines_meant s f run.0 all.0) (meant_lines files run.1 all.1)
 
 meant_ends : (files : List RunFile) → Every IsAsMeant files → file_ends files ≡ ends_meant (means_of files)
 meant_ends [] all = refl
 meant_ends (f ∷ files) all = ap₂ (λ e es. e ∷ es) all.0 (meant_ends files all.1)
 
-without_memory : (files : List RunFile) → Every IsMeantOrMemory files → Every (λ e. e ≡ Memory → ⊥) (file_ends files) → Every IsAsMeant files
+without_memory : (files : List RunFile) → Every (λ f. IsAsMeant f ⊎ (f.end ≡ Memory)) files → Every (λ e. e ≡ Memory → ⊥) (file_ends files) → Every IsAsMeant files
 without_memory [] all none = tt
 without_memory (f ∷ files) all none = (⊎_elim (λ is. is) (λ is. absurd (none.0 is)) all.0, without_memory files all.1 none.1)
 
@@ -148,7 +152,7 @@ same_lines os ms is = printed_is os ∙ ap concat is ∙ sym (meant_is ms)
 -- the prelude, if there is one, has the first lines
 scripts_lines : (tree : Option Tree) (outcome : Option Outcome) (os : List Outcome) (flow : Option Flow) (flows : List Flow) → HasOutcome tree outcome
     → ((t : Tree) → tree ≡ Some t → (m : Flow) × (flow ≡ Some m)) → (tree ≡ None → flow ≡ None)
-    → map (λ o. o.lines) (all_outcomes outcome os) ≡ map (λ m. concat m.lines) (all_meant flow flows) → printed_by os ≡ printed_meant (run_after flow flows)
+    → map (λ o. o.lines) (option_to_list outcome ++ os) ≡ map (λ m. concat m.lines) (all_meant flow flows) → printed_by os ≡ printed_meant (run_after flow flows)
 scripts_lines None None os None flows has some none is = same_lines os flows is
 scripts_lines None None os (Some m) flows has some none is = absurd (cc (none refl))
 scripts_lines (Some t) (Some o) os (Some m) flows has some none is = same_lines os (run_after (Some m) flows) (ap behind is)
@@ -185,7 +189,7 @@ module _ (request : Request) (trees : Program Tree) (ran : Ran) (p : IsRan (setu
   lines_same : Every IsAsMeant p.files → printed_by ran.scripts.items ≡ printed_meant (script_flows request trees)
   lines_same all =
       let means : map (λ m. concat m.lines) (means_of p.files) ≡ map (λ m. concat m.lines) (all_flows request trees) = ap (map (λ m. concat m.lines)) (sym (means_same all)) in
-      let printed = meant_lines (setup_sizes (setup_of request)) (state_kept (setup_of request) ran.kept) (all_flows request trees) p.files p.tells.each all in
+      let printed = meant_lines (setup_sizes (setup_of request)) (state_kept (setup_of request) ran.kept) (all_flows request trees) p.files p.run.each all in
       scripts_lines trees.prelude ran.prelude ran.scripts.items (prelude_by (setup_of request) trees.prelude) (scripts_by (setup_of request) trees.prelude trees.scripts) p.has_prelude
       (has_flow trees.prelude) (no_flow trees.prelude) (sym p.lines ∙ printed ∙ means)
 

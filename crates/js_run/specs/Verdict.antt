@@ -130,9 +130,5 @@ report_of (WasRun names ran) = Printed (status_of (ends_of ran)) (out_of ran) (e
 
 -- the heap and its agent, wherever files were run
 abbrev pub kept_of : Verdict → Option HeapKept
-kept_of BadWords = None
-kept_of (NotRead name) = None
-kept_of (TooLarge name) = None
-kept_of (Refused name fault) = None
-kept_of NoMemory = None
 kept_of (WasRun names ran) = Some ran.kept
+kept_of _ = None

@@ -1,5 +1,5 @@
 -- What came of a prelude and scripts that were run on a heap of their own.
-use Rattle.std.specs.Prelude.{◌≡◌, ℕ, ◌+◌, Bool, true, false, List, [], ◌∷◌, map, Option, Some, None}
+use Rattle.std.specs.Prelude.{◌≡◌, ℕ, ◌+◌, Bool, true, false, List, [], ◌∷◌, map, Option, Some, None, option_to_list, ◌++◌}
 use Rattle.std.specs.Borrow.{Bor}
 use Rattle.js_store.specs.Limits.{limit_units}
 use Rattle.js_store.specs.State.{State, StoreSizes}
@@ -46,15 +46,9 @@ scripts_by setup prelude scripts = scripts_meant (limit_units setup.limit) prelu
 abbrev pub all_by : Setup → Option Tree → List Tree → List Flow
 all_by setup prelude scripts = all_meant (prelude_by setup prelude) (scripts_by setup prelude scripts)
 
--- the outcomes of all files that were run: that of the prelude, if there is one, and then those of the
--- scripts
-abbrev pub all_outcomes : Option Outcome → List Outcome → List Outcome
-all_outcomes None scripts = scripts
-all_outcomes (Some prelude) scripts = prelude ∷ scripts
-
 -- the outcomes of all files that were run, the prelude first
 abbrev pub outcomes_in : Ran → List Outcome
-outcomes_in ran = all_outcomes ran.prelude ran.scripts.items
+outcomes_in ran = option_to_list ran.prelude ++ ran.scripts.items
 
 -- there is an outcome of the prelude exactly where there is a prelude
 abbrev pub HasOutcome : {A : Type 0} → Option A → Option Outcome → Type 0
