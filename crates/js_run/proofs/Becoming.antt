@@ -29,8 +29,8 @@ use Rattle.run_sources.specs.Spelling as spelling
 use Rattle.run_sources.specs.Spelling.{AllSpell, Spell, SpellsPrelude}
 use Rattle.run_program.specs.declared.ran.Ran.{Ran}
 use Rattle.run_program.specs.declared.ran.Setup.{Setup}
-use Rattle.run_program.specs.Meant.{left_by}
-use Rattle.run_program.specs.Ran.{HasOutcome, IsRan, prelude_by, scripts_by, tree_if}
+use Rattle.run_program.specs.Meant.{left_by, prelude_meant, scripts_meant}
+use Rattle.run_program.specs.Ran.{HasOutcome, IsRan, tree_if}
 use Rattle.js_run.specs.Answer.{Becomes, HasNames, SamePrelude, stop_report}
 use Rattle.js_run.specs.Asked.{AreTexts, setup_of}
 use Rattle.js_run.specs.Cause.{HasCauseBy, HasCauseOf, names_in}
@@ -141,11 +141,11 @@ script_count None (Some o) os flow scripts fs has some none are same = absurd ha
 script_count (Some t) None os flow scripts fs has some none are same = absurd has
 
 module _ (setup : Setup) where
-  has_flow : (tree : Option Tree) (t : Tree) → tree ≡ Some t → (m : Flow) × (prelude_by setup tree ≡ Some m)
+  has_flow : (tree : Option Tree) (t : Tree) → tree ≡ Some t → (m : Flow) × (prelude_meant (limit_units setup.limit) tree ≡ Some m)
   has_flow None t is = absurd (cc is)
   has_flow (Some x) t is = (_, refl)
 
-  no_flow : (tree : Option Tree) → tree ≡ None → prelude_by setup tree ≡ None
+  no_flow : (tree : Option Tree) → tree ≡ None → prelude_meant (limit_units setup.limit) tree ≡ None
   no_flow None is = refl
   no_flow (Some x) is = absurd (cc is)
 
@@ -153,9 +153,9 @@ module _ (setup : Setup) where
   run_length prelude scripts ran p =
       let many = length-map p.files (λ (f : RunFile). f.end) in
       let as_many = length-map (option_to_list ran.prelude ++ ran.scripts.items) (λ (o : Outcome). o.end) in
-      let meant = length-map scripts (λ (tree : Tree). meaning tree (left_by (prelude_by setup prelude)) (limit_units setup.limit)) in
+      let meant = length-map scripts (λ (tree : Tree). meaning tree (left_by (prelude_meant (limit_units setup.limit) prelude)) (limit_units setup.limit)) in
       let same : length p.files ≡ length (option_to_list ran.prelude ++ ran.scripts.items) = omega (arith, many, as_many, ap length p.ends) in
-      let few = script_count prelude ran.prelude ran.scripts.items (prelude_by setup prelude) (scripts_by setup prelude scripts) p.files p.has_prelude (has_flow prelude) (no_flow prelude) p.are same in
+      let few = script_count prelude ran.prelude ran.scripts.items (prelude_meant (limit_units setup.limit) prelude) (scripts_meant (limit_units setup.limit) prelude scripts) p.files p.has_prelude (has_flow prelude) (no_flow prelude) p.are same in
       omega (arith, few, meant)
 
 same_prelude : (source : Option SourceText) (tree : Option Tree) (outcome : Option Outcome) → SpellsPrelude (option_map source_for source) tree → HasOutcome tree outcome → SamePrelude source outcome

@@ -17,12 +17,14 @@ use Rattle.run_program.proofs.Tells.{lines_meant}
 use Rattle.run_command.specs.Words.{Request}
 use Rattle.run_sources.specs.Program.{FileName, Program, in_order}
 use Rattle.run_program.specs.declared.ran.Ran.{Ran}
-use Rattle.run_program.specs.Ran.{HasOutcome, IsRan, prelude_by, scripts_by, setup_sizes, state_kept}
+use Rattle.run_program.specs.Ran.{HasOutcome, IsRan, setup_sizes, state_kept}
 use Rattle.js_run.specs.Asked.{setup_of}
-use Rattle.js_run.specs.Meant.{all_flows, ends_meant, printed_meant, report_meant, run_after, script_flows, status_meant, out_meant}
+use Rattle.js_run.specs.Meant.{all_flows, ends_meant, printed_meant, run_after, status_meant, out_meant}
 use Rattle.js_run.specs.Rows.{FirstFull}
 use Rattle.js_run.specs.Verdict.{WasRun, count_line, end_line, end_lines, ends_of, err_of, out_of, printed_by, report_of, status_of, status_or}
 use Rattle.js_io.specs.Report.{Printed}
+use Rattle.js_store.specs.Limits.{limit_units}
+use Rattle.run_program.specs.Meant.{prelude_meant, scripts_meant}
 
 -- ---- the statuses of files that were run
 
@@ -167,7 +169,7 @@ module _ (request : Request) (trees : Program Tree) (ran : Ran) (p : IsRan (setu
   flows = all_flows request trees
 
   first : AreFirst (all_flows request trees) p.files
-  first = are_first (state_kept (setup_of request) ran.kept) (prelude_by (setup_of request) trees.prelude) (scripts_by (setup_of request) trees.prelude trees.scripts) p.files p.run.each p.are
+  first = are_first (state_kept (setup_of request) ran.kept) (prelude_meant (limit_units request.limit) trees.prelude) (scripts_meant (limit_units request.limit) trees.prelude trees.scripts) p.files p.run.each p.are
 
   status_same : status_of (ends_of ran) ≡ status_of (file_ends p.files)
   status_same = ap status_of (sym p.ends)
@@ -178,26 +180,26 @@ module _ (request : Request) (trees : Program Tree) (ran : Ran) (p : IsRan (setu
   ends_same : Every IsAsMeant p.files → ends_of ran ≡ ends_meant (all_flows request trees)
   ends_same all = sym p.ends ∙ meant_ends p.files all ∙ ap ends_meant (sym (means_same all))
 
-  has_flow : (tree : Option Tree) (t : Tree) → tree ≡ Some t → (m : Flow) × (prelude_by (setup_of request) tree ≡ Some m)
+  has_flow : (tree : Option Tree) (t : Tree) → tree ≡ Some t → (m : Flow) × (prelude_meant (limit_units request.limit) tree ≡ Some m)
   has_flow None t is = absurd (cc is)
   has_flow (Some x) t is = (_, refl)
 
-  no_flow : (tree : Option Tree) → tree ≡ None → prelude_by (setup_of request) tree ≡ None
+  no_flow : (tree : Option Tree) → tree ≡ None → prelude_meant (limit_units request.limit) tree ≡ None
   no_flow None is = refl
   no_flow (Some x) is = absurd (cc is)
 
-  lines_same : Every IsAsMeant p.files → printed_by ran.scripts.items ≡ printed_meant (script_flows request trees)
+  lines_same : Every IsAsMeant p.files → printed_by ran.scripts.items ≡ printed_meant (run_after (prelude_meant (limit_units request.limit) trees.prelude) (scripts_meant (limit_units request.limit) trees.prelude trees.scripts))
   lines_same all =
       let means : map (λ m. concat m.lines) (means_of p.files) ≡ map (λ m. concat m.lines) (all_flows request trees) = ap (map (λ m. concat m.lines)) (sym (means_same all)) in
       let printed = meant_lines (setup_sizes (setup_of request)) (state_kept (setup_of request) ran.kept) (all_flows request trees) p.files p.run.each all in
-      scripts_lines trees.prelude ran.prelude ran.scripts.items (prelude_by (setup_of request) trees.prelude) (scripts_by (setup_of request) trees.prelude trees.scripts) p.has_prelude
+      scripts_lines trees.prelude ran.prelude ran.scripts.items (prelude_meant (limit_units request.limit) trees.prelude) (scripts_meant (limit_units request.limit) trees.prelude trees.scripts) p.has_prelude
       (has_flow trees.prelude) (no_flow trees.prelude) (sym p.lines ∙ printed ∙ means)
 
   out_same : Every IsAsMeant p.files → out_of ran ≡ out_meant request trees ran.interned
   out_same all = ap (λ l. l ++ count_line ran.interned) (lines_same all)
 
   -- what is reported is what is meant
-  report_same : (names : Program FileName) → Every IsAsMeant p.files → report_of (WasRun names ran) ≡ report_meant request names trees ran.interned
+  report_same : (names : Program FileName) → Every IsAsMeant p.files → report_of (WasRun names ran) ≡ Printed (status_meant request trees) (out_meant request trees ran.interned) (end_lines (in_order names) (ends_meant (all_flows request trees)))
   report_same names all =
       let ends = ends_same all in
       ap (λ es. Printed (status_of es) (out_of ran) (end_lines (in_order names) es)) ends
@@ -223,5 +225,5 @@ module _ (request : Request) (trees : Program Tree) (ran : Ran) (p : IsRan (setu
   full_first is = first_full (setup_sizes (setup_of request)) (state_kept (setup_of request) ran.kept) (all_flows request trees) p.files p.tells.each (sym status_same ∙ is)
 
   pub complete : (names : Program FileName) → Fits (setup_sizes (setup_of request)) (all_flows request trees) → Every (λ e. e ≡ Memory → ⊥) (ends_of ran)
-      → report_of (WasRun names ran) ≡ report_meant request names trees ran.interned
+      → report_of (WasRun names ran) ≡ Printed (status_meant request trees) (out_meant request trees ran.interned) (end_lines (in_order names) (ends_meant (all_flows request trees)))
   complete names fits none = report_same names (without_memory p.files (p.tells.fits fits) (subst (Every (λ e. e ≡ Memory → ⊥)) (sym p.ends) none))

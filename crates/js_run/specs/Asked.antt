@@ -25,15 +25,11 @@ abbrev pub is_counted : Asked → Bool → Bool
 is_counted (files prelude scripts) summary = summary
 is_counted (made_from number) summary = true
 
--- the sizes of a heap, as a request has them
-abbrev pub size_by : Sizes → HeapSize
-size_by sizes = record { ids = sizes.ids; words = sizes.heap_words; slots = sizes.slots }
-
 -- how the program is run: the heap has the sizes that are asked for, and as many agents as jobs
 abbrev pub setup_of : Request → Setup
 setup_of request = record {
   jobs = request.jobs;
-  size = size_by request.sizes;
+  size = record { ids = request.sizes.ids; words = request.sizes.heap_words; slots = request.sizes.slots };
   limit = request.limit;
   count = is_counted request.asked request.summary;
 }

@@ -1,5 +1,5 @@
 -- What becomes of a call, and what is reported of it: the status and the bytes for each sink.
-use Rattle.std.specs.Prelude.{ℕ, List, [], ◌∷◌, ◌++◌, codes, decimal, map, Option, None, Some}
+use Rattle.std.specs.Prelude.{ℕ, List, [], ◌∷◌, ◌++◌, codes, decimal, map, Option, None, Some, option_to_list}
 use Rattle.js_io.specs.Report.{Report, Refusal, Printed}
 use Rattle.js_parse.specs.declared.fault.ParseFault.{ParseFault}
 use Rattle.js_store.specs.declared.faults.FullReport.{FullReport}
@@ -12,7 +12,6 @@ use Rattle.run_program.specs.declared.job.Outcome.{Outcome}
 use Rattle.run_sources.specs.Program.{FileName, Program, in_order}
 use Rattle.run_program.specs.Kept.{HeapKept}
 use Rattle.run_program.specs.declared.ran.Ran.{Ran}
-use Rattle.run_program.specs.Ran.{outcomes_in}
 use Rattle.js_parse.specs.Faults.{fault_offset, fault_words}
 
 -- what becomes of a call: the arguments are refused, a file can't be read or is too large, a source is
@@ -30,7 +29,7 @@ pub data Verdict : Type 0 where
 
 -- how all files ended that were run, the prelude first
 abbrev pub ends_of : Ran → List End
-ends_of ran = map (λ o. o.end) (outcomes_in ran)
+ends_of ran = map (λ o. o.end) (option_to_list ran.prelude ++ ran.scripts.items)
 
 -- what scripts printed
 abbrev pub printed_by : List Outcome → List ℕ

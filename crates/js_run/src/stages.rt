@@ -185,9 +185,9 @@ pub(crate) fn run_plan<R: Threads + Sync, F: Files, O: Sink, E: Sink, G: Gate + 
 ) -> Status
     requires { IsRequestInRange (request_for plan.now) }
     ensures keeps { KeepsFiles (F.state files.old) (F.state files.new) }
-    ensures becomes { Becomes (HasCauseBy (Some (request_for plan.now)) (F.state files.old) (F.state files.new))
-        (ended result) (sinks (O.state out.old) (E.state err.old))
-        (sinks (O.state out.new) (E.state err.new)) }
+    ensures becomes { Becomes
+        (HasCauseBy (Some (request_for plan.now)) (F.state files.old) (F.state files.new)) (ended result)
+        (sinks (O.state out.old) (E.state err.old)) (sinks (O.state out.new) (E.state err.new)) }
 {
     let setup = setup(plan);
     match &plan.input {

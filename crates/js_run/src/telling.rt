@@ -2,7 +2,6 @@
 ghost use Rattle.std.specs.Prelude.{◌≡◌, ◌≤◌, ◌++◌, length, decimal};
 ghost use Rattle.js_io.specs.SinkState.{SinkState, WritesAll};
 ghost use Rattle.run_sources.specs.Answers.{sources_for};
-ghost use Rattle.run_program.specs.Ran.{outcomes_in};
 ghost use Rattle.js_run.specs.Answer.{HasNames, outcome_ends, source_names, stop_report};
 ghost use Rattle.js_run.specs.Cause.{names_in};
 ghost use Rattle.js_run.specs.Verdict.{BadWords, WasRun, count_line, end_line, end_lines, ends_of, err_of, full_text, kind_text, refused_line, out_of, printed_by, report_of, status_of, status_or};

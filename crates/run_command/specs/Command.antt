@@ -40,15 +40,7 @@ abbrev pub other_rules : List Rule
 other_rules = flag_rule (codes "summary") ∷ number_rule (codes "generate") ∷
     defaulted_rule (codes "limit") (codes "64") ∷ []
 
--- all arguments of the command
-abbrev pub rules : List Rule
-rules = job_rules ++ size_rules ++ other_rules ++ (file_rule ∷ [])
-
 -- the command: these arguments, and what a command of clap has by itself, `-h`, `--help` and `--`
 abbrev pub command : App
-command = fold with_rule (new_app (codes "jsstr")) rules
-
--- the command gives matches for the arguments, of which the first is the program's name: it refuses none, and
--- none asks for help
-abbrev pub gives_matches : List Text → Bool
-gives_matches words = is_empty (fault_of command words)
+command = fold with_rule (new_app (codes "jsstr"))
+    (job_rules ++ size_rules ++ other_rules ++ (file_rule ∷ []))

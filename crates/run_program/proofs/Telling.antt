@@ -24,9 +24,10 @@ use Rattle.run_program.proofs.First.{are_first}
 use Rattle.run_program.proofs.Tells.{tells}
 use Rattle.run_program.specs.declared.ran.Ran.{Ran}
 use Rattle.run_program.specs.declared.ran.Setup.{Setup}
-use Rattle.run_program.specs.Meant.{prelude_meant}
-use Rattle.run_program.specs.Ran.{IsRan, HasOutcome, all_by, counted, prelude_by, scripts_by, setup_sizes, state_kept}
+use Rattle.run_program.specs.Meant.{prelude_meant, scripts_meant}
+use Rattle.run_program.specs.Ran.{IsRan, HasOutcome, counted, setup_sizes, state_kept}
 use Rattle.run_program.specs.Stages.{HaveRun, HaveRunFrom, IsTold}
+use Rattle.run_program.specs.Fits.{all_meant}
 
 -- the first moment of a session on a new heap
 abbrev pub begun : Setup → TableId → State SessionFrame
@@ -60,7 +61,7 @@ module _ (setup : Setup) (table : TableId) (prelude : Option Tree) (trees : List
 
     told : IsTold setup d prelude trees first os interned
     told = record {
-      have = have_later (setup_sizes setup) b d (prelude_by setup prelude) (scripts_by setup prelude trees) first os
+      have = have_later (setup_sizes setup) b d (prelude_meant (limit_units setup.limit) prelude) (scripts_meant (limit_units setup.limit) prelude trees) first os
           (λ files r. run_stays (setup_sizes setup) (total_by b) d files (run_totals (setup_sizes setup) b files all r) step history) have;
       agents = ap (λ (f : SessionFrame). f.agents) frame;
       whole = ap (λ (f : SessionFrame). f.share) frame ∙ sym (ap (λ (f : SessionFrame). f.agents) frame);
@@ -130,8 +131,8 @@ is_ran setup prelude trees ran size belongs t = let h = t.have in
       has_prelude = same_prelude (limit_units setup.limit) prelude ran.prelude h.has_prelude;
       in_places = h.in_places;
       run = h.run;
-      tells = tells (setup_sizes setup) s (all_by setup prelude trees) h.files all (session_sound v setup.limit table belongs.5) h.run
-          (are_first s (prelude_by setup prelude) (scripts_by setup prelude trees) h.files h.run.each h.are);
+      tells = tells (setup_sizes setup) s (all_meant (prelude_meant (limit_units setup.limit) prelude) (scripts_meant (limit_units setup.limit) prelude trees)) h.files all (session_sound v setup.limit table belongs.5) h.run
+          (are_first s (prelude_meant (limit_units setup.limit) prelude) (scripts_meant (limit_units setup.limit) prelude trees) h.files h.run.each h.are);
       sizes = size;
       of_heap = belongs.0;
       agents = t.agents;

@@ -34,22 +34,6 @@ tree_if (Some script) = Some (tree_of script.now)
 abbrev pub trees_of : List Script → List Tree
 trees_of scripts = map tree_of scripts
 
--- what is meant by the prelude, by each of the scripts, and by all that are meant to be run
-abbrev pub prelude_by : Setup → Option Tree → Option Flow
-prelude_by setup prelude = prelude_meant (limit_units setup.limit) prelude
-
--- what is meant by each of the scripts after the prelude
-abbrev pub scripts_by : Setup → Option Tree → List Tree → List Flow
-scripts_by setup prelude scripts = scripts_meant (limit_units setup.limit) prelude scripts
-
--- what is meant by all files that are meant to be run
-abbrev pub all_by : Setup → Option Tree → List Tree → List Flow
-all_by setup prelude scripts = all_meant (prelude_by setup prelude) (scripts_by setup prelude scripts)
-
--- the outcomes of all files that were run, the prelude first
-abbrev pub outcomes_in : Ran → List Outcome
-outcomes_in ran = option_to_list ran.prelude ++ ran.scripts.items
-
 -- there is an outcome of the prelude exactly where there is a prelude
 abbrev pub HasOutcome : {A : Type 0} → Option A → Option Outcome → Type 0
 HasOutcome None None = Unit {0}
@@ -72,15 +56,18 @@ counted false n = None
 -- bindings that the prelude is meant to leave. What they say of the heap is in `FilesTell`.
 pub record IsRan (setup : Setup) (prelude : Option Tree) (scripts : List Tree) (ran : Ran) : Type 0 where
   pub files : List RunFile
-  pub are : AreFilesOf (prelude_by setup prelude) (scripts_by setup prelude scripts) files
+  pub are : AreFilesOf (prelude_meant (limit_units setup.limit) prelude)
+      (scripts_meant (limit_units setup.limit) prelude scripts) files
   -- the ends, and the bytes of the lines
-  pub ends : map (λ f. f.end) files ≡ map (λ o. o.end) (outcomes_in ran)
-  pub lines : map (λ f. f.lines) files ≡ map (λ o. o.lines) (outcomes_in ran)
+  pub ends : map (λ f. f.end) files ≡ map (λ o. o.end) (option_to_list ran.prelude ++ ran.scripts.items)
+  pub lines : map (λ f. f.lines) files ≡ map (λ o. o.lines) (option_to_list ran.prelude ++ ran.scripts.items)
   pub has_prelude : HasOutcome prelude ran.prelude
   pub in_places : AreInPlaces 0 ran.scripts.items
   -- what the agent says of the heap
   pub run : AreRun (setup_sizes setup) (state_kept setup ran.kept) files
-  pub tells : FilesTell (setup_sizes setup) (state_kept setup ran.kept) (all_by setup prelude scripts) files
+  pub tells : FilesTell (setup_sizes setup) (state_kept setup ran.kept)
+      (all_meant (prelude_meant (limit_units setup.limit) prelude)
+      (scripts_meant (limit_units setup.limit) prelude scripts)) files
   -- the heap of these sizes, and an agent of it with the whole share, which has seen both counters where they
   -- are (all that `Belongs` says of both is the invariant of their type)
   pub sizes : size_of ran.kept.heap ≡ setup.size

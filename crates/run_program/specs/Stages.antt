@@ -12,7 +12,8 @@ use Rattle.run_program.specs.declared.job.Outcome.{Outcome}
 use Rattle.run_program.specs.Files.{RunFile, AreRun, AreFilesOf}
 use Rattle.run_program.specs.Meant.{prelude_meant, scripts_meant}
 use Rattle.run_program.specs.declared.ran.Setup.{Setup}
-use Rattle.run_program.specs.Ran.{counted, HasOutcome, AreInPlaces, prelude_by, scripts_by, setup_sizes}
+use Rattle.run_program.specs.Ran.{counted, HasOutcome, AreInPlaces, setup_sizes}
+use Rattle.js_store.specs.Limits.{limit_units}
 
 abbrev pub job_trees : List Job → List Tree
 job_trees jobs = map (λ job. tree_of job.script) jobs
@@ -47,8 +48,8 @@ HaveRunFrom a b prelude scripts first outcomes =
 -- and what is reported of the heap
 pub record IsTold (setup : Setup) (s : State SessionFrame) (prelude : Option Tree) (scripts : List Tree)
     (first : Option Outcome) (outcomes : List Outcome) (interned : Option ℕ) : Type 0 where
-  pub have : HaveRun (setup_sizes setup) s (prelude_by setup prelude)
-      (scripts_by setup prelude scripts) first outcomes
+  pub have : HaveRun (setup_sizes setup) s (prelude_meant (limit_units setup.limit) prelude)
+      (scripts_meant (limit_units setup.limit) prelude scripts) first outcomes
   pub agents : s.frame.agents ≡ setup.jobs
   pub whole : IsWhole s
   pub seen_ids : s.used_ids ≤ s.low_ids
