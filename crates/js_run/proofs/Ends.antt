@@ -1,5 +1,5 @@
 -- How files ended that were run, and what is meant.
-use Rattle.std.proofs.Common.{◌≡◌, ◌⊎◌, inl, inr, ⊎_elim, ℕ, List, [], ◌∷◌, ◌++◌, map, Option, None, Some, refl, sym, ap, ap₂, ◌∙◌, append-nil, arith, subst, option_to_list}
+use Rattle.std.proofs.Common.{◌≡◌, ◌⊎◌, inl, inr, ⊎_elim, ℕ, List, [], ◌∷◌, ◌++◌, map, Option, None, Some, refl, sym, ap, ap₂, ◌∙◌, append-nil, arith, subst, option_to_list, flat_map}
 use Rattle.std.specs.List.{concat}
 use Rattle.js_store.specs.State.{State, StoreSizes}
 use Rattle.eval_tree.specs.Tree.{Tree}
@@ -19,9 +19,9 @@ use Rattle.run_sources.specs.Program.{FileName, Program, in_order}
 use Rattle.run_program.specs.declared.ran.Ran.{Ran}
 use Rattle.run_program.specs.Ran.{HasOutcome, IsRan, setup_sizes, state_kept}
 use Rattle.js_run.specs.Asked.{setup_of}
-use Rattle.js_run.specs.Meant.{all_flows, ends_meant, printed_meant, run_after, status_meant, out_meant}
+use Rattle.js_run.specs.Meant.{all_flows, ends_meant, run_after, status_meant, out_meant}
 use Rattle.js_run.specs.Rows.{FirstFull}
-use Rattle.js_run.specs.Verdict.{WasRun, count_line, end_line, end_lines, ends_of, err_of, out_of, printed_by, report_of, status_of, status_or}
+use Rattle.js_run.specs.Verdict.{WasRun, count_line, end_line, end_lines, ends_of, err_of, out_of, report_of, status_of, status_or}
 use Rattle.js_io.specs.Report.{Printed}
 use Rattle.js_store.specs.Limits.{limit_units}
 use Rattle.run_program.specs.Meant.{prelude_meant, scripts_meant}
@@ -140,21 +140,21 @@ abbrev behind : {X : Type 0} → List X → List X
 behind [] = []
 behind (x ∷ xs) = xs
 
-printed_is : (os : List Outcome) → printed_by os ≡ concat (map (λ o. o.lines) os)
+printed_is : (os : List Outcome) → flat_map (λ (o : Outcome). o.lines) os ≡ concat (map (λ o. o.lines) os)
 printed_is [] = refl
 printed_is (o ∷ os) = ap (λ l. o.lines ++ l) (printed_is os)
 
-meant_is : (ms : List Flow) → printed_meant ms ≡ concat (map (λ m. concat m.lines) ms)
+meant_is : (ms : List Flow) → flat_map (λ (m : Flow). concat m.lines) ms ≡ concat (map (λ m. concat m.lines) ms)
 meant_is [] = refl
 meant_is (m ∷ ms) = ap (λ l. concat m.lines ++ l) (meant_is ms)
 
-same_lines : (os : List Outcome) (ms : List Flow) → map (λ o. o.lines) os ≡ map (λ m. concat m.lines) ms → printed_by os ≡ printed_meant ms
+same_lines : (os : List Outcome) (ms : List Flow) → map (λ o. o.lines) os ≡ map (λ m. concat m.lines) ms → flat_map (λ (o : Outcome). o.lines) os ≡ flat_map (λ (m : Flow). concat m.lines) ms
 same_lines os ms is = printed_is os ∙ ap concat is ∙ sym (meant_is ms)
 
 -- the prelude, if there is one, has the first lines
 scripts_lines : (tree : Option Tree) (outcome : Option Outcome) (os : List Outcome) (flow : Option Flow) (flows : List Flow) → HasOutcome tree outcome
     → ((t : Tree) → tree ≡ Some t → (m : Flow) × (flow ≡ Some m)) → (tree ≡ None → flow ≡ None)
-    → map (λ o. o.lines) (option_to_list outcome ++ os) ≡ map (λ m. concat m.lines) (all_meant flow flows) → printed_by os ≡ printed_meant (run_after flow flows)
+    → map (λ o. o.lines) (option_to_list outcome ++ os) ≡ map (λ m. concat m.lines) (all_meant flow flows) → flat_map (λ (o : Outcome). o.lines) os ≡ flat_map (λ (m : Flow). concat m.lines) (run_after flow flows)
 scripts_lines None None os None flows has some none is = same_lines os flows is
 scripts_lines None None os (Some m) flows has some none is = absurd (cc (none refl))
 scripts_lines (Some t) (Some o) os (Some m) flows has some none is = same_lines os (run_after (Some m) flows) (ap behind is)
@@ -188,7 +188,7 @@ module _ (request : Request) (trees : Program Tree) (ran : Ran) (p : IsRan (setu
   no_flow None is = refl
   no_flow (Some x) is = absurd (cc is)
 
-  lines_same : Every IsAsMeant p.files → printed_by ran.scripts.items ≡ printed_meant (run_after (prelude_meant (limit_units request.limit) trees.prelude) (scripts_meant (limit_units request.limit) trees.prelude trees.scripts))
+  lines_same : Every IsAsMeant p.files → flat_map (λ (o : Outcome). o.lines) ran.scripts.items ≡ flat_map (λ (m : Flow). concat m.lines) (run_after (prelude_meant (limit_units request.limit) trees.prelude) (scripts_meant (limit_units request.limit) trees.prelude trees.scripts))
   lines_same all =
       let means : map (λ m. concat m.lines) (means_of p.files) ≡ map (λ m. concat m.lines) (all_flows request trees) = ap (map (λ m. concat m.lines)) (sym (means_same all)) in
       let printed = meant_lines (setup_sizes (setup_of request)) (state_kept (setup_of request) ran.kept) (all_flows request trees) p.files p.run.each all in

@@ -1,6 +1,6 @@
 -- What is meant to be reported: every file ends and prints as ECMA-262 says of it, each script after the
 -- prelude.
-use Rattle.std.specs.Prelude.{ℕ, List, [], ◌∷◌, ◌++◌, map, Option, None, Some}
+use Rattle.std.specs.Prelude.{ℕ, List, [], ◌∷◌, ◌++◌, map, Option, None, Some, flat_map}
 use Rattle.std.specs.List.{concat}
 use Rattle.eval_tree.specs.Tree.{Tree}
 use Rattle.js_eval.specs.declared.ending.End.{End}
@@ -29,17 +29,12 @@ run_after (Some prelude) scripts = after_prelude prelude.out scripts
 abbrev pub ends_meant : List Flow → List End
 ends_meant flows = map (λ m. script_end m.out) flows
 
--- what scripts are meant to print
-abbrev pub printed_meant : List Flow → List ℕ
-printed_meant [] = []
-printed_meant (m ∷ ms) = concat m.lines ++ printed_meant ms
-
 -- the status that is meant: 0 where all files are meant to end Done, else 1
 abbrev pub status_meant : Request → Program Tree → ℕ
 status_meant request trees = status_of (ends_meant (all_flows request trees))
 
--- with the number of the line `interned N`, where there is one
+-- what the scripts are meant to print, with the line `interned N` of this number, where there is one
 abbrev pub out_meant : Request → Program Tree → Option ℕ → List ℕ
-out_meant request trees interned = printed_meant (run_after
+out_meant request trees interned = flat_map (λ m. concat m.lines) (run_after
     (prelude_meant (limit_units request.limit) trees.prelude)
     (scripts_meant (limit_units request.limit) trees.prelude trees.scripts)) ++ count_line interned

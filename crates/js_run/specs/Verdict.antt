@@ -1,5 +1,5 @@
 -- What becomes of a call, and what is reported of it: the status and the bytes for each sink.
-use Rattle.std.specs.Prelude.{ℕ, List, [], ◌∷◌, ◌++◌, codes, decimal, map, Option, None, Some, option_to_list}
+use Rattle.std.specs.Prelude.{ℕ, List, [], ◌∷◌, ◌++◌, codes, decimal, map, Option, None, Some, option_to_list, flat_map}
 use Rattle.js_io.specs.Report.{Report, Refusal, Printed}
 use Rattle.js_parse.specs.declared.fault.ParseFault.{ParseFault}
 use Rattle.js_store.specs.declared.faults.FullReport.{FullReport}
@@ -31,11 +31,6 @@ pub data Verdict : Type 0 where
 abbrev pub ends_of : Ran → List End
 ends_of ran = map (λ o. o.end) (option_to_list ran.prelude ++ ran.scripts.items)
 
--- what scripts printed
-abbrev pub printed_by : List Outcome → List ℕ
-printed_by [] = []
-printed_by (o ∷ os) = o.lines ++ printed_by os
-
 -- the line of the number of different strings, where they were counted
 abbrev pub count_line : Option ℕ → List ℕ
 count_line None = []
@@ -43,7 +38,7 @@ count_line (Some count) = codes "interned " ++ (decimal count ++ 10 ∷ [])
 
 -- the bytes for out: what the scripts printed, and the line of the number of different strings
 abbrev pub out_of : Ran → List ℕ
-out_of ran = printed_by ran.scripts.items ++ count_line ran.interned
+out_of ran = flat_map (λ o. o.lines) ran.scripts.items ++ count_line ran.interned
 
 -- ---- the line of a file that didn't end Done
 

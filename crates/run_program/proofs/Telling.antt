@@ -1,5 +1,5 @@
 -- What is told of a heap on which all files were run.
-use Rattle.std.proofs.Common.{◌≡◌, ℕ, List, refl, sym, ap, subst, ◌∙◌, arith, Option, Some, None}
+use Rattle.std.proofs.Common.{◌≡◌, ℕ, List, refl, sym, ap, subst, ◌∙◌, arith, Option, Some, None, if◌then◌else◌}
 use Rattle.atomic_table.specs.Seated.{TableId}
 use Rattle.js_store.specs.Faults.{StoreStep}
 use Rattle.js_store.specs.Limits.{limit_units}
@@ -25,7 +25,7 @@ use Rattle.run_program.proofs.Tells.{tells}
 use Rattle.run_program.specs.declared.ran.Ran.{Ran}
 use Rattle.run_program.specs.declared.ran.Setup.{Setup}
 use Rattle.run_program.specs.Meant.{prelude_meant, scripts_meant}
-use Rattle.run_program.specs.Ran.{IsRan, HasOutcome, counted, setup_sizes, state_kept}
+use Rattle.run_program.specs.Ran.{IsRan, HasOutcome, setup_sizes, state_kept}
 use Rattle.run_program.specs.Stages.{HaveRun, HaveRunFrom, IsTold}
 use Rattle.run_program.specs.Fits.{all_meant}
 
@@ -55,7 +55,7 @@ module _ (setup : Setup) (table : TableId) (prelude : Option Tree) (trees : List
   is_whole : IsWhole b
   is_whole = ap (λ (f : SessionFrame). f.share) g.frame ∙ sym (ap (λ (f : SessionFrame). f.agents) g.frame)
 
-  module _ (all : HasWholeCounts b) (step : StoreStep (total_by b) d None 0 0) (history : d.history ≡ b.history) (counts : interned ≡ counted setup.count (different b.history)) where
+  module _ (all : HasWholeCounts b) (step : StoreStep (total_by b) d None 0 0) (history : d.history ≡ b.history) (counts : interned ≡ (if setup.count then Some (different b.history) else None)) where
     frame : d.frame ≡ (begun setup table).frame
     frame = step.grows.frame ∙ g.frame
 
@@ -67,7 +67,7 @@ module _ (setup : Setup) (table : TableId) (prelude : Option Tree) (trees : List
       whole = ap (λ (f : SessionFrame). f.share) frame ∙ sym (ap (λ (f : SessionFrame). f.agents) frame);
       seen_ids = (let w = step.within_ids in let l = step.grows.low_ids in omega arith);
       seen_words = (let w = step.within_words in let l = step.grows.low_words in omega arith);
-      counts = counts ∙ ap (λ h. counted setup.count (different h)) (sym history);
+      counts = counts ∙ ap (λ h. (if setup.count then Some (different h) else None)) (sym history);
     }
 
     table_is : d.frame.table ≡ table
@@ -82,7 +82,7 @@ module _ (setup : Setup) (table : TableId) (prelude : Option Tree) (trees : List
 -- the same by what each call tells: of a session of this heap, b after the files were run, t after both counters were read, d at last
 module _ (setup : Setup) (h : Heap) (prelude : Option Tree) (trees : List Tree) (first : Option Outcome) (os : List Outcome) (interned : Option ℕ) (a b t d : State SessionFrame)
     (is : a ≡ begun setup (table_of h)) (size : size_of h ≡ setup.size) (g : Grows a b) (have : HaveRunFrom a b prelude trees first os) (all : IsWhole b → HasWholeCounts b)
-    (total : t ≡ total_by b) (step : StoreStep t d None 0 0) (history : d.history ≡ t.history) (counts : interned ≡ counted setup.count (different t.history)) where
+    (total : t ≡ total_by b) (step : StoreStep t d None 0 0) (history : d.history ≡ t.history) (counts : interned ≡ (if setup.count then Some (different t.history) else None)) where
   grows_begun : Grows (begun setup (table_of h)) b
   grows_begun = subst (λ (x : State SessionFrame). Grows x b) is g
 
@@ -98,8 +98,8 @@ module _ (setup : Setup) (h : Heap) (prelude : Option Tree) (trees : List Tree) 
   same_history : d.history ≡ b.history
   same_history = history ∙ ap (λ (x : State SessionFrame). x.history) total
 
-  counts_begun : interned ≡ counted setup.count (different b.history)
-  counts_begun = counts ∙ ap (λ (x : State SessionFrame). counted setup.count (different x.history)) total
+  counts_begun : interned ≡ (if setup.count then Some (different b.history) else None)
+  counts_begun = counts ∙ ap (λ (x : State SessionFrame). (if setup.count then Some (different x.history) else None)) total
 
   pub kept_of : IsOf d h
   kept_of = is_of setup (table_of h) prelude trees first os interned b d grows_begun have_begun has_all step_total same_history counts_begun h refl size

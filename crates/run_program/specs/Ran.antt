@@ -1,15 +1,14 @@
 -- What came of a prelude and scripts that were run on a heap of their own.
-use Rattle.std.specs.Prelude.{◌≡◌, ℕ, ◌+◌, Bool, true, false, List, [], ◌∷◌, map, Option, Some, None, option_to_list, ◌++◌}
+use Rattle.std.specs.Prelude.{◌≡◌, ℕ, ◌+◌, List, [], ◌∷◌, map, Option, Some, None, option_to_list, ◌++◌, if◌then◌else◌}
 use Rattle.std.specs.Borrow.{Bor}
 use Rattle.js_store.specs.Limits.{limit_units}
 use Rattle.js_store.specs.State.{State, StoreSizes}
 use Rattle.eval_tree.specs.declared.tree.Script.{Script}
 use Rattle.eval_tree.specs.Tree.{Tree, tree_of}
 use Rattle.js_eval.specs.Script.{Flow}
-use Rattle.heap_table.specs.Agents.{size_of, view_of}
+use Rattle.heap_table.specs.Agents.{view_of}
 use Rattle.heap_intern.specs.Counting.{different}
 use Rattle.heap_intern.specs.Sessions.{SessionFrame, state_by, table_of}
-use Rattle.heap_intern.specs.Shares.{IsWhole}
 use Rattle.run_program.specs.declared.job.Outcome.{Outcome}
 use Rattle.run_program.specs.Fits.{all_meant}
 use Rattle.run_program.specs.Files.{RunFile, AreRun, AreFilesOf}
@@ -46,11 +45,6 @@ abbrev pub AreInPlaces : ℕ → List Outcome → Type 0
 AreInPlaces place [] = Unit {0}
 AreInPlaces place (outcome ∷ outcomes) = (outcome.index ≡ place) × AreInPlaces (place + 1) outcomes
 
--- the number of different lists in the history, where it is asked for
-abbrev pub counted : Bool → ℕ → Option ℕ
-counted true n = Some n
-counted false n = None
-
 -- Files with these meanings were run on the kept heap, which was made with these sizes, and nothing else was
 -- done there: the prelude first, from no bindings, and where it ended Done each of the scripts, from the
 -- bindings that the prelude is meant to leave. What they say of the heap is in `FilesTell`.
@@ -70,10 +64,12 @@ pub record IsRan (setup : Setup) (prelude : Option Tree) (scripts : List Tree) (
       (scripts_meant (limit_units setup.limit) prelude scripts)) files
   -- the heap of these sizes, and an agent of it with the whole share, which has seen both counters where they
   -- are (all that `Belongs` says of both is the invariant of their type)
-  pub sizes : size_of ran.kept.heap ≡ setup.size
+  pub sizes : ran.kept.heap.size ≡ setup.size
   pub of_heap : ran.kept.agent.seat.table_id ≡ table_of ran.kept.heap
   pub agents : (view_of ran.kept.agent).agents ≡ setup.jobs
-  pub whole : IsWhole (state_kept setup ran.kept)
+  pub whole : (view_of ran.kept.agent).share ≡ (view_of ran.kept.agent).agents
   pub seen_ids : (state_kept setup ran.kept).low_ids ≡ (state_kept setup ran.kept).used_ids
   pub seen_words : (state_kept setup ran.kept).low_words ≡ (state_kept setup ran.kept).used_words
-  pub interned : ran.interned ≡ counted setup.count (different (state_kept setup ran.kept).history)
+  -- the number of different lists in the history, where it is asked for
+  pub interned : ran.interned
+      ≡ (if setup.count then Some (different (state_kept setup ran.kept).history) else None)

@@ -1,6 +1,6 @@
 -- Helpers: no public contract reaches these definitions.
 -- What the stages of a run leave.
-use Rattle.std.specs.Prelude.{◌≡◌, ℕ, ◌+◌, ◌≤◌, List, [], ◌∷◌, map, Option, option_to_list, ◌++◌}
+use Rattle.std.specs.Prelude.{◌≡◌, ℕ, ◌+◌, ◌≤◌, List, [], ◌∷◌, map, Option, option_to_list, ◌++◌, if◌then◌else◌, Some, None}
 use Rattle.js_store.specs.State.{State, StoreSizes}
 use Rattle.eval_tree.specs.Tree.{Tree, tree_of}
 use Rattle.js_eval.specs.Script.{Flow}
@@ -12,7 +12,7 @@ use Rattle.run_program.specs.declared.job.Outcome.{Outcome}
 use Rattle.run_program.specs.Files.{RunFile, AreRun, AreFilesOf}
 use Rattle.run_program.specs.Meant.{prelude_meant, scripts_meant}
 use Rattle.run_program.specs.declared.ran.Setup.{Setup}
-use Rattle.run_program.specs.Ran.{counted, HasOutcome, AreInPlaces, setup_sizes}
+use Rattle.run_program.specs.Ran.{HasOutcome, AreInPlaces, setup_sizes}
 use Rattle.js_store.specs.Limits.{limit_units}
 
 abbrev pub job_trees : List Job → List Tree
@@ -54,4 +54,4 @@ pub record IsTold (setup : Setup) (s : State SessionFrame) (prelude : Option Tre
   pub whole : IsWhole s
   pub seen_ids : s.used_ids ≤ s.low_ids
   pub seen_words : s.used_words ≤ s.low_words
-  pub counts : interned ≡ counted setup.count (different s.history)
+  pub counts : interned ≡ (if setup.count then Some (different s.history) else None)
