@@ -1,5 +1,5 @@
 -- What the stages of a call leave, one behind the other.
-use Rattle.std.proofs.Common.{◌≡◌, ◌≤◌, ℕ, zero, suc, List, [], ◌∷◌, length, option_map, Option, None, Some, refl, sym, ap, subst, arith, option_to_list, ◌++◌}
+use Rattle.std.proofs.Common.{◌≡◌, ◌≤◌, ℕ, zero, suc, List, [], ◌∷◌, length, option_map, Option, None, Some, refl, sym, ap, subst, arith, option_to_list, ◌++◌, is_some}
 use Rattle.std.proofs.lemmas.List.{length-append, length-map}
 use Rattle.heap_rule.specs.Layout.{IsLawfulSize}
 use Rattle.heap_table.specs.MayMake.{MayMake}
@@ -30,7 +30,7 @@ use Rattle.run_sources.specs.Spelling.{AllSpell, Spell, SpellsPrelude}
 use Rattle.run_program.specs.declared.ran.Ran.{Ran}
 use Rattle.run_program.specs.declared.ran.Setup.{Setup}
 use Rattle.run_program.specs.Meant.{left_by, prelude_meant, scripts_meant}
-use Rattle.run_program.specs.Ran.{HasOutcome, IsRan, tree_if}
+use Rattle.run_program.specs.Ran.{IsRan, tree_if}
 use Rattle.js_run.specs.Answer.{Becomes, HasNames, SamePrelude, stop_report}
 use Rattle.js_run.specs.Asked.{AreTexts, setup_of}
 use Rattle.js_run.specs.Cause.{HasCauseBy, HasCauseOf, names_in}
@@ -129,7 +129,7 @@ after_length (Unsupported at) scripts fs is = let same = ap length is in omega (
 after_length (Full report) scripts fs is = let same = ap length is in omega (arith, same)
 after_length Memory scripts fs is = let same = ap length is in omega (arith, same)
 
-script_count : (tree : Option Tree) (outcome : Option Outcome) (os : List Outcome) (flow : Option Flow) (scripts : List Flow) (fs : List RunFile) → HasOutcome tree outcome
+script_count : (tree : Option Tree) (outcome : Option Outcome) (os : List Outcome) (flow : Option Flow) (scripts : List Flow) (fs : List RunFile) → is_some tree ≡ is_some outcome
     → ((t : Tree) → tree ≡ Some t → (m : Flow) × (flow ≡ Some m)) → (tree ≡ None → flow ≡ None)
     → AreFilesOf flow scripts fs → length fs ≡ length (option_to_list outcome ++ os) → length os ≤ length scripts
 script_count None None os None scripts fs has some none are same = let long = length-map fs (λ (f : RunFile). f.mean) in omega (arith, same, ap length are, long)
@@ -137,8 +137,8 @@ script_count None None os (Some m) scripts fs has some none are same = absurd (c
 script_count (Some t) (Some o) os (Some m) scripts [] has some none are same = absurd are
 script_count (Some t) (Some o) os (Some m) scripts (f ∷ fs) has some none are same = omega (arith, same, after_length f.end scripts fs are.1)
 script_count (Some t) (Some o) os None scripts fs has some none are same = absurd (cc (some t refl).1)
-script_count None (Some o) os flow scripts fs has some none are same = absurd has
-script_count (Some t) None os flow scripts fs has some none are same = absurd has
+script_count None (Some o) os flow scripts fs has some none are same = absurd (cc has)
+script_count (Some t) None os flow scripts fs has some none are same = absurd (cc has)
 
 module _ (setup : Setup) where
   has_flow : (tree : Option Tree) (t : Tree) → tree ≡ Some t → (m : Flow) × (prelude_meant (limit_units setup.limit) tree ≡ Some m)
@@ -158,12 +158,12 @@ module _ (setup : Setup) where
       let few = script_count prelude ran.prelude ran.scripts.items (prelude_meant (limit_units setup.limit) prelude) (scripts_meant (limit_units setup.limit) prelude scripts) p.files p.has_prelude (has_flow prelude) (no_flow prelude) p.are same in
       omega (arith, few, meant)
 
-same_prelude : (source : Option SourceText) (tree : Option Tree) (outcome : Option Outcome) → SpellsPrelude (option_map source_for source) tree → HasOutcome tree outcome → SamePrelude source outcome
+same_prelude : (source : Option SourceText) (tree : Option Tree) (outcome : Option Outcome) → SpellsPrelude (option_map source_for source) tree → is_some tree ≡ is_some outcome → SamePrelude source outcome
 same_prelude None None None spells has = tt
-same_prelude None None (Some o) spells has = absurd has
+same_prelude None None (Some o) spells has = absurd (cc has)
 same_prelude None (Some t) outcome spells has = absurd spells
 same_prelude (Some s) None outcome spells has = absurd spells
-same_prelude (Some s) (Some t) None spells has = absurd has
+same_prelude (Some s) (Some t) None spells has = absurd (cc has)
 same_prelude (Some s) (Some t) (Some o) spells has = tt
 
 pub named : (setup : Setup) (sources : Sources) (trees : Program Tree) (ran : Ran) → Spell (sources_for sources) trees → IsRan setup trees.prelude trees.scripts ran → HasNames sources ran

@@ -1,5 +1,5 @@
 -- How files ended that were run, and what is meant.
-use Rattle.std.proofs.Common.{◌≡◌, ◌⊎◌, inl, inr, ⊎_elim, ℕ, List, [], ◌∷◌, ◌++◌, map, Option, None, Some, refl, sym, ap, ap₂, ◌∙◌, append-nil, arith, subst, option_to_list, flat_map}
+use Rattle.std.proofs.Common.{◌≡◌, ◌⊎◌, inl, inr, ⊎_elim, ℕ, List, [], ◌∷◌, ◌++◌, map, Option, None, Some, refl, sym, ap, ap₂, ◌∙◌, append-nil, arith, subst, option_to_list, flat_map, is_some}
 use Rattle.std.specs.List.{concat}
 use Rattle.js_store.specs.State.{State, StoreSizes}
 use Rattle.eval_tree.specs.Tree.{Tree}
@@ -17,7 +17,7 @@ use Rattle.run_program.proofs.Tells.{lines_meant}
 use Rattle.run_command.specs.Words.{Request}
 use Rattle.run_sources.specs.Program.{FileName, Program, in_order}
 use Rattle.run_program.specs.declared.ran.Ran.{Ran}
-use Rattle.run_program.specs.Ran.{HasOutcome, IsRan, setup_sizes, state_kept}
+use Rattle.run_program.specs.Ran.{IsRan, setup_sizes, state_kept}
 use Rattle.js_run.specs.Asked.{setup_of}
 use Rattle.js_run.specs.Meant.{all_flows, ends_meant, run_after, status_meant, out_meant}
 use Rattle.js_run.specs.Rows.{FirstFull}
@@ -152,15 +152,15 @@ same_lines : (os : List Outcome) (ms : List Flow) → map (λ o. o.lines) os ≡
 same_lines os ms is = printed_is os ∙ ap concat is ∙ sym (meant_is ms)
 
 -- the prelude, if there is one, has the first lines
-scripts_lines : (tree : Option Tree) (outcome : Option Outcome) (os : List Outcome) (flow : Option Flow) (flows : List Flow) → HasOutcome tree outcome
+scripts_lines : (tree : Option Tree) (outcome : Option Outcome) (os : List Outcome) (flow : Option Flow) (flows : List Flow) → is_some tree ≡ is_some outcome
     → ((t : Tree) → tree ≡ Some t → (m : Flow) × (flow ≡ Some m)) → (tree ≡ None → flow ≡ None)
     → map (λ o. o.lines) (option_to_list outcome ++ os) ≡ map (λ m. concat m.lines) (all_meant flow flows) → flat_map (λ (o : Outcome). o.lines) os ≡ flat_map (λ (m : Flow). concat m.lines) (run_after flow flows)
 scripts_lines None None os None flows has some none is = same_lines os flows is
 scripts_lines None None os (Some m) flows has some none is = absurd (cc (none refl))
 scripts_lines (Some t) (Some o) os (Some m) flows has some none is = same_lines os (run_after (Some m) flows) (ap behind is)
 scripts_lines (Some t) (Some o) os None flows has some none is = absurd (cc (some t refl).1)
-scripts_lines None (Some o) os flow flows has some none is = absurd has
-scripts_lines (Some t) None os flow flows has some none is = absurd has
+scripts_lines None (Some o) os flow flows has some none is = absurd (cc has)
+scripts_lines (Some t) None os flow flows has some none is = absurd (cc has)
 
 -- ---- a program that was run
 

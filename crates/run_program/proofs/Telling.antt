@@ -1,5 +1,5 @@
 -- What is told of a heap on which all files were run.
-use Rattle.std.proofs.Common.{◌≡◌, ℕ, List, refl, sym, ap, subst, ◌∙◌, arith, Option, Some, None, if◌then◌else◌}
+use Rattle.std.proofs.Common.{◌≡◌, ℕ, List, refl, sym, ap, subst, ◌∙◌, arith, Option, Some, None, if◌then◌else◌, is_some}
 use Rattle.atomic_table.specs.Seated.{TableId}
 use Rattle.js_store.specs.Faults.{StoreStep}
 use Rattle.js_store.specs.Limits.{limit_units}
@@ -25,7 +25,7 @@ use Rattle.run_program.proofs.Tells.{tells}
 use Rattle.run_program.specs.declared.ran.Ran.{Ran}
 use Rattle.run_program.specs.declared.ran.Setup.{Setup}
 use Rattle.run_program.specs.Meant.{prelude_meant, scripts_meant}
-use Rattle.run_program.specs.Ran.{IsRan, HasOutcome, setup_sizes, state_kept}
+use Rattle.run_program.specs.Ran.{IsRan, setup_sizes, state_kept}
 use Rattle.run_program.specs.Stages.{HaveRun, HaveRunFrom, IsTold}
 use Rattle.run_program.specs.Fits.{all_meant}
 
@@ -111,11 +111,9 @@ module _ (setup : Setup) (h : Heap) (prelude : Option Tree) (trees : List Tree) 
   kept_told = told setup (table_of h) prelude trees first os interned b d grows_begun have_begun has_all step_total same_history counts_begun
 
 -- what is kept
-same_prelude : (limit : ℕ) (prelude : Option Tree) (first : Option Outcome) → HasOutcome (prelude_meant limit prelude) first → HasOutcome prelude first
-same_prelude limit None None h = tt
-same_prelude limit (Some tree) (Some o) h = tt
-same_prelude limit None (Some o) h = absurd h
-same_prelude limit (Some tree) None h = absurd h
+same_prelude : (limit : ℕ) (prelude : Option Tree) (first : Option Outcome) → is_some (prelude_meant limit prelude) ≡ is_some first → is_some prelude ≡ is_some first
+same_prelude limit None first h = h
+same_prelude limit (Some tree) first h = h
 
 pub is_ran : (setup : Setup) (prelude : Option Tree) (trees : List Tree) (ran : Ran) → size_of ran.kept.heap ≡ setup.size → Belongs ran.kept.agent ran.kept.heap
     → IsTold setup (state_kept setup ran.kept) prelude trees ran.prelude ran.scripts.items ran.interned → IsRan setup prelude trees ran

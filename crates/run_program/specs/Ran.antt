@@ -1,5 +1,5 @@
 -- What came of a prelude and scripts that were run on a heap of their own.
-use Rattle.std.specs.Prelude.{◌≡◌, ℕ, ◌+◌, List, [], ◌∷◌, map, Option, Some, None, option_to_list, ◌++◌, if◌then◌else◌}
+use Rattle.std.specs.Prelude.{◌≡◌, ℕ, ◌+◌, List, [], ◌∷◌, map, Option, Some, None, option_to_list, ◌++◌, if◌then◌else◌, is_some}
 use Rattle.std.specs.Borrow.{Bor}
 use Rattle.js_store.specs.Limits.{limit_units}
 use Rattle.js_store.specs.State.{State, StoreSizes}
@@ -33,13 +33,6 @@ tree_if (Some script) = Some (tree_of script.now)
 abbrev pub trees_of : List Script → List Tree
 trees_of scripts = map tree_of scripts
 
--- there is an outcome of the prelude exactly where there is a prelude
-abbrev pub HasOutcome : {A : Type 0} → Option A → Option Outcome → Type 0
-HasOutcome None None = Unit {0}
-HasOutcome (Some prelude) (Some outcome) = Unit {0}
-HasOutcome None (Some outcome) = ⊥
-HasOutcome (Some prelude) None = ⊥
-
 -- the numbers of their places, from this one up
 abbrev pub AreInPlaces : ℕ → List Outcome → Type 0
 AreInPlaces place [] = Unit {0}
@@ -55,7 +48,8 @@ pub record IsRan (setup : Setup) (prelude : Option Tree) (scripts : List Tree) (
   -- the ends, and the bytes of the lines
   pub ends : map (λ f. f.end) files ≡ map (λ o. o.end) (option_to_list ran.prelude ++ ran.scripts.items)
   pub lines : map (λ f. f.lines) files ≡ map (λ o. o.lines) (option_to_list ran.prelude ++ ran.scripts.items)
-  pub has_prelude : HasOutcome prelude ran.prelude
+  -- there is an outcome of the prelude exactly where there is a prelude
+  pub has_prelude : is_some prelude ≡ is_some ran.prelude
   pub in_places : AreInPlaces 0 ran.scripts.items
   -- what the agent says of the heap
   pub run : AreRun (setup_sizes setup) (state_kept setup ran.kept) files

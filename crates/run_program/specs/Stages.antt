@@ -1,6 +1,6 @@
 -- Helpers: no public contract reaches these definitions.
 -- What the stages of a run leave.
-use Rattle.std.specs.Prelude.{◌≡◌, ℕ, ◌+◌, ◌≤◌, List, [], ◌∷◌, map, Option, option_to_list, ◌++◌, if◌then◌else◌, Some, None}
+use Rattle.std.specs.Prelude.{◌≡◌, ℕ, ◌+◌, ◌≤◌, List, [], ◌∷◌, map, Option, option_to_list, ◌++◌, if◌then◌else◌, Some, None, is_some}
 use Rattle.js_store.specs.State.{State, StoreSizes}
 use Rattle.eval_tree.specs.Tree.{Tree, tree_of}
 use Rattle.js_eval.specs.Script.{Flow}
@@ -12,7 +12,7 @@ use Rattle.run_program.specs.declared.job.Outcome.{Outcome}
 use Rattle.run_program.specs.Files.{RunFile, AreRun, AreFilesOf}
 use Rattle.run_program.specs.Meant.{prelude_meant, scripts_meant}
 use Rattle.run_program.specs.declared.ran.Setup.{Setup}
-use Rattle.run_program.specs.Ran.{HasOutcome, AreInPlaces, setup_sizes}
+use Rattle.run_program.specs.Ran.{AreInPlaces, setup_sizes}
 use Rattle.js_store.specs.Limits.{limit_units}
 
 abbrev pub job_trees : List Job → List Tree
@@ -34,7 +34,7 @@ pub record HaveRun (z : StoreSizes) (s : State SessionFrame) (prelude : Option F
   pub are : AreFilesOf prelude scripts files
   pub ends : map (λ f. f.end) files ≡ map (λ o. o.end) (option_to_list first ++ outcomes)
   pub lines : map (λ f. f.lines) files ≡ map (λ o. o.lines) (option_to_list first ++ outcomes)
-  pub has_prelude : HasOutcome prelude first
+  pub has_prelude : is_some prelude ≡ is_some first
   pub in_places : AreInPlaces 0 outcomes
   pub run : AreRun z s files
 
