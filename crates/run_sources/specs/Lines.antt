@@ -23,11 +23,11 @@ generated_line k a b c =
     if k == 0 then codes "n = n + all.indexOf(w" ++ (decimal a ++ codes ");\n")
     else (if k == 1 then codes "acc = (acc + w" ++ (decimal a ++ (codes ".padStart("
     ++ (decimal (c + 20) ++ (codes ", w" ++ (decimal b ++ codes ")).slice(-16);\n")))))
-    else (if k == 2
-    then codes "acc = (acc + w" ++ (decimal a ++ (codes ".repeat(" ++ (decimal c ++ codes ")).slice(-16);\n")))
+    else (if k == 2 then codes "acc = (acc + w" ++ (decimal a ++ (codes ".repeat("
+    ++ (decimal c ++ codes ")).slice(-16);\n")))
     else (if k == 3 then codes "if (Symbol.for(w" ++ (decimal a ++ (codes " + w" ++ (decimal b
-    ++ (codes ") === Symbol.for(w"
-    ++ (decimal b ++ (codes " + w" ++ (decimal a ++ codes ")) { n = n + 1; }\n")))))))
+    ++ (codes ") === Symbol.for(w" ++ (decimal b ++ (codes " + w"
+    ++ (decimal a ++ codes ")) { n = n + 1; }\n")))))))
     else (if k == 4 then codes "n = n + all.replaceAll(',', w" ++ (decimal a ++ codes ").length;\n")
     else codes "n = n + all.split(',')["
     ++ (decimal a ++ (codes "].length + JSON.stringify(w" ++ (decimal b ++ codes ").length;\n")))))))
