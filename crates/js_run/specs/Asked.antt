@@ -1,8 +1,6 @@
 -- What is to be run for a request: which sources, on which heap, and whether different strings are counted.
 use Rattle.std.specs.Prelude.{◌≡◌, ℕ, List, [], Bool, true, Option, None}
-use Rattle.heap_rule.specs.declared.size.HeapSize.{HeapSize}
 use Rattle.run_sources.specs.Texts.{Named, generated}
-use Rattle.run_command.specs.declared.plan.Sizes.{Sizes}
 use Rattle.run_command.specs.Words.{Asked, Request, files, made_from}
 use Rattle.run_sources.specs.Program.{FileName, Program, program_from}
 use Rattle.run_sources.specs.Reading.{AreRead}

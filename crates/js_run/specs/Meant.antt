@@ -1,6 +1,6 @@
 -- What is meant to be reported: every file ends and prints as ECMA-262 says of it, each script after the
 -- prelude.
-use Rattle.std.specs.Prelude.{ℕ, List, [], ◌∷◌, ◌++◌, map, Option, None, Some, flat_map}
+use Rattle.std.specs.Prelude.{ℕ, List, ◌++◌, map, Option, None, Some, flat_map}
 use Rattle.std.specs.List.{concat}
 use Rattle.eval_tree.specs.Tree.{Tree}
 use Rattle.js_eval.specs.declared.ending.End.{End}
@@ -8,10 +8,8 @@ use Rattle.js_eval.specs.Evaluates.{script_end}
 use Rattle.js_eval.specs.Script.{Flow}
 use Rattle.run_program.specs.Fits.{after_prelude, all_meant}
 use Rattle.run_command.specs.Words.{Request}
-use Rattle.run_sources.specs.Program.{FileName, Program, in_order}
-use Rattle.js_run.specs.Asked.{setup_of}
-use Rattle.js_run.specs.Verdict.{count_line, end_lines, status_of}
-use Rattle.js_io.specs.Report.{Report, Printed}
+use Rattle.run_sources.specs.Program.{Program}
+use Rattle.js_run.specs.Verdict.{count_line, status_of}
 use Rattle.js_store.specs.Limits.{limit_units}
 use Rattle.run_program.specs.Meant.{prelude_meant, scripts_meant}
 

@@ -8,7 +8,6 @@ use Rattle.eval_values.specs.declared.value.Kind.{Kind}
 use Rattle.eval_values.specs.declared.value.Kind.TheVariants.{RangeError, TypeError, ReferenceError, UriError}
 use Rattle.js_eval.specs.declared.ending.End.{End}
 use Rattle.js_eval.specs.declared.ending.End.TheVariants.{Done, Threw, Unsupported, Full, Memory}
-use Rattle.run_program.specs.declared.job.Outcome.{Outcome}
 use Rattle.run_sources.specs.Program.{FileName, Program, in_order}
 use Rattle.run_program.specs.Kept.{HeapKept}
 use Rattle.run_program.specs.declared.ran.Ran.{Ran}

@@ -1,9 +1,8 @@
 -- The command: its options with their defaults, and the arguments that name files.
-use Rattle.std.specs.Prelude.{List, [], ◌∷◌, ◌++◌, Bool, Some, codes, fold, pos}
+use Rattle.std.specs.Prelude.{List, [], ◌∷◌, ◌++◌, Some, codes, fold, pos}
 use Rattle.clap.specs.declared.builder.action.ArgAction.TheVariants.{Append, SetTrue}
 use Rattle.clap.specs.declared.builder.value_parser.ValueParser.TheVariants as parser
-use Rattle.clap.specs.Walk.{is_empty}
-use Rattle.clap.specs.Words.{App, Rule, Text, fault_of, new_app, new_rule, with_rule}
+use Rattle.clap.specs.Words.{App, Rule, Text, new_app, new_rule, with_rule}
 
 -- `--NAME VALUE` or `--NAME=VALUE`
 abbrev pub option_rule : Text → Rule

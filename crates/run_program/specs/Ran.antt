@@ -5,7 +5,6 @@ use Rattle.js_store.specs.Limits.{limit_units}
 use Rattle.js_store.specs.State.{State, StoreSizes}
 use Rattle.eval_tree.specs.declared.tree.Script.{Script}
 use Rattle.eval_tree.specs.Tree.{Tree, tree_of}
-use Rattle.js_eval.specs.Script.{Flow}
 use Rattle.heap_table.specs.Agents.{view_of}
 use Rattle.heap_intern.specs.Counting.{different}
 use Rattle.heap_intern.specs.Sessions.{SessionFrame, state_by, table_of}
