@@ -17,8 +17,8 @@ use Rattle.run_program.specs.Jobs.{JobUse}
 use Rattle.run_program.specs.Fits.{Fits, count_different, all_meant, ids_needed, words_needed, lists_interned}
 use Rattle.run_program.specs.Files.{RunFile, AreRun, AreFilesOf, IsAsMeant, means_of}
 
--- A file ended Full for slots: the history holds as many different lists as there are slots, and the next list
--- that the file was to intern is not among them. The files intern more different lists.
+-- A file ended Full for slots: the history holds as many different lists as there are slots, and the next
+-- list that the file was to intern is not among them. The files intern more different lists.
 pub record SlotsRanOut {F : Type 0} (z : StoreSizes) (s : State F) (means : List Flow) (m : Flow)
     (part : JobUse) : Type 0 where
   pub held : different s.history ≡ z.slots
@@ -28,9 +28,9 @@ pub record SlotsRanOut {F : Type 0} (z : StoreSizes) (s : State F) (means : List
   pub missing : (n : ℕ) → Interned s next n → ⊥
   pub unfit : z.slots < count_different (lists_interned means)
 
--- What a file ran out of, by the report with which it ended. For ids: all ids of the heap are claimed, and the
--- files need more. For words: what is claimed and the need of that file pass the heap's end, and the files
--- need more words.
+-- What a file ran out of, by the report with which it ended. For ids: all ids of the heap are claimed, and
+-- the files need more. For words: what is claimed and the need of that file pass the heap's end, and the
+-- files need more words.
 abbrev pub RanOut : {F : Type 0} → StoreSizes → State F → List Flow → Flow → JobUse → FullReport → Type 0
 RanOut z s means m part (Ids at want end) = (s.used_ids ≡ z.ids) × (z.ids < ids_needed means)
 RanOut z s means m part (Words at want end) =
