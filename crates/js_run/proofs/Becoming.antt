@@ -1,5 +1,5 @@
 -- What the stages of a call leave, one behind the other.
-use Rattle.std.proofs.Common.{◌≡◌, ◌≤◌, ℕ, zero, suc, List, [], ◌∷◌, length, option_map, Option, None, Some, refl, sym, ap, subst, arith}
+use Rattle.std.proofs.Common.{◌≡◌, ◌≤◌, ℕ, zero, suc, List, [], ◌∷◌, length, option_map, Option, None, Some, refl, sym, ap, subst, arith, option_to_list, ◌++◌, is_some}
 use Rattle.std.proofs.lemmas.List.{length-append, length-map}
 use Rattle.heap_rule.specs.Layout.{IsLawfulSize}
 use Rattle.heap_table.specs.MayMake.{MayMake}
@@ -29,11 +29,11 @@ use Rattle.run_sources.specs.Spelling as spelling
 use Rattle.run_sources.specs.Spelling.{AllSpell, Spell, SpellsPrelude}
 use Rattle.run_program.specs.declared.ran.Ran.{Ran}
 use Rattle.run_program.specs.declared.ran.Setup.{Setup}
-use Rattle.run_program.specs.Meant.{left_by}
-use Rattle.run_program.specs.Ran.{HasOutcome, IsRan, all_outcomes, prelude_by, scripts_by, tree_if}
+use Rattle.run_program.specs.Meant.{left_by, prelude_meant, scripts_meant}
+use Rattle.run_program.specs.Ran.{IsRan, tree_if}
 use Rattle.js_run.specs.Answer.{Becomes, HasNames, SamePrelude, stop_report}
 use Rattle.js_run.specs.Asked.{AreTexts, setup_of}
-use Rattle.js_run.specs.Cause.{HasCauseBy, HasCauseIn, HasCauseOf, names_in}
+use Rattle.js_run.specs.Cause.{HasCauseBy, HasCauseOf, names_in}
 use Rattle.js_io.specs.Report.{IsEnd, Sinks}
 use Rattle.js_run.specs.Moment.{Ended, Moment}
 use Rattle.js_run.specs.Outcome.{CallOutcome as OutcomeOf}
@@ -67,13 +67,13 @@ module _ (setup : Setup) (sources : Program Named) (ended : Ended) (old new : Si
 module _ (request : Request) (before after : FilesState) (ended : Ended) (old new : Sinks) where
   -- a file wasn't read, or memory was wanting
   pub file_stopped : (prelude : Option FileName) (scripts : List FileName) (s : ScriptsFault) → request.asked ≡ files prelude scripts → RefusesFile before after (in_order (record { prelude = prelude; scripts = scripts })) s
-      → ended.kept ≡ None → IsEnd (stop_report s) ended.code old new → Becomes (HasCauseIn before after request) ended old new
+      → ended.kept ≡ None → IsEnd (stop_report s) ended.code old new → Becomes (HasCauseBy (Some request) before after) ended old new
   file_stopped prelude scripts (stop.NotRead name) asked why none end = record { verdict = NotRead name.now; cause = rw (asked) why; ending = end; kept = none }
   file_stopped prelude scripts (stop.TooLarge name) asked why none end = record { verdict = TooLarge name.now; cause = rw (asked) why; ending = end; kept = none }
   file_stopped prelude scripts stop.NoMemory asked why none end = record { verdict = NoMemory; cause = why; ending = end; kept = none }
   file_stopped prelude scripts (stop.Refused name fault) asked why none end = absurd why
 
-  of_texts : (sources : Program Named) → AreTexts request.asked before.held sources → IsQuiet before after → (v : Verdict) → HasCauseOf (setup_of request) sources v → HasCauseIn before after request v
+  of_texts : (sources : Program Named) → AreTexts request.asked before.held sources → IsQuiet before after → (v : Verdict) → HasCauseOf (setup_of request) sources v → HasCauseBy (Some request) before after v
   of_texts sources texts quiet BadWords why = absurd why
   of_texts sources texts quiet (NotRead name) why = absurd why
   of_texts sources texts quiet (TooLarge name) why = absurd why
@@ -82,18 +82,18 @@ module _ (request : Request) (before after : FilesState) (ended : Ended) (old ne
   of_texts sources texts quiet (WasRun names ran) why = record { sources = sources; texts = texts; quiet = quiet; cause = why }
 
   pub texts_became : (sources : Program Named) → AreTexts request.asked before.held sources → IsQuiet before after → Becomes (HasCauseOf (setup_of request) sources) ended old new
-      → Becomes (HasCauseIn before after request) ended old new
+      → Becomes (HasCauseBy (Some request) before after) ended old new
   texts_became sources texts quiet b = record { verdict = b.verdict; cause = of_texts sources texts quiet b.verdict b.cause; ending = b.ending; kept = b.kept }
 
   pub files_became : (prelude : Option FileName) (scripts : List FileName) (sources : Program Named) (setup : Setup) → request.asked ≡ files prelude scripts → setup ≡ setup_of request
       → AreRead before.held (record { prelude = prelude; scripts = scripts }) sources → IsQuiet before after → Becomes (HasCauseOf setup sources) ended old new
-      → Becomes (HasCauseIn before after request) ended old new
+      → Becomes (HasCauseBy (Some request) before after) ended old new
   files_became prelude scripts sources setup asked is read quiet b =
       texts_became sources (subst (λ (a : Asked). AreTexts a before.held sources) (sym asked) read) quiet
       (subst (λ (s : Setup). Becomes (HasCauseOf s sources) ended old new) is b)
 
   pub made_became : (number : ℕ) (setup : Setup) → request.asked ≡ made_from number → setup ≡ setup_of request → IsQuiet before after
-      → Becomes (HasCauseOf setup (program_from (generated number))) ended old new → Becomes (HasCauseIn before after request) ended old new
+      → Becomes (HasCauseOf setup (program_from (generated number))) ended old new → Becomes (HasCauseBy (Some request) before after) ended old new
   made_became number setup asked is quiet b =
       let sources : Program Named = program_from (generated number) in
       texts_became sources (subst (λ (a : Asked). AreTexts a before.held sources) (sym asked) refl) quiet
@@ -129,41 +129,41 @@ after_length (Unsupported at) scripts fs is = let same = ap length is in omega (
 after_length (Full report) scripts fs is = let same = ap length is in omega (arith, same)
 after_length Memory scripts fs is = let same = ap length is in omega (arith, same)
 
-script_count : (tree : Option Tree) (outcome : Option Outcome) (os : List Outcome) (flow : Option Flow) (scripts : List Flow) (fs : List RunFile) → HasOutcome tree outcome
+script_count : (tree : Option Tree) (outcome : Option Outcome) (os : List Outcome) (flow : Option Flow) (scripts : List Flow) (fs : List RunFile) → is_some tree ≡ is_some outcome
     → ((t : Tree) → tree ≡ Some t → (m : Flow) × (flow ≡ Some m)) → (tree ≡ None → flow ≡ None)
-    → AreFilesOf flow scripts fs → length fs ≡ length (all_outcomes outcome os) → length os ≤ length scripts
+    → AreFilesOf flow scripts fs → length fs ≡ length (option_to_list outcome ++ os) → length os ≤ length scripts
 script_count None None os None scripts fs has some none are same = let long = length-map fs (λ (f : RunFile). f.mean) in omega (arith, same, ap length are, long)
 script_count None None os (Some m) scripts fs has some none are same = absurd (cc (none refl))
 script_count (Some t) (Some o) os (Some m) scripts [] has some none are same = absurd are
 script_count (Some t) (Some o) os (Some m) scripts (f ∷ fs) has some none are same = omega (arith, same, after_length f.end scripts fs are.1)
 script_count (Some t) (Some o) os None scripts fs has some none are same = absurd (cc (some t refl).1)
-script_count None (Some o) os flow scripts fs has some none are same = absurd has
-script_count (Some t) None os flow scripts fs has some none are same = absurd has
+script_count None (Some o) os flow scripts fs has some none are same = absurd (cc has)
+script_count (Some t) None os flow scripts fs has some none are same = absurd (cc has)
 
 module _ (setup : Setup) where
-  has_flow : (tree : Option Tree) (t : Tree) → tree ≡ Some t → (m : Flow) × (prelude_by setup tree ≡ Some m)
+  has_flow : (tree : Option Tree) (t : Tree) → tree ≡ Some t → (m : Flow) × (prelude_meant (limit_units setup.limit) tree ≡ Some m)
   has_flow None t is = absurd (cc is)
   has_flow (Some x) t is = (_, refl)
 
-  no_flow : (tree : Option Tree) → tree ≡ None → prelude_by setup tree ≡ None
+  no_flow : (tree : Option Tree) → tree ≡ None → prelude_meant (limit_units setup.limit) tree ≡ None
   no_flow None is = refl
   no_flow (Some x) is = absurd (cc is)
 
   pub run_length : (prelude : Option Tree) (scripts : List Tree) (ran : Ran) → IsRan setup prelude scripts ran → length ran.scripts.items ≤ length scripts
   run_length prelude scripts ran p =
       let many = length-map p.files (λ (f : RunFile). f.end) in
-      let as_many = length-map (all_outcomes ran.prelude ran.scripts.items) (λ (o : Outcome). o.end) in
-      let meant = length-map scripts (λ (tree : Tree). meaning tree (left_by (prelude_by setup prelude)) (limit_units setup.limit)) in
-      let same : length p.files ≡ length (all_outcomes ran.prelude ran.scripts.items) = omega (arith, many, as_many, ap length p.ends) in
-      let few = script_count prelude ran.prelude ran.scripts.items (prelude_by setup prelude) (scripts_by setup prelude scripts) p.files p.has_prelude (has_flow prelude) (no_flow prelude) p.are same in
+      let as_many = length-map (option_to_list ran.prelude ++ ran.scripts.items) (λ (o : Outcome). o.end) in
+      let meant = length-map scripts (λ (tree : Tree). meaning tree (left_by (prelude_meant (limit_units setup.limit) prelude)) (limit_units setup.limit)) in
+      let same : length p.files ≡ length (option_to_list ran.prelude ++ ran.scripts.items) = omega (arith, many, as_many, ap length p.ends) in
+      let few = script_count prelude ran.prelude ran.scripts.items (prelude_meant (limit_units setup.limit) prelude) (scripts_meant (limit_units setup.limit) prelude scripts) p.files p.has_prelude (has_flow prelude) (no_flow prelude) p.are same in
       omega (arith, few, meant)
 
-same_prelude : (source : Option SourceText) (tree : Option Tree) (outcome : Option Outcome) → SpellsPrelude (option_map source_for source) tree → HasOutcome tree outcome → SamePrelude source outcome
+same_prelude : (source : Option SourceText) (tree : Option Tree) (outcome : Option Outcome) → SpellsPrelude (option_map source_for source) tree → is_some tree ≡ is_some outcome → SamePrelude source outcome
 same_prelude None None None spells has = tt
-same_prelude None None (Some o) spells has = absurd has
+same_prelude None None (Some o) spells has = absurd (cc has)
 same_prelude None (Some t) outcome spells has = absurd spells
 same_prelude (Some s) None outcome spells has = absurd spells
-same_prelude (Some s) (Some t) None spells has = absurd has
+same_prelude (Some s) (Some t) None spells has = absurd (cc has)
 same_prelude (Some s) (Some t) (Some o) spells has = tt
 
 pub named : (setup : Setup) (sources : Sources) (trees : Program Tree) (ran : Ran) → Spell (sources_for sources) trees → IsRan setup trees.prelude trees.scripts ran → HasNames sources ran
@@ -199,7 +199,7 @@ module _ (words : List (List ℕ)) (ended : Ended) where
       record { verdict = v; cause = why; ending = end; kept = kept; keeps = record { files = keeps; out = counts.0; err = counts.1 } }
 
   pub lawful_outcome : (request : Request) (old new : Moment) → request_of words ≡ Some request → KeepsFiles old.files new.files
-      → Becomes (HasCauseIn old.files new.files request) ended old.sinks new.sinks → OutcomeOf words ended old new
+      → Becomes (HasCauseBy (Some request) old.files new.files) ended old.sinks new.sinks → OutcomeOf words ended old new
   lawful_outcome request old new lawful keeps b =
       outcome old new b.verdict keeps (subst (λ (r : Option Request). HasCauseBy r old.files new.files b.verdict) (sym lawful) b.cause) b.ending b.kept
 

@@ -1,5 +1,5 @@
 -- How files ended that were run, and what is meant.
-use Rattle.std.proofs.Common.{◌≡◌, ◌⊎◌, inl, inr, ⊎_elim, ℕ, List, [], ◌∷◌, ◌++◌, map, Option, None, Some, refl, sym, ap, ap₂, ◌∙◌, append-nil, arith, subst}
+use Rattle.std.proofs.Common.{◌≡◌, ◌⊎◌, inl, inr, ⊎_elim, ℕ, List, [], ◌∷◌, ◌++◌, map, Option, None, Some, refl, sym, ap, ap₂, ◌∙◌, append-nil, arith, subst, option_to_list, flat_map, is_some}
 use Rattle.std.specs.List.{concat}
 use Rattle.js_store.specs.State.{State, StoreSizes}
 use Rattle.eval_tree.specs.Tree.{Tree}
@@ -9,19 +9,22 @@ use Rattle.js_eval.specs.declared.ending.End.TheVariants.{Done, Threw, Unsupport
 use Rattle.js_eval.specs.Evaluates.{script_end}
 use Rattle.js_eval.specs.Script.{Flow}
 use Rattle.run_program.specs.declared.job.Outcome.{Outcome}
-use Rattle.run_program.specs.Files.{RunFile, IsAsMeant, means_of}
+use Rattle.run_program.specs.Files.{RunFile, IsAsMeant, WasFileRun, means_of}
 use Rattle.run_program.specs.Fits.{Fits, all_meant}
-use Rattle.run_program.specs.Tells.{EndTells, FileTells, IsMeantOrMemory}
+use Rattle.run_program.specs.Tells.{EndTells}
 use Rattle.run_program.proofs.First.{AreFirst, are_first}
+use Rattle.run_program.proofs.Tells.{lines_meant}
 use Rattle.run_command.specs.Words.{Request}
 use Rattle.run_sources.specs.Program.{FileName, Program, in_order}
 use Rattle.run_program.specs.declared.ran.Ran.{Ran}
-use Rattle.run_program.specs.Ran.{HasOutcome, IsRan, all_outcomes, prelude_by, scripts_by, setup_sizes, state_kept}
+use Rattle.run_program.specs.Ran.{IsRan, setup_sizes, state_kept}
 use Rattle.js_run.specs.Asked.{setup_of}
-use Rattle.js_run.specs.Meant.{all_flows, ends_meant, printed_meant, report_meant, run_after, script_flows, status_meant, out_meant}
+use Rattle.js_run.specs.Meant.{all_flows, ends_meant, run_after, status_meant, out_meant}
 use Rattle.js_run.specs.Rows.{FirstFull}
-use Rattle.js_run.specs.Verdict.{WasRun, count_line, end_line, end_lines, ends_of, err_of, out_of, printed_by, report_of, status_of, status_or}
+use Rattle.js_run.specs.Verdict.{WasRun, count_line, end_line, end_lines, ends_of, err_of, out_of, report_of, status_of, status_or}
 use Rattle.js_io.specs.Report.{Printed}
+use Rattle.js_store.specs.Limits.{limit_units}
+use Rattle.run_program.specs.Meant.{prelude_meant, scripts_meant}
 
 -- ---- the statuses of files that were run
 
@@ -61,12 +64,15 @@ file_ends files = map (λ f. f.end) files
 -- ---- what files tell that were run
 
 module _ {F : Type 0} (z : StoreSizes) (s : State F) (means : List Flow) where
+  abbrev Tells : RunFile → Type 0
+  Tells f = EndTells z s means f.mean f.part f.end
+
   -- where all ended Done, all ended as they are meant
-  done_meant : (files : List RunFile) → Every (FileTells z s means) files → status_of (file_ends files) ≡ 0 → Every IsAsMeant files
+  done_meant : (files : List RunFile) → Every Tells files → status_of (file_ends files) ≡ 0 → Every IsAsMeant files
   done_meant [] tells is = tt
   done_meant (f ∷ files) tells is =
       let one = done_one f.end (status_of (file_ends files)) is in
-      let meant : Done ≡ script_end f.mean.out = subst (λ (e : End). EndTells z s means f.mean f.part e) one.0 tells.0.end in
+      let meant : Done ≡ script_end f.mean.out = subst (λ (e : End). EndTells z s means f.mean f.part e) one.0 tells.0 in
       (one.0 ∙ meant, done_meant files tells.1 one.1)
 
   early_one : (e : End) (f : RunFile) (later other : ℕ) → EndTells z s means f.mean f.part e → status_or e later ≡ 1 → (later ≡ 1 → other ≡ 1) → status_or (script_end f.mean.out) other ≡ 1
@@ -77,12 +83,12 @@ module _ {F : Type 0} (z : StoreSizes) (s : State F) (means : List Flow) where
   early_one Memory f later other tells is more = absurd (omega (arith, is))
 
   -- where the first file that didn't end Done has status 1, it is the first that isn't meant to end Done
-  early_meant : (files : List RunFile) (rest : List Flow) → Every (FileTells z s means) files → status_of (file_ends files) ≡ 1 → status_of (ends_meant (means_of files ++ rest)) ≡ 1
+  early_meant : (files : List RunFile) (rest : List Flow) → Every Tells files → status_of (file_ends files) ≡ 1 → status_of (ends_meant (means_of files ++ rest)) ≡ 1
   early_meant [] rest tells is = absurd (omega (arith, is))
   early_meant (f ∷ files) rest tells is =
-      early_one f.end f (status_of (file_ends files)) (status_of (ends_meant (means_of files ++ rest))) tells.0.end is (early_meant files rest tells.1)
+      early_one f.end f (status_of (file_ends files)) (status_of (ends_meant (means_of files ++ rest))) tells.0 is (early_meant files rest tells.1)
 
-  full_one : (f : RunFile) (files : List RunFile) (e : End) → f.end ≡ e → FileTells z s means f → status_or e (status_of (file_ends files)) ≡ 5
+  full_one : (f : RunFile) (files : List RunFile) (e : End) → f.end ≡ e → Tells f → status_or e (status_of (file_ends files)) ≡ 5
       → (status_of (file_ends files) ≡ 5 → FirstFull z s means files) → FirstFull z s means (f ∷ files)
   full_one f files Done is tells five more =
       let r = more five in
@@ -104,27 +110,27 @@ module _ {F : Type 0} (z : StoreSizes) (s : State F) (means : List Flow) where
     done = tt;
     report = report;
     full = is;
-    ran_out = subst (λ (x : End). EndTells z s means f.mean f.part x) is tells.end;
+    ran_out = subst (λ (x : End). EndTells z s means f.mean f.part x) is tells;
   }
   full_one f files (Threw k) is tells five more = absurd (omega (arith, five))
   full_one f files (Unsupported at) is tells five more = absurd (omega (arith, five))
   full_one f files Memory is tells five more = absurd (omega (arith, five))
 
   -- the first file that didn't end Done ended Full
-  first_full : (files : List RunFile) → Every (FileTells z s means) files → status_of (file_ends files) ≡ 5 → FirstFull z s means files
+  first_full : (files : List RunFile) → Every Tells files → status_of (file_ends files) ≡ 5 → FirstFull z s means files
   first_full [] tells is = absurd (omega (arith, is))
   first_full (f ∷ files) tells is = full_one f files f.end refl tells.0 is (first_full files tells.1)
 
   -- where all ended as they are meant, they printed what they are meant to
-  meant_lines : (files : List RunFile) → Every (FileTells z s means) files → Every IsAsMeant files → map (λ f. f.lines) files ≡ map (λ m. concat m.lines) (means_of files)
-  meant_lines [] tells all = refl
-  meant_lines (f ∷ files) tells all = ap₂ (λ l ls. l ∷ ls) (tells.0.lines all.0) (meant_lines files tells.1 all.1)
+  meant_lines : (files : List RunFile) → Every (WasFileRun s) files → Every IsAsMeant files → map (λ f. f.lines) files ≡ map (λ m. concat m.lines) (means_of files)
+  meant_lines [] run all = refl
+  meant_lines (f ∷ files) run all = ap₂ (λ l ls. l ∷ ls) (lines_meant s f run.0 all.0) (meant_lines files run.1 all.1)
 
 meant_ends : (files : List RunFile) → Every IsAsMeant files → file_ends files ≡ ends_meant (means_of files)
 meant_ends [] all = refl
 meant_ends (f ∷ files) all = ap₂ (λ e es. e ∷ es) all.0 (meant_ends files all.1)
 
-without_memory : (files : List RunFile) → Every IsMeantOrMemory files → Every (λ e. e ≡ Memory → ⊥) (file_ends files) → Every IsAsMeant files
+without_memory : (files : List RunFile) → Every (λ f. IsAsMeant f ⊎ (f.end ≡ Memory)) files → Every (λ e. e ≡ Memory → ⊥) (file_ends files) → Every IsAsMeant files
 without_memory [] all none = tt
 without_memory (f ∷ files) all none = (⊎_elim (λ is. is) (λ is. absurd (none.0 is)) all.0, without_memory files all.1 none.1)
 
@@ -134,27 +140,27 @@ abbrev behind : {X : Type 0} → List X → List X
 behind [] = []
 behind (x ∷ xs) = xs
 
-printed_is : (os : List Outcome) → printed_by os ≡ concat (map (λ o. o.lines) os)
+printed_is : (os : List Outcome) → flat_map (λ (o : Outcome). o.lines) os ≡ concat (map (λ o. o.lines) os)
 printed_is [] = refl
 printed_is (o ∷ os) = ap (λ l. o.lines ++ l) (printed_is os)
 
-meant_is : (ms : List Flow) → printed_meant ms ≡ concat (map (λ m. concat m.lines) ms)
+meant_is : (ms : List Flow) → flat_map (λ (m : Flow). concat m.lines) ms ≡ concat (map (λ m. concat m.lines) ms)
 meant_is [] = refl
 meant_is (m ∷ ms) = ap (λ l. concat m.lines ++ l) (meant_is ms)
 
-same_lines : (os : List Outcome) (ms : List Flow) → map (λ o. o.lines) os ≡ map (λ m. concat m.lines) ms → printed_by os ≡ printed_meant ms
+same_lines : (os : List Outcome) (ms : List Flow) → map (λ o. o.lines) os ≡ map (λ m. concat m.lines) ms → flat_map (λ (o : Outcome). o.lines) os ≡ flat_map (λ (m : Flow). concat m.lines) ms
 same_lines os ms is = printed_is os ∙ ap concat is ∙ sym (meant_is ms)
 
 -- the prelude, if there is one, has the first lines
-scripts_lines : (tree : Option Tree) (outcome : Option Outcome) (os : List Outcome) (flow : Option Flow) (flows : List Flow) → HasOutcome tree outcome
+scripts_lines : (tree : Option Tree) (outcome : Option Outcome) (os : List Outcome) (flow : Option Flow) (flows : List Flow) → is_some tree ≡ is_some outcome
     → ((t : Tree) → tree ≡ Some t → (m : Flow) × (flow ≡ Some m)) → (tree ≡ None → flow ≡ None)
-    → map (λ o. o.lines) (all_outcomes outcome os) ≡ map (λ m. concat m.lines) (all_meant flow flows) → printed_by os ≡ printed_meant (run_after flow flows)
+    → map (λ o. o.lines) (option_to_list outcome ++ os) ≡ map (λ m. concat m.lines) (all_meant flow flows) → flat_map (λ (o : Outcome). o.lines) os ≡ flat_map (λ (m : Flow). concat m.lines) (run_after flow flows)
 scripts_lines None None os None flows has some none is = same_lines os flows is
 scripts_lines None None os (Some m) flows has some none is = absurd (cc (none refl))
 scripts_lines (Some t) (Some o) os (Some m) flows has some none is = same_lines os (run_after (Some m) flows) (ap behind is)
 scripts_lines (Some t) (Some o) os None flows has some none is = absurd (cc (some t refl).1)
-scripts_lines None (Some o) os flow flows has some none is = absurd has
-scripts_lines (Some t) None os flow flows has some none is = absurd has
+scripts_lines None (Some o) os flow flows has some none is = absurd (cc has)
+scripts_lines (Some t) None os flow flows has some none is = absurd (cc has)
 
 -- ---- a program that was run
 
@@ -163,7 +169,7 @@ module _ (request : Request) (trees : Program Tree) (ran : Ran) (p : IsRan (setu
   flows = all_flows request trees
 
   first : AreFirst (all_flows request trees) p.files
-  first = are_first (state_kept (setup_of request) ran.kept) (prelude_by (setup_of request) trees.prelude) (scripts_by (setup_of request) trees.prelude trees.scripts) p.files p.run.each p.are
+  first = are_first (state_kept (setup_of request) ran.kept) (prelude_meant (limit_units request.limit) trees.prelude) (scripts_meant (limit_units request.limit) trees.prelude trees.scripts) p.files p.run.each p.are
 
   status_same : status_of (ends_of ran) ≡ status_of (file_ends p.files)
   status_same = ap status_of (sym p.ends)
@@ -174,26 +180,26 @@ module _ (request : Request) (trees : Program Tree) (ran : Ran) (p : IsRan (setu
   ends_same : Every IsAsMeant p.files → ends_of ran ≡ ends_meant (all_flows request trees)
   ends_same all = sym p.ends ∙ meant_ends p.files all ∙ ap ends_meant (sym (means_same all))
 
-  has_flow : (tree : Option Tree) (t : Tree) → tree ≡ Some t → (m : Flow) × (prelude_by (setup_of request) tree ≡ Some m)
+  has_flow : (tree : Option Tree) (t : Tree) → tree ≡ Some t → (m : Flow) × (prelude_meant (limit_units request.limit) tree ≡ Some m)
   has_flow None t is = absurd (cc is)
   has_flow (Some x) t is = (_, refl)
 
-  no_flow : (tree : Option Tree) → tree ≡ None → prelude_by (setup_of request) tree ≡ None
+  no_flow : (tree : Option Tree) → tree ≡ None → prelude_meant (limit_units request.limit) tree ≡ None
   no_flow None is = refl
   no_flow (Some x) is = absurd (cc is)
 
-  lines_same : Every IsAsMeant p.files → printed_by ran.scripts.items ≡ printed_meant (script_flows request trees)
+  lines_same : Every IsAsMeant p.files → flat_map (λ (o : Outcome). o.lines) ran.scripts.items ≡ flat_map (λ (m : Flow). concat m.lines) (run_after (prelude_meant (limit_units request.limit) trees.prelude) (scripts_meant (limit_units request.limit) trees.prelude trees.scripts))
   lines_same all =
       let means : map (λ m. concat m.lines) (means_of p.files) ≡ map (λ m. concat m.lines) (all_flows request trees) = ap (map (λ m. concat m.lines)) (sym (means_same all)) in
-      let printed = meant_lines (setup_sizes (setup_of request)) (state_kept (setup_of request) ran.kept) (all_flows request trees) p.files p.tells.each all in
-      scripts_lines trees.prelude ran.prelude ran.scripts.items (prelude_by (setup_of request) trees.prelude) (scripts_by (setup_of request) trees.prelude trees.scripts) p.has_prelude
+      let printed = meant_lines (setup_sizes (setup_of request)) (state_kept (setup_of request) ran.kept) (all_flows request trees) p.files p.run.each all in
+      scripts_lines trees.prelude ran.prelude ran.scripts.items (prelude_meant (limit_units request.limit) trees.prelude) (scripts_meant (limit_units request.limit) trees.prelude trees.scripts) p.has_prelude
       (has_flow trees.prelude) (no_flow trees.prelude) (sym p.lines ∙ printed ∙ means)
 
   out_same : Every IsAsMeant p.files → out_of ran ≡ out_meant request trees ran.interned
   out_same all = ap (λ l. l ++ count_line ran.interned) (lines_same all)
 
   -- what is reported is what is meant
-  report_same : (names : Program FileName) → Every IsAsMeant p.files → report_of (WasRun names ran) ≡ report_meant request names trees ran.interned
+  report_same : (names : Program FileName) → Every IsAsMeant p.files → report_of (WasRun names ran) ≡ Printed (status_meant request trees) (out_meant request trees ran.interned) (end_lines (in_order names) (ends_meant (all_flows request trees)))
   report_same names all =
       let ends = ends_same all in
       ap (λ es. Printed (status_of es) (out_of ran) (end_lines (in_order names) es)) ends
@@ -219,5 +225,5 @@ module _ (request : Request) (trees : Program Tree) (ran : Ran) (p : IsRan (setu
   full_first is = first_full (setup_sizes (setup_of request)) (state_kept (setup_of request) ran.kept) (all_flows request trees) p.files p.tells.each (sym status_same ∙ is)
 
   pub complete : (names : Program FileName) → Fits (setup_sizes (setup_of request)) (all_flows request trees) → Every (λ e. e ≡ Memory → ⊥) (ends_of ran)
-      → report_of (WasRun names ran) ≡ report_meant request names trees ran.interned
+      → report_of (WasRun names ran) ≡ Printed (status_meant request trees) (out_meant request trees ran.interned) (end_lines (in_order names) (ends_meant (all_flows request trees)))
   complete names fits none = report_same names (without_memory p.files (p.tells.fits fits) (subst (Every (λ e. e ≡ Memory → ⊥)) (sym p.ends) none))

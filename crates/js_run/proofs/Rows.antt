@@ -13,7 +13,7 @@ use Rattle.run_program.specs.Ran.{IsRan}
 use Rattle.js_run.specs.Asked.{AreTexts, names_of, setup_of}
 use Rattle.js_run.specs.Verdict.{Verdict, BadWords, NotRead, TooLarge, Refused, NoMemory, WasRun, report_of, kept_of, status_of, ends_of, unread_line, large_line}
 use Rattle.js_run.specs.Moment.{Moment, Ended}
-use Rattle.js_run.specs.Cause.{HasCauseBy, HasCauseIn, OfTexts, names_in}
+use Rattle.js_run.specs.Cause.{HasCauseBy, OfTexts, names_in}
 use Rattle.js_io.specs.Report.{TakesAll, IsEnd, Report, Refusal, Printed, Sinks}
 use Rattle.js_run.specs.Outcome.{CallOutcome}
 use Rattle.js_run.specs.Rows as row
@@ -114,7 +114,7 @@ told_small words old new large v why =
     let (sources, read) = texts_read old.held large.request.asked why.sources why.texts in
     omega (arith, large.larger, read_small old.held large.before large.after large.name large.bytes (in_order (names_of large.request.asked)) sources large.is read large.split)
 
-large_end : (words : List (List ℕ)) (ended : Ended) (old new : Moment) (large : IsToldLarge words old.files new.files) (v : Verdict) → HasCauseIn old.files new.files large.request v
+large_end : (words : List (List ℕ)) (ended : Ended) (old new : Moment) (large : IsToldLarge words old.files new.files) (v : Verdict) → HasCauseBy (Some large.request) old.files new.files v
     → IsEnd (report_of v) ended.code old.sinks new.sinks → ended.kept ≡ kept_of v → OrWant 3 ended old new
 large_end words ended old new large BadWords why end kept = absurd why
 large_end words ended old new large (NotRead name) why end kept = inl end.status
@@ -141,7 +141,7 @@ told_not_large request old new sources name told texts why =
     let (all, read) = texts_read old.held request.asked sources texts in
     not_large old.held why.up_to.before why.up_to.after name (in_order (names_of request.asked)) all old.oversize new.oversize read told why.up_to.split why.larger
 
-refused_end : OneScript → NoneRefused → (words : List (List ℕ)) (ended : Ended) (old new : Moment) (told : IsToldRefused words old.files new.files) (v : Verdict) → HasCauseIn old.files new.files told.request v
+refused_end : OneScript → NoneRefused → (words : List (List ℕ)) (ended : Ended) (old new : Moment) (told : IsToldRefused words old.files new.files) (v : Verdict) → HasCauseBy (Some told.request) old.files new.files v
     → IsEnd (report_of v) ended.code old.sinks new.sinks → ended.kept ≡ kept_of v → OrWant 4 ended old new
 refused_end one law words ended old new told BadWords why end kept = absurd why
 refused_end one law words ended old new told (NotRead name) why end kept = absurd (counted old.files.faults new.files.faults why.once told.calm)
@@ -280,7 +280,7 @@ cut_short words ended old new is r = by r.end
     by (inl whole) = absurd (not_seven (status_of (ends_of r.ran)) (status_is (ends_of r.ran)) (sym whole.status ∙ is))
     by (inr cut) = record { run = r.run; ran = r.ran; program = r.program; cut = cut; kept = r.kept }
 
-honest_end : OneScript → NoneRefused → (words : List (List ℕ)) (ended : Ended) (old new : Moment) (honest : IsHonest words old.files new.files) (v : Verdict) → HasCauseIn old.files new.files honest.request v
+honest_end : OneScript → NoneRefused → (words : List (List ℕ)) (ended : Ended) (old new : Moment) (honest : IsHonest words old.files new.files) (v : Verdict) → HasCauseBy (Some honest.request) old.files new.files v
     → IsEnd (report_of v) ended.code old.sinks new.sinks → ended.kept ≡ kept_of v → IsDone words ended old new honest
 honest_end one none words ended old new honest BadWords why end kept = absurd why
 honest_end one none words ended old new honest (NotRead name) why end kept = absurd (counted old.files.faults new.files.faults why.once honest.calm)

@@ -1,8 +1,6 @@
 -- What is to be run for a request: which sources, on which heap, and whether different strings are counted.
 use Rattle.std.specs.Prelude.{◌≡◌, ℕ, List, [], Bool, true, Option, None}
-use Rattle.heap_rule.specs.declared.size.HeapSize.{HeapSize}
 use Rattle.run_sources.specs.Texts.{Named, generated}
-use Rattle.run_command.specs.declared.plan.Sizes.{Sizes}
 use Rattle.run_command.specs.Words.{Asked, Request, files, made_from}
 use Rattle.run_sources.specs.Program.{FileName, Program, program_from}
 use Rattle.run_sources.specs.Reading.{AreRead}
@@ -25,15 +23,11 @@ abbrev pub is_counted : Asked → Bool → Bool
 is_counted (files prelude scripts) summary = summary
 is_counted (made_from number) summary = true
 
--- the sizes of a heap, as a request has them
-abbrev pub size_by : Sizes → HeapSize
-size_by sizes = record { ids = sizes.ids; words = sizes.heap_words; slots = sizes.slots }
-
 -- how the program is run: the heap has the sizes that are asked for, and as many agents as jobs
 abbrev pub setup_of : Request → Setup
 setup_of request = record {
   jobs = request.jobs;
-  size = size_by request.sizes;
+  size = record { ids = request.sizes.ids; words = request.sizes.heap_words; slots = request.sizes.slots };
   limit = request.limit;
   count = is_counted request.asked request.summary;
 }

@@ -1,10 +1,10 @@
 -- Why a call has its verdict. With every verdict but that a file can't be read or is too large, no read
 -- failed or found too large a file.
-use Rattle.std.specs.Prelude.{◌≡◌, ℕ, List, Option, None, Some, map, option_map}
+use Rattle.std.specs.Prelude.{◌≡◌, Option, None, Some, map, option_map}
 use Rattle.js_io.specs.FilesState.{FilesState}
 use Rattle.run_sources.specs.Texts.{Named}
 use Rattle.eval_tree.specs.Tree.{Tree}
-use Rattle.run_command.specs.Words.{Request, request_of}
+use Rattle.run_command.specs.Words.{Request}
 use Rattle.run_sources.specs.Program.{FileName, Program, in_order}
 use Rattle.run_sources.specs.Reading.{IsQuiet, IsUnread, IsLarge}
 use Rattle.run_sources.specs.Spelling.{Spell, FirstRefused}
@@ -29,12 +29,10 @@ pub record IsRun (setup : Setup) (sources : Program Named) (names : Program File
 
 -- of sources that are run so
 abbrev pub HasCauseOf : Setup → Program Named → Verdict → Type 0
-HasCauseOf setup sources BadWords = ⊥
-HasCauseOf setup sources (NotRead name) = ⊥
-HasCauseOf setup sources (TooLarge name) = ⊥
 HasCauseOf setup sources (Refused name fault) = FirstRefused sources name fault
 HasCauseOf setup sources NoMemory = Unit {0}
 HasCauseOf setup sources (WasRun names ran) = IsRun setup sources names ran
+HasCauseOf setup sources _ = ⊥
 
 -- all files were read, or the sources were generated, and this became of them
 pub record OfTexts (request : Request) (old new : FilesState) (verdict : Verdict) : Type 0 where
@@ -43,29 +41,15 @@ pub record OfTexts (request : Request) (old new : FilesState) (verdict : Verdict
   pub quiet : IsQuiet old new
   pub cause : HasCauseOf (setup_of request) sources verdict
 
--- of valid arguments
-abbrev pub HasCauseIn : FilesState → FilesState → Request → Verdict → Type 0
-HasCauseIn old new request BadWords = ⊥
-HasCauseIn old new request (NotRead name) = IsUnread old new (in_order (names_of request.asked)) name
-HasCauseIn old new request (TooLarge name) = IsLarge old new (in_order (names_of request.asked)) name
-HasCauseIn old new request (Refused name fault) = OfTexts request old new (Refused name fault)
-HasCauseIn old new request NoMemory = IsQuiet old new
-HasCauseIn old new request (WasRun names ran) = OfTexts request old new (WasRun names ran)
-
--- of arguments that aren't valid
-abbrev pub IsBadWords : FilesState → FilesState → Verdict → Type 0
-IsBadWords old new BadWords = IsQuiet old new
-IsBadWords old new NoMemory = IsQuiet old new
-IsBadWords old new (NotRead name) = ⊥
-IsBadWords old new (TooLarge name) = ⊥
-IsBadWords old new (Refused name fault) = ⊥
-IsBadWords old new (WasRun names ran) = ⊥
-
--- the verdict has its cause, by the request or because there is none
+-- the verdict has its cause: by the request of valid arguments, or because there is none
 abbrev pub HasCauseBy : Option Request → FilesState → FilesState → Verdict → Type 0
-HasCauseBy None old new verdict = IsBadWords old new verdict
-HasCauseBy (Some request) old new verdict = HasCauseIn old new request verdict
-
--- the verdict has its cause, by the arguments of the command line and by what the reads of files found
-abbrev pub HasCause : List (List ℕ) → FilesState → FilesState → Verdict → Type 0
-HasCause words old new verdict = HasCauseBy (request_of words) old new verdict
+HasCauseBy None old new BadWords = IsQuiet old new
+HasCauseBy None old new NoMemory = IsQuiet old new
+HasCauseBy None old new _ = ⊥
+HasCauseBy (Some request) old new BadWords = ⊥
+HasCauseBy (Some request) old new NoMemory = IsQuiet old new
+HasCauseBy (Some request) old new (NotRead name) =
+    IsUnread old new (in_order (names_of request.asked)) name
+HasCauseBy (Some request) old new (TooLarge name) =
+    IsLarge old new (in_order (names_of request.asked)) name
+HasCauseBy (Some request) old new verdict = OfTexts request old new verdict

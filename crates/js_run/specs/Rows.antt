@@ -21,11 +21,11 @@ use Rattle.run_sources.specs.Spelling.{Spell, FirstRefused}
 use Rattle.run_program.specs.declared.ran.Ran.{Ran}
 use Rattle.run_program.specs.Ran.{IsRan, setup_sizes, state_kept}
 use Rattle.js_run.specs.Asked.{AreTexts, names_of, setup_of}
-use Rattle.js_run.specs.Meant.{all_flows, status_meant, out_meant, report_meant}
-use Rattle.js_run.specs.Verdict.{WasRun, Refused, report_of, status_of, ends_of, out_of, err_of, words_line, unread_line, large_line, refused_line, memory_line}
+use Rattle.js_run.specs.Meant.{all_flows, status_meant, out_meant, ends_meant}
+use Rattle.js_run.specs.Verdict.{WasRun, Refused, report_of, status_of, ends_of, out_of, err_of, words_line, unread_line, large_line, refused_line, memory_line, end_lines}
 use Rattle.js_run.specs.Moment.{Moment, Ended}
 use Rattle.js_run.specs.Cause.{OfTexts, names_in}
-use Rattle.js_io.specs.Report.{TakesAll, IsTold, IsCutAtOut, IsCutAtErr, IsEnd}
+use Rattle.js_io.specs.Report.{TakesAll, IsTold, IsCutAtOut, IsCutAtErr, IsEnd, Printed}
 
 -- no fault was counted, and the count isn't the last value of its counter
 abbrev pub NoFault : ℕ → ℕ → Type 0
@@ -220,7 +220,9 @@ pub record IsRanTo (request : Request) (names : Program FileName) (trees : Progr
   pub kept : ended.kept ≡ Some ran.kept
   pub complete : Fits (setup_sizes (setup_of request)) (all_flows request trees)
       → Every (λ e. e ≡ Memory → ⊥) (ends_of ran)
-      → report_of (WasRun names ran) ≡ report_meant request names trees ran.interned
+      → report_of (WasRun names ran)
+      ≡ Printed (status_meant request trees) (out_meant request trees ran.interned)
+      (end_lines (in_order names) (ends_meant (all_flows request trees)))
 
 -- the program was run; or memory ran out before that
 abbrev pub IsDone : (words : List (List ℕ)) (ended : Ended) (old new : Moment)

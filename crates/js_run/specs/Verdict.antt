@@ -1,5 +1,5 @@
 -- What becomes of a call, and what is reported of it: the status and the bytes for each sink.
-use Rattle.std.specs.Prelude.{ℕ, List, [], ◌∷◌, ◌++◌, codes, decimal, map, Option, None, Some}
+use Rattle.std.specs.Prelude.{ℕ, List, [], ◌∷◌, ◌++◌, codes, decimal, map, Option, None, Some, option_to_list, flat_map}
 use Rattle.js_io.specs.Report.{Report, Refusal, Printed}
 use Rattle.js_parse.specs.declared.fault.ParseFault.{ParseFault}
 use Rattle.js_store.specs.declared.faults.FullReport.{FullReport}
@@ -8,11 +8,9 @@ use Rattle.eval_values.specs.declared.value.Kind.{Kind}
 use Rattle.eval_values.specs.declared.value.Kind.TheVariants.{RangeError, TypeError, ReferenceError, UriError}
 use Rattle.js_eval.specs.declared.ending.End.{End}
 use Rattle.js_eval.specs.declared.ending.End.TheVariants.{Done, Threw, Unsupported, Full, Memory}
-use Rattle.run_program.specs.declared.job.Outcome.{Outcome}
 use Rattle.run_sources.specs.Program.{FileName, Program, in_order}
-use Rattle.run_program.specs.declared.ran.Kept.{Kept}
+use Rattle.run_program.specs.Kept.{HeapKept}
 use Rattle.run_program.specs.declared.ran.Ran.{Ran}
-use Rattle.run_program.specs.Ran.{outcomes_in}
 use Rattle.js_parse.specs.Faults.{fault_offset, fault_words}
 
 -- what becomes of a call: the arguments are refused, a file can't be read or is too large, a source is
@@ -30,12 +28,7 @@ pub data Verdict : Type 0 where
 
 -- how all files ended that were run, the prelude first
 abbrev pub ends_of : Ran → List End
-ends_of ran = map (λ o. o.end) (outcomes_in ran)
-
--- what scripts printed
-abbrev pub printed_by : List Outcome → List ℕ
-printed_by [] = []
-printed_by (o ∷ os) = o.lines ++ printed_by os
+ends_of ran = map (λ o. o.end) (option_to_list ran.prelude ++ ran.scripts.items)
 
 -- the line of the number of different strings, where they were counted
 abbrev pub count_line : Option ℕ → List ℕ
@@ -44,7 +37,7 @@ count_line (Some count) = codes "interned " ++ (decimal count ++ 10 ∷ [])
 
 -- the bytes for out: what the scripts printed, and the line of the number of different strings
 abbrev pub out_of : Ran → List ℕ
-out_of ran = printed_by ran.scripts.items ++ count_line ran.interned
+out_of ran = flat_map (λ o. o.lines) ran.scripts.items ++ count_line ran.interned
 
 -- ---- the line of a file that didn't end Done
 
@@ -129,10 +122,6 @@ report_of NoMemory = Refusal 6 memory_line
 report_of (WasRun names ran) = Printed (status_of (ends_of ran)) (out_of ran) (err_of names ran)
 
 -- the heap and its agent, wherever files were run
-abbrev pub kept_of : Verdict → Option Kept
-kept_of BadWords = None
-kept_of (NotRead name) = None
-kept_of (TooLarge name) = None
-kept_of (Refused name fault) = None
-kept_of NoMemory = None
+abbrev pub kept_of : Verdict → Option HeapKept
 kept_of (WasRun names ran) = Some ran.kept
+kept_of _ = None

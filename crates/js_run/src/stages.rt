@@ -1,5 +1,5 @@
 // What becomes of valid arguments, one stage after the other.
-ghost use Rattle.std.specs.Prelude.{◌≡◌, ◌≤◌, None, length, map};
+ghost use Rattle.std.specs.Prelude.{◌≡◌, ◌≤◌, None, length, map, Some};
 ghost use Rattle.heap_table.specs.MayMake.{MayMake};
 ghost use Rattle.run_sources.specs.Texts.{generated};
 ghost use Rattle.js_io.specs.SinkState.{SinkState};
@@ -10,7 +10,7 @@ ghost use Rattle.run_sources.specs.Reading.{KeepsFiles};
 ghost use Rattle.run_sources.specs.Spelling.{Spell};
 ghost use Rattle.js_run.specs.Answer.{Becomes, stop_report};
 ghost use Rattle.js_run.specs.Asked.{names_of, setup_of};
-ghost use Rattle.js_run.specs.Cause.{HasCauseIn, HasCauseOf};
+ghost use Rattle.js_run.specs.Cause.{HasCauseBy, HasCauseOf};
 ghost use Rattle.js_io.specs.Report.{IsEnd, sinks};
 ghost use Rattle.js_run.specs.Moment.{ended};
 
@@ -164,7 +164,7 @@ fn run_named_files<R: Threads + Sync, F: Files, O: Sink, E: Sink, G: Gate + Sync
         → request.asked ≡ named_files (names_for prelude.entry scripts.now).prelude
         (names_for prelude.entry scripts.now).scripts
         → setup ≡ setup_of request
-        → Becomes (HasCauseIn (F.state files.old) (F.state files.new) request) (ended result)
+        → Becomes (HasCauseBy (Some request) (F.state files.old) (F.state files.new)) (ended result)
         (sinks (O.state out.old) (E.state err.old)) (sinks (O.state out.new) (E.state err.new)) }
 {
     match read_sources(alloc, prelude, scripts, files) {
@@ -185,9 +185,9 @@ pub(crate) fn run_plan<R: Threads + Sync, F: Files, O: Sink, E: Sink, G: Gate + 
 ) -> Status
     requires { IsRequestInRange (request_for plan.now) }
     ensures keeps { KeepsFiles (F.state files.old) (F.state files.new) }
-    ensures becomes { Becomes (HasCauseIn (F.state files.old) (F.state files.new) (request_for plan.now))
-        (ended result) (sinks (O.state out.old) (E.state err.old))
-        (sinks (O.state out.new) (E.state err.new)) }
+    ensures becomes { Becomes
+        (HasCauseBy (Some (request_for plan.now)) (F.state files.old) (F.state files.new)) (ended result)
+        (sinks (O.state out.old) (E.state err.old)) (sinks (O.state out.new) (E.state err.new)) }
 {
     let setup = setup(plan);
     match &plan.input {

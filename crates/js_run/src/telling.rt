@@ -1,11 +1,10 @@
 // Writes what becomes of a call.
-ghost use Rattle.std.specs.Prelude.{◌≡◌, ◌≤◌, ◌++◌, length, decimal};
+ghost use Rattle.std.specs.Prelude.{◌≡◌, ◌≤◌, ◌++◌, length, decimal, flat_map};
 ghost use Rattle.js_io.specs.SinkState.{SinkState, WritesAll};
 ghost use Rattle.run_sources.specs.Answers.{sources_for};
-ghost use Rattle.run_program.specs.Ran.{outcomes_in};
 ghost use Rattle.js_run.specs.Answer.{HasNames, outcome_ends, source_names, stop_report};
 ghost use Rattle.js_run.specs.Cause.{names_in};
-ghost use Rattle.js_run.specs.Verdict.{BadWords, WasRun, count_line, end_line, end_lines, ends_of, err_of, full_text, kind_text, refused_line, out_of, printed_by, report_of, status_of, status_or};
+ghost use Rattle.js_run.specs.Verdict.{BadWords, WasRun, count_line, end_line, end_lines, ends_of, err_of, full_text, kind_text, refused_line, out_of, report_of, status_of, status_or};
 ghost use Rattle.js_io.specs.Report.{IsEnd, sinks};
 
 use itoa::Buffer;
@@ -107,7 +106,7 @@ fn end_status(end: End) -> u8
 
 // Writes what the scripts printed, in order.
 fn write_lines<O: Sink>(out: &mut O, scripts: &[Outcome]) -> Result<(), Failed>
-    ensures { WritesAll result (O.state out.old) (O.state out.new) (printed_by scripts.now) }
+    ensures { WritesAll result (O.state out.old) (O.state out.new) (flat_map (λ o. o.lines) scripts.now) }
 {
     for script in scripts {
         write_all(out, script.lines.bytes())?;

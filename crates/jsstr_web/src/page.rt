@@ -2,7 +2,7 @@
 ghost use Rattle.std.specs.Prelude.{◌≡◌, None, length};
 ghost use Rattle.eval_tree.specs.Tree.{tree_of};
 ghost use Rattle.heap_rule.specs.Layout.{IsLawfulSize, word_count};
-ghost use Rattle.heap_table.specs.Agents.{Belongs, size_of as heap_size, view_of};
+ghost use Rattle.heap_table.specs.Agents.{size_of as heap_size, view_of};
 ghost use Rattle.heap_table.specs.Closing.{IsClosed};
 ghost use Rattle.js_parse.specs.declared.fault.Role.TheVariants.{Main};
 ghost use Rattle.js_parse.specs.Spells.{Spells};
@@ -43,7 +43,6 @@ fn tell_outcome(outcomes: &[Outcome], statements: u64, out: &mut [u8]) -> WebEnd
 
 // What came of a run, and the words of its heap.
 fn tell(here: Here, statements: u64, out: &mut [u8], names: &mut [u8], words: &mut [u64]) -> WebEnd
-    requires belongs { Belongs here.ran.kept.agent here.ran.kept.heap }
     requires room { length words.old ≡ word_count (heap_size here.ran.kept.heap) }
     ensures lines { BeginsWith (lines_in here.ran.scripts.items) out.old out.new }
     ensures end { result ≡ end_in here.ran.scripts.items statements }

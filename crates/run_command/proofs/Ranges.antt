@@ -13,7 +13,7 @@ use Rattle.clap.proofs.ValueTestLemmas.{accepts-Accepts}
 use Rattle.clap.proofs.WalkLemmas.{both}
 use Rattle.js_store.specs.declared.limit.Limit.{Limit}
 use Rattle.run_command.specs.declared.plan.Sizes.{Sizes}
-use Rattle.run_command.specs.Words.{Asked, IsRequestInRange, IsSomeFiles, FileWord, Request, asked_in, files, files_in, generated_in, is_some_files, jobs_in, limit_in, made_from, most_size, most_together, named_in, number_in, option_number, request_by, request_in, request_with, sizes_by, sizes_in, summary_in}
+use Rattle.run_command.specs.Words.{Asked, IsRequestInRange, IsSomeFiles, Request, asked_in, files, files_in, generated_in, limit_in, made_from, named_in, option_number, request_by, request_in, request_with, sizes_by, sizes_in, summary_in, number_in}
 
 none≢some : {T : Type 0} (x : T) → ◌≡◌ {A = Option T} None (Some x) → ⊥
 none≢some x is = cc
@@ -57,14 +57,14 @@ between least most id rows n is = option_between least most (first_of id rows) n
 -- ---- what is run
 
 named_some : (rows : List Row) (asked : Asked) → named_in rows ≡ Some asked → IsSomeFiles asked
-named_some rows asked is = go (is_some_files (files_in rows)) refl
+named_some rows asked is = go (nat_le 1 (length (files_in rows)) && nat_le (length (files_in rows)) 4096) refl
   where
-    at : (prelude : Option FileWord) (scripts : List FileWord) → is_some_files scripts ≡ true → IsSomeFiles (files prelude scripts)
+    at : (prelude : Option (List ℕ)) (scripts : List (List ℕ)) → (nat_le 1 (length scripts) && nat_le (length scripts) 4096) ≡ true → IsSomeFiles (files prelude scripts)
     at prelude scripts some =
         let parts = both _ _ some in
         (leb-true _ _ parts.0, leb-true _ _ parts.1)
 
-    go : (b : Bool) → is_some_files (files_in rows) ≡ b → IsSomeFiles asked
+    go : (b : Bool) → (nat_le 1 (length (files_in rows)) && nat_le (length (files_in rows)) 4096) ≡ b → IsSomeFiles asked
     go false fails =
         let none : None ≡ Some asked = rw fails at is in
         absurd (none≢some asked none)
@@ -93,19 +93,19 @@ asked_some rows asked is = go (is_some (first_of (codes "generate") rows)) refl
 -- ---- sizes
 
 pub record AreInRange (sizes : Sizes) : Type 0 where
-  pub ids : (1 ≤ sizes.ids) × (sizes.ids ≤ most_size)
-  pub heap_words : (1 ≤ sizes.heap_words) × (sizes.heap_words ≤ most_size)
-  pub slots : (1 ≤ sizes.slots) × (sizes.slots ≤ most_size)
-  pub together : sizes.ids + sizes.heap_words + sizes.slots ≤ most_together
+  pub ids : (1 ≤ sizes.ids) × (sizes.ids ≤ 536870911)
+  pub heap_words : (1 ≤ sizes.heap_words) × (sizes.heap_words ≤ 536870911)
+  pub slots : (1 ≤ sizes.slots) × (sizes.slots ≤ 536870911)
+  pub together : sizes.ids + sizes.heap_words + sizes.slots ≤ 536870912
 
-sizes_between : (ids heap_words slots : Option ℕ) (sizes : Sizes) → ((n : ℕ) → ids ≡ Some n → (1 ≤ n) × (n ≤ most_size)) → ((n : ℕ) → heap_words ≡ Some n → (1 ≤ n) × (n ≤ most_size))
-    → ((n : ℕ) → slots ≡ Some n → (1 ≤ n) × (n ≤ most_size)) → sizes_by ids heap_words slots ≡ Some sizes → AreInRange sizes
+sizes_between : (ids heap_words slots : Option ℕ) (sizes : Sizes) → ((n : ℕ) → ids ≡ Some n → (1 ≤ n) × (n ≤ 536870911)) → ((n : ℕ) → heap_words ≡ Some n → (1 ≤ n) × (n ≤ 536870911))
+    → ((n : ℕ) → slots ≡ Some n → (1 ≤ n) × (n ≤ 536870911)) → sizes_by ids heap_words slots ≡ Some sizes → AreInRange sizes
 sizes_between None heap_words slots sizes i h s is = absurd (none≢some sizes is)
 sizes_between (Some ids) None slots sizes i h s is = absurd (none≢some sizes is)
 sizes_between (Some ids) (Some heap_words) None sizes i h s is = absurd (none≢some sizes is)
-sizes_between (Some ids) (Some heap_words) (Some slots) sizes i h s is = go (nat_le (ids + heap_words + slots) most_together) refl
+sizes_between (Some ids) (Some heap_words) (Some slots) sizes i h s is = go (nat_le (ids + heap_words + slots) 536870912) refl
   where
-    go : (b : Bool) → nat_le (ids + heap_words + slots) most_together ≡ b → AreInRange sizes
+    go : (b : Bool) → nat_le (ids + heap_words + slots) 536870912 ≡ b → AreInRange sizes
     go false fails =
         let none : None ≡ Some sizes = rw fails at is in
         absurd (none≢some sizes none)
@@ -129,13 +129,13 @@ request_between asked (Some jobs) (Some sizes) (Some limit) summary request some
 pub in_range : (rows : List Row) (request : Request) → request_in rows ≡ Some request → IsRequestInRange request
 in_range rows request is = go (asked_in rows) refl
   where
-    size : (id : Text) (n : ℕ) → option_number 1 most_size id rows ≡ Some n → (1 ≤ n) × (n ≤ most_size)
-    size id n is = between 1 most_size id rows n is
+    size : (id : Text) (n : ℕ) → option_number 1 536870911 id rows ≡ Some n → (1 ≤ n) × (n ≤ 536870911)
+    size id n is = between 1 536870911 id rows n is
 
     go : (o : Option Asked) → asked_in rows ≡ o → IsRequestInRange request
     go None none =
         let fails : None ≡ Some request = rw none at is in
         absurd (none≢some request fails)
     go (Some asked) some =
-        request_between asked (jobs_in rows) (sizes_in rows) (limit_in rows) (summary_in rows) request (asked_some rows asked some) (between 1 64 (codes "jobs") rows)
+        request_between asked (option_number 1 64 (codes "jobs") rows) (sizes_in rows) (limit_in rows) (summary_in rows) request (asked_some rows asked some) (between 1 64 (codes "jobs") rows)
         (λ s given. sizes_between _ _ _ s (size (codes "ids")) (size (codes "heap-words")) (size (codes "slots")) given) (rw some at is)

@@ -1,9 +1,8 @@
 -- The command: its options with their defaults, and the arguments that name files.
-use Rattle.std.specs.Prelude.{List, [], ◌∷◌, ◌++◌, Bool, Some, codes, fold, pos}
+use Rattle.std.specs.Prelude.{List, [], ◌∷◌, ◌++◌, Some, codes, fold, pos}
 use Rattle.clap.specs.declared.builder.action.ArgAction.TheVariants.{Append, SetTrue}
 use Rattle.clap.specs.declared.builder.value_parser.ValueParser.TheVariants as parser
-use Rattle.clap.specs.Walk.{is_empty}
-use Rattle.clap.specs.Words.{App, Rule, Text, fault_of, new_app, new_rule, with_rule}
+use Rattle.clap.specs.Words.{App, Rule, Text, new_app, new_rule, with_rule}
 
 -- `--NAME VALUE` or `--NAME=VALUE`
 abbrev pub option_rule : Text → Rule
@@ -40,15 +39,7 @@ abbrev pub other_rules : List Rule
 other_rules = flag_rule (codes "summary") ∷ number_rule (codes "generate") ∷
     defaulted_rule (codes "limit") (codes "64") ∷ []
 
--- all arguments of the command
-abbrev pub rules : List Rule
-rules = job_rules ++ size_rules ++ other_rules ++ (file_rule ∷ [])
-
 -- the command: these arguments, and what a command of clap has by itself, `-h`, `--help` and `--`
 abbrev pub command : App
-command = fold with_rule (new_app (codes "jsstr")) rules
-
--- the command gives matches for the arguments, of which the first is the program's name: it refuses none, and
--- none asks for help
-abbrev pub gives_matches : List Text → Bool
-gives_matches words = is_empty (fault_of command words)
+command = fold with_rule (new_app (codes "jsstr"))
+    (job_rules ++ size_rules ++ other_rules ++ (file_rule ∷ []))

@@ -5,10 +5,10 @@ use Rattle.std.specs.Str.{bytes_eq}
 use Rattle.std.specs.Str.Parse.{digits_value, without_leading_sign}
 use Rattle.clap.specs.ValueTests.{is_signed_in}
 use Rattle.clap.specs.Walk.{is_empty}
-use Rattle.clap.specs.Words.{Row, Text, all_of, first_of, matches_of, one_of}
+use Rattle.clap.specs.Words.{Row, Text, all_of, first_of, matches_of, one_of, fault_of}
 use Rattle.js_store.specs.declared.limit.Limit.{Limit}
 use Rattle.js_store.specs.declared.limit.Limit.TheVariants.{Bits32, Bits64}
-use Rattle.run_command.specs.Command.{command, gives_matches}
+use Rattle.run_command.specs.Command.{command}
 use Rattle.run_command.specs.declared.plan.Plan.{Plan}
 use Rattle.run_command.specs.declared.plan.Sizes.{Sizes}
 use Rattle.run_command.specs.declared.plan.Input.{Input}
@@ -16,14 +16,10 @@ use Rattle.run_command.specs.declared.plan.Input.TheVariants as input
 use Rattle.run_command.specs.declared.plan.WordsFault.{WordsFault}
 use Rattle.run_command.specs.declared.plan.WordsFault.TheVariants.{Refused, Memory}
 
--- an argument that names a file, by its bytes
-abbrev pub FileWord : Type 0
-FileWord = List ℕ
-
 -- what is run: a prelude or none and the scripts, by the names of their files, or the sources that are
 -- generated from a number
 pub data Asked : Type 0 where
-  files : Option FileWord → List FileWord → Asked
+  files : Option (List ℕ) → List (List ℕ) → Asked
   made_from : ℕ → Asked
 
 -- what is asked for
@@ -46,41 +42,23 @@ number_in least most text = if is_signed_in (pos least) (pos most) text
 abbrev pub option_number : ℕ → ℕ → Text → List Row → Option ℕ
 option_number least most id rows = option_and_then (number_in least most) (first_of id rows)
 
--- the most jobs that may be requested
-abbrev pub most_jobs : ℕ
-most_jobs = 64
-
--- the most that one size of a heap may be, 2^29 - 1, and the most that all three may add up to, 2^29
-abbrev pub most_size : ℕ
-most_size = 536870911
-
--- the most that the three sizes of a heap may add up to, 2^29
-abbrev pub most_together : ℕ
-most_together = 536870912
-
--- the three sizes, where each has a number and they are not too much together
+-- the three sizes, where each has a number and they are at most 2^29 together
 abbrev pub sizes_by : Option ℕ → Option ℕ → Option ℕ → Option Sizes
 sizes_by (Some ids) (Some heap_words) (Some slots) =
-    if nat_le (ids + heap_words + slots) most_together
+    if nat_le (ids + heap_words + slots) 536870912
     then Some (record { ids = ids; heap_words = heap_words; slots = slots }) else None
 sizes_by _ _ _ = None
 
--- the sizes that the options give, each in its range
+-- the sizes that the options give, each from 1 to 2^29 - 1
 abbrev pub sizes_in : List Row → Option Sizes
-sizes_in rows = sizes_by (option_number 1 most_size (codes "ids") rows)
-    (option_number 1 most_size (codes "heap-words") rows) (option_number 1 most_size (codes "slots") rows)
+sizes_in rows = sizes_by (option_number 1 536870911 (codes "ids") rows)
+    (option_number 1 536870911 (codes "heap-words") rows) (option_number 1 536870911 (codes "slots") rows)
 
--- `--limit`: 32 or 64
-abbrev pub limit_by : ℕ → Option Limit
-limit_by bits = if bits == 32 then Some Bits32 else (if bits == 64 then Some Bits64 else None)
-
--- the limit of the length of strings, as `--limit` gives it
+-- the limit of the length of strings, as `--limit` gives it: 32 or 64
 abbrev pub limit_in : List Row → Option Limit
-limit_in rows = option_and_then limit_by (option_number 32 64 (codes "limit") rows)
-
--- the number of `--jobs`, 1 to 64
-abbrev pub jobs_in : List Row → Option ℕ
-jobs_in rows = option_number 1 most_jobs (codes "jobs") rows
+limit_in rows = option_and_then
+    (λ bits. if bits == 32 then Some Bits32 else (if bits == 64 then Some Bits64 else None))
+    (option_number 32 64 (codes "limit") rows)
 
 -- `--summary` was given
 abbrev pub summary_in : List Row → Bool
@@ -89,20 +67,12 @@ summary_in rows = option_map_or (λ text. bytes_eq text (codes "true")) (one_of 
 -- ---- what is run
 
 -- the arguments that name files, in order
-abbrev pub files_in : List Row → List FileWord
+abbrev pub files_in : List Row → List (List ℕ)
 files_in rows = unwrap_or (all_of (codes "FILE") rows) []
 
--- the most files that may be named, a prelude not counted
-abbrev pub most_files : ℕ
-most_files = 4096
-
--- these are some files, and not too many
-abbrev pub is_some_files : List FileWord → Bool
-is_some_files scripts = nat_le 1 (length scripts) && nat_le (length scripts) most_files
-
--- files, one or more, but not too many, and a prelude or none
+-- files, 1 to 4,096 of them, and a prelude or none
 abbrev pub named_in : List Row → Option Asked
-named_in rows = if is_some_files (files_in rows)
+named_in rows = if nat_le 1 (length (files_in rows)) && nat_le (length (files_in rows)) 4096
     then Some (files (first_of (codes "prelude") rows) (files_in rows)) else None
 
 -- the number of `--generate`, and neither a prelude nor a file
@@ -123,9 +93,10 @@ request_by asked (Some jobs) (Some sizes) (Some limit) summary =
     Some (record { asked = asked; jobs = jobs; sizes = sizes; summary = summary; limit = limit })
 request_by asked _ _ _ summary = None
 
--- the request of what is to be run and of the options
+-- the request of what is to be run and of the options, with the number of `--jobs`, 1 to 64
 abbrev pub request_with : Asked → List Row → Option Request
-request_with asked rows = request_by asked (jobs_in rows) (sizes_in rows) (limit_in rows) (summary_in rows)
+request_with asked rows = request_by asked (option_number 1 64 (codes "jobs") rows) (sizes_in rows)
+    (limit_in rows) (summary_in rows)
 
 -- the request of the command's matches
 abbrev pub request_in : List Row → Option Request
@@ -135,7 +106,7 @@ request_in rows = option_and_then (λ asked. request_with asked rows) (asked_in 
 -- the three sizes are not too much together, and either files are named, one or more but not too many, or
 -- there is a number that sources are generated from, with neither a file nor a prelude
 abbrev pub request_of : List Text → Option Request
-request_of words = if gives_matches words then request_in (matches_of command words) else None
+request_of words = if is_empty (fault_of command words) then request_in (matches_of command words) else None
 
 -- ---- what the code answers
 
@@ -161,14 +132,14 @@ IsRefusal asked Memory = ⊤
 
 -- 1 to 4,096 files
 abbrev pub IsSomeFiles : Asked → Type 0
-IsSomeFiles (files prelude scripts) = (1 ≤ length scripts) × (length scripts ≤ most_files)
+IsSomeFiles (files prelude scripts) = (1 ≤ length scripts) × (length scripts ≤ 4096)
 IsSomeFiles (made_from number) = number < 2 ^ 32
 
 -- what holds of every request of valid arguments
 pub record IsRequestInRange (request : Request) : Type 0 where
   pub files : IsSomeFiles request.asked
-  pub jobs : (1 ≤ request.jobs) × (request.jobs ≤ most_jobs)
-  pub ids : (1 ≤ request.sizes.ids) × (request.sizes.ids ≤ most_size)
-  pub heap_words : (1 ≤ request.sizes.heap_words) × (request.sizes.heap_words ≤ most_size)
-  pub slots : (1 ≤ request.sizes.slots) × (request.sizes.slots ≤ most_size)
-  pub together : request.sizes.ids + request.sizes.heap_words + request.sizes.slots ≤ most_together
+  pub jobs : (1 ≤ request.jobs) × (request.jobs ≤ 64)
+  pub ids : (1 ≤ request.sizes.ids) × (request.sizes.ids ≤ 536870911)
+  pub heap_words : (1 ≤ request.sizes.heap_words) × (request.sizes.heap_words ≤ 536870911)
+  pub slots : (1 ≤ request.sizes.slots) × (request.sizes.slots ≤ 536870911)
+  pub together : request.sizes.ids + request.sizes.heap_words + request.sizes.slots ≤ 536870912

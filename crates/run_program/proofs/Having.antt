@@ -31,7 +31,7 @@ have_alone a b js os unused numbered r = let more = run_jobs a.sizes a b [] unus
   are = more.1.means ∙ means_jobs js [] a.limit;
   ends = more.1.ends;
   lines = more.1.lines;
-  has_prelude = tt;
+  has_prelude = refl;
   in_places = in_places (means a []) b 0 js os r.parts numbered r.each;
   run = more.2;
 }
@@ -61,7 +61,7 @@ module _ (a b : State SessionFrame) (script : Script) (o : Outcome) (after : Lis
     are = (refl, stopped o.end (scripts_meant a.limit (Some (tree_of script)) trees) never);
     ends = refl;
     lines = refl;
-    has_prelude = tt;
+    has_prelude = refl;
     in_places = tt;
     run = first.1;
   }
@@ -82,7 +82,7 @@ module _ (a b : State SessionFrame) (script : Script) (o : Outcome) (after : Lis
       are = (refl, subst (λ (e : End). AfterPrelude e (scripts_meant a.limit (Some (tree_of script)) (job_trees js)) more.0) (sym done) (more.1.means ∙ as_meant));
       ends = ap (λ x. o.end ∷ x) more.1.ends;
       lines = ap (λ x. o.lines ∷ x) more.1.lines;
-      has_prelude = tt;
+      has_prelude = refl;
       in_places = in_places (means b env) c 0 js os r.parts numbered r.each;
       run = more.2;
     }

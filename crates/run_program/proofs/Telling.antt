@@ -1,5 +1,5 @@
 -- What is told of a heap on which all files were run.
-use Rattle.std.proofs.Common.{◌≡◌, ℕ, List, refl, sym, ap, subst, ◌∙◌, arith, Option, Some, None}
+use Rattle.std.proofs.Common.{◌≡◌, ℕ, List, refl, sym, ap, subst, ◌∙◌, arith, Option, Some, None, if◌then◌else◌, is_some}
 use Rattle.atomic_table.specs.Seated.{TableId}
 use Rattle.js_store.specs.Faults.{StoreStep}
 use Rattle.js_store.specs.Limits.{limit_units}
@@ -24,9 +24,10 @@ use Rattle.run_program.proofs.First.{are_first}
 use Rattle.run_program.proofs.Tells.{tells}
 use Rattle.run_program.specs.declared.ran.Ran.{Ran}
 use Rattle.run_program.specs.declared.ran.Setup.{Setup}
-use Rattle.run_program.specs.Meant.{prelude_meant}
-use Rattle.run_program.specs.Ran.{IsRan, HasOutcome, all_by, counted, prelude_by, scripts_by, setup_sizes, state_kept}
+use Rattle.run_program.specs.Meant.{prelude_meant, scripts_meant}
+use Rattle.run_program.specs.Ran.{IsRan, setup_sizes, state_kept}
 use Rattle.run_program.specs.Stages.{HaveRun, HaveRunFrom, IsTold}
+use Rattle.run_program.specs.Fits.{all_meant}
 
 -- the first moment of a session on a new heap
 abbrev pub begun : Setup → TableId → State SessionFrame
@@ -54,19 +55,19 @@ module _ (setup : Setup) (table : TableId) (prelude : Option Tree) (trees : List
   is_whole : IsWhole b
   is_whole = ap (λ (f : SessionFrame). f.share) g.frame ∙ sym (ap (λ (f : SessionFrame). f.agents) g.frame)
 
-  module _ (all : HasWholeCounts b) (step : StoreStep (total_by b) d None 0 0) (history : d.history ≡ b.history) (counts : interned ≡ counted setup.count (different b.history)) where
+  module _ (all : HasWholeCounts b) (step : StoreStep (total_by b) d None 0 0) (history : d.history ≡ b.history) (counts : interned ≡ (if setup.count then Some (different b.history) else None)) where
     frame : d.frame ≡ (begun setup table).frame
     frame = step.grows.frame ∙ g.frame
 
     told : IsTold setup d prelude trees first os interned
     told = record {
-      have = have_later (setup_sizes setup) b d (prelude_by setup prelude) (scripts_by setup prelude trees) first os
+      have = have_later (setup_sizes setup) b d (prelude_meant (limit_units setup.limit) prelude) (scripts_meant (limit_units setup.limit) prelude trees) first os
           (λ files r. run_stays (setup_sizes setup) (total_by b) d files (run_totals (setup_sizes setup) b files all r) step history) have;
       agents = ap (λ (f : SessionFrame). f.agents) frame;
       whole = ap (λ (f : SessionFrame). f.share) frame ∙ sym (ap (λ (f : SessionFrame). f.agents) frame);
       seen_ids = (let w = step.within_ids in let l = step.grows.low_ids in omega arith);
       seen_words = (let w = step.within_words in let l = step.grows.low_words in omega arith);
-      counts = counts ∙ ap (λ h. counted setup.count (different h)) (sym history);
+      counts = counts ∙ ap (λ h. (if setup.count then Some (different h) else None)) (sym history);
     }
 
     table_is : d.frame.table ≡ table
@@ -81,7 +82,7 @@ module _ (setup : Setup) (table : TableId) (prelude : Option Tree) (trees : List
 -- the same by what each call tells: of a session of this heap, b after the files were run, t after both counters were read, d at last
 module _ (setup : Setup) (h : Heap) (prelude : Option Tree) (trees : List Tree) (first : Option Outcome) (os : List Outcome) (interned : Option ℕ) (a b t d : State SessionFrame)
     (is : a ≡ begun setup (table_of h)) (size : size_of h ≡ setup.size) (g : Grows a b) (have : HaveRunFrom a b prelude trees first os) (all : IsWhole b → HasWholeCounts b)
-    (total : t ≡ total_by b) (step : StoreStep t d None 0 0) (history : d.history ≡ t.history) (counts : interned ≡ counted setup.count (different t.history)) where
+    (total : t ≡ total_by b) (step : StoreStep t d None 0 0) (history : d.history ≡ t.history) (counts : interned ≡ (if setup.count then Some (different t.history) else None)) where
   grows_begun : Grows (begun setup (table_of h)) b
   grows_begun = subst (λ (x : State SessionFrame). Grows x b) is g
 
@@ -97,8 +98,8 @@ module _ (setup : Setup) (h : Heap) (prelude : Option Tree) (trees : List Tree) 
   same_history : d.history ≡ b.history
   same_history = history ∙ ap (λ (x : State SessionFrame). x.history) total
 
-  counts_begun : interned ≡ counted setup.count (different b.history)
-  counts_begun = counts ∙ ap (λ (x : State SessionFrame). counted setup.count (different x.history)) total
+  counts_begun : interned ≡ (if setup.count then Some (different b.history) else None)
+  counts_begun = counts ∙ ap (λ (x : State SessionFrame). (if setup.count then Some (different x.history) else None)) total
 
   pub kept_of : IsOf d h
   kept_of = is_of setup (table_of h) prelude trees first os interned b d grows_begun have_begun has_all step_total same_history counts_begun h refl size
@@ -110,11 +111,9 @@ module _ (setup : Setup) (h : Heap) (prelude : Option Tree) (trees : List Tree) 
   kept_told = told setup (table_of h) prelude trees first os interned b d grows_begun have_begun has_all step_total same_history counts_begun
 
 -- what is kept
-same_prelude : (limit : ℕ) (prelude : Option Tree) (first : Option Outcome) → HasOutcome (prelude_meant limit prelude) first → HasOutcome prelude first
-same_prelude limit None None h = tt
-same_prelude limit (Some tree) (Some o) h = tt
-same_prelude limit None (Some o) h = absurd h
-same_prelude limit (Some tree) None h = absurd h
+same_prelude : (limit : ℕ) (prelude : Option Tree) (first : Option Outcome) → is_some (prelude_meant limit prelude) ≡ is_some first → is_some prelude ≡ is_some first
+same_prelude limit None first h = h
+same_prelude limit (Some tree) first h = h
 
 pub is_ran : (setup : Setup) (prelude : Option Tree) (trees : List Tree) (ran : Ran) → size_of ran.kept.heap ≡ setup.size → Belongs ran.kept.agent ran.kept.heap
     → IsTold setup (state_kept setup ran.kept) prelude trees ran.prelude ran.scripts.items ran.interned → IsRan setup prelude trees ran
@@ -130,10 +129,10 @@ is_ran setup prelude trees ran size belongs t = let h = t.have in
       has_prelude = same_prelude (limit_units setup.limit) prelude ran.prelude h.has_prelude;
       in_places = h.in_places;
       run = h.run;
-      tells = tells (setup_sizes setup) s (all_by setup prelude trees) h.files all (session_sound v setup.limit table belongs.5) h.run
-          (are_first s (prelude_by setup prelude) (scripts_by setup prelude trees) h.files h.run.each h.are);
+      tells = tells (setup_sizes setup) s (all_meant (prelude_meant (limit_units setup.limit) prelude) (scripts_meant (limit_units setup.limit) prelude trees)) h.files all (session_sound v setup.limit table belongs.5) h.run
+          (are_first s (prelude_meant (limit_units setup.limit) prelude) (scripts_meant (limit_units setup.limit) prelude trees) h.files h.run.each h.are);
       sizes = size;
-      belongs = belongs;
+      of_heap = belongs.0;
       agents = t.agents;
       whole = t.whole;
       seen_ids = omega (arith, all.low_ids, t.seen_ids);

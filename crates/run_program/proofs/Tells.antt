@@ -1,5 +1,6 @@
 -- What the ends of files tell.
 use Rattle.std.proofs.Common.{◌≡◌, ℕ, ◌+◌, ◌≤◌, ◌⊎◌, inl, inr, ⊎_elim, List, [], ◌∷◌, ◌++◌, refl, sym, ap, subst, ◌∙◌, arith, append-nil, Contains}
+use Rattle.std.specs.List.{concat}
 use Rattle.std.specs.Map.{keys_of}
 use Rattle.std.proofs.lemmas.List.{map-append}
 use Rattle.std.proofs.lemmas.List.Concat.{flat_map-append}
@@ -22,8 +23,8 @@ use Rattle.heap_session.specs.Sessions.{SessionFrame}
 use Rattle.heap_session.specs.Whole.{HasWholeCounts}
 use Rattle.run_program.specs.Jobs.{JobUse, Whole, Broken, HasJobEnd, fault_in, pairs_of, ids_of, words_of}
 use Rattle.run_program.specs.Fits.{Fits, count_different, ids_needed, words_needed, lists_interned}
-use Rattle.run_program.specs.Files.{RunFile, WasFileRun, AreRun, IsAsMeant, IsOwnEnd, means_of, parts_of}
-use Rattle.run_program.specs.Tells.{IdsRanOut, WordsRanOut, SlotsRanOut, RanOut, EndTells, FirstLines, FirstLists, FileTells, FilesTell}
+use Rattle.run_program.specs.Files.{RunFile, WasFileRun, AreRun, IsAsMeant, means_of, parts_of}
+use Rattle.run_program.specs.Tells.{SlotsRanOut, RanOut, EndTells, FilesTell}
 use Rattle.run_program.proofs.First.{AreFirst}
 use Rattle.run_program.proofs.Counts.{called, different_lists, more_different}
 
@@ -47,6 +48,11 @@ never_memory (gave x l) e = cc
 never_memory (ended (threw k) l) e = cc
 never_memory (ended (unsupported at) l) e = cc
 
+-- the first ones of some lists
+record FirstLists (lists meant : List (List ℕ)) : Type 0 where
+  left : List (List ℕ)
+  split : meant ≡ lists ++ left
+
 module _ {F : Type 0} (s : State F) (m : Flow) (lines : List ℕ) (p : JobUse) where
   whole_of : (e : End) → HasJobEnd s m lines e p → e ≡ script_end m.out → Whole s m lines e p
   whole_of Done h is = h
@@ -55,25 +61,8 @@ module _ {F : Type 0} (s : State F) (m : Flow) (lines : List ℕ) (p : JobUse) w
   whole_of (Full r) h is = absurd (never_full m.out r is)
   whole_of Memory h is = absurd (never_memory m.out is)
 
-  whole_own : (e : End) → HasJobEnd s m lines e p → IsOwnEnd e → Whole s m lines e p
-  whole_own Done h own = h
-  whole_own (Threw k) h own = h
-  whole_own (Unsupported at) h own = h
-  whole_own (Full r) h own = absurd own
-  whole_own Memory h own = absurd own
-
-  lines_whole : (e : End) → Whole s m lines e p → FirstLines lines m.lines
-  lines_whole e h = record { done = m.lines; left = []; split = sym (append-nil m.lines); are = h.lines_are }
-
   lists_whole : (e : End) → Whole s m lines e p → FirstLists (keys_of p.pairs) (interned m)
   lists_whole e h = record { left = []; split = sym h.interned ∙ sym (append-nil (keys_of p.pairs)) }
-
-  first_lines_of : (e : End) → HasJobEnd s m lines e p → FirstLines lines m.lines
-  first_lines_of Done h = lines_whole Done h
-  first_lines_of (Threw k) h = lines_whole (Threw k) h
-  first_lines_of (Unsupported at) h = lines_whole (Unsupported at) h
-  first_lines_of (Full r) h = record { done = h.lines_done; left = h.lines_left; split = h.lines_split; are = h.lines_are }
-  first_lines_of Memory h = record { done = h.lines_done; left = h.lines_left; split = h.lines_split; are = h.lines_are }
 
   first_lists_of : (e : End) → HasJobEnd s m lines e p → FirstLists (keys_of p.pairs) (interned m)
   first_lists_of Done h = lists_whole Done h
@@ -81,6 +70,10 @@ module _ {F : Type 0} (s : State F) (m : Flow) (lines : List ℕ) (p : JobUse) w
   first_lists_of (Unsupported at) h = lists_whole (Unsupported at) h
   first_lists_of (Full r) h = record { left = h.left; split = h.interned }
   first_lists_of Memory h = record { left = h.left; split = h.interned }
+
+-- a file whose end is the meaning's printed the meaning's lines
+pub lines_meant : {F : Type 0} (s : State F) (f : RunFile) → WasFileRun s f → IsAsMeant f → f.lines ≡ concat f.mean.lines
+lines_meant s f h is = (whole_of s f.mean f.lines f.part f.end h.ended is).lines_are
 
 -- what files used is at most what they need, also with the want of any one of them
 module _ {F : Type 0} (s : State F) where
@@ -127,17 +120,11 @@ record Facts {F : Type 0} (s : State F) (means : List Flow) (f : RunFile) : Type
 
 module _ (s : State SessionFrame) (means : List Flow) (all : HasWholeCounts s) (sound : Sound s) (into : (u : List ℕ) → Contains (keys_of s.history) u → Contains (lists_interned means) u) where
   module _ (m : Flow) (lines : List ℕ) (p : JobUse) (lists : (u : List ℕ) → Contains (interned m) u → Contains (lists_interned means) u) where
-    ids_out : (at want end : ℕ) → Broken s m lines (store.Full (Ids at want end)) p → s.used_ids + want ≤ ids_needed means → IdsRanOut s.sizes s means
-    ids_out at want end b w = let r = b.reports in record {
-      claimed = omega (arith, r.0, r.1, r.2, r.3, all.low_ids, all.ids);
-      unfit = λ fits. omega (arith, r.0, r.1, r.2, r.3, all.low_ids, w, fits);
-    }
+    ids_out : (at want end : ℕ) → Broken s m lines (store.Full (Ids at want end)) p → s.used_ids + want ≤ ids_needed means → RanOut s.sizes s means m p (Ids at want end)
+    ids_out at want end b w = let r = b.reports in (omega (arith, r.0, r.1, r.2, r.3, all.low_ids, all.ids), omega (arith, r.0, r.1, r.2, r.3, all.low_ids, w))
 
-    words_out : (at want end : ℕ) → Broken s m lines (store.Full (Words at want end)) p → p.words + want ≤ need_words m → s.used_words + want ≤ words_needed means → WordsRanOut s.sizes s means m
-    words_out at want end b n w = let r = b.reports in record {
-      past = omega (arith, r.0, r.1, r.2, all.low_words, n);
-      unfit = λ fits. omega (arith, r.0, r.1, r.2, all.low_words, w, fits);
-    }
+    words_out : (at want end : ℕ) → Broken s m lines (store.Full (Words at want end)) p → p.words + want ≤ need_words m → s.used_words + want ≤ words_needed means → RanOut s.sizes s means m p (Words at want end)
+    words_out at want end b n w = let r = b.reports in (omega (arith, r.0, r.1, r.2, all.low_words, n), omega (arith, r.0, r.1, r.2, all.low_words, w))
 
     next_out : (n : ℕ) (left : List (List ℕ)) → interned m ≡ keys_of p.pairs ++ left → NextShut s (store.Full (Slots n)) left → SlotsRanOut s.sizes s means m p
     next_out n [] split shut = absurd shut
@@ -152,7 +139,7 @@ module _ (s : State SessionFrame) (means : List Flow) (all : HasWholeCounts s) (
           left = us;
           split = split;
           missing = missing;
-          unfit = λ fits. omega (arith, held, more, e, fits);
+          unfit = omega (arith, held, more, e);
         }
 
     end_tells : (e : End) → HasJobEnd s m lines e p → p.words + words_wanted (fault_in e) ≤ need_words m → s.used_ids + ids_wanted (fault_in e) ≤ ids_needed means → s.used_words + words_wanted (fault_in e) ≤ words_needed means
@@ -165,22 +152,15 @@ module _ (s : State SessionFrame) (means : List Flow) (all : HasWholeCounts s) (
     end_tells (Full (Slots slots)) h n i w = next_out slots h.left h.interned h.next
     end_tells Memory h n i w = tt
 
-  file_tells : (f : RunFile) → Facts s means f → FileTells s.sizes s means f
-  file_tells f k = let e = k.came.ended in record {
-    end = end_tells f.mean f.lines f.part k.lists f.end e k.came.within_words k.ids k.words;
-    lines = λ is. (whole_of s f.mean f.lines f.part f.end e is).lines_are;
-    first_lines = first_lines_of s f.mean f.lines f.part f.end e;
-    lists = λ is. (whole_of s f.mean f.lines f.part f.end e is).interned;
-    first_lists = first_lists_of s f.mean f.lines f.part f.end e;
-    texts_known = λ own. (whole_own s f.mean f.lines f.part f.end e own).texts;
-  }
+  file_tells : (f : RunFile) → Facts s means f → EndTells s.sizes s means f.mean f.part f.end
+  file_tells f k = end_tells f.mean f.lines f.part k.lists f.end k.came.ended k.came.within_words k.ids k.words
 
 -- where the sizes are enough nothing runs out
 module _ {F : Type 0} (z : StoreSizes) (s : State F) (means : List Flow) (fits : Fits z means) (m : Flow) (p : JobUse) where
   never_out : (r : FullReport) → RanOut z s means m p r → ⊥
-  never_out (Ids at want end) h = h.unfit fits.ids
-  never_out (Words at want end) h = h.unfit fits.words
-  never_out (Slots n) h = h.unfit fits.slots
+  never_out (Ids at want end) h = omega (arith, h.1, fits.ids)
+  never_out (Words at want end) h = omega (arith, h.1, fits.words)
+  never_out (Slots n) h = omega (arith, h.unfit, fits.slots)
 
   end_fits : (e : End) → EndTells z s means m p e → (e ≡ script_end m.out) ⊎ (e ≡ Memory)
   end_fits Done h = inl h
@@ -225,7 +205,7 @@ module _ (z : StoreSizes) (s : State SessionFrame) (means : List Flow) (files : 
   facts : Every (Facts s means) files
   facts = every_both {Q = λ f. IdsOf f × WordsOf f} (λ f c k. record { came = c; ids = k.0; words = k.1.0; lists = k.1.1 }) files run.each counts_of_each
 
-  each_tells : Every (FileTells s.sizes s means) files
+  each_tells : Every (λ f. EndTells s.sizes s means f.mean f.part f.end) files
   each_tells = every_map (file_tells s means all sound into_meant) files facts
 
   counts_all : Every IsAsMeant files → different s.history ≡ count_different (lists_interned means)
@@ -235,7 +215,7 @@ module _ (z : StoreSizes) (s : State SessionFrame) (means : List Flow) (files : 
   tells_here : FilesTell s.sizes s means files
   tells_here = record {
     each = each_tells;
-    fits = λ fits. every_map (λ f k. end_fits s.sizes s means fits f.mean f.part f.end k.end) files each_tells;
+    fits = λ fits. every_map (λ f k. end_fits s.sizes s means fits f.mean f.part f.end k) files each_tells;
     many_for_slots = λ less m. omega (arith, less, counts_all m, all.slots);
     many_for_ids = λ less m. omega (arith, less, counts_all m, all.slot_ids, all.ids);
     legal = λ u w i k c d. (λ e. sound.one_number w i k (subst (λ (x : List ℕ). Interned s x i) e c) d, λ e. sound.one_list u w k (subst (λ (n : ℕ). Interned s u n) e c) d);

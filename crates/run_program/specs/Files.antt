@@ -4,7 +4,7 @@ use Rattle.js_store.specs.State.{State, StoreSizes}
 use Rattle.js_store.specs.Faults.{ids_wanted, words_wanted}
 use Rattle.js_texts.specs.Texts.{Every}
 use Rattle.js_eval.specs.declared.ending.End.{End}
-use Rattle.js_eval.specs.declared.ending.End.TheVariants.{Done, Threw, Unsupported, Full, Memory}
+use Rattle.js_eval.specs.declared.ending.End.TheVariants.{Done, Full, Memory}
 use Rattle.js_eval.specs.Evaluates.{script_end}
 use Rattle.js_eval.specs.Script.{Flow, need_ids, need_words}
 use Rattle.run_program.specs.declared.job.Job.{Job}
@@ -56,19 +56,14 @@ IsAsMeant f = f.end ≡ script_end f.mean.out
 
 -- the end is neither Full nor out of memory
 abbrev pub IsOwnEnd : End → Type 0
-IsOwnEnd Done = Unit {0}
-IsOwnEnd (Threw kind) = Unit {0}
-IsOwnEnd (Unsupported at) = Unit {0}
 IsOwnEnd (Full report) = ⊥
 IsOwnEnd Memory = ⊥
+IsOwnEnd _ = Unit {0}
 
 -- After a prelude that ended so: all scripts were run where it ended Done, and else none was.
 abbrev pub AfterPrelude : End → List Flow → List RunFile → Type 0
 AfterPrelude Done scripts files = means_of files ≡ scripts
-AfterPrelude (Threw kind) scripts files = files ≡ []
-AfterPrelude (Unsupported at) scripts files = files ≡ []
-AfterPrelude (Full report) scripts files = files ≡ []
-AfterPrelude Memory scripts files = files ≡ []
+AfterPrelude _ scripts files = files ≡ []
 
 -- The files that were run are the prelude with its meaning, if there is one, and then the scripts with
 -- theirs, in their order.

@@ -36,20 +36,9 @@ lists_interned means = flat_map interned means
 unfoldable pub count_different : List (List ℕ) → ℕ
 count_different lists = distinct_count (pointwise nat_eq) lists
 
--- the heap has as many ids as all files need together
-abbrev pub FitsIds : StoreSizes → List Flow → Type 0
-FitsIds z means = ids_needed means ≤ z.ids
-
--- the heap has as many content words as all files need together
-abbrev pub FitsWords : StoreSizes → List Flow → Type 0
-FitsWords z means = words_needed means ≤ z.words
-
--- the string table has a slot for each different list of units that the files intern
-abbrev pub FitsSlots : StoreSizes → List Flow → Type 0
-FitsSlots z means = count_different (lists_interned means) ≤ z.slots
-
--- a heap of these sizes is enough
+-- a heap of these sizes is enough: it has as many ids and content words as all files need together, and the
+-- string table a slot for each different list of units that they intern
 pub record Fits (z : StoreSizes) (means : List Flow) : Type 0 where
-  pub ids : FitsIds z means
-  pub words : FitsWords z means
-  pub slots : FitsSlots z means
+  pub ids : ids_needed means ≤ z.ids
+  pub words : words_needed means ≤ z.words
+  pub slots : count_different (lists_interned means) ≤ z.slots

@@ -12,7 +12,7 @@ use Rattle.eval_scopes.specs.Seen.{bounds_of}
 use Rattle.js_item.specs.declared.item.Item.{Item}
 use Rattle.eval_values.specs.Ran.{NextShut}
 use Rattle.js_eval.specs.declared.ending.End.{End}
-use Rattle.js_eval.specs.declared.ending.End.TheVariants.{Done, Threw, Unsupported, Full, Memory}
+use Rattle.js_eval.specs.declared.ending.End.TheVariants.{Full, Memory}
 use Rattle.js_eval.specs.Evaluates.{script_end}
 use Rattle.js_eval.specs.Script as meant
 use Rattle.js_eval.specs.Script.{Flow, meaning, need_ids, need_words}
@@ -40,11 +40,9 @@ pub record JobUse : Type 0 where
 
 -- the fault of the store, or the lack of memory, by which a script ended
 abbrev pub fault_in : End → Option StoreFault
-fault_in Done = None
-fault_in (Threw kind) = None
-fault_in (Unsupported at) = None
 fault_in (Full report) = Some (store.Full report)
 fault_in Memory = Some store.Memory
+fault_in _ = None
 
 -- what a report says of a store at the moment when it came and at every later one: what was requested passes
 -- the end of the counter from a value that it had, and the end is the store's
@@ -80,11 +78,9 @@ pub record Broken {F : Type 0} (s : State F) (m : Flow) (lines : List ℕ) (faul
 
 -- a job came to this end: its own, or that of a full store or lack of memory
 abbrev pub HasJobEnd : {F : Type 0} → State F → Flow → List ℕ → End → JobUse → Type 0
-HasJobEnd s m lines Done part = Whole s m lines Done part
-HasJobEnd s m lines (Threw kind) part = Whole s m lines (Threw kind) part
-HasJobEnd s m lines (Unsupported at) part = Whole s m lines (Unsupported at) part
 HasJobEnd s m lines (Full report) part = Broken s m lines (store.Full report) part
 HasJobEnd s m lines Memory part = Broken s m lines store.Memory part
+HasJobEnd s m lines end part = Whole s m lines end part
 
 -- a job and what came of it, said of the store at any moment afterwards: what it used, with what a full store
 -- was asked for besides, is at most its need

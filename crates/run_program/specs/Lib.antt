@@ -4,5 +4,6 @@ pub mod Files
 pub mod Tells
 pub mod Laws
 pub mod Meant
+pub mod Kept
 pub mod Ran
 pub mod Stages

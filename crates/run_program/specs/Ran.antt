@@ -1,20 +1,18 @@
 -- What came of a prelude and scripts that were run on a heap of their own.
-use Rattle.std.specs.Prelude.{◌≡◌, ℕ, ◌+◌, Bool, true, false, List, [], ◌∷◌, map, Option, Some, None}
+use Rattle.std.specs.Prelude.{◌≡◌, ℕ, ◌+◌, List, [], ◌∷◌, map, Option, Some, None, option_to_list, ◌++◌, if◌then◌else◌, is_some}
 use Rattle.std.specs.Borrow.{Bor}
 use Rattle.js_store.specs.Limits.{limit_units}
 use Rattle.js_store.specs.State.{State, StoreSizes}
 use Rattle.eval_tree.specs.declared.tree.Script.{Script}
 use Rattle.eval_tree.specs.Tree.{Tree, tree_of}
-use Rattle.js_eval.specs.Script.{Flow}
-use Rattle.heap_table.specs.Agents.{Belongs, size_of, view_of}
+use Rattle.heap_table.specs.Agents.{view_of}
 use Rattle.heap_intern.specs.Counting.{different}
 use Rattle.heap_session.specs.Sessions.{SessionFrame, state_by, table_of}
-use Rattle.heap_session.specs.Shares.{IsWhole}
 use Rattle.run_program.specs.declared.job.Outcome.{Outcome}
 use Rattle.run_program.specs.Fits.{all_meant}
 use Rattle.run_program.specs.Files.{RunFile, AreRun, AreFilesOf}
 use Rattle.run_program.specs.Tells.{FilesTell}
-use Rattle.run_program.specs.declared.ran.Kept.{Kept}
+use Rattle.run_program.specs.Kept.{HeapKept}
 use Rattle.run_program.specs.declared.ran.Ran.{Ran}
 use Rattle.run_program.specs.declared.ran.Setup.{Setup}
 use Rattle.run_program.specs.Meant.{prelude_meant, scripts_meant}
@@ -24,7 +22,7 @@ abbrev pub setup_sizes : Setup → StoreSizes
 setup_sizes setup = record { ids = setup.size.ids; words = setup.size.words; slots = setup.size.slots }
 
 -- what the kept agent knows and has, as a store reports it
-abbrev pub state_kept : Setup → Kept → State SessionFrame
+abbrev pub state_kept : Setup → HeapKept → State SessionFrame
 state_kept setup kept = state_by (view_of kept.agent) (limit_units setup.limit) (table_of kept.heap)
 
 abbrev pub tree_if : Option (Bor Script) → Option Tree
@@ -34,65 +32,37 @@ tree_if (Some script) = Some (tree_of script.now)
 abbrev pub trees_of : List Script → List Tree
 trees_of scripts = map tree_of scripts
 
--- what is meant by the prelude, by each of the scripts, and by all that are meant to be run
-abbrev pub prelude_by : Setup → Option Tree → Option Flow
-prelude_by setup prelude = prelude_meant (limit_units setup.limit) prelude
-
--- what is meant by each of the scripts after the prelude
-abbrev pub scripts_by : Setup → Option Tree → List Tree → List Flow
-scripts_by setup prelude scripts = scripts_meant (limit_units setup.limit) prelude scripts
-
--- what is meant by all files that are meant to be run
-abbrev pub all_by : Setup → Option Tree → List Tree → List Flow
-all_by setup prelude scripts = all_meant (prelude_by setup prelude) (scripts_by setup prelude scripts)
-
--- the outcomes of all files that were run: that of the prelude, if there is one, and then those of the
--- scripts
-abbrev pub all_outcomes : Option Outcome → List Outcome → List Outcome
-all_outcomes None scripts = scripts
-all_outcomes (Some prelude) scripts = prelude ∷ scripts
-
--- the outcomes of all files that were run, the prelude first
-abbrev pub outcomes_in : Ran → List Outcome
-outcomes_in ran = all_outcomes ran.prelude ran.scripts.items
-
--- there is an outcome of the prelude exactly where there is a prelude
-abbrev pub HasOutcome : {A : Type 0} → Option A → Option Outcome → Type 0
-HasOutcome None None = Unit {0}
-HasOutcome (Some prelude) (Some outcome) = Unit {0}
-HasOutcome None (Some outcome) = ⊥
-HasOutcome (Some prelude) None = ⊥
-
 -- the numbers of their places, from this one up
 abbrev pub AreInPlaces : ℕ → List Outcome → Type 0
 AreInPlaces place [] = Unit {0}
 AreInPlaces place (outcome ∷ outcomes) = (outcome.index ≡ place) × AreInPlaces (place + 1) outcomes
-
--- the number of different lists in the history, where it is asked for
-abbrev pub counted : Bool → ℕ → Option ℕ
-counted true n = Some n
-counted false n = None
 
 -- Files with these meanings were run on the kept heap, which was made with these sizes, and nothing else was
 -- done there: the prelude first, from no bindings, and where it ended Done each of the scripts, from the
 -- bindings that the prelude is meant to leave. What they say of the heap is in `FilesTell`.
 pub record IsRan (setup : Setup) (prelude : Option Tree) (scripts : List Tree) (ran : Ran) : Type 0 where
   pub files : List RunFile
-  pub are : AreFilesOf (prelude_by setup prelude) (scripts_by setup prelude scripts) files
+  pub are : AreFilesOf (prelude_meant (limit_units setup.limit) prelude)
+      (scripts_meant (limit_units setup.limit) prelude scripts) files
   -- the ends, and the bytes of the lines
-  pub ends : map (λ f. f.end) files ≡ map (λ o. o.end) (outcomes_in ran)
-  pub lines : map (λ f. f.lines) files ≡ map (λ o. o.lines) (outcomes_in ran)
-  pub has_prelude : HasOutcome prelude ran.prelude
+  pub ends : map (λ f. f.end) files ≡ map (λ o. o.end) (option_to_list ran.prelude ++ ran.scripts.items)
+  pub lines : map (λ f. f.lines) files ≡ map (λ o. o.lines) (option_to_list ran.prelude ++ ran.scripts.items)
+  -- there is an outcome of the prelude exactly where there is a prelude
+  pub has_prelude : is_some prelude ≡ is_some ran.prelude
   pub in_places : AreInPlaces 0 ran.scripts.items
   -- what the agent says of the heap
   pub run : AreRun (setup_sizes setup) (state_kept setup ran.kept) files
-  pub tells : FilesTell (setup_sizes setup) (state_kept setup ran.kept) (all_by setup prelude scripts) files
-  -- the heap of these sizes, and the agent with the whole share, which has seen both counters where they
-  -- are
-  pub sizes : size_of ran.kept.heap ≡ setup.size
-  pub belongs : Belongs ran.kept.agent ran.kept.heap
+  pub tells : FilesTell (setup_sizes setup) (state_kept setup ran.kept)
+      (all_meant (prelude_meant (limit_units setup.limit) prelude)
+      (scripts_meant (limit_units setup.limit) prelude scripts)) files
+  -- the heap of these sizes, and an agent of it with the whole share, which has seen both counters where they
+  -- are (all that `Belongs` says of both is the invariant of their type)
+  pub sizes : ran.kept.heap.size ≡ setup.size
+  pub of_heap : ran.kept.agent.seat.table_id ≡ table_of ran.kept.heap
   pub agents : (view_of ran.kept.agent).agents ≡ setup.jobs
-  pub whole : IsWhole (state_kept setup ran.kept)
+  pub whole : (view_of ran.kept.agent).share ≡ (view_of ran.kept.agent).agents
   pub seen_ids : (state_kept setup ran.kept).low_ids ≡ (state_kept setup ran.kept).used_ids
   pub seen_words : (state_kept setup ran.kept).low_words ≡ (state_kept setup ran.kept).used_words
-  pub interned : ran.interned ≡ counted setup.count (different (state_kept setup ran.kept).history)
+  -- the number of different lists in the history, where it is asked for
+  pub interned : ran.interned
+      ≡ (if setup.count then Some (different (state_kept setup ran.kept).history) else None)

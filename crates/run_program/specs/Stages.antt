@@ -1,6 +1,6 @@
 -- Helpers: no public contract reaches these definitions.
 -- What the stages of a run leave.
-use Rattle.std.specs.Prelude.{◌≡◌, ℕ, ◌+◌, ◌≤◌, List, [], ◌∷◌, map, Option}
+use Rattle.std.specs.Prelude.{◌≡◌, ℕ, ◌+◌, ◌≤◌, List, [], ◌∷◌, map, Option, option_to_list, ◌++◌, if◌then◌else◌, Some, None, is_some}
 use Rattle.js_store.specs.State.{State, StoreSizes}
 use Rattle.eval_tree.specs.Tree.{Tree, tree_of}
 use Rattle.js_eval.specs.Script.{Flow}
@@ -12,7 +12,8 @@ use Rattle.run_program.specs.declared.job.Outcome.{Outcome}
 use Rattle.run_program.specs.Files.{RunFile, AreRun, AreFilesOf}
 use Rattle.run_program.specs.Meant.{prelude_meant, scripts_meant}
 use Rattle.run_program.specs.declared.ran.Setup.{Setup}
-use Rattle.run_program.specs.Ran.{all_outcomes, counted, HasOutcome, AreInPlaces, prelude_by, scripts_by, setup_sizes}
+use Rattle.run_program.specs.Ran.{AreInPlaces, setup_sizes}
+use Rattle.js_store.specs.Limits.{limit_units}
 
 abbrev pub job_trees : List Job → List Tree
 job_trees jobs = map (λ job. tree_of job.script) jobs
@@ -31,9 +32,9 @@ pub record HaveRun (z : StoreSizes) (s : State SessionFrame) (prelude : Option F
     (first : Option Outcome) (outcomes : List Outcome) : Type 0 where
   pub files : List RunFile
   pub are : AreFilesOf prelude scripts files
-  pub ends : map (λ f. f.end) files ≡ map (λ o. o.end) (all_outcomes first outcomes)
-  pub lines : map (λ f. f.lines) files ≡ map (λ o. o.lines) (all_outcomes first outcomes)
-  pub has_prelude : HasOutcome prelude first
+  pub ends : map (λ f. f.end) files ≡ map (λ o. o.end) (option_to_list first ++ outcomes)
+  pub lines : map (λ f. f.lines) files ≡ map (λ o. o.lines) (option_to_list first ++ outcomes)
+  pub has_prelude : is_some prelude ≡ is_some first
   pub in_places : AreInPlaces 0 outcomes
   pub run : AreRun z s files
 
@@ -47,10 +48,10 @@ HaveRunFrom a b prelude scripts first outcomes =
 -- and what is reported of the heap
 pub record IsTold (setup : Setup) (s : State SessionFrame) (prelude : Option Tree) (scripts : List Tree)
     (first : Option Outcome) (outcomes : List Outcome) (interned : Option ℕ) : Type 0 where
-  pub have : HaveRun (setup_sizes setup) s (prelude_by setup prelude)
-      (scripts_by setup prelude scripts) first outcomes
+  pub have : HaveRun (setup_sizes setup) s (prelude_meant (limit_units setup.limit) prelude)
+      (scripts_meant (limit_units setup.limit) prelude scripts) first outcomes
   pub agents : s.frame.agents ≡ setup.jobs
   pub whole : IsWhole s
   pub seen_ids : s.used_ids ≤ s.low_ids
   pub seen_words : s.used_words ≤ s.low_words
-  pub counts : interned ≡ counted setup.count (different s.history)
+  pub counts : interned ≡ (if setup.count then Some (different s.history) else None)

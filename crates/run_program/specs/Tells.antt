@@ -1,37 +1,24 @@
 -- What the ends of files that were run say of the heap that they leave, and of the needs of all files.
-use Rattle.std.specs.Prelude.{◌≡◌, ℕ, ◌+◌, ◌<◌, ◌≤◌, ◌⊎◌, List, ◌∷◌, ◌++◌, Contains, Option}
-use Rattle.std.specs.List.{concat}
+use Rattle.std.specs.Prelude.{◌≡◌, ℕ, ◌+◌, ◌<◌, ◌≤◌, ◌⊎◌, List, ◌∷◌, ◌++◌, Option}
 use Rattle.std.specs.Map.{keys_of}
-use Rattle.js_store.specs.State.{State, StoreSizes, NamesUnits, Interned}
+use Rattle.js_store.specs.State.{State, StoreSizes, Interned}
 use Rattle.js_store.specs.declared.faults.FullReport.{FullReport}
 use Rattle.js_store.specs.declared.faults.FullReport.TheVariants.{Ids, Words, Slots}
 use Rattle.js_texts.specs.Texts.{Every}
 use Rattle.js_eval.specs.declared.ending.End.{End}
-use Rattle.js_eval.specs.declared.ending.End.TheVariants.{Done, Threw, Unsupported, Full, Memory}
+use Rattle.js_eval.specs.declared.ending.End.TheVariants.{Full, Memory}
 use Rattle.js_eval.specs.Evaluates.{script_end}
-use Rattle.js_eval.specs.Script.{Flow, interned, texts, need_words}
+use Rattle.js_eval.specs.Script.{Flow, interned, need_words}
 use Rattle.heap_rule.specs.Paths.{IsLegal}
 use Rattle.heap_intern.specs.Counting.{different}
 use Rattle.heap_session.specs.Sessions.{SessionFrame}
 use Rattle.heap_session.specs.Shares.{IsWhole}
 use Rattle.run_program.specs.Jobs.{JobUse}
-use Rattle.run_program.specs.Fits.{FitsIds, FitsWords, FitsSlots, Fits, count_different, all_meant, ids_needed, words_needed, lists_interned}
-use Rattle.run_program.specs.Files.{RunFile, AreRun, AreFilesOf, IsAsMeant, IsOwnEnd, means_of}
+use Rattle.run_program.specs.Fits.{Fits, count_different, all_meant, ids_needed, words_needed, lists_interned}
+use Rattle.run_program.specs.Files.{RunFile, AreRun, AreFilesOf, IsAsMeant, means_of}
 
--- A file ended Full for ids: all ids of the heap are claimed, and the files need more.
-pub record IdsRanOut {F : Type 0} (z : StoreSizes) (s : State F) (means : List Flow) : Type 0 where
-  pub claimed : s.used_ids ≡ z.ids
-  pub unfit : FitsIds z means → ⊥
-
--- Full for words: what is claimed and the need of that file pass the heap's end, and the files need more
--- words.
-pub record WordsRanOut {F : Type 0} (z : StoreSizes) (s : State F) (means : List Flow) (m : Flow) : Type
-    0 where
-  pub past : z.words < s.used_words + need_words m
-  pub unfit : FitsWords z means → ⊥
-
--- Full for slots: the history holds as many different lists as there are slots, and the next list that the
--- file was to intern is not among them. The files intern more different lists.
+-- A file ended Full for slots: the history holds as many different lists as there are slots, and the next
+-- list that the file was to intern is not among them. The files intern more different lists.
 pub record SlotsRanOut {F : Type 0} (z : StoreSizes) (s : State F) (means : List Flow) (m : Flow)
     (part : JobUse) : Type 0 where
   pub held : different s.history ≡ z.slots
@@ -39,56 +26,30 @@ pub record SlotsRanOut {F : Type 0} (z : StoreSizes) (s : State F) (means : List
   pub left : List (List ℕ)
   pub split : interned m ≡ keys_of part.pairs ++ next ∷ left
   pub missing : (n : ℕ) → Interned s next n → ⊥
-  pub unfit : FitsSlots z means → ⊥
+  pub unfit : z.slots < count_different (lists_interned means)
 
--- what a file ran out of, by the report with which it ended
+-- What a file ran out of, by the report with which it ended. For ids: all ids of the heap are claimed, and
+-- the files need more. For words: what is claimed and the need of that file pass the heap's end, and the
+-- files need more words.
 abbrev pub RanOut : {F : Type 0} → StoreSizes → State F → List Flow → Flow → JobUse → FullReport → Type 0
-RanOut z s means m part (Ids at want end) = IdsRanOut z s means
-RanOut z s means m part (Words at want end) = WordsRanOut z s means m
+RanOut z s means m part (Ids at want end) = (s.used_ids ≡ z.ids) × (z.ids < ids_needed means)
+RanOut z s means m part (Words at want end) =
+    (z.words < s.used_words + need_words m) × (z.words < words_needed means)
 RanOut z s means m part (Slots slots) = SlotsRanOut z s means m part
 
 -- an end is the meaning's, or Full for what ran out, or out of memory
 abbrev pub EndTells : {F : Type 0} → StoreSizes → State F → List Flow → Flow → JobUse → End → Type 0
-EndTells z s means m part Done = Done ≡ script_end m.out
-EndTells z s means m part (Threw kind) = Threw kind ≡ script_end m.out
-EndTells z s means m part (Unsupported at) = Unsupported at ≡ script_end m.out
 EndTells z s means m part (Full report) = RanOut z s means m part report
 EndTells z s means m part Memory = Unit {0}
+EndTells z s means m part end = end ≡ script_end m.out
 
--- the first ones of some lines, each of them whole
-pub record FirstLines (lines : List ℕ) (meant : List (List ℕ)) : Type 0 where
-  pub done : List (List ℕ)
-  pub left : List (List ℕ)
-  pub split : meant ≡ done ++ left
-  pub are : lines ≡ concat done
-
--- the first ones of some lists
-pub record FirstLists (lists meant : List (List ℕ)) : Type 0 where
-  pub left : List (List ℕ)
-  pub split : meant ≡ lists ++ left
-
--- What one file says. Its lines, and its lists in the history, are those of the meaning where its end is,
--- and else the first ones of them.
--- Where it ended neither Full nor out of memory, every string that one of its expressions gave is known.
-pub record FileTells {F : Type 0} (z : StoreSizes) (s : State F) (means : List Flow) (f : RunFile) : Type
-    0 where
-  pub end : EndTells z s means f.mean f.part f.end
-  pub lines : IsAsMeant f → f.lines ≡ concat f.mean.lines
-  pub first_lines : FirstLines f.lines f.mean.lines
-  pub lists : IsAsMeant f → keys_of f.part.pairs ≡ interned f.mean
-  pub first_lists : FirstLists (keys_of f.part.pairs) (interned f.mean)
-  pub texts_known : IsOwnEnd f.end → (u : List ℕ) → Contains (texts f.mean) u → (n : ℕ) × NamesUnits s n u
-
--- the end is the meaning's, or out of memory
-abbrev pub IsMeantOrMemory : RunFile → Type 0
-IsMeantOrMemory f = IsAsMeant f ⊎ (f.end ≡ Memory)
-
--- What files say that were run on a heap of these sizes, of all those with these meanings.
+-- What files say that were run on a heap of these sizes, of all those with these meanings. What each printed
+-- and interned is in `AreRun`.
 pub record FilesTell {F : Type 0} (z : StoreSizes) (s : State F) (means : List Flow)
     (files : List RunFile) : Type 0 where
-  pub each : Every (FileTells z s means) files
+  pub each : Every (λ f. EndTells z s means f.mean f.part f.end) files
   -- where the sizes are enough every end is the meaning's, or out of memory
-  pub fits : Fits z means → Every IsMeantOrMemory files
+  pub fits : Fits z means → Every (λ f. IsAsMeant f ⊎ (f.end ≡ Memory)) files
   -- where there are more different lists than slots, or than ids, not every end is the meaning's
   pub many_for_slots : z.slots < count_different (lists_interned means) → Every IsAsMeant files → ⊥
   pub many_for_ids : z.ids < count_different (lists_interned means) → Every IsAsMeant files → ⊥

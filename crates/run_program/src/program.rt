@@ -1,5 +1,5 @@
 // A heap, the files on it, and what is reported of it.
-ghost use Rattle.std.specs.Prelude.{◌≡◌, ◌≤◌, length, All, IfOk, None};
+ghost use Rattle.std.specs.Prelude.{◌≡◌, ◌≤◌, length, All, IfOk, None, if◌then◌else◌, Some};
 ghost use Rattle.js_store.specs.Faults.{Uses};
 ghost use Rattle.js_store.specs.Limits.{limit_units};
 ghost use Rattle.heap_rule.specs.Agents.{first_view};
@@ -9,7 +9,7 @@ ghost use Rattle.heap_intern.specs.Counting.{different};
 ghost use Rattle.heap_session.specs.Sessions.{state_by, state_in, table_of};
 ghost use Rattle.heap_session.specs.Shares.{IsWhole};
 ghost use Rattle.run_program.specs.Jobs.{HasNoLines};
-ghost use Rattle.run_program.specs.Ran.{IsRan, counted, tree_if, trees_of};
+ghost use Rattle.run_program.specs.Ran.{IsRan, tree_if, trees_of};
 ghost use Rattle.run_program.specs.Stages.{AreNumbered, IsTold, job_trees};
 
 use crate::job::{Job, Outcome};
@@ -28,7 +28,7 @@ use std::thread::Threads;
 // The number of different lists that were interned, where it is asked for.
 fn count_if(session: &mut Session<&Heap>, count: bool) -> Option<u32>
     requires { IsWhole (state_in session.old) }
-    ensures count { result ≡ counted count (different (state_in session.old).history) }
+    ensures count { result ≡ (if count then Some (different (state_in session.old).history) else None) }
     ensures uses { Uses (state_in session.old) (state_in session.new) None 0 0 }
 {
     if !count {

@@ -2,7 +2,7 @@
 use Rattle.std.proofs.Common.{◌≡◌, ◌+◌, ◌*◌, ◌++◌, ℕ, zero, suc, List, [], ◌∷◌, refl, ap, ap₂, sym, ◌∙◌, append_assoc, codes, map, mul-add, arith}
 use Rattle.run_sources.specs.Draws.{state_after, draw, joined_up_to, list_up_to, next}
 use Rattle.run_sources.specs.Lines.{digits, generated_line, word_line}
-use Rattle.run_sources.specs.Texts.{Named, before, drawn_line, letter, named_for, named_script, prelude, script, word, word_length}
+use Rattle.run_sources.specs.Texts.{Named, before, drawn_line, named_for, named_script, prelude, script, word, word_length}
 use Rattle.run_sources.specs.declared.texts.GeneratedText.{GeneratedText}
 use Rattle.std.specs.String.{string_bytes}
 use Rattle.std.proofs.lemmas.List.{map-append}
@@ -75,8 +75,8 @@ before_more n i =
 
 -- ---- one more round
 
-pub letters_more : (y state j : ℕ) (text : List ℕ) → text ≡ joined_up_to (letter y) j → state ≡ state_after j y → text ++ (97 + draw state 26) ∷ [] ≡ joined_up_to (letter y) (j + 1)
-letters_more y state j text is at = rw (is, at) (sym (each_more (letter y) j))
+pub letters_more : (y state j : ℕ) (text : List ℕ) → text ≡ joined_up_to (λ j. (97 + draw (state_after j y) 26) ∷ []) j → state ≡ state_after j y → text ++ (97 + draw state 26) ∷ [] ≡ joined_up_to (λ j. (97 + draw (state_after j y) 26) ∷ []) (j + 1)
+letters_more y state j text is at = rw (is, at) (sym (each_more (λ j. (97 + draw (state_after j y) 26) ∷ []) j))
 
 pub state_more : (x y j : ℕ) → x ≡ state_after j y → next x ≡ state_after (j + 1) y
 state_more x y j at = rw (at) (sym (after_more j y))

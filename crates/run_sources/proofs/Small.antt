@@ -7,8 +7,9 @@ use Rattle.std.proofs.lemmas.List.Elements.{All-nil, All-push}
 use Rattle.std.proofs.lemmas.Nat.{mod_below}
 use Rattle.std.proofs.Math.Nat.{div-le_self}
 use Rattle.run_sources.specs.Draws.{state_after, draw, joined_up_to, list_up_to, next}
-use Rattle.run_sources.specs.Lines.{all_line, find_line, generated_line, pad_line, print_line, repeat_line, replace_line, split_line, symbol_line, word_line}
-use Rattle.run_sources.specs.Texts.{IsSmall, before, drawn_line, generated, letter, named_script, prelude, script, word, word_length}
+use Rattle.run_sources.specs.Lines.{all_line, generated_line, print_line, word_line}
+use Rattle.run_sources.specs.Texts.{IsSmall, before, drawn_line, generated, named_script, prelude, script, word, word_length}
+use Rattle.std.specs.Prelude.{◌∷◌, []}
 
 -- two texts behind one another
 joined : (m n : ℕ) (s t : List ℕ) → length s ≤ m → length t ≤ n → length (s ++ t) ≤ m + n
@@ -44,44 +45,44 @@ draw_below x most some = mod_below (next x / 65536) most some
 word_small : (x : ℕ) → length (word x) ≤ 25
 word_small x =
     let below : draw x 20 < 20 = draw_below x 20 (omega arith) in
-    let all : length (word x) ≤ 1 * word_length x = length-each (letter (next x)) 1 (word_length x) (λ i lt. omega arith) in
+    let all : length (word x) ≤ 1 * word_length x = length-each (λ j. (97 + draw (state_after j (next x)) 26) ∷ []) 1 (word_length x) (λ i lt. omega arith) in
     omega (arith, all, below)
 
 word_line_small : (i : ℕ) (letters : List ℕ) → i < 1000 → length letters ≤ 25 → length (word_line i letters) ≤ 42
 word_line_small i letters few short =
     joined 7 35 (codes "const w") _ (omega arith) (joined 3 32 (decimal i) _ (number i few) (joined 4 28 (codes " = '") _ (omega arith) (joined 25 3 letters _ short (omega arith))))
 
-find_small : (a : ℕ) → a < 1000 → length (find_line a) ≤ 72
+find_small : (a : ℕ) → a < 1000 → length (codes "n = n + all.indexOf(w" ++ (decimal a ++ codes ");\n")) ≤ 72
 find_small a few =
-    let all : length (find_line a) ≤ 27 = joined 21 6 (codes "n = n + all.indexOf(w") _ (omega arith) (joined 3 3 (decimal a) _ (number a few) (omega arith)) in
+    let all : length (codes "n = n + all.indexOf(w" ++ (decimal a ++ codes ");\n")) ≤ 27 = joined 21 6 (codes "n = n + all.indexOf(w") _ (omega arith) (joined 3 3 (decimal a) _ (number a few) (omega arith)) in
     omega (arith, all)
 
-pad_small : (a b d : ℕ) → a < 1000 → b < 1000 → d < 1000 → length (pad_line a b d) ≤ 72
+pad_small : (a b d : ℕ) → a < 1000 → b < 1000 → d < 1000 → length (codes "acc = (acc + w" ++ (decimal a ++ (codes ".padStart(" ++ (decimal d ++ (codes ", w" ++ (decimal b ++ codes ")).slice(-16);\n")))))) ≤ 72
 pad_small a b d few less more =
-    let all : length (pad_line a b d) ≤ 51 = joined 14 37 (codes "acc = (acc + w") _ (omega arith) (joined 3 34 (decimal a) _ (number a few) (joined 10 24 (codes ".padStart(") _ (omega arith)
+    let all : length (codes "acc = (acc + w" ++ (decimal a ++ (codes ".padStart(" ++ (decimal d ++ (codes ", w" ++ (decimal b ++ codes ")).slice(-16);\n")))))) ≤ 51 = joined 14 37 (codes "acc = (acc + w") _ (omega arith) (joined 3 34 (decimal a) _ (number a few) (joined 10 24 (codes ".padStart(") _ (omega arith)
     (joined 3 21 (decimal d) _ (number d more) (joined 3 18 (codes ", w") _ (omega arith) (joined 3 15 (decimal b) _ (number b less) (omega arith)))))) in
     omega (arith, all)
 
-repeat_small : (a c : ℕ) → a < 1000 → c < 1000 → length (repeat_line a c) ≤ 72
+repeat_small : (a c : ℕ) → a < 1000 → c < 1000 → length (codes "acc = (acc + w" ++ (decimal a ++ (codes ".repeat(" ++ (decimal c ++ codes ")).slice(-16);\n")))) ≤ 72
 repeat_small a c few less =
-    let all : length (repeat_line a c) ≤ 43 = joined 14 29 (codes "acc = (acc + w") _ (omega arith) (joined 3 26 (decimal a) _ (number a few) (joined 8 18 (codes ".repeat(") _ (omega arith)
+    let all : length (codes "acc = (acc + w" ++ (decimal a ++ (codes ".repeat(" ++ (decimal c ++ codes ")).slice(-16);\n")))) ≤ 43 = joined 14 29 (codes "acc = (acc + w") _ (omega arith) (joined 3 26 (decimal a) _ (number a few) (joined 8 18 (codes ".repeat(") _ (omega arith)
     (joined 3 15 (decimal c) _ (number c less) (omega arith)))) in
     omega (arith, all)
 
-symbol_small : (a b : ℕ) → a < 1000 → b < 1000 → length (symbol_line a b) ≤ 72
+symbol_small : (a b : ℕ) → a < 1000 → b < 1000 → length (codes "if (Symbol.for(w" ++ (decimal a ++ (codes " + w" ++ (decimal b ++ (codes ") === Symbol.for(w" ++ (decimal b ++ (codes " + w" ++ (decimal a ++ codes ")) { n = n + 1; }\n")))))))) ≤ 72
 symbol_small a b few less =
     joined 16 56 (codes "if (Symbol.for(w") _ (omega arith) (joined 3 53 (decimal a) _ (number a few) (joined 4 49 (codes " + w") _ (omega arith)
     (joined 3 46 (decimal b) _ (number b less) (joined 18 28 (codes ") === Symbol.for(w") _ (omega arith) (joined 3 25 (decimal b) _ (number b less)
     (joined 4 21 (codes " + w") _ (omega arith) (joined 3 18 (decimal a) _ (number a few) (omega arith))))))))
 
-replace_small : (a : ℕ) → a < 1000 → length (replace_line a) ≤ 72
+replace_small : (a : ℕ) → a < 1000 → length (codes "n = n + all.replaceAll(',', w" ++ (decimal a ++ codes ").length;\n")) ≤ 72
 replace_small a few =
-    let all : length (replace_line a) ≤ 42 = joined 29 13 (codes "n = n + all.replaceAll(',', w") _ (omega arith) (joined 3 10 (decimal a) _ (number a few) (omega arith)) in
+    let all : length (codes "n = n + all.replaceAll(',', w" ++ (decimal a ++ codes ").length;\n")) ≤ 42 = joined 29 13 (codes "n = n + all.replaceAll(',', w") _ (omega arith) (joined 3 10 (decimal a) _ (number a few) (omega arith)) in
     omega (arith, all)
 
-split_small : (a b : ℕ) → a < 1000 → b < 1000 → length (split_line a b) ≤ 72
+split_small : (a b : ℕ) → a < 1000 → b < 1000 → length (codes "n = n + all.split(',')[" ++ (decimal a ++ (codes "].length + JSON.stringify(w" ++ (decimal b ++ codes ").length;\n")))) ≤ 72
 split_small a b few less =
-    let all : length (split_line a b) ≤ 66 = joined 23 43 (codes "n = n + all.split(',')[") _ (omega arith) (joined 3 40 (decimal a) _ (number a few)
+    let all : length (codes "n = n + all.split(',')[" ++ (decimal a ++ (codes "].length + JSON.stringify(w" ++ (decimal b ++ codes ").length;\n")))) ≤ 66 = joined 23 43 (codes "n = n + all.split(',')[") _ (omega arith) (joined 3 40 (decimal a) _ (number a few)
     (joined 27 13 (codes "].length + JSON.stringify(w") _ (omega arith) (joined 3 10 (decimal b) _ (number b less) (omega arith)))) in
     omega (arith, all)
 
@@ -91,11 +92,11 @@ line_small k a b c few less least =
     let second : b < 1000 = omega (arith, less) in
     let padded : c + 20 < 1000 = omega (arith, least) in
     let times : c < 1000 = omega (arith, least) in
-    either (k == 0) 72 (find_line a) _ (find_small a first)
-    (either (k == 1) 72 (pad_line a b (c + 20)) _ (pad_small a b (c + 20) first second padded)
-    (either (k == 2) 72 (repeat_line a c) _ (repeat_small a c first times)
-    (either (k == 3) 72 (symbol_line a b) _ (symbol_small a b first second)
-    (either (k == 4) 72 (replace_line a) (split_line a b) (replace_small a first) (split_small a b first second)))))
+    either (k == 0) 72 (codes "n = n + all.indexOf(w" ++ (decimal a ++ codes ");\n")) _ (find_small a first)
+    (either (k == 1) 72 (codes "acc = (acc + w" ++ (decimal a ++ (codes ".padStart(" ++ (decimal (c + 20) ++ (codes ", w" ++ (decimal b ++ codes ")).slice(-16);\n")))))) _ (pad_small a b (c + 20) first second padded)
+    (either (k == 2) 72 (codes "acc = (acc + w" ++ (decimal a ++ (codes ".repeat(" ++ (decimal c ++ codes ")).slice(-16);\n")))) _ (repeat_small a c first times)
+    (either (k == 3) 72 (codes "if (Symbol.for(w" ++ (decimal a ++ (codes " + w" ++ (decimal b ++ (codes ") === Symbol.for(w" ++ (decimal b ++ (codes " + w" ++ (decimal a ++ codes ")) { n = n + 1; }\n")))))))) _ (symbol_small a b first second)
+    (either (k == 4) 72 (codes "n = n + all.replaceAll(',', w" ++ (decimal a ++ codes ").length;\n")) (codes "n = n + all.split(',')[" ++ (decimal a ++ (codes "].length + JSON.stringify(w" ++ (decimal b ++ codes ").length;\n")))) (replace_small a first) (split_small a b first second)))))
 
 drawn_small : (x : ℕ) → length (drawn_line x) ≤ 72
 drawn_small x = line_small (draw x 6) (draw (state_after 1 x) 16) (draw (state_after 2 x) 16) (draw (state_after 3 x) 8) (draw_below (state_after 1 x) 16 (omega arith)) (draw_below (state_after 2 x) 16 (omega arith)) (draw_below (state_after 3 x) 8 (omega arith))

@@ -1,5 +1,5 @@
 -- What the stages leave, one behind the other.
-use Rattle.std.proofs.Common.{◌≡◌, ◌++◌, ℕ, zero, suc, List, [], ◌∷◌, None, Some, refl, sym, ap, ◌∙◌, subst, arith}
+use Rattle.std.proofs.Common.{◌≡◌, ◌++◌, ℕ, zero, suc, List, [], ◌∷◌, None, Some, refl, sym, ap, ◌∙◌, subst, arith, option_to_list}
 use Rattle.std.specs.declared.option.Option.{Option}
 use Rattle.std.specs.List.{All}
 use Rattle.std.proofs.lemmas.List.Elements.{All-nil}
@@ -10,7 +10,7 @@ use Rattle.js_parse.specs.declared.fault.Role.TheVariants.{Main}
 use Rattle.eval_tree.specs.Tree.{Tree}
 use Rattle.run_sources.specs.declared.stop.ScriptsFault.{ScriptsFault}
 use Rattle.run_sources.specs.declared.stop.ScriptsFault.TheVariants as stop
-use Rattle.run_sources.specs.Program.{FileName, Program, outer_of, program_from, with_prelude}
+use Rattle.run_sources.specs.Program.{FileName, Program, outer_of, program_from}
 use Rattle.run_sources.specs.Reading as reading
 use Rattle.run_sources.specs.Reading.{AreRead, IsLarge, IsPreludeRead, IsQuiet, IsRead, IsUnread, KeepsFiles, Read, ReadUpTo}
 use Rattle.run_sources.specs.Spelling as spelling
@@ -74,34 +74,34 @@ read_halt a b c all before after sources name stop.NoMemory split keeps quiet re
 read_halt a b c all before after sources name (stop.Refused blamed fault) split keeps quiet read more = absurd more
 
 -- the prelude's read was not quiet, or memory was wanting
-pub prelude_halt : (a c : FilesState) (prelude : Option FileName) (scripts : List FileName) (s : ScriptsFault) → RefusesPrelude a c prelude s → RefusesFile a c (with_prelude prelude scripts) s
+pub prelude_halt : (a c : FilesState) (prelude : Option FileName) (scripts : List FileName) (s : ScriptsFault) → RefusesPrelude a c prelude s → RefusesFile a c (option_to_list prelude ++ scripts) s
 prelude_halt a c None scripts s why = absurd why
 prelude_halt a c (Some name) scripts s why = read_halt a a c (name ∷ scripts) [] scripts [] name s refl (keeps_refl a) (quiet_refl a) reading.Read.none why
 
 -- behind the prelude
 module _ (a b : FilesState) (prelude : Option FileName) (source : Option Named) (keeps : KeepsFiles a b) (read : IsPreludeRead a.held prelude source) where
   all_read : (prelude : Option FileName) (source : Option Named) (names : List FileName) (sources : List Named) → IsPreludeRead a.held prelude source → Read a.held names sources
-      → Read a.held (with_prelude prelude names) (with_prelude source sources)
+      → Read a.held (option_to_list prelude ++ names) (option_to_list source ++ sources)
   all_read None None names sources none rest = rest
   all_read None (Some source) names sources none rest = absurd none
   all_read (Some name) None names sources none rest = absurd none
   all_read (Some name) (Some source) names sources is rest = reading.Read.next name names source sources is rest
 
-  parted : (prelude : Option FileName) (before after : List FileName) (name : FileName) → with_prelude prelude (before ++ name ∷ after) ≡ with_prelude prelude before ++ name ∷ after
+  parted : (prelude : Option FileName) (before after : List FileName) (name : FileName) → (option_to_list prelude ++ (before ++ name ∷ after)) ≡ (option_to_list prelude ++ before) ++ name ∷ after
   parted None before after name = refl
   parted (Some first) before after name = refl
 
-  up_to : (scripts : List FileName) (name : FileName) → ReadUpTo b.held scripts name → ReadUpTo a.held (with_prelude prelude scripts) name
+  up_to : (scripts : List FileName) (name : FileName) → ReadUpTo b.held scripts name → ReadUpTo a.held (option_to_list prelude ++ scripts) name
   up_to scripts name up = record {
-    before = with_prelude prelude up.before;
+    before = option_to_list prelude ++ up.before;
     after = up.after;
-    sources = with_prelude source up.sources;
-    split = ap (with_prelude prelude) up.split ∙ parted prelude up.before up.after name;
+    sources = option_to_list source ++ up.sources;
+    split = ap (λ (ns : List FileName). option_to_list prelude ++ ns) up.split ∙ parted prelude up.before up.after name;
     read = all_read prelude source up.before up.sources read (read_of a b up.before up.sources keeps up.read);
   }
 
   -- a script's read was not quiet, or memory was wanting
-  pub scripts_halt : (c : FilesState) (scripts : List FileName) (s : ScriptsFault) → IsQuiet a b → RefusesFile b c scripts s → RefusesFile a c (with_prelude prelude scripts) s
+  pub scripts_halt : (c : FilesState) (scripts : List FileName) (s : ScriptsFault) → IsQuiet a b → RefusesFile b c scripts s → RefusesFile a c (option_to_list prelude ++ scripts) s
   scripts_halt c scripts (stop.NotRead name) quiet why = record {
     up_to = up_to scripts name.now why.up_to;
     once = why.once ∙ ap next_count quiet.calm;

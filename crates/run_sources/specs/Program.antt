@@ -1,5 +1,5 @@
 -- A prelude or none, and scripts: by the names of their files, by their bytes, or by their trees.
-use Rattle.std.specs.Prelude.{ℕ, List, [], ◌∷◌, Option, None, Some}
+use Rattle.std.specs.Prelude.{ℕ, List, [], ◌∷◌, ◌++◌, Option, None, Some, option_to_list}
 use Rattle.run_sources.specs.Texts.{Named}
 use Rattle.eval_tree.specs.Tree.{Tree}
 
@@ -13,13 +13,8 @@ pub record Program (T : Type 0) : Type 0 where
   pub scripts : List T
 
 -- the prelude, if there is one, and then the scripts
-abbrev pub with_prelude : {T : Type 0} → Option T → List T → List T
-with_prelude None scripts = scripts
-with_prelude (Some prelude) scripts = prelude ∷ scripts
-
--- the prelude, if there is one, and then the scripts
 abbrev pub in_order : {T : Type 0} → Program T → List T
-in_order program = with_prelude program.prelude program.scripts
+in_order program = option_to_list program.prelude ++ program.scripts
 
 -- sources of which the first is the prelude
 abbrev pub program_from : List Named → Program Named

@@ -10,13 +10,9 @@ use Rattle.run_sources.specs.declared.texts.GeneratedText.{GeneratedText}
 abbrev pub word_length : ℕ → ℕ
 word_length x = 6 + draw x 20
 
--- letter number j, a to z, drawn from state x on
-abbrev pub letter : ℕ → ℕ → List ℕ
-letter x j = (97 + draw (state_after j x) 26) ∷ []
-
 -- the string that is drawn from state x on: first its length, and then its letters
 abbrev pub word : ℕ → List ℕ
-word x = joined_up_to (letter (next x)) (word_length x)
+word x = joined_up_to (λ j. (97 + draw (state_after j (next x)) 26) ∷ []) (word_length x)
 
 -- the state before string i
 unfoldable pub before : ℕ → ℕ → ℕ

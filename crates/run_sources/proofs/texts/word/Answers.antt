@@ -1,14 +1,13 @@
 use Rattle.std.proofs.Common.{rules, ◌≡◌, ◌+◌, ◌++◌, ◌∷◌, [], sym, ◌∙◌}
 use Rattle.std.specs.String.{string_bytes}
-use Rattle.run_sources.specs.Draws.{draw, next}
-use Rattle.run_sources.specs.Texts.{letter}
+use Rattle.run_sources.specs.Draws.{draw, next, state_after}
 use Rattle.run_sources.proofs.Rounds.{after_none, each_none, letters_more, state_more}
 use Rattle.run_sources.proofs.texts.word.Goals as goal
 
 pub loop-letter-init : goal.loop-letter-init
 loop-letter-init c =
     let y = next c.args.draws.now.state in
-    record { text = c.new-text.ensures.bytes ∙ sym (each_none (letter y)); state = c.draw-len.ensures.state ∙ sym (after_none y) }
+    record { text = c.new-text.ensures.bytes ∙ sym (each_none (λ j. (97 + draw (state_after j y) 26) ∷ [])); state = c.draw-len.ensures.state ∙ sym (after_none y) }
 
 pub loop-letter-preserved : goal.loop-letter-preserved
 loop-letter-preserved c =
