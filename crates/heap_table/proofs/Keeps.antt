@@ -40,6 +40,7 @@ use Rattle.heap_rule.proofs.Splitting.{keeps_learned, keeps_noted, keeps_split, 
 use Rattle.heap_rule.proofs.Seen.{keeps_loaded_slot}
 use Rattle.heap_rule.proofs.KindsKept.{birth_by, kinds_keep, take_by}
 use Rattle.heap_rule.proofs.Whole.{share_within, whole_counter, whole_slot}
+use Rattle.heap_table.proofs.Found.{slot_before, used_found}
 use Rattle.heap_rule.proofs.Joining.{keeps_joined}
 use Rattle.heap_rule.proofs.Parts.{shown_part_right}
 use Rattle.heap_rule.proofs.Possible.{possible_frozen, possible_lawful}
@@ -161,6 +162,7 @@ module _ (key : HeapKey) (slots id : ℕ) (me : Sat) (live : me.0.live ≡ true)
   found : (k : Counter) (s : State (Unit {0}) View) → IsSound key.size key.agents s.words s.views → get_elem? s.views id ≡ some me.0 → FoundCounter me.0 k (get_or s.words (counter_at k) 0)
   found k s h at = let f = counter_found key.size key.agents s.words s.views h id me.0 at live k in record {
     grown = f.0;
+    used = used_found key.size key.agents s.words s.views h id me.0 at live k;
     within = f.1;
     above = λ e i known. subst (λ (q : Counter). i < get_or s.words (counter_at q) 0) (sym e) (known_below key.size key.agents s.words s.views h id me.0 at live i known);
     own_ids = λ e i own. subst (λ (q : Counter). i < get_or s.words (counter_at q) 0) (sym e) (let p = has_key me.0.own_ids i own in ((h.own_ids id me.0 at live).each i p.0 p.1).0);
@@ -328,6 +330,7 @@ module _ (key : HeapKey) (slots id : ℕ) (me : Sat) (live : me.0.live ≡ true)
   slot_found s h at k inside = record {
     within = λ i e. subst (λ (y : HeapSize). i < y.ids) (sym (sizes_are key.size key.agents s.words s.views h id me.0 at live)) (h.slots k i inside e).born.0;
     again = λ i g. ((h.knows id me.0 at live).of_slots k i g).1;
+    before = slot_before key.size key.agents s.words s.views h id me.0 at live k inside;
     whole = λ e i is. whole_slot key.size key.agents s.words s.views h id me.0 at live e k i inside is;
   }
 
