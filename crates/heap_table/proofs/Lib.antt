@@ -3,5 +3,4 @@ pub mod LaterForms
 pub mod Alike
 pub mod Stay
 pub mod Agreeing
-pub mod Found
 pub mod Keeps

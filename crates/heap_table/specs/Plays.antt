@@ -1,7 +1,7 @@
 -- What each step of the table reports to its caller. A step is given as the number of its word and two
 -- operands; so each says what it did for every counter, id or place that spells that number, and a caller
 -- puts in its own.
-use Rattle.std.specs.Prelude.{Some, None, Option, Bool, ◌≡◌, ◌≢◌, ℕ, ◌+◌, ◌^◌, ◌<◌, ◌≤◌, ◌⊎◌, List, Contains}
+use Rattle.std.specs.Prelude.{Some, None, Option, Bool, ◌≡◌, ℕ, ◌+◌, ◌^◌, ◌<◌, ◌≤◌, ◌⊎◌, List, Contains}
 use Rattle.atomic_table.specs.Table.{Step, Me}
 use Rattle.js_header.specs.Form.{IsInRange, form_of, word_of}
 use Rattle.js_header.specs.declared.form.Form.{Form}
@@ -12,7 +12,6 @@ use Rattle.heap_rule.specs.declared.size.Counter.TheVariants.{Ids, Words}
 use Rattle.heap_rule.specs.Layout.{counter_at, end_of, content_at, form_at, length_at, slot_at, MAX, counter_value}
 use Rattle.heap_rule.specs.Maps.{Has, HasKey}
 use Rattle.heap_rule.specs.Forms.{IsLater, IsSolidForm}
-use Rattle.heap_rule.specs.Paths.{rank}
 use Rattle.heap_rule.specs.Views.{MayUse, IsSeenSettled, shown_word}
 use Rattle.heap_rule.specs.Claims.{loaded_counter, claimed}
 use Rattle.heap_rule.specs.Births.{stored_word, stored_length, born}
@@ -41,13 +40,11 @@ pub record FoundCounter (v : View) (k : Counter) (x : ℕ) : Type 0 where
   pub whole : v.share ≡ v.agents → x ≡ counter_value v.used k
 
 -- What the rule says of the word of a slot that is found: a used slot has one of the heap's ids; what the
--- view has there is found again; a slot before one that the view has, on the path of the units of the string
--- there, is used; and an agent that holds the whole share has every used slot in a call of its own.
+-- view has there is found again; and an agent that holds the whole share has every used slot in a call of its
+-- own.
 pub record FoundSlot (v : View) (k x : ℕ) : Type 0 where
   pub within : (i : ℕ) → x ≡ i + 1 → i < v.sizes.ids
   pub again : (i : ℕ) → Has v.slots k i → x ≡ i + 1
-  pub before : (l i : ℕ) (us : List ℕ) → Has v.slots l i → Has v.units i us
-      → rank us v.sizes.slots k < rank us v.sizes.slots l → x ≢ 0
   pub whole : v.share ≡ v.agents → (i : ℕ) → x ≡ i + 1 → (u : List ℕ) × Contains v.mine (u, i)
 
 -- What the rule says of the word of a header that is found: its form is the one that the view has, or a later
