@@ -5,3 +5,4 @@ pub mod Searched
 pub mod Marks
 pub mod Sizes
 pub mod Answered
+pub mod Boarded
