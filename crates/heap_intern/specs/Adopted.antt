@@ -4,6 +4,7 @@ use Rattle.std.specs.FinMap.{get}
 use Rattle.heap_rule.specs.declared.view.View.{View}
 use Rattle.heap_rule.specs.Maps.{Has}
 use Rattle.heap_rule.specs.Paths.{rank}
+use Rattle.heap_rule.specs.Sound.{EachLive}
 use Rattle.heap_intern.specs.Answers.{IsFixed, UsesNothing}
 use Rattle.heap_intern.specs.Goes.{AddsCalls, Looks}
 use Rattle.heap_intern.specs.SlotLoads.{counted_on, loads_at}
@@ -35,3 +36,8 @@ pub record LoadsHere (v w : View) (k n : ℕ) : Type 0 where
 -- between two views no slot behind slot k on the path of the units us was loaded
 abbrev pub LoadsNoneBehind : View → View → List ℕ → ℕ → Type 0
 LoadsNoneBehind v w us k = (j : ℕ) → rank us v.sizes.slots k < rank us v.sizes.slots j → loads_at w j ≡ loads_at v j
+
+-- What two live views have in one slot is one id, and what they know of its units is the same.
+abbrev pub AreOneInEachSlot : List View → Type 0
+AreOneInEachSlot views = EachLive views (λ _ v. EachLive views (λ _ w. (k i j : ℕ) → Has v.slots k i
+    → Has w.slots k j → (i ≡ j) × ((us ws : List ℕ) → Has v.units i us → Has w.units j ws → us ≡ ws)))

@@ -1,4 +1,9 @@
-// Laws of sessions, which a call brings into a proof.
+// Laws of sessions and of the string table, which a call brings into a proof.
+ghost use Rattle.std.specs.Prelude.{ℕ, List};
+ghost use Rattle.heap_rule.specs.Sound.{IsSound};
+ghost use Rattle.heap_rule.specs.declared.size.HeapSize.{HeapSize};
+ghost use Rattle.heap_rule.specs.declared.view.View.{View};
+ghost use Rattle.heap_intern.specs.Adopted.{AreOneInEachSlot};
 ghost use Rattle.heap_intern.specs.Sessions.{state_in};
 ghost use Rattle.heap_intern.specs.Whole.{WholeHasAll};
 
@@ -9,4 +14,11 @@ use heap_read::HeapRef;
 /// is in its history.
 pub fn whole_has_all<H: HeapRef>(_session: &Session<H>)
     ensures { WholeHasAll (state_in _session.now) }
+{}
+
+/// What two agents have in one slot is one string, with the same units, at every moment between two
+/// steps, since the rule holds then. The call does nothing.
+pub fn one_in_each_slot()
+    ensures { (z : HeapSize) (agents : ℕ) (words : List ℕ) (views : List View)
+        → IsSound z agents words views → AreOneInEachSlot views }
 {}
