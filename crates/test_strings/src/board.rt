@@ -73,7 +73,7 @@ counters -> Both(1, 1)
 and
 adopt 1 -> Made(0) or Maybe(None)
 adopt 0 -> Maybe(None)
-counters -> Both(0, 0) or Both(..
+counters -> Both(..
 end
 adopt 1 -> Made(0)
 reads 0 key -> Yes
@@ -97,7 +97,9 @@ fn handed_over(alloc: Global, units: &[u16]) -> Option<(u32, u32, bool)>
         words: 50,
         slots: 7,
     };
-    let (heap, agent) = Heap::make(alloc, size, 2).ok()?;
+    let Ok((heap, agent)) = Heap::make(alloc, size, 2) else {
+        return None;
+    };
     let mut giver = Text::new(&heap, agent, MAX);
     let mut taker = giver.split_to(&heap, 1);
     let Ok(id) = intern_units(&mut giver.reader, units) else {
