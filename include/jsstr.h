@@ -94,6 +94,14 @@ typedef struct jsstr_bytes { uint32_t status, at, size; } jsstr_bytes;
 typedef struct jsstr_used { uint32_t status, ids, words; } jsstr_used;
 typedef struct jsstr_use { uint32_t ids, words; } jsstr_use;
 
+/* What is used of a heap, as one agent saw it: */
+typedef struct jsstr_room {
+  uint32_t status;
+  uint32_t ids, words;                /* what each counter was when it was read: claimed by all agents by then */
+  uint32_t all_ids, all_words, slots; /* the sizes of the heap */
+  uint32_t seen_slots;                /* slots of the string table that this agent knows to be used */
+} jsstr_room;
+
 /* Every call with an agent has the conditions that the handle isn't zero, and that each string that it is
    given is known (jsstr_is_interned: the first alone). */
 
@@ -258,6 +266,21 @@ jsstr_truth jsstr_is_interned(jsstr_agent *agent, jsstr_id s);
    Condition: a and b are interned, as jsstr_is_interned reports. */
 jsstr_truth jsstr_same(jsstr_agent *agent, jsstr_id a, jsstr_id b);
 
+/* The slot of the string table in which an interned string stands, for good. Nothing is used, ever.
+   Condition: s is interned, as jsstr_is_interned reports. */
+jsstr_number jsstr_slot_of(jsstr_agent *agent, jsstr_id s);
+
+/* The interned string in a slot, which is known, settled and interned from then on; or NONE where the slot is free.
+   Nothing is used, ever. So a string goes from one running thread to another by its slot. While another thread
+   claims the slot, either may be the answer; whoever is told a slot of jsstr_slot_of gets its string.
+   Condition: slot is below the heap's number of slots. */
+jsstr_answer jsstr_adopt(jsstr_agent *agent, uint32_t slot);
+
+/* What is used of the heap, for any agent, at any time, while others run. `ids` and `words` are at least what this
+   agent saw and used before; a later answer to it is no less. `seen_slots` takes a pass over its marks, a bit an
+   id. Condition: the handle isn't zero. */
+jsstr_room jsstr_room_of(jsstr_agent *agent);
+
 /* What was used, by all agents, and how many different lists of units were interned.
    Condition: the agent has the whole share. Where others hold shares, the unchecked forms answer what each
    counter, or slot, was at some moment; no contract says so. */
@@ -306,6 +329,9 @@ jsstr_answer jsstr_copy_into_unchecked(jsstr_agent *from, jsstr_id s, jsstr_agen
 jsstr_answer jsstr_intern_into_unchecked(jsstr_agent *from, jsstr_id s, jsstr_agent *to);
 bool jsstr_is_interned_unchecked(jsstr_agent *agent, jsstr_id s);
 bool jsstr_same_unchecked(const jsstr_agent *agent, jsstr_id a, jsstr_id b);
+uint32_t jsstr_slot_of_unchecked(jsstr_agent *agent, jsstr_id s);
+jsstr_answer jsstr_adopt_unchecked(jsstr_agent *agent, uint32_t slot);
+jsstr_room jsstr_room_of_unchecked(jsstr_agent *agent);
 jsstr_use jsstr_totals_unchecked(jsstr_agent *agent);
 uint32_t jsstr_count_interned_unchecked(jsstr_agent *agent);
 

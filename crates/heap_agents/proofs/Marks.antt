@@ -25,6 +25,7 @@ marked_still : (v w : View) (known interned : IdSet) (ids : ℕ) → IsMarked v 
     → ((i : ℕ) (us : List ℕ) → Has v.units i us → Has w.units i us) → KeepsCalls v w → IsMarked w known interned ids
 marked_still v w known interned ids m units calls = record {
   known = λ i h. let u = has_key v.units i (m.known i h) in key_of w.units i u.0 (units i u.0 u.1);
+  both = m.both;
   calls = λ i h. let u = m.calls i h in (u.0, calls.calls u.0 i u.1);
   calls_below = m.calls_below;
   room = m.room;
@@ -119,14 +120,15 @@ module _ (x o : Held) (y : Option SharedText) (held : IsHeld x) (theirs : IsHeld
     (ours : KeepsKnown (view_by x) (view_if y)) (others : KeepsKnown (view_by o) (view_if y)) (calls : history (view_if y) ≡ history (view_by x) ++ (view_by o).mine)
     (known interned : IdSet) (room : (n : ℕ) → Covers x.known n → Covers known n) (only : (i : ℕ) → IsIn known i → IsIn x.known i ⊎ IsIn o.known i)
     (calls_room : (n : ℕ) → Covers x.interned n → Covers interned n) (only_calls : (i : ℕ) → IsIn interned i → IsIn x.interned i ⊎ IsIn o.interned i) where
-  pub joined_held : (view_if y).agents ≡ (view_by x).agents → IsHeld (record x { text = y; known = known; interned = interned })
-  joined_held agents = record {
+  pub joined_held : (view_if y).agents ≡ (view_by x).agents → ((i : ℕ) → IsIn x.known i → IsIn known i) → ((i : ℕ) → IsIn o.known i → IsIn known i) → IsHeld (record x { text = y; known = known; interned = interned })
+  joined_held agents ours_in theirs_in = record {
     there = there;
     agents = held.agents ∙ sym agents;
     marked = subst (λ (n : ℕ). IsMarked (view_if y) known interned n) (same_ids x.text y same) (record {
       known = λ i h. ⊎_elim
           (λ (a : IsIn x.known i). let u = has_key (view_by x).units i (held.marked.known i a) in key_of (view_if y).units i u.0 (ours.units i u.0 u.1))
           (λ (a : IsIn o.known i). let u = has_key (view_by o).units i (theirs.marked.known i a) in key_of (view_if y).units i u.0 (others.units i u.0 u.1)) (only i h);
+      both = λ i h. ⊎_elim (λ (a : IsIn x.interned i). ours_in i (held.marked.both i a)) (λ (a : IsIn o.interned i). theirs_in i (theirs.marked.both i a)) (only_calls i h);
       calls = λ i h. ⊎_elim
           (λ (a : IsIn x.interned i). let u = held.marked.calls i a in (u.0, stays (view_by x) (view_by o) (view_if y) calls u.0 i u.1))
           (λ (a : IsIn o.interned i). let u = theirs.marked.calls i a in (u.0, taken_over (view_by x) (view_by o) (view_if y) may calls u.0 i u.1)) (only_calls i h);
@@ -136,6 +138,11 @@ module _ (x o : Held) (y : Option SharedText) (held : IsHeld x) (theirs : IsHeld
       calls_room = calls_room (held_size x).ids held.marked.calls_room;
     });
   }
+
+-- what another agent may use is among what was added
+pub added_here : (x o : Held) → IsHeld x → IsHeld o → IsSame x o → (known : IdSet) → ((n i : ℕ) → Covers x.known n → i < n → IsIn o.known i → IsIn known i) → (i : ℕ) → IsIn o.known i → IsIn known i
+added_here x o held theirs beside known there i h =
+    there (held_size x).ids i held.marked.room (subst (λ (n : ℕ). i < n) (sym (same_ids x.text o.text beside)) (below o theirs i (theirs.marked.known i h))) h
 
 -- what a split leaves to both
 module _ (x : Held) (y : Option SharedText) (give : ℕ) (held : IsHeld x) (there : IsThere y) (same : IsSameText x.text y) where
@@ -154,6 +161,7 @@ module _ (x : Held) (y : Option SharedText) (give : ℕ) (held : IsHeld x) (ther
           (subst (λ (s : IdSet). IsMarked (view_if y) s z.interned (size_if y).ids) (sym marks) (subst (λ (s : IdSet). IsMarked (view_if y) o.known s (size_if y).ids) (sym calls)
           (subst (λ (n : ℕ). IsMarked (view_if y) o.known o.interned n) (same_ids x.text y same) (record {
             known = λ i h. subst (λ (v : View). HasKey v.units i) (sym e) (held.marked.known i ((known i).0 h));
+            both = λ i h. (known i).1 (held.marked.both i ((interned i).0 h));
             calls = λ i h. let u = held.marked.calls i ((interned i).0 h) in (u.0, subst (λ (v : View). Contains (history v) (u.0, i)) (sym e) (Contains-append_left (history (view_by x)) [] (u.0, i) u.1));
             calls_below = λ i h. held.marked.calls_below i ((interned i).0 h);
             room = room (held_size x).ids held.marked.room;
@@ -165,13 +173,14 @@ module _ (x : Held) (y : Option SharedText) (give : ℕ) (held : IsHeld x) (ther
 
 -- an answer of the string table, marked as both
 pub interned_held : (x : Held) (i : ℕ) (known interned : IdSet) → IsHeld x → HasKey (view_by x).units i → (u : List ℕ) × Contains (history (view_by x)) (u, i)
-    → ((n : ℕ) → Covers x.known n → Covers known n) → ((j : ℕ) → IsIn known j → (j ≡ i) ⊎ IsIn x.known j)
+    → ((n : ℕ) → Covers x.known n → Covers known n) → ((j : ℕ) → IsIn known j → (j ≡ i) ⊎ IsIn x.known j) → IsIn known i → ((j : ℕ) → IsIn x.known j → IsIn known j)
     → ((n : ℕ) → Covers x.interned n → Covers interned n) → ((j : ℕ) → IsIn interned j → (j ≡ i) ⊎ IsIn x.interned j) → IsHeld (record x { known = known; interned = interned })
-interned_held x i known interned held key call room only calls_room only_calls = record {
+interned_held x i known interned held key call room only here kept calls_room only_calls = record {
   there = held.there;
   agents = held.agents;
   marked = record {
     known = λ j h. ⊎_elim (λ (e : j ≡ i). subst (λ (k : ℕ). HasKey (view_by x).units k) (sym e) key) (λ (a : IsIn x.known j). held.marked.known j a) (only j h);
+    both = λ j h. ⊎_elim (λ (e : j ≡ i). subst (IsIn known) (sym e) here) (λ (a : IsIn x.interned j). kept j (held.marked.both j a)) (only_calls j h);
     calls = λ j h. ⊎_elim (λ (e : j ≡ i). subst (λ (k : ℕ). (u : List ℕ) × Contains (history (view_by x)) (u, k)) (sym e) call) (λ (a : IsIn x.interned j). held.marked.calls j a) (only_calls j h);
     calls_below = λ j h. ⊎_elim (λ (e : j ≡ i). subst (λ (k : ℕ). k < (held_size x).ids) (sym e) (below x held i key)) (λ (a : IsIn x.interned j). held.marked.calls_below j a) (only_calls j h);
     room = room (held_size x).ids held.marked.room;

@@ -35,9 +35,10 @@ abbrev pub IsSame : Held → Held → Type 0
 IsSame x y = IsSameText x.text y.text
 
 -- each marked id is known to the agent, and each that is marked as interned is in a known call of the string
--- table
+-- table, and is marked as one that may be used
 pub record IsMarked (v : View) (usable answered : IdSet) (ids : ℕ) : Type 0 where
   pub known : (i : ℕ) → IsIn usable i → HasKey v.units i
+  pub both : (i : ℕ) → IsIn answered i → IsIn usable i
   pub calls : (i : ℕ) → IsIn answered i → (u : List ℕ) × Contains (history v) (u, i)
   pub calls_below : (i : ℕ) → IsIn answered i → i < ids
   pub room : Covers usable ids

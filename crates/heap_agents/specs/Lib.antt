@@ -6,3 +6,5 @@ pub mod Words
 pub mod Held
 pub mod Keys
 pub mod Ready
+pub mod Board
+pub mod Room

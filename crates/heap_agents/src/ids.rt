@@ -1,7 +1,7 @@
 // A set of numbers below a bound that is given when it is made, a bit for each: what an agent of the heap
 // keeps of the ids that it may use.
 ghost use Rattle.std.specs.Prelude.{◌≡◌, ◌↔◌, ◌⊎◌, ℕ, ◌<◌, IfOk, IsTrue};
-ghost use Rattle.heap_agents.specs.Sets.{Covers, IsIn};
+ghost use Rattle.heap_agents.specs.Sets.{Covers, IsIn, set_size};
 
 use std::alloc::{AllocError, Global};
 
@@ -27,6 +27,17 @@ impl IdSet {
     {
         let place = id as usize / 64;
         place < self.words.len() && (self.words[place] >> (id % 64)) & 1 == 1
+    }
+
+    /// How many numbers are in the set, by one look at each of its words.
+    pub fn len(&self) -> u64
+        ensures { result ≡ set_size self.now }
+    {
+        let mut count = 0;
+        for word in &self.words {
+            count += u64::from(word.count_ones());
+        }
+        count
     }
 
     /// Puts a number in.

@@ -5,6 +5,7 @@
 //! `heap_text`, the string table of `heap_intern` and `js_search`, and mark each string that they answer.
 #![tactic(auto)]
 
+mod board;
 mod counts;
 mod held;
 mod ids;
@@ -13,6 +14,7 @@ mod life;
 mod making;
 mod out;
 mod reading;
+mod room;
 mod search;
 mod table;
 mod words;
@@ -20,4 +22,5 @@ mod words;
 pub use heap_export::{Unpaired, WriteFault};
 pub use heap_table::MakeFault;
 pub use held::Held;
+pub use room::Room;
 pub use words::Shown;

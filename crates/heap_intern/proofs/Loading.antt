@@ -29,7 +29,7 @@ on_more : (a m n : ℕ) → counted_on (counted_on a m) n ≡ counted_on a (m + 
 on_more a m zero = let e : m ≡ m + 0 = omega arith in ap (counted_on a) e
 on_more a m (suc n) = let e : suc (m + n) ≡ m + suc n = omega arith in ap (λ (x : ℕ). added_loads x 1) (on_more a m n) ∙ ap (counted_on a) e
 
-on_most : (a n : ℕ) → counted_on a n ≤ a + n
+pub on_most : (a n : ℕ) → counted_on a n ≤ a + n
 on_most a zero = omega arith
 on_most a (suc n) = let h = on_most a n in omega arith
 

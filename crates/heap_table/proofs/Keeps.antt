@@ -12,7 +12,7 @@ use Rattle.atomic_table.specs.Table.{State, step, keeps, Allows, Joins, Splits}
 use Rattle.heap_rule.specs.declared.view.View.{View}
 use Rattle.heap_rule.specs.declared.size.Counter.{Counter}
 use Rattle.heap_rule.specs.declared.size.Counter.TheVariants.{Ids, Words}
-use Rattle.heap_rule.specs.Layout.{IsLawfulSize, counter_at, end_of, content_at, form_at, length_at, length_word, slot_at, word_count, IsBorn, MAX}
+use Rattle.heap_rule.specs.Layout.{IsLawfulSize, counter_at, counter_value, end_of, content_at, form_at, length_at, length_word, slot_at, word_count, IsBorn, MAX}
 use Rattle.heap_rule.specs.declared.size.HeapSize.{HeapSize}
 use Rattle.heap_rule.specs.Agents.{joined_view, spent, noted, left_after_split, right_after_split}
 use Rattle.heap_rule.specs.Loads.{with_form, added_loads, loaded_form, loaded_length, loaded_word, MayLoadWord}
@@ -39,7 +39,7 @@ use Rattle.heap_rule.proofs.Loads.{keeps_loaded_length, keeps_loaded_word}
 use Rattle.heap_rule.proofs.Splitting.{keeps_learned, keeps_noted, keeps_split, set_twice}
 use Rattle.heap_rule.proofs.Seen.{keeps_loaded_slot}
 use Rattle.heap_rule.proofs.KindsKept.{birth_by, kinds_keep, take_by}
-use Rattle.heap_rule.proofs.Whole.{share_within, whole_counter, whole_slot}
+use Rattle.heap_rule.proofs.Whole.{part_of, share_within, whole_counter, whole_slot}
 use Rattle.heap_rule.proofs.Joining.{keeps_joined}
 use Rattle.heap_rule.proofs.Parts.{shown_part_right}
 use Rattle.heap_rule.proofs.Possible.{possible_frozen, possible_lawful}
@@ -157,10 +157,16 @@ flat_alike vs v i old (Cons a b c) may = absurd may
 flat_alike vs v i old (Sliced a b c) may = absurd may
 flat_alike vs v i old (Thin a) may = absurd may
 
+-- a counter counts what each agent claimed
+used_within : (z : HeapSize) (agents : ℕ) (W : List ℕ) (vs : List View) → IsSound z agents W vs → (j : ℕ) (v : View) → get_elem? vs j ≡ some v → v.live ≡ true → (k : Counter) → counter_value v.used k ≤ get_or W (counter_at k) 0
+used_within z agents W vs s j v at live Ids = let a = part_of (λ u. u.used.ids) vs j v at live in let b = s.added.ids in omega arith
+used_within z agents W vs s j v at live Words = let a = part_of (λ u. u.used.words) vs j v at live in let b = s.added.words in omega arith
+
 module _ (key : HeapKey) (slots id : ℕ) (me : Sat) (live : me.0.live ≡ true) where
   found : (k : Counter) (s : State (Unit {0}) View) → IsSound key.size key.agents s.words s.views → get_elem? s.views id ≡ some me.0 → FoundCounter me.0 k (get_or s.words (counter_at k) 0)
   found k s h at = let f = counter_found key.size key.agents s.words s.views h id me.0 at live k in record {
     grown = f.0;
+    used = used_within key.size key.agents s.words s.views h id me.0 at live k;
     within = f.1;
     above = λ e i known. subst (λ (q : Counter). i < get_or s.words (counter_at q) 0) (sym e) (known_below key.size key.agents s.words s.views h id me.0 at live i known);
     own_ids = λ e i own. subst (λ (q : Counter). i < get_or s.words (counter_at q) 0) (sym e) (let p = has_key me.0.own_ids i own in ((h.own_ids id me.0 at live).each i p.0 p.1).0);

@@ -27,11 +27,12 @@ use Rattle.heap_table.specs.Known.{KeepsKnown}
 abbrev pub Sat : Type 0
 Sat = Me (Unit {0}) View
 
--- what the rule says of a counter that is found: it is no less than what was read before and lies within its
--- end, an id to come is above every known one and every own one, a content word to come above every own one,
--- and an agent that holds the whole share claimed all of it
+-- what the rule says of a counter that is found: it is no less than what was read before and than what the
+-- agent claimed, and lies within its end; an id to come is above every known one and every own one, a content
+-- word to come above every own one, and an agent that holds the whole share claimed all of it
 pub record FoundCounter (v : View) (k : Counter) (x : ℕ) : Type 0 where
   pub grown : counter_value v.low k ≤ x
+  pub used : counter_value v.used k ≤ x
   pub within : x ≤ end_of v.sizes k
   pub above : k ≡ Ids → (i : ℕ) → MayUse v i → i < x
   pub own_ids : k ≡ Ids → (i : ℕ) → HasKey v.own_ids i → i < x

@@ -2,6 +2,7 @@
 ghost use Rattle.std.specs.Prelude.{◌≡◌, ℕ, ◌+◌, ◌++◌, ◌≤◌, ◌<◌};
 ghost use Rattle.heap_table.specs.Agents.{Belongs, share_of, view_of};
 ghost use Rattle.heap_table.specs.Known.{HasAllOf, KeepsKnown};
+ghost use Rattle.heap_table.specs.Plays.{FoundCounter};
 ghost use Rattle.heap_rule.specs.Claims.{loaded_counter};
 ghost use Rattle.heap_rule.specs.Views.{history};
 ghost use Rattle.heap_rule.specs.Agents.{MayJoin, joined_view, left_after_split, noted, right_after_split};
@@ -27,6 +28,22 @@ impl Agent {
         self.share
     }
 
+    /// The ids and the content words that all agents of the heap had claimed, each when its
+    /// counter was loaded: the ids first. Any agent may call it, while others claim.
+    pub fn counters(&mut self, heap: &Heap) -> (u32, u32)
+        requires { Belongs self.old heap.now }
+        ensures belongs { Belongs self.new heap.now }
+        ensures view { view_of self.new
+            ≡ loaded_counter (loaded_counter (view_of self.old) Counter.Ids result.0) Counter.Words result.1 }
+        ensures ids { FoundCounter (view_of self.old) Counter.Ids result.0 }
+        ensures words { FoundCounter (loaded_counter (view_of self.old) Counter.Ids result.0) Counter.Words
+            result.1 }
+    {
+        let ids = self.load_counter(heap, Counter::Ids);
+        let words = self.load_counter(heap, Counter::Words);
+        (ids, words)
+    }
+
     /// The ids and the content words that were ever claimed, by loads of both counters. Whoever
     /// holds the whole share claimed them all.
     pub fn totals(&mut self, heap: &Heap) -> (u32, u32)
@@ -37,9 +54,7 @@ impl Agent {
             ≡ loaded_counter (loaded_counter (view_of self.old) Counter.Ids result.0) Counter.Words result.1 }
         ensures used { (result.0 ≡ (view_of self.old).used.ids) × (result.1 ≡ (view_of self.old).used.words) }
     {
-        let ids = self.load_counter(heap, Counter::Ids);
-        let words = self.load_counter(heap, Counter::Words);
-        (ids, words)
+        self.counters(heap)
     }
 
     // The share to give goes into the view, by a compare-exchange of a counter from a number to

@@ -1,6 +1,6 @@
 //! The heap as threads run it: all its words lie in one table of atomic words, and each call of
 //! an [`Agent`] is one step of a kind that `heap_rule` describes. A claim is a list of such steps;
-//! [`Agent::totals`] loads both counters; [`Agent::split`] and [`Agent::join`] make one step more,
+//! [`Agent::counters`] loads both counters; [`Agent::split`] and [`Agent::join`] make one step more,
 //! which changes no word. [`every_moment`] and [`every_play`] are the laws of these steps.
 //!
 //! A [`Heap`] is shared by reference among threads; an [`Agent`] belongs to one heap and is moved

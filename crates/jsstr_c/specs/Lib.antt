@@ -7,3 +7,4 @@ pub mod Given
 pub mod Sources
 pub mod Checked
 pub mod Lists
+pub mod Board

@@ -16,5 +16,6 @@ mod decoding;
 mod given;
 mod handle;
 mod parts;
+mod room;
 mod unchecked;
 mod uses;

@@ -1,18 +1,17 @@
 use Rattle.std.proofs.Common.{ap, ℕ, ◌<◌, sym, subst}
 use Rattle.heap_rule.specs.declared.view.View.{View}
 use Rattle.heap_agents.specs.Held.{held_size}
-use Rattle.heap_agents.proofs.Marks.{below, joined_held, same_ids}
+use Rattle.heap_agents.proofs.Marks.{added_here, joined_held, same_ids}
 use Rattle.heap_agents.proofs.held.Held.join.Goals as goal
 
 pub returns-clause-held : goal.returns-clause-held
 returns-clause-held c = let j = c.join_text.ensures in
     joined_held c.args.self.now c.args.other c.join_text.new.text c.requires.held c.requires.other j.there j.same c.requires.beside c.requires.may j.known j.known_of_other j.history
     c.add_all.new.self c.add_all-2.new.self c.add_all.ensures.room c.add_all.ensures.only c.add_all-2.ensures.room c.add_all-2.ensures.only (ap (λ (v : View). v.agents) j.view)
+    c.add_all.ensures.kept (λ i h. added_here c.args.self.now c.args.other c.requires.held c.requires.other c.requires.beside c.add_all.new.self c.add_all.ensures.there i h)
 
 pub returns-clause-known : goal.returns-clause-known
-returns-clause-known c i h = let x = c.args.self.now in let o = c.args.other in
-    c.add_all.ensures.there (held_size x).ids i c.requires.held.marked.room
-    (subst (λ (n : ℕ). i < n) (sym (same_ids x.text o.text c.requires.beside)) (below o c.requires.other i (c.requires.other.marked.known i h))) h
+returns-clause-known c i h = added_here c.args.self.now c.args.other c.requires.held c.requires.other c.requires.beside c.add_all.new.self c.add_all.ensures.there i h
 
 pub returns-clause-interned : goal.returns-clause-interned
 returns-clause-interned c i h = let x = c.args.self.now in let o = c.args.other in

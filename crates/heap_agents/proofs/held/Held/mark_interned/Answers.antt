@@ -4,7 +4,8 @@ use Rattle.heap_agents.proofs.held.Held.mark_interned.Goals as goal
 
 pub returns-clause-held : goal.returns-clause-held
 returns-clause-held c = let a = c.add.ensures in let b = c.add-2.ensures in
-    interned_held c.args.self.now c.args.id c.add.new.self c.add-2.new.self c.requires.held c.requires.known c.requires.call a.room a.only b.room b.only
+    interned_held c.args.self.now c.args.id c.add.new.self c.add-2.new.self c.requires.held c.requires.known c.requires.call a.room a.only
+    (a.there (held_size c.args.self.now).ids c.requires.held.marked.room (below c.args.self.now c.requires.held c.args.id c.requires.known)) a.kept b.room b.only
 
 pub returns-clause-marked : goal.returns-clause-marked
 returns-clause-marked c = let x = c.args.self.now in let a = c.add.ensures in let b = c.add-2.ensures in
