@@ -1,6 +1,6 @@
 use Rattle.std.proofs.Common.{◌≡◌, ◌+◌, ◌∙◌, ℕ, List, ap, sym, arith}
 use Rattle.heap_rule.specs.Contents.{units_of}
-use Rattle.heap_session.proofs.laws.one_in_each_slot.Goals as goal
+use Rattle.heap_intern.proofs.laws.one_in_each_slot.Goals as goal
 
 pub returns : goal.returns
 returns c = λ z agents W views s m v at live n w at' live' k i j h h'. let ours = s.knows m v at live in let theirs = s.knows n w at' live' in
