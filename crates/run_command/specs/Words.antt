@@ -42,17 +42,33 @@ number_in least most text = if is_signed_in (pos least) (pos most) text
 abbrev pub option_number : ℕ → ℕ → Text → List Row → Option ℕ
 option_number least most id rows = option_and_then (number_in least most) (first_of id rows)
 
--- the three sizes, where each has a number and they are at most 2^29 together
+-- the most jobs that may be requested
+abbrev pub most_jobs : ℕ
+most_jobs = 64
+
+-- the most files that may be named, a prelude not counted
+abbrev pub most_files : ℕ
+most_files = 4096
+
+-- the most that one size of a heap may be, 2^29 - 1
+abbrev pub most_size : ℕ
+most_size = 536870911
+
+-- the most that the three sizes of a heap may add up to, 2^29
+abbrev pub most_together : ℕ
+most_together = 536870912
+
+-- the three sizes, where each has a number and they are not too much together
 abbrev pub sizes_by : Option ℕ → Option ℕ → Option ℕ → Option Sizes
 sizes_by (Some ids) (Some heap_words) (Some slots) =
-    if nat_le (ids + heap_words + slots) 536870912
+    if nat_le (ids + heap_words + slots) most_together
     then Some (record { ids = ids; heap_words = heap_words; slots = slots }) else None
 sizes_by _ _ _ = None
 
--- the sizes that the options give, each from 1 to 2^29 - 1
+-- the sizes that the options give, each in its range
 abbrev pub sizes_in : List Row → Option Sizes
-sizes_in rows = sizes_by (option_number 1 536870911 (codes "ids") rows)
-    (option_number 1 536870911 (codes "heap-words") rows) (option_number 1 536870911 (codes "slots") rows)
+sizes_in rows = sizes_by (option_number 1 most_size (codes "ids") rows)
+    (option_number 1 most_size (codes "heap-words") rows) (option_number 1 most_size (codes "slots") rows)
 
 -- the limit of the length of strings, as `--limit` gives it: 32 or 64
 abbrev pub limit_in : List Row → Option Limit
@@ -70,9 +86,9 @@ summary_in rows = option_map_or (λ text. bytes_eq text (codes "true")) (one_of 
 abbrev pub files_in : List Row → List (List ℕ)
 files_in rows = unwrap_or (all_of (codes "FILE") rows) []
 
--- files, 1 to 4,096 of them, and a prelude or none
+-- files, one or more, but not too many, and a prelude or none
 abbrev pub named_in : List Row → Option Asked
-named_in rows = if nat_le 1 (length (files_in rows)) && nat_le (length (files_in rows)) 4096
+named_in rows = if nat_le 1 (length (files_in rows)) && nat_le (length (files_in rows)) most_files
     then Some (files (first_of (codes "prelude") rows) (files_in rows)) else None
 
 -- the number of `--generate`, and neither a prelude nor a file
@@ -95,7 +111,7 @@ request_by asked _ _ _ summary = None
 
 -- the request of what is to be run and of the options, with the number of `--jobs`, 1 to 64
 abbrev pub request_with : Asked → List Row → Option Request
-request_with asked rows = request_by asked (option_number 1 64 (codes "jobs") rows) (sizes_in rows)
+request_with asked rows = request_by asked (option_number 1 most_jobs (codes "jobs") rows) (sizes_in rows)
     (limit_in rows) (summary_in rows)
 
 -- the request of the command's matches
@@ -132,14 +148,14 @@ IsRefusal asked Memory = ⊤
 
 -- 1 to 4,096 files
 abbrev pub IsSomeFiles : Asked → Type 0
-IsSomeFiles (files prelude scripts) = (1 ≤ length scripts) × (length scripts ≤ 4096)
+IsSomeFiles (files prelude scripts) = (1 ≤ length scripts) × (length scripts ≤ most_files)
 IsSomeFiles (made_from number) = number < 2 ^ 32
 
 -- what holds of every request of valid arguments
 pub record IsRequestInRange (request : Request) : Type 0 where
   pub files : IsSomeFiles request.asked
-  pub jobs : (1 ≤ request.jobs) × (request.jobs ≤ 64)
-  pub ids : (1 ≤ request.sizes.ids) × (request.sizes.ids ≤ 536870911)
-  pub heap_words : (1 ≤ request.sizes.heap_words) × (request.sizes.heap_words ≤ 536870911)
-  pub slots : (1 ≤ request.sizes.slots) × (request.sizes.slots ≤ 536870911)
-  pub together : request.sizes.ids + request.sizes.heap_words + request.sizes.slots ≤ 536870912
+  pub jobs : (1 ≤ request.jobs) × (request.jobs ≤ most_jobs)
+  pub ids : (1 ≤ request.sizes.ids) × (request.sizes.ids ≤ most_size)
+  pub heap_words : (1 ≤ request.sizes.heap_words) × (request.sizes.heap_words ≤ most_size)
+  pub slots : (1 ≤ request.sizes.slots) × (request.sizes.slots ≤ most_size)
+  pub together : request.sizes.ids + request.sizes.heap_words + request.sizes.slots ≤ most_together
