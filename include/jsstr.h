@@ -9,8 +9,8 @@
    may happen, as with a wrong index in C. Both serve one handle.
 
    WHAT C STILL OWES to both forms:
-   - A handle is zero, or was written by this library, and by nothing else. Never copy a handle; to move
-     one, copy its bytes and zero the old place before the next call.
+   - A handle, of an agent or a text, is zero, or was written by this library, and by nothing else. Never copy
+     a handle; to move one, copy its bytes and zero the old place before the next call.
    - One call at a time on a handle. It goes to another thread by what orders memory: the start or the join
      of a thread, a lock, a sequentially consistent atomic. No call from a signal handler, or from the child
      of a process that was forked while it had threads.
@@ -21,7 +21,8 @@
 
    KNOWN. An agent knows the strings that its calls answered, what the agent that it was split off from
    knew by then, and what those knew that it joined. A string goes from one running thread to another by
-   interning alone: the other thread interns equal units, or finds them, and gets that number.
+   the string table alone: the other thread interns equal units, or finds them, and gets that number; or it
+   adopts what is in a slot (jsstr_slot_of).
 
    SETTLED. A string that was made of units, and a slice, is settled. What jsstr_concat answers may be a
    rope; the calls that need a settled string settle it first, once for all agents, and may then be refused
@@ -45,6 +46,9 @@ extern "C" {
 /* An agent; all zero where there is none. */
 typedef struct jsstr_agent { void *at; uint32_t live; } jsstr_agent;
 
+/* A text that is built up, outside any heap; all zero is an empty one. */
+typedef struct jsstr_builder { void *at; uint32_t live; } jsstr_builder;
+
 /* A string, by its number below 2^29; so JSSTR_NO_STRING is none. */
 typedef uint32_t jsstr_id;
 #define JSSTR_NO_STRING UINT32_MAX
@@ -66,8 +70,8 @@ enum jsstr_status {
   JSSTR_NO_WORDS = 4,    /* not enough words are left: the same of words */
   JSSTR_NO_SLOTS = 5,    /* all `end` slots of the string table are used by other units */
   JSSTR_TOO_LONG = 6,    /* the sides, `at` and `want` units long, are longer together than the limit */
-  JSSTR_NONE = 7,        /* there is no such place or number, or no interned string with these units */
-  JSSTR_NOT_UTF8 = 8,    /* the first `at` bytes are UTF-8, and no more of them are; nothing has changed */
+  JSSTR_NONE = 7,        /* there is no such place, number or interned string */
+  JSSTR_NOT_UTF8 = 8,    /* the first `at` bytes are UTF-8, or WTF-8, and no more of them are; nothing has changed */
   JSSTR_BAD_ARGUMENT = 9, /* the condition of the call doesn't hold; no string and no heap has changed */
   JSSTR_NO_ROOM = 10,    /* `size` bytes, or units, are needed, and there is room for fewer; nothing is written */
   JSSTR_UNMAPPED = 11    /* unit number `at` has no bytes; nothing is written */
@@ -93,6 +97,11 @@ typedef struct jsstr_words { uint32_t status; bool wide; uint32_t lane, length, 
 typedef struct jsstr_bytes { uint32_t status, at, size; } jsstr_bytes;
 typedef struct jsstr_used { uint32_t status, ids, words; } jsstr_used;
 typedef struct jsstr_use { uint32_t ids, words; } jsstr_use;
+typedef struct jsstr_room {
+  uint32_t status, ids, words;        /* what each counter was: claimed by all agents up to then */
+  uint32_t all_ids, all_words, slots; /* the sizes of the heap */
+  uint32_t seen_slots;                /* of these, how many this agent knows to be used */
+} jsstr_room;
 
 /* Every call with an agent has the conditions that the handle isn't zero, and that each string that it is
    given is known (jsstr_is_interned: the first alone). */
@@ -131,6 +140,10 @@ jsstr_answer jsstr_from_latin1(jsstr_agent *agent, const uint8_t *bytes, size_t 
    UTF-8, as where they end within a character, spell a surrogate, or a character by too many bytes.
    Condition: len is at most JSSTR_MAX_LENGTH. */
 jsstr_answer jsstr_from_utf8(jsstr_agent *agent, const uint8_t *bytes, size_t len);
+
+/* The same of WTF-8, where three bytes may also spell a surrogate, as JSSTR_KEEP writes it. A lead and a trail
+   behind it in three bytes each are refused, since four bytes spell a pair. */
+jsstr_answer jsstr_from_wtf8(jsstr_agent *agent, const uint8_t *bytes, size_t len);
 
 /* The units of a, and then those of b. Fewer than 13 units are copied; from 13 on the answer is a rope,
    which uses an id and no word. Where one side is empty, the answer is the other side. */
@@ -221,8 +234,8 @@ jsstr_place jsstr_index_of(jsstr_agent *agent, jsstr_id hay, jsstr_id needle, ui
    Settles both. */
 jsstr_place jsstr_last_index_of(jsstr_agent *agent, jsstr_id hay, jsstr_id needle, uint32_t limit);
 
-/* The one string of the string table with the units of s: every agent gets the same one for equal units.
-   It is known, and settled. It uses at most an id, and words where s is a slice. Settles s. */
+/* The one string of the string table with the units of s: every agent gets the same one for equal units, and
+   so one empty string. It is known, and settled. It uses at most an id, and words where s is a slice. Settles s. */
 jsstr_answer jsstr_intern(jsstr_agent *agent, jsstr_id s);
 
 /* The same of units that are in no string yet. Where the table has their string by then, nothing is used: no id,
@@ -230,19 +243,30 @@ jsstr_answer jsstr_intern(jsstr_agent *agent, jsstr_id s);
    these units at that moment, the id and the words may be lost. Condition: len is at most JSSTR_MAX_LENGTH. */
 jsstr_answer jsstr_intern_units(jsstr_agent *agent, const uint16_t *units, size_t len);
 
-/* The same of bytes, by the rules of jsstr_from_latin1 and jsstr_from_utf8. Memory is allocated for the duration of
+/* The same of bytes, by the rules of jsstr_from_latin1 and its kin. Memory is allocated for the duration of
    the call; NO_MEMORY and NOT_UTF8 leave all as it was. Condition: len is at most JSSTR_MAX_LENGTH. */
 jsstr_answer jsstr_intern_latin1(jsstr_agent *agent, const uint8_t *bytes, size_t len);
 jsstr_answer jsstr_intern_utf8(jsstr_agent *agent, const uint8_t *bytes, size_t len);
+jsstr_answer jsstr_intern_wtf8(jsstr_agent *agent, const uint8_t *bytes, size_t len);
 
 /* The one string of the string table with these units, or NONE where it has no such string. It is known, settled
    and interned. No id, no word and no slot is used, ever. While another thread interns these units, either may be
    the answer. Condition: len is at most JSSTR_MAX_LENGTH. */
 jsstr_answer jsstr_find_units(jsstr_agent *agent, const uint16_t *units, size_t len);
 
-/* The same of bytes, by the rules of jsstr_intern_latin1 and jsstr_intern_utf8. */
+/* The same of bytes, by the rules of jsstr_intern_latin1 and its kin. */
 jsstr_answer jsstr_find_latin1(jsstr_agent *agent, const uint8_t *bytes, size_t len);
 jsstr_answer jsstr_find_utf8(jsstr_agent *agent, const uint8_t *bytes, size_t len);
+jsstr_answer jsstr_find_wtf8(jsstr_agent *agent, const uint8_t *bytes, size_t len);
+
+/* The slot of the string table that an interned string is in, for good. Nothing is used.
+   Condition: s is interned (jsstr_is_interned). */
+jsstr_number jsstr_slot_of(jsstr_agent *agent, jsstr_id s);
+
+/* The interned string in a slot, or NONE where the slot was free. It is known, settled and interned from then on.
+   Nothing is used. An agent that knows the slot to be used is never answered NONE; of one that got its number from
+   another thread no clause says it. Condition: slot is below the heap's number of slots. */
+jsstr_answer jsstr_adopt(jsstr_agent *agent, uint32_t slot);
 
 /* In the heap of `to`, which may be that of `from`: a new string with the units of s, settled; and the one string
    of the string table there with them. Memory is allocated for the duration of the call. Settles s: NO_WORDS may
@@ -257,6 +281,30 @@ jsstr_truth jsstr_is_interned(jsstr_agent *agent, jsstr_id s);
 /* Whether two interned strings have equal units, which is whether their numbers are equal.
    Condition: a and b are interned, as jsstr_is_interned reports. */
 jsstr_truth jsstr_same(jsstr_agent *agent, jsstr_id a, jsstr_id b);
+
+/* Each appends to a text: units; bytes, by the rules of jsstr_from_latin1 and its kin; the units of s, which is
+   settled first; the decimal digits of a number, with - before those of one below 0. Answers DONE; or NO_MEMORY,
+   NOT_UTF8 or, past JSSTR_MAX_LENGTH units, TOO_LONG, and then the text is what it was. */
+uint32_t jsstr_build_units(jsstr_builder *text, const uint16_t *units, size_t len);
+uint32_t jsstr_build_latin1(jsstr_builder *text, const uint8_t *bytes, size_t len);
+jsstr_answer jsstr_build_utf8(jsstr_builder *text, const uint8_t *bytes, size_t len);
+jsstr_answer jsstr_build_wtf8(jsstr_builder *text, const uint8_t *bytes, size_t len);
+uint32_t jsstr_build_string(jsstr_builder *text, jsstr_agent *agent, jsstr_id s);
+uint32_t jsstr_build_number(jsstr_builder *text, int32_t number);
+
+/* How many units a text has. */
+uint32_t jsstr_built_length(const jsstr_builder *text);
+
+/* A new string with the units of a text, settled; and the one string of the string table with them. Where it
+   answers DONE the text is empty then, and keeps its memory for the next one; else it is what it was. */
+jsstr_answer jsstr_built(jsstr_builder *text, jsstr_agent *agent);
+jsstr_answer jsstr_built_interned(jsstr_builder *text, jsstr_agent *agent);
+
+/* Frees the memory of a text; *text is zero afterwards. */
+void jsstr_drop_builder(jsstr_builder *text);
+
+/* How full the heap is, while others run too. `ids` and `words` are at least what an earlier call found. */
+jsstr_room jsstr_room_of(jsstr_agent *agent);
 
 /* What was used, by all agents, and how many different lists of units were interned.
    Condition: the agent has the whole share. Where others hold shares, the unchecked forms answer what each
@@ -275,6 +323,7 @@ uint32_t jsstr_share_unchecked(jsstr_agent *agent);
 jsstr_answer jsstr_from_units_unchecked(jsstr_agent *agent, const uint16_t *units, size_t len);
 jsstr_answer jsstr_from_latin1_unchecked(jsstr_agent *agent, const uint8_t *bytes, size_t len);
 jsstr_answer jsstr_from_utf8_unchecked(jsstr_agent *agent, const uint8_t *bytes, size_t len);
+jsstr_answer jsstr_from_wtf8_unchecked(jsstr_agent *agent, const uint8_t *bytes, size_t len);
 jsstr_answer jsstr_concat_unchecked(jsstr_agent *agent, jsstr_id a, jsstr_id b);
 jsstr_answer jsstr_slice_unchecked(jsstr_agent *agent, jsstr_id s, uint32_t from, uint32_t to);
 uint32_t jsstr_length_unchecked(jsstr_agent *agent, jsstr_id s);
@@ -299,13 +348,21 @@ jsstr_answer jsstr_intern_unchecked(jsstr_agent *agent, jsstr_id s);
 jsstr_answer jsstr_intern_units_unchecked(jsstr_agent *agent, const uint16_t *units, size_t len);
 jsstr_answer jsstr_intern_latin1_unchecked(jsstr_agent *agent, const uint8_t *bytes, size_t len);
 jsstr_answer jsstr_intern_utf8_unchecked(jsstr_agent *agent, const uint8_t *bytes, size_t len);
+jsstr_answer jsstr_intern_wtf8_unchecked(jsstr_agent *agent, const uint8_t *bytes, size_t len);
 jsstr_answer jsstr_find_units_unchecked(jsstr_agent *agent, const uint16_t *units, size_t len);
 jsstr_answer jsstr_find_latin1_unchecked(jsstr_agent *agent, const uint8_t *bytes, size_t len);
 jsstr_answer jsstr_find_utf8_unchecked(jsstr_agent *agent, const uint8_t *bytes, size_t len);
+jsstr_answer jsstr_find_wtf8_unchecked(jsstr_agent *agent, const uint8_t *bytes, size_t len);
+uint32_t jsstr_slot_of_unchecked(jsstr_agent *agent, jsstr_id s);
+jsstr_answer jsstr_adopt_unchecked(jsstr_agent *agent, uint32_t slot);
 jsstr_answer jsstr_copy_into_unchecked(jsstr_agent *from, jsstr_id s, jsstr_agent *to);
 jsstr_answer jsstr_intern_into_unchecked(jsstr_agent *from, jsstr_id s, jsstr_agent *to);
 bool jsstr_is_interned_unchecked(jsstr_agent *agent, jsstr_id s);
 bool jsstr_same_unchecked(const jsstr_agent *agent, jsstr_id a, jsstr_id b);
+uint32_t jsstr_build_string_unchecked(jsstr_builder *text, jsstr_agent *agent, jsstr_id s);
+jsstr_answer jsstr_built_unchecked(jsstr_builder *text, jsstr_agent *agent);
+jsstr_answer jsstr_built_interned_unchecked(jsstr_builder *text, jsstr_agent *agent);
+jsstr_room jsstr_room_of_unchecked(jsstr_agent *agent);
 jsstr_use jsstr_totals_unchecked(jsstr_agent *agent);
 uint32_t jsstr_count_interned_unchecked(jsstr_agent *agent);
 
