@@ -28,6 +28,9 @@
    rope; the calls that need a settled string settle it first, once for all agents, and may then be refused
    with JSSTR_NO_WORDS.
 
+   BYTES. A call that reads bytes, and one that copies into another heap, allocates memory for its own duration,
+   and may answer JSSTR_NO_MEMORY.
+
    Link -ljsstr: there is one archive, libjsstr.a, and no shared object. malloc, realloc and free are the C
    library's, and malloc aligns to 16. */
 #ifndef JSSTR_H
@@ -49,7 +52,7 @@ typedef struct jsstr_agent { void *at; uint32_t live; } jsstr_agent;
 /* A text that is built up, outside any heap; all zero is an empty one. */
 typedef struct jsstr_builder { void *at; uint32_t live; } jsstr_builder;
 
-/* A string, by its number below 2^29; so JSSTR_NO_STRING is none. */
+/* A string; JSSTR_NO_STRING is none. */
 typedef uint32_t jsstr_id;
 #define JSSTR_NO_STRING UINT32_MAX
 
@@ -103,8 +106,9 @@ typedef struct jsstr_room {
   uint32_t seen_slots;                /* of these, how many this agent knows to be used */
 } jsstr_room;
 
-/* Every call with an agent has the conditions that the handle isn't zero, and that each string that it is
-   given is known (jsstr_is_interned: the first alone). */
+/* Every call with an agent has the conditions that the handle isn't zero, that each string that it is given is known
+   (jsstr_is_interned: the first alone), and that len is at most JSSTR_MAX_LENGTH (of units and Latin-1 to compare
+   with it may be any). */
 
 /* A heap, and in `out` its first agent, with the whole share: `agents`, 1 to 64, is how many agents there
    may be at one time. Joined strings are at most `limit` units long, which is at most JSSTR_MAX_LENGTH.
@@ -128,21 +132,19 @@ uint32_t jsstr_join(jsstr_agent *agent, jsstr_agent *other);
 jsstr_number jsstr_share(jsstr_agent *agent);
 
 /* A new string with these units, settled. It uses an id, and a word for 8 units, or for 4 where one of
-   them is over 255. Condition: len is at most JSSTR_MAX_LENGTH. */
+   them is over 255. */
 jsstr_answer jsstr_from_units(jsstr_agent *agent, const uint16_t *units, size_t len);
 
-/* The same of units below 256, a byte each, as Latin-1 is. It allocates memory for the time of the call, and
-   may answer NO_MEMORY. Condition: len is at most JSSTR_MAX_LENGTH. */
+/* The same of units below 256, a byte each, as Latin-1 is. */
 jsstr_answer jsstr_from_latin1(jsstr_agent *agent, const uint8_t *bytes, size_t len);
 
-/* The characters whose UTF-8 these bytes are, in UTF-16: no unit is an unpaired surrogate. It allocates memory
-   for the time of the call, and may answer NO_MEMORY; it answers NOT_UTF8 exactly where the bytes are no
-   UTF-8, as where they end within a character, spell a surrogate, or a character by too many bytes.
-   Condition: len is at most JSSTR_MAX_LENGTH. */
+/* The characters whose UTF-8 these bytes are, in UTF-16: no unit is an unpaired surrogate. It answers NOT_UTF8
+   exactly where the bytes are no UTF-8, as where they end within a character, spell a surrogate, or a character
+   by too many bytes. */
 jsstr_answer jsstr_from_utf8(jsstr_agent *agent, const uint8_t *bytes, size_t len);
 
-/* The same of WTF-8, where three bytes may also spell a surrogate, as JSSTR_KEEP writes it. A lead and a trail
-   behind it in three bytes each are refused, since four bytes spell a pair. */
+/* The same of WTF-8, where three bytes may also spell an unpaired surrogate, as JSSTR_KEEP writes it. A lead and
+   a trail behind it, three bytes each, are refused: four bytes spell a pair. */
 jsstr_answer jsstr_from_wtf8(jsstr_agent *agent, const uint8_t *bytes, size_t len);
 
 /* The units of a, and then those of b. Fewer than 13 units are copied; from 13 on the answer is a rope,
@@ -214,9 +216,7 @@ jsstr_truth jsstr_equal(jsstr_agent *agent, jsstr_id a, jsstr_id b);
 jsstr_order jsstr_compare_units(jsstr_agent *agent, jsstr_id s, const uint16_t *units, size_t len);
 jsstr_truth jsstr_equals_units(jsstr_agent *agent, jsstr_id s, const uint16_t *units, size_t len);
 
-/* The same of bytes, by the rules of jsstr_from_latin1 and jsstr_from_utf8. Memory is allocated for the duration of
-   the call; NO_MEMORY and NOT_UTF8 leave all as it was. Condition of the UTF-8 ones: len is at most
-   JSSTR_MAX_LENGTH. They have no form that tests nothing. */
+/* The same of bytes, by the rules of jsstr_from_latin1 and jsstr_from_utf8. They have no form that tests nothing. */
 jsstr_order jsstr_compare_latin1(jsstr_agent *agent, jsstr_id s, const uint8_t *bytes, size_t len);
 jsstr_order jsstr_compare_utf8(jsstr_agent *agent, jsstr_id s, const uint8_t *bytes, size_t len);
 jsstr_truth jsstr_equals_latin1(jsstr_agent *agent, jsstr_id s, const uint8_t *bytes, size_t len);
@@ -240,21 +240,20 @@ jsstr_answer jsstr_intern(jsstr_agent *agent, jsstr_id s);
 
 /* The same of units that are in no string yet. Where the table has their string by then, nothing is used: no id,
    no word and no slot. Else the call makes it, which uses an id, its words and a slot; where another thread interns
-   these units at that moment, the id and the words may be lost. Condition: len is at most JSSTR_MAX_LENGTH. */
+   these units at that moment, the id and the words may be lost. */
 jsstr_answer jsstr_intern_units(jsstr_agent *agent, const uint16_t *units, size_t len);
 
-/* The same of bytes, by the rules of jsstr_from_latin1 and its kin. Memory is allocated for the duration of
-   the call; NO_MEMORY and NOT_UTF8 leave all as it was. Condition: len is at most JSSTR_MAX_LENGTH. */
+/* The same of bytes, by the rules of jsstr_from_latin1 and its kin. */
 jsstr_answer jsstr_intern_latin1(jsstr_agent *agent, const uint8_t *bytes, size_t len);
 jsstr_answer jsstr_intern_utf8(jsstr_agent *agent, const uint8_t *bytes, size_t len);
 jsstr_answer jsstr_intern_wtf8(jsstr_agent *agent, const uint8_t *bytes, size_t len);
 
 /* The one string of the string table with these units, or NONE where it has no such string. It is known, settled
    and interned. No id, no word and no slot is used, ever. While another thread interns these units, either may be
-   the answer. Condition: len is at most JSSTR_MAX_LENGTH. */
+   the answer. */
 jsstr_answer jsstr_find_units(jsstr_agent *agent, const uint16_t *units, size_t len);
 
-/* The same of bytes, by the rules of jsstr_intern_latin1 and its kin. */
+/* The same of bytes. */
 jsstr_answer jsstr_find_latin1(jsstr_agent *agent, const uint8_t *bytes, size_t len);
 jsstr_answer jsstr_find_utf8(jsstr_agent *agent, const uint8_t *bytes, size_t len);
 jsstr_answer jsstr_find_wtf8(jsstr_agent *agent, const uint8_t *bytes, size_t len);
@@ -263,14 +262,13 @@ jsstr_answer jsstr_find_wtf8(jsstr_agent *agent, const uint8_t *bytes, size_t le
    Condition: s is interned (jsstr_is_interned). */
 jsstr_number jsstr_slot_of(jsstr_agent *agent, jsstr_id s);
 
-/* The interned string in a slot, or NONE where the slot was free. It is known, settled and interned from then on.
-   Nothing is used. An agent that knows the slot to be used is never answered NONE; of one that got its number from
-   another thread no clause says it. Condition: slot is below the heap's number of slots. */
+/* The interned string in a slot, known, settled and interned from then on; NONE where the slot was found free, which
+   one that this agent knows to be used never is. Nothing is used. Condition: slot is below the heap's slots. */
 jsstr_answer jsstr_adopt(jsstr_agent *agent, uint32_t slot);
 
 /* In the heap of `to`, which may be that of `from`: a new string with the units of s, settled; and the one string
-   of the string table there with them. Memory is allocated for the duration of the call. Settles s: NO_WORDS may
-   be of its own heap, with `to` unchanged; any other report is of `to`. Condition: `to` isn't zero. */
+   of the string table there with them. Settles s: NO_WORDS may be of its own heap, with `to` unchanged; any other
+   report is of `to`. Condition: `to` isn't zero. */
 jsstr_answer jsstr_copy_into(jsstr_agent *from, jsstr_id s, jsstr_agent *to);
 jsstr_answer jsstr_intern_into(jsstr_agent *from, jsstr_id s, jsstr_agent *to);
 
@@ -308,63 +306,63 @@ jsstr_room jsstr_room_of(jsstr_agent *agent);
 
 /* What was used, by all agents, and how many different lists of units were interned.
    Condition: the agent has the whole share. Where others hold shares, the unchecked forms answer what each
-   counter, or slot, was at some moment; no contract says so. */
+   counter, or slot, was at some moment; no contract says so (of counters jsstr_room_of does). */
 jsstr_used jsstr_totals(jsstr_agent *agent);
 jsstr_number jsstr_count_interned(jsstr_agent *agent);
 
-/* THE SAME, CONDITION NOT TESTED. And nothing is settled on the way: the strings that are cut, read,
-   compared, searched, searched for or interned are settled already. What has no status here always
-   succeeds. */
-uint32_t jsstr_make_unchecked(jsstr_size size, uint32_t agents, uint32_t limit, jsstr_agent *out);
-void jsstr_free_unchecked(jsstr_agent *agent);
-uint32_t jsstr_split_unchecked(jsstr_agent *agent, uint32_t give, jsstr_agent *out);
-void jsstr_join_unchecked(jsstr_agent *agent, jsstr_agent *other);
-uint32_t jsstr_share_unchecked(jsstr_agent *agent);
-jsstr_answer jsstr_from_units_unchecked(jsstr_agent *agent, const uint16_t *units, size_t len);
-jsstr_answer jsstr_from_latin1_unchecked(jsstr_agent *agent, const uint8_t *bytes, size_t len);
-jsstr_answer jsstr_from_utf8_unchecked(jsstr_agent *agent, const uint8_t *bytes, size_t len);
-jsstr_answer jsstr_from_wtf8_unchecked(jsstr_agent *agent, const uint8_t *bytes, size_t len);
-jsstr_answer jsstr_concat_unchecked(jsstr_agent *agent, jsstr_id a, jsstr_id b);
-jsstr_answer jsstr_slice_unchecked(jsstr_agent *agent, jsstr_id s, uint32_t from, uint32_t to);
-uint32_t jsstr_length_unchecked(jsstr_agent *agent, jsstr_id s);
-jsstr_answer jsstr_settle_unchecked(jsstr_agent *agent, jsstr_id s);
-void jsstr_read_unchecked(jsstr_agent *agent, jsstr_id s, uint32_t from, uint16_t *out, size_t len);
-jsstr_bytes jsstr_read_all_unchecked(jsstr_agent *agent, jsstr_id s, uint16_t *out, size_t room);
-uint16_t jsstr_unit_at_unchecked(jsstr_agent *agent, jsstr_id s, uint32_t place);
-jsstr_bytes jsstr_to_utf8_unchecked(jsstr_agent *agent, jsstr_id s, uint32_t unpaired, uint8_t *out, size_t room);
-jsstr_bytes jsstr_to_latin1_unchecked(jsstr_agent *agent, jsstr_id s, uint8_t *out, size_t room);
-uint32_t jsstr_hash_unchecked(jsstr_agent *agent, jsstr_id s);
-jsstr_number jsstr_array_index_unchecked(jsstr_agent *agent, jsstr_id s);
-bool jsstr_is_settled_unchecked(jsstr_agent *agent, jsstr_id s);
-jsstr_words jsstr_window_unchecked(jsstr_agent *agent, jsstr_id s, uint32_t at, uint64_t *out, size_t room);
-int32_t jsstr_compare_unchecked(jsstr_agent *agent, jsstr_id a, jsstr_id b);
-bool jsstr_equal_unchecked(jsstr_agent *agent, jsstr_id a, jsstr_id b);
-int32_t jsstr_compare_units_unchecked(jsstr_agent *agent, jsstr_id s, const uint16_t *units, size_t len);
-bool jsstr_equals_units_unchecked(jsstr_agent *agent, jsstr_id s, const uint16_t *units, size_t len);
-bool jsstr_starts_with_unchecked(jsstr_agent *agent, jsstr_id hay, jsstr_id needle, uint32_t at);
-jsstr_place jsstr_index_of_unchecked(jsstr_agent *agent, jsstr_id hay, jsstr_id needle, uint32_t from);
-jsstr_place jsstr_last_index_of_unchecked(jsstr_agent *agent, jsstr_id hay, jsstr_id needle, uint32_t limit);
-jsstr_answer jsstr_intern_unchecked(jsstr_agent *agent, jsstr_id s);
-jsstr_answer jsstr_intern_units_unchecked(jsstr_agent *agent, const uint16_t *units, size_t len);
-jsstr_answer jsstr_intern_latin1_unchecked(jsstr_agent *agent, const uint8_t *bytes, size_t len);
-jsstr_answer jsstr_intern_utf8_unchecked(jsstr_agent *agent, const uint8_t *bytes, size_t len);
-jsstr_answer jsstr_intern_wtf8_unchecked(jsstr_agent *agent, const uint8_t *bytes, size_t len);
-jsstr_answer jsstr_find_units_unchecked(jsstr_agent *agent, const uint16_t *units, size_t len);
-jsstr_answer jsstr_find_latin1_unchecked(jsstr_agent *agent, const uint8_t *bytes, size_t len);
-jsstr_answer jsstr_find_utf8_unchecked(jsstr_agent *agent, const uint8_t *bytes, size_t len);
-jsstr_answer jsstr_find_wtf8_unchecked(jsstr_agent *agent, const uint8_t *bytes, size_t len);
-uint32_t jsstr_slot_of_unchecked(jsstr_agent *agent, jsstr_id s);
-jsstr_answer jsstr_adopt_unchecked(jsstr_agent *agent, uint32_t slot);
-jsstr_answer jsstr_copy_into_unchecked(jsstr_agent *from, jsstr_id s, jsstr_agent *to);
-jsstr_answer jsstr_intern_into_unchecked(jsstr_agent *from, jsstr_id s, jsstr_agent *to);
-bool jsstr_is_interned_unchecked(jsstr_agent *agent, jsstr_id s);
-bool jsstr_same_unchecked(const jsstr_agent *agent, jsstr_id a, jsstr_id b);
-uint32_t jsstr_build_string_unchecked(jsstr_builder *text, jsstr_agent *agent, jsstr_id s);
-jsstr_answer jsstr_built_unchecked(jsstr_builder *text, jsstr_agent *agent);
-jsstr_answer jsstr_built_interned_unchecked(jsstr_builder *text, jsstr_agent *agent);
-jsstr_room jsstr_room_of_unchecked(jsstr_agent *agent);
-jsstr_use jsstr_totals_unchecked(jsstr_agent *agent);
-uint32_t jsstr_count_interned_unchecked(jsstr_agent *agent);
+/* THE SAME, with the same parameters, CONDITION NOT TESTED. And nothing is settled on the way: the strings that
+   are cut, read, compared, searched, searched for, interned or appended are settled already. What has no
+   status here always succeeds. */
+uint32_t jsstr_make_unchecked(jsstr_size, uint32_t, uint32_t, jsstr_agent *);
+void jsstr_free_unchecked(jsstr_agent *);
+uint32_t jsstr_split_unchecked(jsstr_agent *, uint32_t, jsstr_agent *);
+void jsstr_join_unchecked(jsstr_agent *, jsstr_agent *);
+uint32_t jsstr_share_unchecked(jsstr_agent *);
+jsstr_answer jsstr_from_units_unchecked(jsstr_agent *, const uint16_t *, size_t);
+jsstr_answer jsstr_from_latin1_unchecked(jsstr_agent *, const uint8_t *, size_t);
+jsstr_answer jsstr_from_utf8_unchecked(jsstr_agent *, const uint8_t *, size_t);
+jsstr_answer jsstr_from_wtf8_unchecked(jsstr_agent *, const uint8_t *, size_t);
+jsstr_answer jsstr_concat_unchecked(jsstr_agent *, jsstr_id, jsstr_id);
+jsstr_answer jsstr_slice_unchecked(jsstr_agent *, jsstr_id, uint32_t, uint32_t);
+uint32_t jsstr_length_unchecked(jsstr_agent *, jsstr_id);
+jsstr_answer jsstr_settle_unchecked(jsstr_agent *, jsstr_id);
+void jsstr_read_unchecked(jsstr_agent *, jsstr_id, uint32_t, uint16_t *, size_t);
+jsstr_bytes jsstr_read_all_unchecked(jsstr_agent *, jsstr_id, uint16_t *, size_t);
+uint16_t jsstr_unit_at_unchecked(jsstr_agent *, jsstr_id, uint32_t);
+jsstr_bytes jsstr_to_utf8_unchecked(jsstr_agent *, jsstr_id, uint32_t, uint8_t *, size_t);
+jsstr_bytes jsstr_to_latin1_unchecked(jsstr_agent *, jsstr_id, uint8_t *, size_t);
+uint32_t jsstr_hash_unchecked(jsstr_agent *, jsstr_id);
+jsstr_number jsstr_array_index_unchecked(jsstr_agent *, jsstr_id);
+bool jsstr_is_settled_unchecked(jsstr_agent *, jsstr_id);
+jsstr_words jsstr_window_unchecked(jsstr_agent *, jsstr_id, uint32_t, uint64_t *, size_t);
+int32_t jsstr_compare_unchecked(jsstr_agent *, jsstr_id, jsstr_id);
+bool jsstr_equal_unchecked(jsstr_agent *, jsstr_id, jsstr_id);
+int32_t jsstr_compare_units_unchecked(jsstr_agent *, jsstr_id, const uint16_t *, size_t);
+bool jsstr_equals_units_unchecked(jsstr_agent *, jsstr_id, const uint16_t *, size_t);
+bool jsstr_starts_with_unchecked(jsstr_agent *, jsstr_id, jsstr_id, uint32_t);
+jsstr_place jsstr_index_of_unchecked(jsstr_agent *, jsstr_id, jsstr_id, uint32_t);
+jsstr_place jsstr_last_index_of_unchecked(jsstr_agent *, jsstr_id, jsstr_id, uint32_t);
+jsstr_answer jsstr_intern_unchecked(jsstr_agent *, jsstr_id);
+jsstr_answer jsstr_intern_units_unchecked(jsstr_agent *, const uint16_t *, size_t);
+jsstr_answer jsstr_intern_latin1_unchecked(jsstr_agent *, const uint8_t *, size_t);
+jsstr_answer jsstr_intern_utf8_unchecked(jsstr_agent *, const uint8_t *, size_t);
+jsstr_answer jsstr_intern_wtf8_unchecked(jsstr_agent *, const uint8_t *, size_t);
+jsstr_answer jsstr_find_units_unchecked(jsstr_agent *, const uint16_t *, size_t);
+jsstr_answer jsstr_find_latin1_unchecked(jsstr_agent *, const uint8_t *, size_t);
+jsstr_answer jsstr_find_utf8_unchecked(jsstr_agent *, const uint8_t *, size_t);
+jsstr_answer jsstr_find_wtf8_unchecked(jsstr_agent *, const uint8_t *, size_t);
+uint32_t jsstr_slot_of_unchecked(jsstr_agent *, jsstr_id);
+jsstr_answer jsstr_adopt_unchecked(jsstr_agent *, uint32_t);
+jsstr_answer jsstr_copy_into_unchecked(jsstr_agent *, jsstr_id, jsstr_agent *);
+jsstr_answer jsstr_intern_into_unchecked(jsstr_agent *, jsstr_id, jsstr_agent *);
+bool jsstr_is_interned_unchecked(jsstr_agent *, jsstr_id);
+bool jsstr_same_unchecked(const jsstr_agent *, jsstr_id, jsstr_id);
+uint32_t jsstr_build_string_unchecked(jsstr_builder *, jsstr_agent *, jsstr_id);
+jsstr_answer jsstr_built_unchecked(jsstr_builder *, jsstr_agent *);
+jsstr_answer jsstr_built_interned_unchecked(jsstr_builder *, jsstr_agent *);
+jsstr_room jsstr_room_of_unchecked(jsstr_agent *);
+jsstr_use jsstr_totals_unchecked(jsstr_agent *);
+uint32_t jsstr_count_interned_unchecked(jsstr_agent *);
 
 #ifdef __cplusplus
 }

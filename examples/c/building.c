@@ -117,17 +117,17 @@ static void try_list(jsstr_agent *a, jsstr_builder *text, const uint8_t *bytes, 
   CHECK((jsstr_built_length(text) > length) == (wtf8 == size));
 }
 
-/* Lists of the bytes that tell: each one of three, many of four, and these behind a surrogate. */
+/* Lists of bytes at the ends of ranges: each one of three, many of four, and these behind a surrogate. */
 static void every_list(void) {
-  static const uint8_t telling[] = {0x00, 0x41, 0x7F, 0x80, 0x8F, 0x90, 0x9F, 0xA0, 0xAF, 0xB0, 0xBF, 0xC0, 0xC1, 0xC2, 0xDF, 0xE0, 0xED, 0xEE, 0xEF, 0xF0, 0xF4, 0xF5, 0xFF};
-  enum { N = sizeof telling };
+  static const uint8_t ends[] = {0x00, 0x41, 0x7F, 0x80, 0x8F, 0x90, 0x9F, 0xA0, 0xAF, 0xB0, 0xBF, 0xC0, 0xC1, 0xC2, 0xDF, 0xE0, 0xED, 0xEE, 0xEF, 0xF0, 0xF4, 0xF5, 0xFF};
+  enum { N = sizeof ends };
   jsstr_agent a = {0};
   jsstr_builder text = {0};
   CHECK(jsstr_make((jsstr_size){9, 9, 9}, 1, 9, &a) == JSSTR_DONE);
   for (uint32_t code = 0; code < N * N * N * N; code += code < N * N * N ? 1 : 11) {
     uint8_t bytes[] = LEAD "....";
     uint32_t rest = code;
-    for (size_t i = 3; i < 7; i++, rest /= N) bytes[i] = telling[rest % N];
+    for (size_t i = 3; i < 7; i++, rest /= N) bytes[i] = ends[rest % N];
     try_list(&a, &text, bytes, 6);
     try_list(&a, &text, bytes, 7);
     try_list(&a, &text, bytes + 3, 3);
