@@ -103,7 +103,7 @@ typedef struct jsstr_use { uint32_t ids, words; } jsstr_use;
 typedef struct jsstr_room {
   uint32_t status, ids, words;        /* what each counter was: claimed by all agents up to then */
   uint32_t all_ids, all_words, slots; /* the sizes of the heap */
-  uint32_t seen_slots;                /* of these, how many this agent knows to be used */
+  uint32_t seen_slots;                /* of these, how many this agent knows to be used: a pass over its marks */
 } jsstr_room;
 
 /* Every call with an agent has the conditions that the handle isn't zero, that each string that it is given is known
@@ -277,7 +277,7 @@ jsstr_answer jsstr_intern_into(jsstr_agent *from, jsstr_id s, jsstr_agent *to);
 jsstr_truth jsstr_is_interned(jsstr_agent *agent, jsstr_id s);
 
 /* Whether two interned strings have equal units, which is whether their numbers are equal.
-   Condition: a and b are interned, as jsstr_is_interned reports. */
+   Condition: a and b are interned. */
 jsstr_truth jsstr_same(jsstr_agent *agent, jsstr_id a, jsstr_id b);
 
 /* Each appends to a text: units; bytes, by the rules of jsstr_from_latin1 and its kin; the units of s, which is
