@@ -28,8 +28,8 @@
    rope; the calls that need a settled string settle it first, once for all agents, and may then be refused
    with JSSTR_NO_WORDS.
 
-   BYTES. A call that reads bytes, and one that copies into another heap, allocates memory for its own duration,
-   and may answer JSSTR_NO_MEMORY.
+   BYTES. A call of an agent that reads bytes, and one that copies into another heap, allocates memory for its own
+   duration, and may answer JSSTR_NO_MEMORY.
 
    Link -ljsstr: there is one archive, libjsstr.a, and no shared object. malloc, realloc and free are the C
    library's, and malloc aligns to 16. */
@@ -272,14 +272,6 @@ jsstr_answer jsstr_adopt(jsstr_agent *agent, uint32_t slot);
 jsstr_answer jsstr_copy_into(jsstr_agent *from, jsstr_id s, jsstr_agent *to);
 jsstr_answer jsstr_intern_into(jsstr_agent *from, jsstr_id s, jsstr_agent *to);
 
-/* Whether s is an interned string of this agent: one that a call above answered, to it or to an agent from which
-   it knows its strings. Any number is allowed. */
-jsstr_truth jsstr_is_interned(jsstr_agent *agent, jsstr_id s);
-
-/* Whether two interned strings have equal units, which is whether their numbers are equal.
-   Condition: a and b are interned. */
-jsstr_truth jsstr_same(jsstr_agent *agent, jsstr_id a, jsstr_id b);
-
 /* Each appends to a text: units; bytes, by the rules of jsstr_from_latin1 and its kin; the units of s, which is
    settled first; the decimal digits of a number, with - before those of one below 0. Answers DONE; or NO_MEMORY,
    NOT_UTF8 or, past JSSTR_MAX_LENGTH units, TOO_LONG, and then the text is what it was. */
@@ -301,7 +293,15 @@ jsstr_answer jsstr_built_interned(jsstr_builder *text, jsstr_agent *agent);
 /* Frees the memory of a text; *text is zero afterwards. */
 void jsstr_drop_builder(jsstr_builder *text);
 
-/* How full the heap is, while others run too. `ids` and `words` are at least what an earlier call found. */
+/* Whether s is an interned string of this agent: one that a call above answered, to it or to an agent from which
+   it knows its strings. Any number is allowed. */
+jsstr_truth jsstr_is_interned(jsstr_agent *agent, jsstr_id s);
+
+/* Whether two interned strings have equal units, which is whether their numbers are equal.
+   Condition: a and b are interned. */
+jsstr_truth jsstr_same(jsstr_agent *agent, jsstr_id a, jsstr_id b);
+
+/* How full the heap is, while others run too: at least what this agent has seen before, and used. */
 jsstr_room jsstr_room_of(jsstr_agent *agent);
 
 /* What was used, by all agents, and how many different lists of units were interned.
