@@ -401,7 +401,8 @@ static void append_given(void) {
 static void append_number(void) {
   char digits[16];
   uint16_t units[16];
-  int32_t number = (int32_t)((int64_t)chance(1u << 31) - (chance(2) ? 0 : INT64_C(1) << 31)) / (int32_t)(1u << chance(31));
+  int32_t number = (int32_t)chance(1u << 31) >> chance(31);
+  if (chance(2)) number = -number - 1;
   uint32_t len = (uint32_t)snprintf(digits, sizeof digits, "%ld", (long)number);
   for (uint32_t i = 0; i < len; i++) units[i] = (uint8_t)digits[i];
   if (built.len + len <= LIMIT) appended(jsstr_build_number(&built.handle, number), units, len);
