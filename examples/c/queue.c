@@ -116,6 +116,21 @@ static void fill(job *j, unsigned number) {
   snprintf(j->text, sizeof j->text, "request %u of user%u asks for page%u", number % 10, number % 100, number % 1000);
 }
 
+/* Puts all texts into the queue, some at a time, and checks each answer. */
+static void ask(job *jobs) {
+  for (unsigned sent = 0; sent < IN_FLIGHT; sent++) {
+    fill(&jobs[sent], sent);
+    put(&todo, &jobs[sent]);
+  }
+  for (unsigned got = 0; got < TEXTS; got++) {
+    job *j = take(&done);
+    check_answer(j);
+    if (got + IN_FLIGHT >= TEXTS) continue;
+    fill(j, got + IN_FLIGHT);
+    put(&todo, j);
+  }
+}
+
 static uint32_t count_of(const char *word) {
   jsstr_number slot = jsstr_slot_of(&host, string_of(jsstr_find_latin1(&host, (const uint8_t *)word, strlen(word))));
   CHECK(slot.status == JSSTR_DONE);
@@ -131,17 +146,7 @@ int main(void) {
     CHECK(jsstr_split(&host, 1, &workers[i].agent) == JSSTR_DONE);
     CHECK(!pthread_create(&threads[i], NULL, work, &workers[i]));
   }
-  for (unsigned sent = 0; sent < IN_FLIGHT; sent++) {
-    fill(&jobs[sent], sent);
-    put(&todo, &jobs[sent]);
-  }
-  for (unsigned got = 0; got < TEXTS; got++) {
-    job *j = take(&done);
-    check_answer(j);
-    if (got + IN_FLIGHT >= TEXTS) continue;
-    fill(j, got + IN_FLIGHT);
-    put(&todo, j);
-  }
+  ask(jobs);
   CHECK(count_of("request") == TEXTS && count_of("user7") == TEXTS / 100 && count_of("page77") == TEXTS / 1000);
   jsstr_room room = jsstr_room_of(&host); /* the workers still run */
   printf("%d texts by %d workers: %u ids of %u, %u words of %u\n", TEXTS, WORKERS, room.ids, room.all_ids, room.words, room.all_words);
