@@ -50,7 +50,7 @@ extern "C" {
 typedef struct jsstr_agent { void *at; uint32_t live; } jsstr_agent;
 
 /* A text that is built up, outside any heap; all zero is an empty one. */
-typedef struct jsstr_builder { void *at; uint32_t live; } jsstr_builder;
+typedef struct jsstr_builder { void *at; uint32_t live, len; } jsstr_builder;
 
 /* A string; JSSTR_NO_STRING is none. */
 typedef uint32_t jsstr_id;

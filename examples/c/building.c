@@ -200,9 +200,9 @@ static void append(void) {
   CHECK(jsstr_build_latin1(&text, (const uint8_t *)"half", 4) == JSSTR_DONE && is_bare(jsstr_built(&text, &a), JSSTR_BAD_ARGUMENT));
   CHECK(is_bare(jsstr_built_interned(&text, &a), JSSTR_BAD_ARGUMENT) && jsstr_build_string(&text, &a, 0) == JSSTR_BAD_ARGUMENT && jsstr_built_length(&text) == 4);
   jsstr_drop_builder(&text);
-  CHECK(!text.at && !text.live && jsstr_built_length(&text) == 0);
+  CHECK(!text.at && !text.live && !text.len && jsstr_built_length(&text) == 0);
   jsstr_drop_builder(&text);
-  CHECK(!text.at && !text.live);
+  CHECK(!text.at && !text.live && !text.len);
 }
 
 /* More units than a string may have, and then a text that is what it was; by the lengths alone, nothing is read. */
