@@ -274,7 +274,8 @@ jsstr_answer jsstr_intern_into(jsstr_agent *from, jsstr_id s, jsstr_agent *to);
 
 /* Each appends to a text: units; bytes, by the rules of jsstr_from_latin1 and its kin; the units of s, which is
    settled first; the decimal digits of a number, with - before those of one below 0. Answers DONE; or NO_MEMORY,
-   NOT_UTF8 or, past JSSTR_MAX_LENGTH units, TOO_LONG, and then the text is what it was. */
+   NOT_UTF8 or, past JSSTR_MAX_LENGTH units or three times as many bytes, TOO_LONG, and then the text is what it
+   was. */
 uint32_t jsstr_build_units(jsstr_builder *text, const uint16_t *units, size_t len);
 uint32_t jsstr_build_latin1(jsstr_builder *text, const uint8_t *bytes, size_t len);
 jsstr_answer jsstr_build_utf8(jsstr_builder *text, const uint8_t *bytes, size_t len);
