@@ -9,8 +9,8 @@
    may happen, as with a wrong index in C. Both serve one handle.
 
    WHAT C STILL OWES to both forms:
-   - A handle is zero, or was written by this library, and by nothing else. Never copy a handle; to move
-     one, copy its bytes and zero the old place before the next call.
+   - A handle, of an agent or a text, is zero, or was written by this library, and by nothing else. Never copy
+     a handle; to move one, copy its bytes and zero the old place before the next call.
    - One call at a time on a handle. It goes to another thread by what orders memory: the start or the join
      of a thread, a lock, a sequentially consistent atomic. No call from a signal handler, or from the child
      of a process that was forked while it had threads.
@@ -21,11 +21,15 @@
 
    KNOWN. An agent knows the strings that its calls answered, what the agent that it was split off from
    knew by then, and what those knew that it joined. A string goes from one running thread to another by
-   interning alone: the other thread interns equal units, or finds them, and gets that number.
+   the string table alone: the other thread interns equal units, or finds them, and gets that number; or it
+   adopts what is in a slot (jsstr_slot_of).
 
    SETTLED. A string that was made of units, and a slice, is settled. What jsstr_concat answers may be a
    rope; the calls that need a settled string settle it first, once for all agents, and may then be refused
    with JSSTR_NO_WORDS.
+
+   BYTES. A call of an agent that reads bytes, and one that copies into another heap, allocates memory for its own
+   duration, and may answer JSSTR_NO_MEMORY.
 
    Link -ljsstr: there is one archive, libjsstr.a, and no shared object. malloc, realloc and free are the C
    library's, and malloc aligns to 16. */
@@ -45,7 +49,10 @@ extern "C" {
 /* An agent; all zero where there is none. */
 typedef struct jsstr_agent { void *at; uint32_t live; } jsstr_agent;
 
-/* A string, by its number below 2^29; so JSSTR_NO_STRING is none. */
+/* A text that is built up, outside any heap; all zero is an empty one. */
+typedef struct jsstr_builder { void *at; uint32_t live, len; } jsstr_builder;
+
+/* A string; JSSTR_NO_STRING is none. */
 typedef uint32_t jsstr_id;
 #define JSSTR_NO_STRING UINT32_MAX
 
@@ -66,8 +73,8 @@ enum jsstr_status {
   JSSTR_NO_WORDS = 4,    /* not enough words are left: the same of words */
   JSSTR_NO_SLOTS = 5,    /* all `end` slots of the string table are used by other units */
   JSSTR_TOO_LONG = 6,    /* the sides, `at` and `want` units long, are longer together than the limit */
-  JSSTR_NONE = 7,        /* there is no such place or number, or no interned string with these units */
-  JSSTR_NOT_UTF8 = 8,    /* the first `at` bytes are UTF-8, and no more of them are; nothing has changed */
+  JSSTR_NONE = 7,        /* there is no such place, number or interned string */
+  JSSTR_NOT_UTF8 = 8,    /* the first `at` bytes are UTF-8, or WTF-8, and no more of them are; nothing has changed */
   JSSTR_BAD_ARGUMENT = 9, /* the condition of the call doesn't hold; no string and no heap has changed */
   JSSTR_NO_ROOM = 10,    /* `size` bytes, or units, are needed, and there is room for fewer; nothing is written */
   JSSTR_UNMAPPED = 11    /* unit number `at` has no bytes; nothing is written */
@@ -93,17 +100,15 @@ typedef struct jsstr_words { uint32_t status; bool wide; uint32_t lane, length, 
 typedef struct jsstr_bytes { uint32_t status, at, size; } jsstr_bytes;
 typedef struct jsstr_used { uint32_t status, ids, words; } jsstr_used;
 typedef struct jsstr_use { uint32_t ids, words; } jsstr_use;
-
-/* What is used of a heap, as one agent saw it: */
 typedef struct jsstr_room {
-  uint32_t status;
-  uint32_t ids, words;                /* what each counter was when it was read: claimed by all agents by then */
+  uint32_t status, ids, words;        /* what each counter was: claimed by all agents up to then */
   uint32_t all_ids, all_words, slots; /* the sizes of the heap */
-  uint32_t seen_slots;                /* slots of the string table that this agent knows to be used */
+  uint32_t seen_slots;                /* of these, how many this agent knows to be used: a pass over its marks */
 } jsstr_room;
 
-/* Every call with an agent has the conditions that the handle isn't zero, and that each string that it is
-   given is known (jsstr_is_interned: the first alone). */
+/* Every call with an agent has the conditions that the handle isn't zero, that each string that it is given is known
+   (jsstr_is_interned: the first alone), and that len is at most JSSTR_MAX_LENGTH (of units and Latin-1 to compare
+   with it may be any). */
 
 /* A heap, and in `out` its first agent, with the whole share: `agents`, 1 to 64, is how many agents there
    may be at one time. Joined strings are at most `limit` units long, which is at most JSSTR_MAX_LENGTH.
@@ -127,18 +132,20 @@ uint32_t jsstr_join(jsstr_agent *agent, jsstr_agent *other);
 jsstr_number jsstr_share(jsstr_agent *agent);
 
 /* A new string with these units, settled. It uses an id, and a word for 8 units, or for 4 where one of
-   them is over 255. Condition: len is at most JSSTR_MAX_LENGTH. */
+   them is over 255. */
 jsstr_answer jsstr_from_units(jsstr_agent *agent, const uint16_t *units, size_t len);
 
-/* The same of units below 256, a byte each, as Latin-1 is. It allocates memory for the time of the call, and
-   may answer NO_MEMORY. Condition: len is at most JSSTR_MAX_LENGTH. */
+/* The same of units below 256, a byte each, as Latin-1 is. */
 jsstr_answer jsstr_from_latin1(jsstr_agent *agent, const uint8_t *bytes, size_t len);
 
-/* The characters whose UTF-8 these bytes are, in UTF-16: no unit is an unpaired surrogate. It allocates memory
-   for the time of the call, and may answer NO_MEMORY; it answers NOT_UTF8 exactly where the bytes are no
-   UTF-8, as where they end within a character, spell a surrogate, or a character by too many bytes.
-   Condition: len is at most JSSTR_MAX_LENGTH. */
+/* The characters whose UTF-8 these bytes are, in UTF-16: no unit is an unpaired surrogate. It answers NOT_UTF8
+   exactly where the bytes are no UTF-8, as where they end within a character, spell a surrogate, or a character
+   by too many bytes. */
 jsstr_answer jsstr_from_utf8(jsstr_agent *agent, const uint8_t *bytes, size_t len);
+
+/* The same of WTF-8, where three bytes may also spell an unpaired surrogate, as JSSTR_KEEP writes it. A lead and
+   a trail behind it, three bytes each, are refused: four bytes spell a pair. */
+jsstr_answer jsstr_from_wtf8(jsstr_agent *agent, const uint8_t *bytes, size_t len);
 
 /* The units of a, and then those of b. Fewer than 13 units are copied; from 13 on the answer is a rope,
    which uses an id and no word. Where one side is empty, the answer is the other side. */
@@ -209,9 +216,7 @@ jsstr_truth jsstr_equal(jsstr_agent *agent, jsstr_id a, jsstr_id b);
 jsstr_order jsstr_compare_units(jsstr_agent *agent, jsstr_id s, const uint16_t *units, size_t len);
 jsstr_truth jsstr_equals_units(jsstr_agent *agent, jsstr_id s, const uint16_t *units, size_t len);
 
-/* The same of bytes, by the rules of jsstr_from_latin1 and jsstr_from_utf8. Memory is allocated for the duration of
-   the call; NO_MEMORY and NOT_UTF8 leave all as it was. Condition of the UTF-8 ones: len is at most
-   JSSTR_MAX_LENGTH. They have no form that tests nothing. */
+/* The same of bytes, by the rules of jsstr_from_latin1 and jsstr_from_utf8. They have no form that tests nothing. */
 jsstr_order jsstr_compare_latin1(jsstr_agent *agent, jsstr_id s, const uint8_t *bytes, size_t len);
 jsstr_order jsstr_compare_utf8(jsstr_agent *agent, jsstr_id s, const uint8_t *bytes, size_t len);
 jsstr_truth jsstr_equals_latin1(jsstr_agent *agent, jsstr_id s, const uint8_t *bytes, size_t len);
@@ -229,111 +234,136 @@ jsstr_place jsstr_index_of(jsstr_agent *agent, jsstr_id hay, jsstr_id needle, ui
    Settles both. */
 jsstr_place jsstr_last_index_of(jsstr_agent *agent, jsstr_id hay, jsstr_id needle, uint32_t limit);
 
-/* The one string of the string table with the units of s: every agent gets the same one for equal units.
-   It is known, and settled. It uses at most an id, and words where s is a slice. Settles s. */
+/* The one string of the string table with the units of s: every agent gets the same one for equal units, and
+   so one empty string. It is known, and settled. It uses at most an id, and words where s is a slice. Settles s. */
 jsstr_answer jsstr_intern(jsstr_agent *agent, jsstr_id s);
 
 /* The same of units that are in no string yet. Where the table has their string by then, nothing is used: no id,
    no word and no slot. Else the call makes it, which uses an id, its words and a slot; where another thread interns
-   these units at that moment, the id and the words may be lost. Condition: len is at most JSSTR_MAX_LENGTH. */
+   these units at that moment, the id and the words may be lost. */
 jsstr_answer jsstr_intern_units(jsstr_agent *agent, const uint16_t *units, size_t len);
 
-/* The same of bytes, by the rules of jsstr_from_latin1 and jsstr_from_utf8. Memory is allocated for the duration of
-   the call; NO_MEMORY and NOT_UTF8 leave all as it was. Condition: len is at most JSSTR_MAX_LENGTH. */
+/* The same of bytes, by the rules of jsstr_from_latin1 and its kin. */
 jsstr_answer jsstr_intern_latin1(jsstr_agent *agent, const uint8_t *bytes, size_t len);
 jsstr_answer jsstr_intern_utf8(jsstr_agent *agent, const uint8_t *bytes, size_t len);
+jsstr_answer jsstr_intern_wtf8(jsstr_agent *agent, const uint8_t *bytes, size_t len);
 
 /* The one string of the string table with these units, or NONE where it has no such string. It is known, settled
    and interned. No id, no word and no slot is used, ever. While another thread interns these units, either may be
-   the answer. Condition: len is at most JSSTR_MAX_LENGTH. */
+   the answer. */
 jsstr_answer jsstr_find_units(jsstr_agent *agent, const uint16_t *units, size_t len);
 
-/* The same of bytes, by the rules of jsstr_intern_latin1 and jsstr_intern_utf8. */
+/* The same of bytes. */
 jsstr_answer jsstr_find_latin1(jsstr_agent *agent, const uint8_t *bytes, size_t len);
 jsstr_answer jsstr_find_utf8(jsstr_agent *agent, const uint8_t *bytes, size_t len);
+jsstr_answer jsstr_find_wtf8(jsstr_agent *agent, const uint8_t *bytes, size_t len);
+
+/* The slot of the string table that an interned string is in, for good. Nothing is used.
+   Condition: s is interned (jsstr_is_interned). */
+jsstr_number jsstr_slot_of(jsstr_agent *agent, jsstr_id s);
+
+/* The interned string in a slot, known, settled and interned from then on; NONE where the slot was found free, which
+   one that this agent knows to be used never is. Nothing is used. Condition: slot is below the heap's slots. */
+jsstr_answer jsstr_adopt(jsstr_agent *agent, uint32_t slot);
 
 /* In the heap of `to`, which may be that of `from`: a new string with the units of s, settled; and the one string
-   of the string table there with them. Memory is allocated for the duration of the call. Settles s: NO_WORDS may
-   be of its own heap, with `to` unchanged; any other report is of `to`. Condition: `to` isn't zero. */
+   of the string table there with them. Settles s: NO_WORDS may be of its own heap, with `to` unchanged; any other
+   report is of `to`. Condition: `to` isn't zero. */
 jsstr_answer jsstr_copy_into(jsstr_agent *from, jsstr_id s, jsstr_agent *to);
 jsstr_answer jsstr_intern_into(jsstr_agent *from, jsstr_id s, jsstr_agent *to);
+
+/* Each appends to a text: units; bytes, by the rules of jsstr_from_latin1 and its kin; the units of s, which is
+   settled first; the decimal digits of a number, with - before those of one below 0. Answers DONE; or NO_MEMORY,
+   NOT_UTF8 or, past JSSTR_MAX_LENGTH units or three times as many bytes, TOO_LONG, and then the text is what it
+   was. */
+uint32_t jsstr_build_units(jsstr_builder *text, const uint16_t *units, size_t len);
+uint32_t jsstr_build_latin1(jsstr_builder *text, const uint8_t *bytes, size_t len);
+jsstr_answer jsstr_build_utf8(jsstr_builder *text, const uint8_t *bytes, size_t len);
+jsstr_answer jsstr_build_wtf8(jsstr_builder *text, const uint8_t *bytes, size_t len);
+uint32_t jsstr_build_string(jsstr_builder *text, jsstr_agent *agent, jsstr_id s);
+uint32_t jsstr_build_number(jsstr_builder *text, int32_t number);
+
+/* How many units a text has. */
+uint32_t jsstr_built_length(const jsstr_builder *text);
+
+/* A new string with the units of a text, settled; and the one string of the string table with them. Where it
+   answers DONE the text is empty then, and keeps its memory for the next one; else it is what it was. */
+jsstr_answer jsstr_built(jsstr_builder *text, jsstr_agent *agent);
+jsstr_answer jsstr_built_interned(jsstr_builder *text, jsstr_agent *agent);
+
+/* Frees the memory of a text; *text is zero afterwards. */
+void jsstr_drop_builder(jsstr_builder *text);
 
 /* Whether s is an interned string of this agent: one that a call above answered, to it or to an agent from which
    it knows its strings. Any number is allowed. */
 jsstr_truth jsstr_is_interned(jsstr_agent *agent, jsstr_id s);
 
 /* Whether two interned strings have equal units, which is whether their numbers are equal.
-   Condition: a and b are interned, as jsstr_is_interned reports. */
+   Condition: a and b are interned. */
 jsstr_truth jsstr_same(jsstr_agent *agent, jsstr_id a, jsstr_id b);
 
-/* The slot of the string table in which an interned string stands, for good. Nothing is used, ever.
-   Condition: s is interned, as jsstr_is_interned reports. */
-jsstr_number jsstr_slot_of(jsstr_agent *agent, jsstr_id s);
-
-/* The interned string in a slot, which is known, settled and interned from then on; or NONE where the slot is free.
-   Nothing is used, ever. So a string goes from one running thread to another by its slot. While another thread
-   claims the slot, either may be the answer; whoever is told a slot of jsstr_slot_of gets its string.
-   Condition: slot is below the heap's number of slots. */
-jsstr_answer jsstr_adopt(jsstr_agent *agent, uint32_t slot);
-
-/* What is used of the heap, for any agent, at any time, while others run. `ids` and `words` are at least what this
-   agent saw and used before; a later answer to it is no less. `seen_slots` takes a pass over its marks, a bit an
-   id. Condition: the handle isn't zero. */
+/* How full the heap is, while others run too: at least what this agent has seen before, and used. */
 jsstr_room jsstr_room_of(jsstr_agent *agent);
 
 /* What was used, by all agents, and how many different lists of units were interned.
    Condition: the agent has the whole share. Where others hold shares, the unchecked forms answer what each
-   counter, or slot, was at some moment; no contract says so. */
+   counter, or slot, was at some moment; no contract says so (of counters jsstr_room_of does). */
 jsstr_used jsstr_totals(jsstr_agent *agent);
 jsstr_number jsstr_count_interned(jsstr_agent *agent);
 
-/* THE SAME, CONDITION NOT TESTED. And nothing is settled on the way: the strings that are cut, read,
-   compared, searched, searched for or interned are settled already. What has no status here always
-   succeeds. */
-uint32_t jsstr_make_unchecked(jsstr_size size, uint32_t agents, uint32_t limit, jsstr_agent *out);
-void jsstr_free_unchecked(jsstr_agent *agent);
-uint32_t jsstr_split_unchecked(jsstr_agent *agent, uint32_t give, jsstr_agent *out);
-void jsstr_join_unchecked(jsstr_agent *agent, jsstr_agent *other);
-uint32_t jsstr_share_unchecked(jsstr_agent *agent);
-jsstr_answer jsstr_from_units_unchecked(jsstr_agent *agent, const uint16_t *units, size_t len);
-jsstr_answer jsstr_from_latin1_unchecked(jsstr_agent *agent, const uint8_t *bytes, size_t len);
-jsstr_answer jsstr_from_utf8_unchecked(jsstr_agent *agent, const uint8_t *bytes, size_t len);
-jsstr_answer jsstr_concat_unchecked(jsstr_agent *agent, jsstr_id a, jsstr_id b);
-jsstr_answer jsstr_slice_unchecked(jsstr_agent *agent, jsstr_id s, uint32_t from, uint32_t to);
-uint32_t jsstr_length_unchecked(jsstr_agent *agent, jsstr_id s);
-jsstr_answer jsstr_settle_unchecked(jsstr_agent *agent, jsstr_id s);
-void jsstr_read_unchecked(jsstr_agent *agent, jsstr_id s, uint32_t from, uint16_t *out, size_t len);
-jsstr_bytes jsstr_read_all_unchecked(jsstr_agent *agent, jsstr_id s, uint16_t *out, size_t room);
-uint16_t jsstr_unit_at_unchecked(jsstr_agent *agent, jsstr_id s, uint32_t place);
-jsstr_bytes jsstr_to_utf8_unchecked(jsstr_agent *agent, jsstr_id s, uint32_t unpaired, uint8_t *out, size_t room);
-jsstr_bytes jsstr_to_latin1_unchecked(jsstr_agent *agent, jsstr_id s, uint8_t *out, size_t room);
-uint32_t jsstr_hash_unchecked(jsstr_agent *agent, jsstr_id s);
-jsstr_number jsstr_array_index_unchecked(jsstr_agent *agent, jsstr_id s);
-bool jsstr_is_settled_unchecked(jsstr_agent *agent, jsstr_id s);
-jsstr_words jsstr_window_unchecked(jsstr_agent *agent, jsstr_id s, uint32_t at, uint64_t *out, size_t room);
-int32_t jsstr_compare_unchecked(jsstr_agent *agent, jsstr_id a, jsstr_id b);
-bool jsstr_equal_unchecked(jsstr_agent *agent, jsstr_id a, jsstr_id b);
-int32_t jsstr_compare_units_unchecked(jsstr_agent *agent, jsstr_id s, const uint16_t *units, size_t len);
-bool jsstr_equals_units_unchecked(jsstr_agent *agent, jsstr_id s, const uint16_t *units, size_t len);
-bool jsstr_starts_with_unchecked(jsstr_agent *agent, jsstr_id hay, jsstr_id needle, uint32_t at);
-jsstr_place jsstr_index_of_unchecked(jsstr_agent *agent, jsstr_id hay, jsstr_id needle, uint32_t from);
-jsstr_place jsstr_last_index_of_unchecked(jsstr_agent *agent, jsstr_id hay, jsstr_id needle, uint32_t limit);
-jsstr_answer jsstr_intern_unchecked(jsstr_agent *agent, jsstr_id s);
-jsstr_answer jsstr_intern_units_unchecked(jsstr_agent *agent, const uint16_t *units, size_t len);
-jsstr_answer jsstr_intern_latin1_unchecked(jsstr_agent *agent, const uint8_t *bytes, size_t len);
-jsstr_answer jsstr_intern_utf8_unchecked(jsstr_agent *agent, const uint8_t *bytes, size_t len);
-jsstr_answer jsstr_find_units_unchecked(jsstr_agent *agent, const uint16_t *units, size_t len);
-jsstr_answer jsstr_find_latin1_unchecked(jsstr_agent *agent, const uint8_t *bytes, size_t len);
-jsstr_answer jsstr_find_utf8_unchecked(jsstr_agent *agent, const uint8_t *bytes, size_t len);
-jsstr_answer jsstr_copy_into_unchecked(jsstr_agent *from, jsstr_id s, jsstr_agent *to);
-jsstr_answer jsstr_intern_into_unchecked(jsstr_agent *from, jsstr_id s, jsstr_agent *to);
-bool jsstr_is_interned_unchecked(jsstr_agent *agent, jsstr_id s);
-bool jsstr_same_unchecked(const jsstr_agent *agent, jsstr_id a, jsstr_id b);
-uint32_t jsstr_slot_of_unchecked(jsstr_agent *agent, jsstr_id s);
-jsstr_answer jsstr_adopt_unchecked(jsstr_agent *agent, uint32_t slot);
-jsstr_room jsstr_room_of_unchecked(jsstr_agent *agent);
-jsstr_use jsstr_totals_unchecked(jsstr_agent *agent);
-uint32_t jsstr_count_interned_unchecked(jsstr_agent *agent);
+/* THE SAME, with the same parameters, CONDITION NOT TESTED. And nothing is settled on the way: the strings that
+   are cut, read, compared, searched, searched for, interned or appended are settled already. What has no
+   status here always succeeds. */
+uint32_t jsstr_make_unchecked(jsstr_size, uint32_t, uint32_t, jsstr_agent *);
+void jsstr_free_unchecked(jsstr_agent *);
+uint32_t jsstr_split_unchecked(jsstr_agent *, uint32_t, jsstr_agent *);
+void jsstr_join_unchecked(jsstr_agent *, jsstr_agent *);
+uint32_t jsstr_share_unchecked(jsstr_agent *);
+jsstr_answer jsstr_from_units_unchecked(jsstr_agent *, const uint16_t *, size_t);
+jsstr_answer jsstr_from_latin1_unchecked(jsstr_agent *, const uint8_t *, size_t);
+jsstr_answer jsstr_from_utf8_unchecked(jsstr_agent *, const uint8_t *, size_t);
+jsstr_answer jsstr_from_wtf8_unchecked(jsstr_agent *, const uint8_t *, size_t);
+jsstr_answer jsstr_concat_unchecked(jsstr_agent *, jsstr_id, jsstr_id);
+jsstr_answer jsstr_slice_unchecked(jsstr_agent *, jsstr_id, uint32_t, uint32_t);
+uint32_t jsstr_length_unchecked(jsstr_agent *, jsstr_id);
+jsstr_answer jsstr_settle_unchecked(jsstr_agent *, jsstr_id);
+void jsstr_read_unchecked(jsstr_agent *, jsstr_id, uint32_t, uint16_t *, size_t);
+jsstr_bytes jsstr_read_all_unchecked(jsstr_agent *, jsstr_id, uint16_t *, size_t);
+uint16_t jsstr_unit_at_unchecked(jsstr_agent *, jsstr_id, uint32_t);
+jsstr_bytes jsstr_to_utf8_unchecked(jsstr_agent *, jsstr_id, uint32_t, uint8_t *, size_t);
+jsstr_bytes jsstr_to_latin1_unchecked(jsstr_agent *, jsstr_id, uint8_t *, size_t);
+uint32_t jsstr_hash_unchecked(jsstr_agent *, jsstr_id);
+jsstr_number jsstr_array_index_unchecked(jsstr_agent *, jsstr_id);
+bool jsstr_is_settled_unchecked(jsstr_agent *, jsstr_id);
+jsstr_words jsstr_window_unchecked(jsstr_agent *, jsstr_id, uint32_t, uint64_t *, size_t);
+int32_t jsstr_compare_unchecked(jsstr_agent *, jsstr_id, jsstr_id);
+bool jsstr_equal_unchecked(jsstr_agent *, jsstr_id, jsstr_id);
+int32_t jsstr_compare_units_unchecked(jsstr_agent *, jsstr_id, const uint16_t *, size_t);
+bool jsstr_equals_units_unchecked(jsstr_agent *, jsstr_id, const uint16_t *, size_t);
+bool jsstr_starts_with_unchecked(jsstr_agent *, jsstr_id, jsstr_id, uint32_t);
+jsstr_place jsstr_index_of_unchecked(jsstr_agent *, jsstr_id, jsstr_id, uint32_t);
+jsstr_place jsstr_last_index_of_unchecked(jsstr_agent *, jsstr_id, jsstr_id, uint32_t);
+jsstr_answer jsstr_intern_unchecked(jsstr_agent *, jsstr_id);
+jsstr_answer jsstr_intern_units_unchecked(jsstr_agent *, const uint16_t *, size_t);
+jsstr_answer jsstr_intern_latin1_unchecked(jsstr_agent *, const uint8_t *, size_t);
+jsstr_answer jsstr_intern_utf8_unchecked(jsstr_agent *, const uint8_t *, size_t);
+jsstr_answer jsstr_intern_wtf8_unchecked(jsstr_agent *, const uint8_t *, size_t);
+jsstr_answer jsstr_find_units_unchecked(jsstr_agent *, const uint16_t *, size_t);
+jsstr_answer jsstr_find_latin1_unchecked(jsstr_agent *, const uint8_t *, size_t);
+jsstr_answer jsstr_find_utf8_unchecked(jsstr_agent *, const uint8_t *, size_t);
+jsstr_answer jsstr_find_wtf8_unchecked(jsstr_agent *, const uint8_t *, size_t);
+uint32_t jsstr_slot_of_unchecked(jsstr_agent *, jsstr_id);
+jsstr_answer jsstr_adopt_unchecked(jsstr_agent *, uint32_t);
+jsstr_answer jsstr_copy_into_unchecked(jsstr_agent *, jsstr_id, jsstr_agent *);
+jsstr_answer jsstr_intern_into_unchecked(jsstr_agent *, jsstr_id, jsstr_agent *);
+bool jsstr_is_interned_unchecked(jsstr_agent *, jsstr_id);
+bool jsstr_same_unchecked(const jsstr_agent *, jsstr_id, jsstr_id);
+uint32_t jsstr_build_string_unchecked(jsstr_builder *, jsstr_agent *, jsstr_id);
+jsstr_answer jsstr_built_unchecked(jsstr_builder *, jsstr_agent *);
+jsstr_answer jsstr_built_interned_unchecked(jsstr_builder *, jsstr_agent *);
+jsstr_room jsstr_room_of_unchecked(jsstr_agent *);
+jsstr_use jsstr_totals_unchecked(jsstr_agent *);
+uint32_t jsstr_count_interned_unchecked(jsstr_agent *);
 
 #ifdef __cplusplus
 }

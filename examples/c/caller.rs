@@ -1,4 +1,5 @@
-// A caller in Rust: the same key from two agents, and calls that are refused. Prints "ok".
+// A caller in Rust: the same key from two agents, a key that one adopts from the other, and calls that are refused.
+// Prints "ok".
 #[repr(C)]
 #[derive(Default)]
 struct Agent {
@@ -41,6 +42,8 @@ unsafe extern "C" {
     fn jsstr_length(agent: &mut Agent, s: u32) -> Number;
     fn jsstr_read(agent: &mut Agent, s: u32, from: u32, out: *mut u16, len: usize) -> u32;
     fn jsstr_intern(agent: &mut Agent, s: u32) -> Answer;
+    fn jsstr_slot_of(agent: &mut Agent, s: u32) -> Number;
+    fn jsstr_adopt(agent: &mut Agent, slot: u32) -> Answer;
 }
 
 fn made(agent: &mut Agent, text: &str) -> u32 {
@@ -68,10 +71,14 @@ fn main() {
     }
     let mut second = std::thread::spawn(move || {
         let key = interned(&mut second);
-        (second, key)
+        let slot = unsafe { jsstr_slot_of(&mut second, key) };
+        assert_eq!(slot.status, DONE);
+        (second, key, slot.value)
     })
     .join()
     .unwrap();
+    let adopted = unsafe { jsstr_adopt(&mut first, second.2) };
+    assert_eq!((adopted.status, adopted.id), (DONE, second.1));
     let key = interned(&mut first);
     assert_eq!(key, second.1);
     let mut units = vec![0u16; 21];

@@ -1,5 +1,6 @@
 /* Calls made by chance, valid ones and others, by several agents of a heap, each compared with a plain
-   reference: a string is an array of units, an agent is the ids that it was answered.
+   reference: a string, and the text that is built up, is an array of units, an agent is the ids that it was
+   answered, and the string table is an array of ids, each in the slot that its units have by the rule.
 
        fuzz [COUNT [SEED]]
 
@@ -27,8 +28,10 @@ typedef struct agent {
 
 static text texts[IDS];
 static agent agents[AGENTS], stranger;
-static jsstr_id table[SLOTS];
+static jsstr_id table[SLOTS]; /* JSSTR_NO_STRING in a free slot */
 static uint32_t entries, numbers;
+static struct { jsstr_builder handle; uint16_t units[LIMIT]; uint32_t len; } built;
+static jsstr_room last;
 static int full;
 static long call, lawful;
 static uint64_t state;
@@ -45,6 +48,8 @@ static void begin(void) {
   }
   for (int i = 0; i < IDS; i++) free(texts[i].units);
   memset(texts, 0, sizeof texts);
+  memset(table, 0xFF, sizeof table);
+  memset(&last, 0, sizeof last);
   entries = numbers = full = 0;
   CHECK(jsstr_make((jsstr_size){IDS, WORDS, SLOTS}, AGENTS, LIMIT, &agents[0].handle) == JSSTR_DONE);
   agents[0].share = AGENTS;
@@ -94,7 +99,7 @@ static void to_latin1(uint16_t *units, uint32_t len, uint8_t *bytes) {
   for (uint32_t i = 0; i < len; i++) units[i] = bytes[i] = (uint8_t)units[i];
 }
 
-/* The UTF-8 of units that are below 128, or from 0x800 on and no surrogates. */
+/* The UTF-8 of units that are below 128, or from 0x800 on; of a surrogate, three bytes. */
 static uint32_t to_utf8(const uint16_t *units, uint32_t len, uint8_t *bytes) {
   uint32_t n = 0;
   for (uint32_t i = 0; i < len; i++)
@@ -107,28 +112,53 @@ static uint32_t to_utf8(const uint16_t *units, uint32_t len, uint8_t *bytes) {
   return n;
 }
 
-static void make(agent *a) {
-  uint16_t units[100];
-  uint8_t bytes[301];
-  uint32_t len = some_units(units), n = 0, kind = chance(3);
-  jsstr_answer s;
-  if (kind == 0) s = jsstr_from_units(&a->handle, units, len);
-  else if (kind == 1) {
-    to_latin1(units, len, bytes);
-    s = jsstr_from_latin1(&a->handle, bytes, len);
-  } else {
-    n = to_utf8(units, len, bytes);
-    if (a->handle.live && chance(20) == 0) {
-      bytes[n] = 0xFF;
-      s = jsstr_from_utf8(&a->handle, bytes, n + 1);
-      CHECK(s.status == JSSTR_NOT_UTF8 && s.at == n);
-      return;
-    }
-    s = jsstr_from_utf8(&a->handle, bytes, n);
+/* What a call is given: units, and the bytes that spell them. */
+enum kind { UNITS, LATIN1, UTF8, WTF8, KINDS };
+typedef struct given { uint16_t units[102]; uint8_t bytes[310]; uint32_t len, n; long fault; } given;
+
+/* Behind the bytes, now and then, one or two surrogates in three bytes each, and a byte that ends no character.
+   `fault` is how many bytes are UTF-8, or WTF-8, where not all are. */
+static void spoil(given *g, enum kind kind) {
+  for (uint32_t i = chance(9) ? 0 : 1 + chance(2), first = 1; i > 0; i--, first = 0) {
+    uint16_t half = (uint16_t)(0xD800 + chance(0x800));
+    int is_pair = !first && half >= 0xDC00 && g->units[g->len - 1] < 0xDC00;
+    if (g->fault < 0 && (kind == UTF8 || is_pair)) g->fault = g->n;
+    g->units[g->len++] = half;
+    g->n += to_utf8(&half, 1, g->bytes + g->n);
   }
+  if (chance(20)) return;
+  if (g->fault < 0) g->fault = g->n;
+  g->bytes[g->n++] = (uint8_t)(0x80 + chance(0x80));
+}
+
+static void give(given *g, enum kind kind) {
+  g->len = some_units(g->units);
+  if (chance(3) == 0) g->len %= 9;
+  g->n = g->len;
+  g->fault = -1;
+  if (kind == LATIN1) to_latin1(g->units, g->len, g->bytes);
+  if (kind < UTF8) return;
+  g->n = to_utf8(g->units, g->len, g->bytes);
+  spoil(g, kind);
+}
+
+/* Whether the call refuses its bytes, as it should. */
+static int is_refused(const given *g, jsstr_answer s) {
+  CHECK((s.status == JSSTR_NOT_UTF8) == (g->fault >= 0));
+  if (g->fault < 0) return 0;
+  CHECK(s.at == (uint32_t)g->fault && !s.id && !s.want && !s.end);
+  return 1;
+}
+
+static void make(agent *a) {
+  given g;
+  enum kind kind = (enum kind)chance(KINDS);
+  give(&g, kind);
+  jsstr_answer s = kind == UNITS ? jsstr_from_units(&a->handle, g.units, g.len) : kind == LATIN1 ? jsstr_from_latin1(&a->handle, g.bytes, g.n)
+    : kind == UTF8 ? jsstr_from_utf8(&a->handle, g.bytes, g.n) : jsstr_from_wtf8(&a->handle, g.bytes, g.n);
   if (!a->handle.live) { CHECK(s.status == JSSTR_BAD_ARGUMENT); return; }
   lawful++;
-  answered(a, s, units, len);
+  if (!is_refused(&g, s)) answered(a, s, g.units, g.len);
 }
 
 static void concat(agent *a) {
@@ -275,59 +305,158 @@ static void search(agent *a) {
   lawful++;
 }
 
+/* The slot of these units: the first one on their path that is free or has them; SLOTS where each has others. */
+static uint32_t slot_for(const uint16_t *units, uint32_t len) {
+  uint32_t hash = 0;
+  for (uint32_t i = 0; i < len; i++) hash = hash * 31 + units[i];
+  for (uint32_t i = 0; i < SLOTS; i++) {
+    uint32_t slot = (hash % SLOTS + i) % SLOTS;
+    if (table[slot] == JSSTR_NO_STRING) return slot;
+    text t = texts[table[slot]];
+    if (t.len == len && (!len || memcmp(t.units, units, len * 2) == 0)) return slot;
+  }
+  return SLOTS;
+}
+
+static int is_used(uint32_t slot) { return slot < SLOTS && table[slot] != JSSTR_NO_STRING; }
+
+/* The answer is to be the string of the table with these units, made for them where there was none. */
+static void interned(agent *a, jsstr_answer one, const uint16_t *units, uint32_t len) {
+  uint32_t slot = slot_for(units, len);
+  if (!is_used(slot) && refused_for_room(one.status)) return;
+  CHECK(one.status == JSSTR_DONE && slot < SLOTS && (!is_used(slot) || table[slot] == one.id));
+  answered(a, one, units, len);
+  a->interned[one.id] = 1;
+  entries += !is_used(slot);
+  table[slot] = one.id;
+}
+
 static void intern(agent *a) {
   jsstr_id s = some_id(a);
   jsstr_answer one = jsstr_intern(&a->handle, s);
   if (!knows(a, s)) { CHECK(one.status == JSSTR_BAD_ARGUMENT); return; }
   lawful++;
-  if (refused_for_room(one.status)) return;
-  answered(a, one, texts[s].units, texts[s].len);
-  a->interned[one.id] = 1;
-  for (uint32_t i = 0; i < entries; i++)
-    if (order_of(texts[table[i]], texts[s]) == 0) { CHECK(table[i] == one.id); return; }
-  CHECK(entries < SLOTS);
-  table[entries++] = one.id;
-}
-
-/* The string of the table with these units, or -1. */
-static long entry(const uint16_t *units, uint32_t len) {
-  for (uint32_t i = 0; i < entries; i++) {
-    text t = texts[table[i]];
-    if (t.len == len && (!len || memcmp(t.units, units, len * 2) == 0)) return table[i];
-  }
-  return -1;
+  if (!refused_for_room(one.status)) interned(a, one, texts[s].units, texts[s].len);
 }
 
 /* Units that are interned, or looked for, with no string of their own: each answer is the table's. */
 static void key(agent *a) {
-  uint16_t units[100];
-  uint8_t bytes[301];
-  uint32_t len = some_units(units), n = 0, kind = chance(6), find = kind % 2;
-  if (chance(2)) len %= 9;
-  if (kind / 2 == 1) to_latin1(units, len, bytes);
-  if (kind / 2 == 2) n = to_utf8(units, len, bytes);
-  if (kind / 2 == 2 && a->handle.live && chance(20) == 0) {
-    bytes[n] = 0xFF;
-    jsstr_answer s = find ? jsstr_find_utf8(&a->handle, bytes, n + 1) : jsstr_intern_utf8(&a->handle, bytes, n + 1);
-    CHECK(s.status == JSSTR_NOT_UTF8 && s.at == n);
-    return;
-  }
-  jsstr_answer one = kind == 0 ? jsstr_intern_units(&a->handle, units, len) : kind == 1 ? jsstr_find_units(&a->handle, units, len)
-    : kind == 2 ? jsstr_intern_latin1(&a->handle, bytes, len) : kind == 3 ? jsstr_find_latin1(&a->handle, bytes, len)
-    : kind == 4 ? jsstr_intern_utf8(&a->handle, bytes, n) : jsstr_find_utf8(&a->handle, bytes, n);
+  given g;
+  enum kind kind = (enum kind)chance(KINDS);
+  int find = (int)chance(2);
+  give(&g, kind);
+  jsstr_answer one = kind == UNITS ? (find ? jsstr_find_units : jsstr_intern_units)(&a->handle, g.units, g.len)
+    : (kind == LATIN1 ? find ? jsstr_find_latin1 : jsstr_intern_latin1 : kind == UTF8 ? find ? jsstr_find_utf8 : jsstr_intern_utf8
+    : find ? jsstr_find_wtf8 : jsstr_intern_wtf8)(&a->handle, g.bytes, g.n);
   if (!a->handle.live) { CHECK(one.status == JSSTR_BAD_ARGUMENT); return; }
   lawful++;
-  long there = entry(units, len);
-  if (there >= 0) CHECK(one.status == JSSTR_DONE && one.id == (jsstr_id)there);
-  else if (find) { CHECK(one.status == JSSTR_NONE); return; }
-  else if (refused_for_room(one.status)) return;
-  answered(a, one, units, len);
-  a->interned[one.id] = 1;
-  if (there < 0) { CHECK(entries < SLOTS); table[entries++] = one.id; }
+  if (is_refused(&g, one)) return;
+  if (find && !is_used(slot_for(g.units, g.len))) CHECK(one.status == JSSTR_NONE && !one.id);
+  else interned(a, one, g.units, g.len);
+}
+
+/* A string of the table, mostly. */
+static jsstr_id some_key(const agent *a) {
+  for (int i = 0; i < 20 && chance(99); i++) {
+    uint32_t slot = chance(SLOTS);
+    if (is_used(slot)) return table[slot];
+  }
+  return some_id(a);
+}
+
+/* The slot of a string, and the string in a slot, which another agent may have interned. */
+static void adopt(agent *a) {
+  jsstr_id s = some_key(a);
+  jsstr_number k = jsstr_slot_of(&a->handle, s);
+  int ok = knows(a, s) && a->interned[s];
+  CHECK(ok ? k.status == JSSTR_DONE && k.value < SLOTS && table[k.value] == s : k.status == JSSTR_BAD_ARGUMENT && !k.value);
+  uint32_t slot = ok && chance(2) ? k.value : chance(20) ? chance(SLOTS + 2) : chance(1u << 31) * 2;
+  jsstr_answer one = jsstr_adopt(&a->handle, slot);
+  if (!a->handle.live || slot >= SLOTS) { CHECK(one.status == JSSTR_BAD_ARGUMENT && !one.id); return; }
+  lawful++;
+  if (is_used(slot)) interned(a, one, texts[table[slot]].units, texts[table[slot]].len);
+  else CHECK(one.status == JSSTR_NONE && !one.id && !one.at && !one.want && !one.end);
+}
+
+/* The text has these units behind those that it had. */
+static void appended(uint32_t status, const uint16_t *units, uint32_t len) {
+  CHECK(status == JSSTR_DONE && built.len + len <= LIMIT);
+  if (len) memcpy(built.units + built.len, units, len * 2);
+  built.len += len;
+}
+
+static void append_given(void) {
+  given g;
+  enum kind kind = (enum kind)chance(KINDS);
+  give(&g, kind);
+  if (built.len + g.len > LIMIT) return;
+  if (kind == UNITS) appended(jsstr_build_units(&built.handle, g.units, g.len), g.units, g.len);
+  else if (kind == LATIN1) appended(jsstr_build_latin1(&built.handle, g.bytes, g.n), g.units, g.len);
+  else {
+    jsstr_answer s = (kind == UTF8 ? jsstr_build_utf8 : jsstr_build_wtf8)(&built.handle, g.bytes, g.n);
+    if (!is_refused(&g, s)) appended(s.status, g.units, g.len);
+  }
+}
+
+static void append_number(void) {
+  char digits[16];
+  uint16_t units[16];
+  int32_t number = (int32_t)chance(1u << 31) >> chance(31);
+  if (chance(2)) number = -number - 1;
+  uint32_t len = (uint32_t)snprintf(digits, sizeof digits, "%ld", (long)number);
+  for (uint32_t i = 0; i < len; i++) units[i] = (uint8_t)digits[i];
+  if (built.len + len <= LIMIT) appended(jsstr_build_number(&built.handle, number), units, len);
+}
+
+static void append_string(agent *a) {
+  jsstr_id s = some_id(a);
+  if (knows(a, s) && built.len + texts[s].len > LIMIT) return;
+  uint32_t status = jsstr_build_string(&built.handle, &a->handle, s);
+  if (!knows(a, s)) CHECK(status == JSSTR_BAD_ARGUMENT);
+  else if (!refused_for_room(status)) appended(status, texts[s].units, texts[s].len);
+}
+
+/* A string of the text, here or in a heap that has little room; a refusal leaves the text. */
+static void finish(agent *a) {
+  int interns = (int)chance(2), here = chance(9) > 0;
+  jsstr_answer s = (interns ? jsstr_built_interned : jsstr_built)(&built.handle, here ? &a->handle : &stranger.handle);
+  if (here && !a->handle.live) CHECK(s.status == JSSTR_BAD_ARGUMENT);
+  else if (here) (interns ? interned : answered)(a, s, built.units, built.len);
+  else CHECK(s.status == JSSTR_DONE || s.status == JSSTR_NO_IDS || s.status == JSSTR_NO_WORDS || s.status == JSSTR_NO_SLOTS);
+  if (s.status == JSSTR_DONE) built.len = 0;
+}
+
+static void build(agent *a) {
+  lawful++;
+  switch (chance(6)) {
+  case 0: append_number(); break;
+  case 1: append_string(a); break;
+  case 2: case 3: append_given(); break;
+  default: finish(a);
+  }
+  CHECK(jsstr_built_length(&built.handle) == built.len);
+  if (chance(50)) return;
+  jsstr_drop_builder(&built.handle);
+  CHECK(!built.handle.at && !built.handle.live && jsstr_built_length(&built.handle) == 0);
+  built.len = 0;
+}
+
+/* How full the heap is, for any agent. */
+static void gauge(agent *a) {
+  jsstr_room room = jsstr_room_of(&a->handle);
+  if (!a->handle.live) { CHECK(room.status == JSSTR_BAD_ARGUMENT && !room.ids && !room.words && !room.all_ids && !room.seen_slots); return; }
+  lawful++;
+  jsstr_use use = jsstr_totals_unchecked(&a->handle);
+  uint32_t known = 0, keys = 0;
+  for (int i = 0; i < IDS; i++) known += a->known[i], keys += a->interned[i];
+  CHECK(room.status == JSSTR_DONE && room.all_ids == IDS && room.all_words == WORDS && room.slots == SLOTS);
+  CHECK(room.ids == use.ids && room.words == use.words && room.ids >= known && room.seen_slots == keys);
+  CHECK(room.ids >= last.ids && room.words >= last.words);
+  last = room;
 }
 
 static void same(agent *a) {
-  jsstr_id s = entries && chance(9) ? table[chance(entries)] : some_id(a), t = entries && chance(2) ? table[chance(entries)] : s;
+  jsstr_id s = some_key(a), t = chance(2) ? some_key(a) : s;
   jsstr_truth o = jsstr_same(&a->handle, s, t);
   int ok = knows(a, s) && knows(a, t) && a->interned[s] && a->interned[t];
   jsstr_truth is = jsstr_is_interned(&a->handle, s);
@@ -396,7 +525,7 @@ int main(int count_of, char **told) {
   for (call = 0; call < calls; call++) {
     agent *a = &agents[chance(AGENTS)], *b = &agents[chance(AGENTS)];
     if (!a->handle.live && chance(3)) a = &agents[0];
-    switch (chance(21)) {
+    switch (chance(25)) {
     case 0: case 1: make(a); break;
     case 2: case 3: concat(a); break;
     case 4: case 5: slice(a); break;
@@ -411,6 +540,9 @@ int main(int count_of, char **told) {
     case 16: case 17: key(a); break;
     case 18: read_out(a); break;
     case 19: carry(a, b); break;
+    case 20: case 21: build(a); break;
+    case 22: adopt(a); break;
+    case 23: gauge(a); break;
     default: join(a, b);
     }
     if (full > 300) begin();
@@ -418,6 +550,7 @@ int main(int count_of, char **told) {
   for (int i = 0; i < AGENTS; i++)
     if (agents[i].handle.live) CHECK(jsstr_free(&agents[i].handle) == JSSTR_DONE);
   CHECK(jsstr_free(&stranger.handle) == JSSTR_DONE);
+  jsstr_drop_builder(&built.handle);
   for (int i = 0; i < IDS; i++) free(texts[i].units);
   printf("%ld calls, %ld valid, none differs\n", calls, lawful);
   return 0;

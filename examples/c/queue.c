@@ -1,12 +1,11 @@
-/* A pool of workers that live on. They get lines from one queue, make keys of the names in them, and put the lines
-   with their keys into another queue, from which the host gets them.
+/* A pool of workers that live on. They get texts from one queue, make keys of the words in them, and put keys and an
+   answer into another queue, from which the host gets them.
 
-   A number alone means nothing to another running agent: a string goes there by its units, which are interned
-   there and get the same number. So a worker hands a key over with its units the first time, and as a number
-   alone from then on: the queue keeps the order, so the host has interned those units by then. */
+   A number alone means nothing to another running agent. A key goes there by its slot of the string table, which
+   is the same for all agents and for good: the host adopts what is in it. Any other string goes by its units. The
+   lock of a queue orders memory, so the slot is filled by the time that the host looks there. */
 #include "jsstr.h"
 #include <pthread.h>
-#include <stdbool.h>
 #include <stdio.h>
 #include <stdlib.h>
 #include <string.h>
@@ -15,16 +14,18 @@
 #define TEXTS 5000
 #define IN_FLIGHT 16
 #define ROOM (IN_FLIGHT + WORKERS) /* never needed in full, so who puts never waits */
-#define WORDS 8      /* of a line */
-#define UNITS 16     /* of a name */
-#define IDS 4000
+#define WORDS 8                    /* of a text */
+#define SLOTS 4099
 
 #define CHECK(c) do { if (!(c)) { printf("line %d: %s\n", __LINE__, #c); exit(1); } } while (0)
 
-typedef struct word { jsstr_id key; size_t length; uint16_t units[UNITS]; } word; /* no units: they went before */
-typedef struct job { char text[64]; size_t count; word words[WORDS]; } job;
+typedef struct job {
+  char text[64];
+  size_t count, length;
+  uint32_t slots[WORDS]; /* of the keys */
+  uint16_t answer[80];   /* "N words, backwards: .." */
+} job;
 
-/* What orders memory between the threads is the lock of a queue. */
 typedef struct queue {
   pthread_mutex_t lock;
   pthread_cond_t filled;
@@ -53,88 +54,109 @@ static job *take(queue *q) {
   return j;
 }
 
-static jsstr_id interned(jsstr_agent *agent, const uint16_t *units, size_t length) {
-  jsstr_answer key = jsstr_intern_units(agent, units, length);
-  CHECK(key.status == JSSTR_DONE);
-  return key.id;
+static jsstr_id string_of(jsstr_answer s) {
+  CHECK(s.status == JSSTR_DONE);
+  return s.id;
 }
 
-/* Each call writes the handle: what is between two of them keeps them in different cache lines. */
-typedef struct worker {
-  jsstr_agent agent;
-  bool told[IDS]; /* by number: whether the host got the units */
-} worker;
+/* Appends to a text what an answer has for these keys: how many there are, and the last one first. */
+static void build_answer(jsstr_builder *text, jsstr_agent *agent, const jsstr_id *keys, size_t count) {
+  CHECK(jsstr_build_number(text, (int32_t)count) == JSSTR_DONE);
+  CHECK(jsstr_build_latin1(text, (const uint8_t *)" words, backwards:", 18) == JSSTR_DONE);
+  while (count--) {
+    CHECK(jsstr_build_latin1(text, (const uint8_t *)" ", 1) == JSSTR_DONE);
+    CHECK(jsstr_build_string(text, agent, keys[count]) == JSSTR_DONE);
+  }
+}
 
-static void make_keys(worker *w, job *j) {
+/* Each call writes the handle, and a worker has a cache line of its own. */
+typedef struct worker { jsstr_agent agent; jsstr_builder text; char line[64]; } worker;
+
+static void answer(worker *w, job *j) {
+  jsstr_id keys[WORDS];
   j->count = 0;
   for (const char *at = j->text; *at; at += strspn(at, " ")) {
-    word *to = &j->words[j->count++];
     size_t length = strcspn(at, " ");
-    CHECK(j->count <= WORDS && length <= UNITS);
-    for (size_t i = 0; i < length; i++) to->units[i] = (unsigned char)at[i];
-    to->key = interned(&w->agent, to->units, length);
-    to->length = w->told[to->key] ? 0 : length;
-    w->told[to->key] = true;
+    CHECK(j->count < WORDS);
+    jsstr_id key = keys[j->count] = string_of(jsstr_intern_latin1(&w->agent, (const uint8_t *)at, length));
+    jsstr_number slot = jsstr_slot_of(&w->agent, key);
+    CHECK(slot.status == JSSTR_DONE);
+    j->slots[j->count++] = slot.value;
     at += length;
   }
+  build_answer(&w->text, &w->agent, keys, j->count);
+  jsstr_bytes units = jsstr_read_all(&w->agent, string_of(jsstr_built(&w->text, &w->agent)), j->answer, sizeof j->answer / 2);
+  CHECK(units.status == JSSTR_DONE);
+  j->length = units.size;
 }
 
 static void *work(void *at) {
-  for (job *j; (j = take(&todo)) != NULL; put(&done, j)) make_keys(at, j);
+  worker *w = at;
+  for (job *j; (j = take(&todo)) != NULL; put(&done, j)) answer(w, j);
+  jsstr_drop_builder(&w->text);
   return NULL;
 }
 
-/* The host: its agent knows a key from the first time on that it came with its units. */
+/* The host: it adopts the keys, and finds that the answer is made of just these. */
 static jsstr_agent host;
-static uint32_t counts[IDS];
+static jsstr_builder expected;
+static uint32_t counts[SLOTS];
 
-static void count_keys(const job *j) {
-  for (const word *it = j->words; it < j->words + j->count; it++) {
-    if (it->length) CHECK(interned(&host, it->units, it->length) == it->key);
-    CHECK(jsstr_length(&host, it->key).status == JSSTR_DONE);
-    counts[it->key]++;
+static void check_answer(const job *j) {
+  jsstr_id keys[WORDS];
+  for (size_t i = 0; i < j->count; i++) {
+    keys[i] = string_of(jsstr_adopt(&host, j->slots[i]));
+    counts[j->slots[i]]++;
   }
+  build_answer(&expected, &host, keys, j->count);
+  CHECK(jsstr_equals_units(&host, string_of(jsstr_built(&expected, &host)), j->answer, j->length).holds);
 }
 
 static void fill(job *j, unsigned number) {
   snprintf(j->text, sizeof j->text, "request %u of user%u asks for page%u", number % 10, number % 100, number % 1000);
 }
 
-static uint32_t count_of(const char *name) {
-  uint16_t units[UNITS];
-  size_t length = strlen(name);
-  for (size_t i = 0; i < length; i++) units[i] = (unsigned char)name[i];
-  return counts[interned(&host, units, length)];
-}
-
-int main(void) {
-  static worker workers[WORKERS];
-  static job jobs[IN_FLIGHT];
-  pthread_t threads[WORKERS];
-  CHECK(jsstr_make((jsstr_size){IDS, 2 * IDS, 4099}, WORKERS + 1, JSSTR_MAX_LENGTH, &host) == JSSTR_DONE);
-  for (int i = 0; i < WORKERS; i++) {
-    CHECK(jsstr_split(&host, 1, &workers[i].agent) == JSSTR_DONE);
-    CHECK(!pthread_create(&threads[i], NULL, work, &workers[i]));
-  }
+/* Puts all texts into the queue, some at a time, and checks each answer. */
+static void ask(job *jobs) {
   for (unsigned sent = 0; sent < IN_FLIGHT; sent++) {
     fill(&jobs[sent], sent);
     put(&todo, &jobs[sent]);
   }
   for (unsigned got = 0; got < TEXTS; got++) {
     job *j = take(&done);
-    count_keys(j);
+    check_answer(j);
     if (got + IN_FLIGHT >= TEXTS) continue;
     fill(j, got + IN_FLIGHT);
     put(&todo, j);
   }
+}
+
+static uint32_t count_of(const char *word) {
+  jsstr_number slot = jsstr_slot_of(&host, string_of(jsstr_find_latin1(&host, (const uint8_t *)word, strlen(word))));
+  CHECK(slot.status == JSSTR_DONE);
+  return counts[slot.value];
+}
+
+int main(void) {
+  static worker workers[WORKERS];
+  static job jobs[IN_FLIGHT];
+  pthread_t threads[WORKERS];
+  CHECK(jsstr_make((jsstr_size){20000, 100000, SLOTS}, WORKERS + 1, JSSTR_MAX_LENGTH, &host) == JSSTR_DONE);
+  for (int i = 0; i < WORKERS; i++) {
+    CHECK(jsstr_split(&host, 1, &workers[i].agent) == JSSTR_DONE);
+    CHECK(!pthread_create(&threads[i], NULL, work, &workers[i]));
+  }
+  ask(jobs);
   CHECK(count_of("request") == TEXTS && count_of("user7") == TEXTS / 100 && count_of("page77") == TEXTS / 1000);
+  jsstr_room room = jsstr_room_of(&host); /* the workers still run */
+  printf("%d texts by %d workers: %u ids of %u, %u words of %u\n", TEXTS, WORKERS, room.ids, room.all_ids, room.words, room.all_words);
   for (int i = 0; i < WORKERS; i++) put(&todo, NULL);
   for (int i = 0; i < WORKERS; i++) {
     CHECK(!pthread_join(threads[i], NULL));
     CHECK(jsstr_join(&host, &workers[i].agent) == JSSTR_DONE);
   }
-  jsstr_used used = jsstr_totals(&host);
-  printf("%d texts by %d workers: %u keys, %u ids, %u words\n", TEXTS, WORKERS, jsstr_count_interned(&host).value, used.ids, used.words);
+  printf("%u keys\n", jsstr_count_interned(&host).value);
+  jsstr_drop_builder(&expected);
   jsstr_free(&host);
   return 0;
 }

@@ -38,11 +38,12 @@ static jsstr_id done(jsstr_answer a) {
 
 static bool is_three_quarters(uint64_t used, uint32_t end) { return used * 4 >= (uint64_t)end * 3; }
 
+/* Other agents may run meanwhile. Slots are those that this agent knows to be used: here it interns all. */
 static bool is_nearly_full(jsstr_agent *agent) {
-  jsstr_used used = jsstr_totals(agent); /* this agent has the whole share */
-  CHECK(used.status == JSSTR_DONE);
-  return is_three_quarters(used.ids, size.ids) || is_three_quarters(used.words, size.words) ||
-         is_three_quarters(jsstr_count_interned(agent).value, size.slots);
+  jsstr_room room = jsstr_room_of(agent);
+  CHECK(room.status == JSSTR_DONE);
+  return is_three_quarters(room.ids, room.all_ids) || is_three_quarters(room.words, room.all_words) ||
+         is_three_quarters(room.seen_slots, room.slots);
 }
 
 /* A string on its way: `went` has for each number of the old heap its new one, so that what was one string
@@ -115,9 +116,9 @@ int main(void) {
   renew(&h);
   check(&h);
   CHECK(renewals > 5);
-  jsstr_used used = jsstr_totals(&h.agents[h.now]);
+  jsstr_room room = jsstr_room_of(&h.agents[h.now]);
   printf("%d updates, %d renewals, the longest pause %.1f ms, %u ids and %u words in the end\n", UPDATES, renewals, longest * 1e3,
-         used.ids, used.words);
+         room.ids, room.words);
   jsstr_free(&h.agents[h.now]);
   return 0;
 }

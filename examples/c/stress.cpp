@@ -1,5 +1,6 @@
 // Eight threads, each with an agent, make, join, cut, read and intern strings for some seconds, and compare
-// each answer with std::u16string. In the end all have the same number for the same key.
+// each answer with std::u16string. They put the slots of keys on a board, from which the others adopt them, and
+// look how full the heap is. In the end all have the same number for the same key.
 //
 //     stress [SECONDS [THREADS]]
 #include "jsstr.h"
@@ -14,16 +15,23 @@
 
 #define CHECK(c) do { if (!(c)) { std::printf("line %d: %s\n", __LINE__, #c); std::exit(1); } } while (0)
 
-constexpr uint32_t KEYS = 512;
+constexpr uint32_t KEYS = 512, SLOTS = 4096;
 using Text = std::u16string;
+
+// For each key its slot plus one, once somebody has put it there. What hands it over is a release and an acquire.
+using Board = std::vector<std::atomic<uint32_t>>;
 
 struct Worker {
   jsstr_agent agent{};
+  jsstr_builder built{};
+  Board *board = nullptr;
+  jsstr_room seen{};
   uint64_t state = 1;
   uint64_t calls = 0;
   std::unordered_map<jsstr_id, Text> texts;
   std::vector<jsstr_id> ids;
   std::vector<jsstr_id> keys = std::vector<jsstr_id>(KEYS, UINT32_MAX);
+  std::vector<uint32_t> slots = std::vector<uint32_t>(KEYS, UINT32_MAX);
   bool full = false;
 
   uint32_t chance(uint32_t below) {
@@ -53,10 +61,63 @@ struct Worker {
     return text.append(digits.begin(), digits.end());
   }
 
+  // The string of a key has one number, and one slot, whoever made it.
+  bool is_key(uint32_t number, jsstr_answer one) {
+    if (!answered(one, key(number))) return false;
+    CHECK(keys[number] == UINT32_MAX || keys[number] == one.id);
+    keys[number] = one.id;
+    jsstr_number slot = jsstr_slot_of(&agent, one.id);
+    CHECK(slot.status == JSSTR_DONE && slot.value < SLOTS && (slots[number] == UINT32_MAX || slots[number] == slot.value));
+    slots[number] = slot.value;
+    return true;
+  }
+
+  void adopt() {
+    uint32_t number = chance(KEYS), slot = (*board)[number].load(std::memory_order_acquire);
+    if (slot) {
+      jsstr_answer one = jsstr_adopt(&agent, slot - 1);
+      CHECK(one.status == JSSTR_DONE && is_key(number, one) && slots[number] == slot - 1);
+      Text got(key(number).size(), u'?');
+      CHECK(jsstr_read(&agent, one.id, 0, reinterpret_cast<uint16_t *>(&got[0]), got.size()) == JSSTR_DONE && got == key(number));
+      CHECK(jsstr_find_units(&agent, reinterpret_cast<const uint16_t *>(got.data()), got.size()).id == one.id);
+      return;
+    }
+    if (slots[number] != UINT32_MAX) (*board)[number].store(slots[number] + 1, std::memory_order_release);
+    // Any slot: it is free, or has a key, which some thread may be putting there just now.
+    jsstr_answer any = jsstr_adopt(&agent, chance(SLOTS + 2));
+    if (any.status == JSSTR_BAD_ARGUMENT || any.status == JSSTR_NONE) { CHECK(!any.id); return; }
+    CHECK(any.status == JSSTR_DONE && jsstr_is_interned(&agent, any.id).holds);
+    Text got(jsstr_length(&agent, any.id).value, u'?');
+    CHECK(jsstr_read(&agent, any.id, 0, reinterpret_cast<uint16_t *>(&got[0]), got.size()) == JSSTR_DONE);
+    uint32_t which = 0;
+    for (char16_t c : got) which = c < u'0' || c > u'9' ? which : which * 10 + (c - u'0');
+    CHECK(which < KEYS && got == key(which) && is_key(which, any));
+  }
+
+  // Both counters never fall, and count at least what this agent knows.
+  void look() {
+    jsstr_room room = jsstr_room_of(&agent);
+    CHECK(room.status == JSSTR_DONE && room.ids >= seen.ids && room.words >= seen.words && room.seen_slots >= seen.seen_slots);
+    CHECK(room.ids >= ids.size() && room.ids <= room.all_ids && room.words <= room.all_words && room.seen_slots <= KEYS);
+    CHECK(room.all_ids == 400000 && room.all_words == 3000000 && room.slots == SLOTS);
+    seen = room;
+  }
+
+  // A key by a text of its own: a part, a number and bytes.
+  void build(uint32_t number) {
+    const Text text = key(number);
+    std::string digits = std::to_string(number);
+    CHECK(jsstr_build_units(&built, reinterpret_cast<const uint16_t *>(text.data()), text.size() - digits.size()) == JSSTR_DONE);
+    CHECK(jsstr_build_number(&built, int32_t(number)) == JSSTR_DONE && jsstr_built_length(&built) == text.size());
+    jsstr_answer one = jsstr_built_interned(&built, &agent);
+    if (!is_key(number, one)) jsstr_drop_builder(&built);
+    CHECK(jsstr_built_length(&built) == 0);
+  }
+
   void step() {
     jsstr_id a = ids[chance(uint32_t(ids.size()))], b = ids[chance(uint32_t(ids.size()))];
     const Text left = texts[a], right = texts[b];
-    switch (chance(6)) {
+    switch (chance(9)) {
     case 0: {
       jsstr_answer s = jsstr_concat(&agent, a, b);
       if (left.size() + right.size() > 2000) { CHECK(s.status == JSSTR_TOO_LONG); break; }
@@ -94,11 +155,18 @@ struct Worker {
         one = jsstr_intern(&agent, s);
       }
       CHECK(there.status == JSSTR_DONE ? one.status == JSSTR_DONE && there.id == one.id : there.status == JSSTR_NONE && keys[number] == UINT32_MAX);
-      if (!answered(one, text)) break;
-      CHECK(keys[number] == UINT32_MAX || keys[number] == one.id);
-      keys[number] = one.id;
+      is_key(number, one);
       break;
     }
+    case 5:
+      adopt();
+      break;
+    case 6:
+      look();
+      break;
+    case 7:
+      build(chance(KEYS));
+      break;
     default:
       CHECK(jsstr_length(&agent, UINT32_MAX - chance(9)).status == JSSTR_BAD_ARGUMENT);
     }
@@ -113,23 +181,27 @@ int main(int count, char **told) {
   uint64_t calls = 0, rounds = 0;
   do {
     std::vector<Worker> workers(threads);
-    CHECK(jsstr_make({400000, 3000000, 4096}, threads, 2000, &workers[0].agent) == JSSTR_DONE);
+    Board board(KEYS);
+    CHECK(jsstr_make({400000, 3000000, SLOTS}, threads, 2000, &workers[0].agent) == JSSTR_DONE);
     for (uint32_t i = 1; i < threads; i++) CHECK(jsstr_split(&workers[0].agent, 1, &workers[i].agent) == JSSTR_DONE);
     std::vector<std::thread> running;
     for (uint32_t i = 0; i < threads; i++)
       running.emplace_back([&, i] {
         Worker &w = workers[i];
         w.state = rounds * 1000 + i;
+        w.board = &board;
         w.made(u"a string to begin with, not a short one");
         w.made(u"\u4E16\u754C");
         while (!w.full && w.calls < 100000 && std::chrono::steady_clock::now() < end) w.step();
+        jsstr_drop_builder(&w.built);
       });
     for (auto &thread : running) thread.join();
     for (uint32_t i = 0; i < threads; i++) {
       calls += workers[i].calls;
       for (uint32_t key = 0; key < KEYS; key++)
         for (uint32_t j = 0; j < i; j++)
-          CHECK(workers[i].keys[key] == UINT32_MAX || workers[j].keys[key] == UINT32_MAX || workers[i].keys[key] == workers[j].keys[key]);
+          CHECK(workers[i].keys[key] == UINT32_MAX || workers[j].keys[key] == UINT32_MAX
+                || (workers[i].keys[key] == workers[j].keys[key] && workers[i].slots[key] == workers[j].slots[key]));
       if (!i) continue;
       CHECK(jsstr_join(&workers[0].agent, &workers[i].agent) == JSSTR_DONE);
       for (auto &it : workers[i].texts) {
