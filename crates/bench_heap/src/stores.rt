@@ -1,8 +1,8 @@
 // The two stores, with room for what a measure makes.
 use crate::measures::NoRoom;
 use crate::over_stores::{StoreMeasure, run_on};
-use heap_session::Session;
 use heap_rule::HeapSize;
+use heap_session::Session;
 use heap_table::Heap;
 use js_store::Limit;
 use plain_store::PlainStore;

@@ -7,8 +7,8 @@ ghost use Rattle.heap_agents.specs.Held.{IsHeld, Searched, view_by, without_text
 ghost use Rattle.heap_agents.specs.Searched.{IsOrder, IsReadable};
 
 use crate::held::Held;
-use heap_session::Session;
 use heap_read::Reader;
+use heap_session::Session;
 use heap_table::Heap;
 use heap_text::{JsStr, Text};
 use js_store::Limit;

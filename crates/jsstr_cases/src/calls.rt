@@ -3,8 +3,8 @@
 
 use crate::case::Fault;
 use eval_tree::{Names, Script};
-use heap_session::Session;
 use heap_rule::HeapSize;
+use heap_session::Session;
 use heap_table::Heap;
 use js_eval::{End, Env, Lines, eval};
 use js_parse::{Role, parse};

@@ -14,8 +14,8 @@ ghost use Rattle.run_program.specs.Stages.{HaveRunFrom, IsUnused};
 ghost use Rattle.run_here.specs.Left.{HasLeftFrom};
 
 use eval_tree::Script;
-use heap_session::Session;
 use heap_read::JsStr;
+use heap_session::Session;
 use heap_table::Heap;
 use js_eval::{End, Env, Lines, eval};
 use run_program::Outcome;

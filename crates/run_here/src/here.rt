@@ -14,9 +14,9 @@ ghost use Rattle.run_here.specs.Left.{HasLeft, script_by};
 
 use crate::files::run_files;
 use eval_tree::Script;
-use heap_session::{Session, whole_has_all};
 use heap_read::JsStr;
 use heap_rule::HeapSize;
+use heap_session::{Session, whole_has_all};
 use heap_table::{Agent, Heap};
 use js_eval::{End, Env, Lines};
 use js_store::Limit;

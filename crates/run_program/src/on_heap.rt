@@ -8,8 +8,8 @@ ghost use Rattle.run_program.specs.Jobs.{number, HasNoLines, Runs, means, job_id
 use crate::group::run_in_order;
 use crate::halves::run_groups;
 use crate::job::{Job, Outcome};
-use heap_session::Session;
 use heap_read::JsStr;
+use heap_session::Session;
 use heap_table::Heap;
 use js_eval::Env;
 use js_io::Gate;

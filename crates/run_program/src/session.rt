@@ -1,8 +1,8 @@
 // A session on the heap is split among threads, and joined again.
 use crate::shared::Shared;
 use eval_tree::Script;
-use heap_session::Session;
 use heap_read::JsStr;
+use heap_session::Session;
 use heap_table::Heap;
 use js_eval::{End, Env, Lines, eval};
 use std::alloc::Global;

@@ -2,8 +2,8 @@
 ghost use Rattle.std.specs.Prelude.{◌≡◌, ◌<◌, length};
 ghost use Rattle.js_store.specs.State.{IsKnown, IsSettled, text};
 
-use heap_session::Session;
 use heap_rule::HeapSize;
+use heap_session::Session;
 use heap_table::Heap;
 use js_store::{Limit, StoreFault, Strings};
 use plain_store::PlainStore;

@@ -1,6 +1,6 @@
 // Strings of one unit, of which a session makes that of each unit below 256 once.
-use heap_session::Session;
 use heap_rule::HeapSize;
+use heap_session::Session;
 use heap_table::Heap;
 use heap_text::JsStr;
 use js_store::{Limit, Strings};

@@ -1,3 +1,4 @@
+pub mod Entered
 pub mod First
 pub mod Making
 pub mod Sessions

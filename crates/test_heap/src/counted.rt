@@ -2,9 +2,9 @@
 ghost use Rattle.std.specs.Prelude.{◌≡◌, ℕ, ◌+◌, ◌*◌, ◌≤◌, ◌<◌, length};
 ghost use Rattle.heap_session.specs.Sessions.{state_in};
 
-use heap_session::Session;
 use heap_read::Steps;
 use heap_rule::HeapSize;
+use heap_session::Session;
 use heap_table::Heap;
 use js_store::{FullReport, Limit, StoreFault, Strings};
 use std::alloc::Global;

@@ -7,6 +7,8 @@
 #[cfg(test)]
 mod counted;
 #[cfg(test)]
+mod handed_over;
+#[cfg(test)]
 mod machine;
 #[cfg(test)]
 mod plays;

@@ -1,8 +1,8 @@
 // A session by the calls of a store, through the bound, and the limits of length that it is given.
 ghost use Rattle.std.specs.Prelude.{◌≤◌, length};
 
-use heap_session::Session;
 use heap_rule::HeapSize;
+use heap_session::Session;
 use heap_table::Heap;
 use js_store::{Limit, StoreFault, Strings};
 use plain_store::PlainStore;

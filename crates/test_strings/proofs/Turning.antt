@@ -1,7 +1,6 @@
 -- What calls leave of an agent, one after another, and of the strings that a play made.
 use Rattle.std.proofs.Common.{◌≡◌, ℕ, ◌⊎◌, ⊎_elim, true, List, [], ◌∷◌, ◌++◌, refl, sym, ap, ◌∙◌, subst, append_assoc, arith, Option, Some, None, Result, Ok, Err, IfOk}
 use Rattle.std.proofs.lemmas.List.{append-nil}
-use Rattle.std.proofs.lemmas.List.Elements.{Contains-append_right, Contains-push}
 use Rattle.std.specs.Prelude.{Contains, IfSome}
 use Rattle.heap_rule.specs.declared.view.View.{View}
 use Rattle.heap_rule.specs.Maps.{Has, HasKey}
@@ -62,10 +61,6 @@ turns_finds v w us None h = turns_goes v w [] h.0.goes
 pub found_key : (v w : View) (us : List ℕ) (r : Option ℕ) → Finds v w us r → IfSome r (λ i. HasKey w.units i)
 found_key v w us (Some i) h = key_of w.units i us h.2.1
 found_key v w us None h = tt
-
--- a call that was added is known
-pub added_call : (v w : View) (us : List ℕ) (i : ℕ) → AddsCalls v w ((us, i) ∷ []) → Contains (history w) (us, i)
-added_call v w us i g = Contains-append_right w.seen w.mine (us, i) (subst (λ (m : Calls). Contains m (us, i)) (sym g.mine) (Contains-push v.mine (us, i)))
 
 pub turns_adopts : (v w : View) (k : ℕ) (r : Option ℕ) → Adopts v w k r → Turns v w
 turns_adopts v w k (Some i) h = turns_goes v w ((h.units, i) ∷ []) h.goes

@@ -8,8 +8,8 @@ ghost use Rattle.test_strings.specs.Sessions.{GoesOn, HasGoneOn, IsPlayed, IsSpl
 
 use crate::lines::{Told, Words, behind, fault, step_of, units_of, wrong, yes_if};
 use crate::on_text::{OnText, put, take_over};
-use heap_session::Session;
 use heap_rule::MAX;
+use heap_session::Session;
 use heap_table::Heap;
 use heap_text::{JsStr, Text};
 use js_store::{ConcatFault, StoreFault, Strings};

@@ -83,11 +83,6 @@ impl<'h> OnText<'h> {
         Some(JsStr { id: self.made[k] })
     }
 
-    // The place of the last string.
-    fn last(&self) -> usize {
-        self.made.len().wrapping_sub(1)
-    }
-
     fn units(&mut self, text: &str) -> Option<Told>
         ensures goes { Moves Turns self.old.text.reader self.new.text.reader }
     {
@@ -313,7 +308,7 @@ impl<'h> OnText<'h> {
         ensures goes { Moves Turns self.old.text.reader self.new.text.reader }
     {
         for _turn in 0..times {
-            let last = self.last();
+            let last = self.made.len().wrapping_sub(1);
             self.concat(last, last)?;
         }
         Some(Told::Done)
@@ -324,7 +319,7 @@ impl<'h> OnText<'h> {
         ensures goes { Moves Turns self.old.text.reader self.new.text.reader }
     {
         for _turn in 0..times {
-            let last = self.last();
+            let last = self.made.len().wrapping_sub(1);
             let (left, right) = if front { (unit, last) } else { (last, unit) };
             self.concat(left, right)?;
         }
@@ -339,7 +334,7 @@ impl<'h> OnText<'h> {
             return Some(all);
         }
         self.concat(all, twice)?;
-        Some(self.last())
+        Some(self.made.len().wrapping_sub(1))
     }
 
     // A rope of so many units, at most 2^28 - 1, of a string of one unit and the empty one: for each bit
@@ -355,7 +350,7 @@ impl<'h> OnText<'h> {
             }
             all = self.with_bit(all, twice, (n >> k) % 2 == 1)?;
             self.concat(twice, twice)?;
-            twice = self.last();
+            twice = self.made.len().wrapping_sub(1);
         }
         Some(Told::Done)
     }

@@ -17,8 +17,8 @@
 use crate::lines::fault;
 use crate::on_session::OnSession;
 use crate::on_text::OnText;
-use heap_session::Session;
 use heap_rule::{HeapSize, MAX};
+use heap_session::Session;
 use heap_table::Heap;
 use heap_text::Text;
 use js_store::Limit;

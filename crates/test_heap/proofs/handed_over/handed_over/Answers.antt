@@ -1,5 +1,5 @@
-use Rattle.test_strings.proofs.Turning.{added_call}
-use Rattle.test_strings.proofs.board.handed_over.Goals as goal
+use Rattle.test_heap.proofs.Entered.{added_call}
+use Rattle.test_heap.proofs.handed_over.handed_over.Goals as goal
 
 pub slot_of-slot-requires-clause-call : goal.slot_of-slot-requires-clause-call
 slot_of-slot-requires-clause-call c =
