@@ -3,6 +3,5 @@ pub mod Interned
 pub mod Settled
 pub mod Searched
 pub mod Marks
-pub mod Sizes
 pub mod Answered
 pub mod Boarded

@@ -23,7 +23,7 @@ pub record HasRoom (x y : Held) (r : Room) : Type 0 where
   pub ids : IsCounterAt (view_by x).low.ids (view_by x).used.ids (held_size x).ids r.ids
   pub words : IsCounterAt (view_by x).low.words (view_by x).used.words (held_size x).words r.words
   pub size : r.size ≡ held_size x
-  pub seen : r.seen_slots ≡ set_size x.interned
+  pub seen : r.seen_slots ≡ set_size x.interned (held_size x).ids
 
 -- the same of what lies behind a handle, where something does
 abbrev pub RoomOf : Option Held → Option Held → Room → Type 0

@@ -1,6 +1,6 @@
 // A set of numbers below a bound that is given when it is made, a bit for each: what an agent of the heap
 // keeps of the ids that it may use.
-ghost use Rattle.std.specs.Prelude.{◌≡◌, ◌↔◌, ◌⊎◌, ℕ, ◌<◌, IfOk, IsTrue};
+ghost use Rattle.std.specs.Prelude.{◌≡◌, ◌↔◌, ◌⊎◌, ℕ, ◌<◌, ◌^◌, IfOk, IsTrue};
 ghost use Rattle.heap_agents.specs.Sets.{Covers, IsIn, set_size};
 
 use std::alloc::{AllocError, Global};
@@ -29,13 +29,16 @@ impl IdSet {
         place < self.words.len() && (self.words[place] >> (id % 64)) & 1 == 1
     }
 
-    /// How many numbers are in the set, by one look at each of its words.
-    pub fn len(&self) -> u64
-        ensures { result ≡ set_size self.now }
+    /// How many numbers are in the set, of which none is above `bound`, by one look at a word for 64.
+    pub fn count(&self, bound: u32) -> u32
+        requires { bound < 2 ^ 30 }
+        ensures { result ≡ set_size self.now bound }
     {
+        let words = self.words.as_slice();
+        let most = (bound as usize / 64 + 1).min(words.len());
         let mut count = 0;
-        for word in &self.words {
-            count += u64::from(word.count_ones());
+        for i in 0..most {
+            count += words[i].count_ones();
         }
         count
     }

@@ -2,11 +2,13 @@
 ghost use Rattle.std.specs.Prelude.{◌≡◌};
 ghost use Rattle.heap_rule.specs.Claims.{loaded_counter};
 ghost use Rattle.heap_rule.specs.declared.size.Counter.TheVariants as counter;
-ghost use Rattle.heap_table.specs.Agents.{view_of};
+ghost use Rattle.heap_rule.specs.Layout.{IsLawfulSize};
+ghost use Rattle.heap_table.specs.Agents.{size_of, view_of};
 ghost use Rattle.heap_table.specs.Plays.{FoundCounter};
 ghost use Rattle.heap_text.specs.Keeping.{KeepsText};
 ghost use Rattle.heap_agents.specs.Held.{IsHeld};
 ghost use Rattle.heap_agents.specs.Room.{HasRoom};
+ghost use Rattle.heap_agents.specs.Shared.{heap_of};
 
 use crate::held::Held;
 use heap_read::HeapRef;
@@ -27,17 +29,21 @@ pub struct Room {
     pub seen_slots: u32,
 }
 
-// Both counters of a text's heap, by a load of each.
-fn load_counters(text: &mut Text<Arc<Heap, Global>>) -> (u32, u32)
+// Both counters of a text's heap, by a load of each, and its sizes.
+fn look(text: &mut Text<Arc<Heap, Global>>) -> (u32, u32, HeapSize)
     ensures kept { KeepsText text.old text.new }
     ensures view { view_of text.new.reader.agent ≡ loaded_counter
         (loaded_counter (view_of text.old.reader.agent) counter.Ids result.0) counter.Words result.1 }
     ensures ids { FoundCounter (view_of text.old.reader.agent) counter.Ids result.0 }
     ensures words { FoundCounter (loaded_counter (view_of text.old.reader.agent) counter.Ids result.0)
         counter.Words result.1 }
+    ensures size { result.2 ≡ size_of (heap_of text.old) }
+    ensures lawful { IsLawfulSize result.2 }
 {
+    let size = text.reader.heap().size();
     let reader = &mut text.reader;
-    reader.agent.counters(reader.heap.heap())
+    let (ids, words) = reader.agent.counters(reader.heap.heap());
+    (ids, words, size)
 }
 
 impl Held {
@@ -47,18 +53,15 @@ impl Held {
         requires { IsHeld self.old }
         ensures { HasRoom self.old self.new result }
     {
-        let seen_slots = self.interned.len() as u32;
-        match &mut self.text {
-            Some(text) => {
-                let (ids, words) = load_counters(text);
-                Room {
-                    ids,
-                    words,
-                    size: text.reader.heap().size(),
-                    seen_slots,
-                }
-            }
+        let (ids, words, size) = match &mut self.text {
+            Some(text) => look(text),
             None => unreachable!(),
+        };
+        Room {
+            ids,
+            words,
+            size,
+            seen_slots: self.interned.count(size.ids),
         }
     }
 }
