@@ -1,9 +1,8 @@
 -- What adding to a text answers.
-use Rattle.std.proofs.Common.{◌≡◌, ℕ, ◌<◌, ◌∙◌, List, take, Result, Ok, Err}
+use Rattle.std.proofs.Common.{ℕ, List, take}
 use Rattle.heap_build.specs.declared.encoding.Encoding.{Encoding}
-use Rattle.heap_build.specs.declared.builder.Builder.{Builder}
-use Rattle.heap_build.specs.Points.{IsSpelled, IsSpelledUpTo, spells}
-use Rattle.heap_build.specs.Spelled.{IsSpellingUpTo, utf16}
+use Rattle.heap_build.specs.Points.{IsSpelledUpTo, spells}
+use Rattle.heap_build.specs.Spelled.{IsSpellingUpTo}
 use Rattle.heap_build.proofs.Surrogates.{spelled_units, units_spelled}
 
 pub spelling_up_to : (e : Encoding) (bytes : List ℕ) (n : ℕ) → IsSpelledUpTo e bytes n → IsSpellingUpTo (spells e) bytes n

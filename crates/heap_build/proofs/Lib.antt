@@ -3,3 +3,4 @@ pub mod Rows
 pub mod Reading
 pub mod Surrogates
 pub mod Given
+pub mod Behind

@@ -42,18 +42,30 @@ module _ (e : Encoding) (bytes rest : List ℕ) (lead : Bool) (count : ℕ) (r :
     split = r.split ∙ (ap (λ (ys : List ℕ). r.front ++ ys) is ∙ sym (append_assoc r.front (encode_utf8 c) after));
     longer = λ xs s. subst (IsSpelled e false) (sym (append_assoc r.front (encode_utf8 c) xs)) (r.longer (encode_utf8 c ++ xs) (spelled_more e lead c xs may s));
     shorter = λ xs s. (spelled_less e lead c xs small (r.shorter (encode_utf8 c ++ xs) (subst (IsSpelled e false) (append_assoc r.front (encode_utf8 c) xs) s))).1;
-    units = λ xs. omega (arith, long, r.units (encode_utf8 c ++ xs), ap (λ (ys : List ℕ). length (utf16 ys)) (chars_point c xs small), length-append (utf16_of c) (utf16 (chars xs)),
-        ap (λ (ys : List ℕ). length (utf16 (chars ys))) (append_assoc r.front (encode_utf8 c) xs));
+    units = λ xs. omega (
+      arith,
+      long,
+      r.units (encode_utf8 c ++ xs),
+      ap (λ (ys : List ℕ). length (utf16 ys)) (chars_point c xs small),
+      length-append (utf16_of c) (utf16 (chars xs)),
+      ap (λ (ys : List ℕ). length (utf16 (chars ys))) (append_assoc r.front (encode_utf8 c) xs),
+    );
   }
 
   pub read_most : count ≤ length bytes
   read_most = omega (arith, r.units [], ap (λ (ys : List ℕ). length (utf16 (chars ys))) (append-nil r.front), most_units e false r.front front_spelled, ap length r.split, length-append r.front rest)
 
   pub read_all : length rest ≡ 0 → IsSpelled e false bytes × (count ≡ length (utf16 (chars bytes)))
-  read_all none = let is : bytes ≡ r.front = r.split ∙ (ap (λ (ys : List ℕ). r.front ++ ys) (nil_of rest none) ∙ append-nil r.front) in
-      (subst (IsSpelled e false) (sym is) front_spelled,
-      omega (arith, r.units [], ap (λ (ys : List ℕ). length (utf16 (chars ys))) (append-nil r.front), ap (λ (ys : List ℕ). length (utf16 (chars ys))) is,
-      ap (λ (ys : List ℕ). length (utf16 ys)) chars-nil))
+  read_all none = let is : bytes ≡ r.front = r.split ∙ (ap (λ (ys : List ℕ). r.front ++ ys) (nil_of rest none) ∙ append-nil r.front) in (
+    subst (IsSpelled e false) (sym is) front_spelled,
+    omega (
+      arith,
+      r.units [],
+      ap (λ (ys : List ℕ). length (utf16 (chars ys))) (append-nil r.front),
+      ap (λ (ys : List ℕ). length (utf16 (chars ys))) is,
+      ap (λ (ys : List ℕ). length (utf16 ys)) chars-nil,
+    ),
+  )
 
   module _ (none : FollowsNone e lead rest) (some : 0 < length rest) where
     no_longer : (k : ℕ) → 0 < k → ¬ (IsSpelled e false (r.front ++ take k rest))

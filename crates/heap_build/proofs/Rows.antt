@@ -1,5 +1,5 @@
 -- Code points in a row: the bytes that spell them, and the units that they have.
-use Rattle.std.proofs.Common.{◌≡◌, ℕ, zero, suc, ◌+◌, ◌-◌, ◌*◌, ◌/◌, ◌%◌, ◌<◌, ◌≤◌, ◌⊎◌, ⊎_elim, Bool, true, false, List, [], ◌∷◌, ◌++◌, length, refl, sym, ap, ap₂, ◌∙◌, arith, subst, ltb-true}
+use Rattle.std.proofs.Common.{◌≡◌, ℕ, ◌+◌, ◌-◌, ◌*◌, ◌/◌, ◌%◌, ◌<◌, ◌≤◌, ⊎_elim, Bool, true, List, [], ◌∷◌, ◌++◌, length, refl, sym, ap, ap₂, ◌∙◌, arith, ltb-true}
 use Rattle.std.specs.Prelude.{encode_utf8, encode_utf8_all, nat_lt, not, ◌&&◌}
 use Rattle.std.specs.Str.{chars, chars_after, continuation_len, lead_bits}
 use Rattle.std.proofs.lemmas.Bool.{and_parts, cases_lt, cond-true, cond-false, lt-ltb, le-ltb}
@@ -28,14 +28,16 @@ lead_two b l h = let f = le-ltb b 128 l in let t = lt-ltb b 224 h in
     (cond-false (nat_lt b 128) _ _ f ∙ cond-true (nat_lt b 224) _ _ t, cond-false (nat_lt b 128) _ _ f ∙ cond-true (nat_lt b 224) _ _ t)
 
 lead_three : (b : ℕ) → 224 ≤ b → b < 240 → (continuation_len b ≡ 2) × (lead_bits b ≡ b - 224)
-lead_three b l h = let f = le-ltb b 128 (omega arith) in let g = le-ltb b 224 l in let t = lt-ltb b 240 h in
-    (cond-false (nat_lt b 128) _ _ f ∙ (cond-false (nat_lt b 224) _ _ g ∙ cond-true (nat_lt b 240) _ _ t),
-    cond-false (nat_lt b 128) _ _ f ∙ (cond-false (nat_lt b 224) _ _ g ∙ cond-true (nat_lt b 240) _ _ t))
+lead_three b l h = let f = le-ltb b 128 (omega arith) in let g = le-ltb b 224 l in let t = lt-ltb b 240 h in (
+  cond-false (nat_lt b 128) _ _ f ∙ (cond-false (nat_lt b 224) _ _ g ∙ cond-true (nat_lt b 240) _ _ t),
+  cond-false (nat_lt b 128) _ _ f ∙ (cond-false (nat_lt b 224) _ _ g ∙ cond-true (nat_lt b 240) _ _ t),
+)
 
 lead_four : (b : ℕ) → 240 ≤ b → (continuation_len b ≡ 3) × (lead_bits b ≡ b - 240)
-lead_four b l = let f = le-ltb b 128 (omega arith) in let g = le-ltb b 224 (omega arith) in let k = le-ltb b 240 l in
-    (cond-false (nat_lt b 128) _ _ f ∙ (cond-false (nat_lt b 224) _ _ g ∙ cond-false (nat_lt b 240) _ _ k),
-    cond-false (nat_lt b 128) _ _ f ∙ (cond-false (nat_lt b 224) _ _ g ∙ cond-false (nat_lt b 240) _ _ k))
+lead_four b l = let f = le-ltb b 128 (omega arith) in let g = le-ltb b 224 (omega arith) in let k = le-ltb b 240 l in (
+  cond-false (nat_lt b 128) _ _ f ∙ (cond-false (nat_lt b 224) _ _ g ∙ cond-false (nat_lt b 240) _ _ k),
+  cond-false (nat_lt b 128) _ _ f ∙ (cond-false (nat_lt b 224) _ _ g ∙ cond-false (nat_lt b 240) _ _ k),
+)
 
 module _ (c : ℕ) (rest : List ℕ) where
   ends : (v : ℕ) → v ≡ c → chars_after 0 v rest ≡ c ∷ chars rest

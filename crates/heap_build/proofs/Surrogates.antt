@@ -1,7 +1,7 @@
 -- Units and the code points that they encode, surrogates among them.
-use Rattle.std.proofs.Common.{◌≡◌, ℕ, suc, ◌+◌, ◌-◌, ◌*◌, ◌/◌, ◌%◌, ◌^◌, ◌<◌, ◌≤◌, ◌⊎◌, ⊎_elim, Bool, true, false, List, [], ◌∷◌, ◌++◌, length, refl, sym, ap, ap₂, ◌∙◌, arith, subst, lit<}
-use Rattle.std.specs.Prelude.{encode_utf8, encode_utf8_all, nat_lt, not, ◌&&◌, All}
-use Rattle.std.specs.Str.{IsUtf8, chars}
+use Rattle.std.proofs.Common.{◌≡◌, ℕ, suc, ◌+◌, ◌-◌, ◌/◌, ◌%◌, ◌^◌, ◌<◌, ◌≤◌, ⊎_elim, Bool, true, false, List, [], ◌∷◌, ◌++◌, length, refl, sym, ap, ap₂, ◌∙◌, arith, subst}
+use Rattle.std.specs.Prelude.{encode_utf8_all, nat_lt, not, ◌&&◌, All}
+use Rattle.std.specs.Str.{chars}
 use Rattle.std.proofs.lemmas.Bool.{and_parts, cases_lt, cond-true, cond-false, lt-ltb, le-ltb}
 use Rattle.std.proofs.lemmas.Bool.Decides.{nat_tests}
 use Rattle.std.proofs.lemmas.List.Elements.{All-append, All-cons, All-head, All-nil}
@@ -11,7 +11,7 @@ use Rattle.js_units.specs.Text.{is_lead, is_trail, pair_value, points, utf16_of}
 use Rattle.heap_build.specs.declared.encoding.Encoding.{Encoding}
 use Rattle.heap_build.specs.declared.encoding.Encoding.TheVariants.{Utf8, Wtf8}
 use Rattle.heap_build.specs.Points.{IsSpelled, allowed, may_follow, spells}
-use Rattle.heap_build.specs.Spelled.{SpellsWtf8, utf16}
+use Rattle.heap_build.specs.Spelled.{utf16}
 use Rattle.heap_build.proofs.Rows.{chars_point, may_small}
 
 abbrev IsUnit : ℕ → Type 0

@@ -1,6 +1,6 @@
 -- Helpers: no public contract reaches these definitions.
 -- The code points that bytes spell, and which of them may stand in a row.
-use Rattle.std.specs.Prelude.{◌≡◌, ℕ, ◌+◌, ◌<◌, ◌≤◌, Bool, true, false, not, ◌&&◌, nat_lt, List, [], ◌∷◌, ◌++◌, length, take, encode_utf8, encode_utf8_all, Result, Ok, Err}
+use Rattle.std.specs.Prelude.{◌≡◌, ℕ, ◌+◌, ◌<◌, Bool, true, false, not, ◌&&◌, nat_lt, List, [], ◌∷◌, ◌++◌, length, take, encode_utf8, encode_utf8_all, Result, Ok, Err}
 use lib.Utf8.{scalar}
 use Rattle.std.specs.Str.{chars}
 use Rattle.js_units.specs.Text.{is_lead, is_trail}

@@ -1,10 +1,8 @@
 -- The units that bytes spell, in UTF-8 and in WTF-8.
-use Rattle.std.specs.Prelude.{◌≡◌, ℕ, ◌<◌, ◌^◌, List, [], ◌∷◌, ◌++◌, length, take, All, encode_utf8_all}
+use Rattle.std.specs.Prelude.{◌≡◌, ℕ, ◌<◌, ◌^◌, List, [], ◌∷◌, ◌++◌, length, take, All}
 use Rattle.std.specs.Str.{IsUtf8, chars}
-use Rattle.js_units.specs.Text.{points, utf16_of}
-
-abbrev pub wtf8 : List ℕ → List ℕ
-wtf8 us = encode_utf8_all (points us)
+use Rattle.js_units.specs.Text.{utf16_of}
+use Rattle.heap_export.specs.Encoded.{wtf8}
 
 -- the units of these code points (ECMA-262, "CodePointsToString")
 abbrev pub utf16 : List ℕ → List ℕ

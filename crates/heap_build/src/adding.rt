@@ -47,7 +47,7 @@ impl Builder {
     }
 
     // Sees to it that there is room for so many units more.
-    fn make_room(&mut self, count: usize) -> Result<(), BuildFault>
+    pub(crate) fn make_room(&mut self, count: usize) -> Result<(), BuildFault>
         ensures units { units_in self.new ≡ units_in self.old }
         ensures room { room_in self.old ≤ room_in self.new }
         ensures answer { HasRoom self.old self.new count result }

@@ -10,6 +10,7 @@ mod builder;
 mod decoding;
 mod encoding;
 mod faults;
+mod text;
 
 pub use builder::Builder;
 pub use faults::{BuildFault, DecodeFault};

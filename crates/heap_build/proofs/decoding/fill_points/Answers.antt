@@ -1,4 +1,4 @@
-use Rattle.std.proofs.Common.{◌≡◌, ◌++◌, ◌<◌, ◌∙◌, ℕ, List, length, ap, sym, arith, append_assoc, append-nil, length-append}
+use Rattle.std.proofs.Common.{◌++◌, ◌<◌, ◌∙◌, ℕ, List, length, ap, sym, arith, append_assoc, append-nil, length-append}
 use Rattle.std.specs.Str.{chars}
 use Rattle.js_units.specs.Text.{utf16_of}
 use Rattle.heap_build.specs.Spelled.{utf16}
@@ -19,8 +19,17 @@ loop-point-preserved c = let p = c.in-Some in let inv = c.loop-point.invariant i
       read = k.0;
       added = ap (λ (xs : List ℕ). xs ++ utf16 (chars p.after.now)) added
           ∙ (append_assoc old.items (utf16_of p.point) (utf16 (chars p.after.now)) ∙ (ap (λ (cs : List ℕ). old.items ++ utf16 cs) (sym k.1) ∙ inv.added));
-      room = omega (arith, new.ok.0, old.ok.0, ap length added, length-append old.items (utf16_of p.point), ap (λ (cs : List ℕ). length (utf16 cs)) k.1,
-          length-append (utf16_of p.point) (utf16 (chars p.after.now)), inv.room, c.fill_point.ensures.room);
+      room = omega (
+        arith,
+        new.ok.0,
+        old.ok.0,
+        ap length added,
+        length-append old.items (utf16_of p.point),
+        ap (λ (cs : List ℕ). length (utf16 cs)) k.1,
+        length-append (utf16_of p.point) (utf16 (chars p.after.now)),
+        inv.room,
+        c.fill_point.ensures.room,
+      );
       same = c.fill_point.ensures.room ∙ inv.same;
     }
 

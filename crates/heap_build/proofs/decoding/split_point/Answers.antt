@@ -1,5 +1,5 @@
 use Rattle.std.proofs.Common.{arith}
-use Rattle.heap_build.proofs.Reading.{none_left, some_left}
+use Rattle.heap_build.proofs.Reading.{none_left}
 use Rattle.heap_build.proofs.Spelling.{by_size}
 use Rattle.heap_build.proofs.decoding.split_point.Goals as goal
 
