@@ -31,7 +31,7 @@ impl Builder {
     }
 
     /// The units so far.
-    pub fn units(&self) -> &[u16]
+    pub fn as_slice(&self) -> &[u16]
         ensures units { result.now ≡ units_in self.now }
         ensures short { length result.now ≤ MAX }
     {

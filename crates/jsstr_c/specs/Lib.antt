@@ -1,4 +1,3 @@
-pub mod Owned
 pub mod Handles
 pub mod Reports
 pub mod Decoded
@@ -7,3 +6,4 @@ pub mod Given
 pub mod Sources
 pub mod Checked
 pub mod Lists
+pub mod Building

@@ -10,11 +10,10 @@
 
 mod agent;
 mod answer;
+mod builder;
 mod bytes;
 mod checked;
 mod decoding;
 mod given;
-mod handle;
-mod parts;
 mod unchecked;
 mod uses;
