@@ -1,5 +1,5 @@
 -- What adding to a text answers.
-use Rattle.std.proofs.Common.{ℕ, List, take, ◌≤◌, length, subst, sym}
+use Rattle.std.proofs.Common.{false, ℕ, List, take, ◌≤◌, length, subst, sym}
 use Rattle.heap_build.specs.declared.encoding.Encoding.{Encoding}
 use Rattle.heap_build.specs.Points.{IsSpelledUpTo, spells}
 use Rattle.heap_build.specs.Spelled.{IsSpellingUpTo}

@@ -1,3 +1,6 @@
+pub mod Walks
+pub mod Boxed
+pub mod BoxedTexts
 pub mod Ready
 pub mod Going
 pub mod Same

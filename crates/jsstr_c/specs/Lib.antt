@@ -1,3 +1,5 @@
+pub mod Owned
+pub mod OwnedText
 pub mod Handles
 pub mod Reports
 pub mod Decoded

@@ -5,8 +5,8 @@ ghost use Rattle.heap_agents.specs.Held.{IsHeld};
 ghost use Rattle.heap_agents.specs.Ready.{HasInterned, HasWhole, IsReady, HandleKnows, giver_in, handle_number, handle_view};
 ghost use Rattle.jsstr_c.specs.Handles.{IsHandle};
 
+use crate::handle::Boxed;
 use heap_agents::Held;
-use heap_handle::Boxed;
 use std::alloc::Global;
 
 /// An agent of a heap, as C holds it: a pointer to a box that the handle owns, and whether there is one.
@@ -15,7 +15,7 @@ use std::alloc::Global;
 #[repr(C)]
 #[derive(Drop)]
 pub struct JsAgent {
-    pub at: Boxed<Held>,
+    pub at: Boxed,
     pub live: u32,
 }
 

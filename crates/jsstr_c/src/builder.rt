@@ -12,8 +12,8 @@ ghost use Rattle.std.specs.Prelude.{◌≢◌, []};
 use crate::agent::JsAgent;
 use crate::answer::{DONE, JsAnswer, NO_MEMORY, TOO_LONG};
 use crate::given::{Task, on_units};
+use crate::text_handle::BoxedText;
 use heap_build::{BuildFault, Builder};
-use heap_handle::Boxed;
 use std::alloc::{AllocError, Global};
 
 /// A text that is built up outside any heap, as C holds it: a pointer to a box that the handle owns, whether
@@ -22,7 +22,7 @@ use std::alloc::{AllocError, Global};
 #[repr(C)]
 #[derive(Drop)]
 pub struct JsBuilder {
-    pub at: Boxed<Builder>,
+    pub at: BoxedText,
     pub live: u32,
     pub len: u32,
 }

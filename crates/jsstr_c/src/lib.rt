@@ -15,5 +15,8 @@ mod bytes;
 mod checked;
 mod decoding;
 mod given;
+mod handle;
+mod parts;
+mod text_handle;
 mod unchecked;
 mod uses;

@@ -1,10 +1,11 @@
 // The pointer of a handle. No clause of an export reads it; `value` is what lies there, and None of a
 // handle that is not made yet or was freed, whose pointer is never followed.
 ghost use Rattle.std.specs.Prelude.{◌≡◌, Option, None, Some};
-ghost use Rattle.std.specs.Coded.{coded_option};
-ghost use Rattle.heap_handle.specs.Owned.{handle_owns};
+ghost use Rattle.heap_build.specs.declared.builder.Builder.{Builder};
+ghost use Rattle.jsstr_c.specs.OwnedText.{text_owns, text_coded};
 
 use crate::parts::Parts;
+use heap_build::Builder;
 use std::alloc::Global;
 use std::marker::Model;
 use std::mem::replace;
@@ -13,84 +14,79 @@ use std::ptr::null_mut;
 /// A pointer to a box that it owns, or to nothing.
 #[repr(C)]
 #[derive(Drop)]
-pub struct Boxed<T> {
-    ptr: *mut T,
+pub struct BoxedText {
+    ptr: *mut u8,
     alloc: Global,
-    pub ghost value: { Option T } by { coded_option T.code },
+    pub ghost value: { Option Builder } by { text_coded },
 }
 
-impl<T> Model for Boxed<T> {
-    ghost also_owns = { λ h. handle_owns T.row h.alloc h.ptr h.value };
+impl Model for BoxedText {
+    ghost also_owns = { λ h. text_owns h.alloc h.ptr h.value };
 }
 
-impl<T> Boxed<T> {
+impl BoxedText {
     // A handle of nothing.
-    fn nothing(alloc: Global) -> Boxed<T>
+    fn nothing(alloc: Global) -> BoxedText
         ensures { result.value ≡ None }
     {
-        let ptr = null_mut::<T>();
-        Boxed::of_nothing(ptr, alloc)
+        let ptr = null_mut::<u8>();
+        BoxedText::of_nothing(ptr, alloc)
     }
 
     // A handle of nothing, at any pointer.
-    fn of_nothing(ptr: *mut T, alloc: Global) -> Boxed<T>
+    fn of_nothing(ptr: *mut u8, alloc: Global) -> BoxedText
         ensures { result.value ≡ None }
     {
-        Boxed { ptr, alloc }
+        BoxedText { ptr, alloc }
     }
 
     // A handle of what the parts own.
-    fn of_parts(parts: Parts<T, Global>) -> Boxed<T>
+    fn of_parts(parts: Parts<Builder, Global>) -> BoxedText
         ensures { result.value ≡ Some parts.value }
     {
         let Parts { ptr, alloc } = parts;
-        Boxed { ptr, alloc }
+        BoxedText {
+            ptr: ptr.cast::<u8>(),
+            alloc,
+        }
     }
 
     // The parts of a handle that has something.
-    fn into_parts(self) -> Parts<T, Global>
-        requires { (x : T) × (self.value ≡ Some x) }
+    fn into_parts(self) -> Parts<Builder, Global>
+        requires { (x : Builder) × (self.value ≡ Some x) }
         ensures { self.value ≡ Some result.value }
     {
-        let Boxed { ptr, alloc } = self;
-        Parts { ptr, alloc }
+        let BoxedText { ptr, alloc } = self;
+        Parts {
+            ptr: ptr.cast::<Builder>(),
+            alloc,
+        }
     }
-}
 
-impl<T: Drop> Boxed<T> {
     // The box of a handle that has something.
-    fn into_box(self) -> Box<T>
-        requires { (x : T) × (self.value ≡ Some x) }
+    fn into_box(self) -> Box<Builder>
+        requires { (x : Builder) × (self.value ≡ Some x) }
         ensures { self.value ≡ Some result.value }
     {
         self.into_parts().close()
     }
 
     /// The box, which leaves nothing here until it is put back.
-    pub fn take(&mut self, alloc: Global) -> Box<T>
-        requires { (x : T) × (self.old.value ≡ Some x) }
+    pub(crate) fn take(&mut self, alloc: Global) -> Box<Builder>
+        requires { (b : Builder) × (self.old.value ≡ Some b) }
         ensures taken { self.old.value ≡ Some result.value }
         ensures empty { self.new.value ≡ None }
     {
-        let nothing = Boxed::nothing(alloc);
+        let nothing = BoxedText::nothing(alloc);
         replace(self, nothing).into_box()
     }
 
     /// Puts a box here, where nothing is.
-    pub fn put(&mut self, b: Box<T>)
+    pub(crate) fn put(&mut self, b: Box<Builder>)
         ensures { self.new.value ≡ Some b.value }
     {
-        *self = Boxed::of_parts(Parts::open(b));
+        *self = BoxedText::of_parts(Parts::open(b));
     }
 }
 
-unsafe impl<T: Send> Send for Boxed<T> {}
-
-// A handle may be handed to another thread where what is in it may.
-fn crosses<T: Send>(handle: Boxed<T>) -> Boxed<T> {
-    sent(handle)
-}
-
-fn sent<T: Send>(x: T) -> T {
-    x
-}
+unsafe impl Send for BoxedText {}

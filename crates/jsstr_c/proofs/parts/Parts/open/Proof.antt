@@ -1,15 +1,15 @@
 -- `open` calls `into_raw_with_allocator`: what that hands back is what the parts own.
 use contract.Running.{tables, tables_of}
-use Rattle.heap_handle.proofs.Walks.{◌≡◌, refl, ap, ◌∙◌, List, [], ◌∷◌, ◌++◌, Args, Dict, Fn, a_type, dcons, dnil, inst_fn, Ura, Val, vstruct, of_list, SProp, ent, id⊢, never, fst∗, ftrue, fsep, flft, ◌⊑◌, Fun, fact, Memory, Routine, WpFn, Tables, fm_of, WpFn-mono, Logic, sem, Item, ‵, raw, ◌⊛◌, some, later, prop, ◌$◌, ◌∵◌, !, qed, done, move, drop, use1, split, split3, join, fsplit, fjoin, fpick, feq_l, pick, await, rewrite, regoal, suffices, whole, sub, agg, stop, fld, no_more, and_then, of_opd, enter, returns, alloc_all, pass_all, free_all, look_at, get, get_in, sets, lands_as, no, bounded, RattleType, Ptr, RawPtr, block_ptr, null_ptr, ptr_val, in_a_block, plain, heard, nothing, only, Tuple, calls_at, Ended, Clauses, triple_of, Triple, Contract, entered, says, Stays, stay_dropped, walk_of, ends_at, walk_Meets, token, handle_tells, Goes-blank, Bx, τ, R, P, B, word, box_typed, box_out, box_in}
+use Rattle.jsstr_c.proofs.Walks.{◌≡◌, refl, ap, ◌∙◌, List, [], ◌∷◌, ◌++◌, Args, Dict, Fn, a_type, dcons, dnil, inst_fn, Ura, Val, vstruct, of_list, SProp, ent, id⊢, never, fst∗, ftrue, fsep, flft, ◌⊑◌, Fun, fact, Memory, Routine, WpFn, Tables, fm_of, WpFn-mono, Logic, sem, Item, ‵, raw, ◌⊛◌, some, later, prop, ◌$◌, ◌∵◌, !, qed, done, move, drop, use1, split, split3, join, fsplit, fjoin, fpick, feq_l, pick, await, rewrite, regoal, suffices, whole, sub, agg, stop, fld, no_more, and_then, of_opd, enter, returns, alloc_all, pass_all, free_all, look_at, get, get_in, sets, lands_as, no, bounded, RattleType, Ptr, RawPtr, block_ptr, null_ptr, ptr_val, in_a_block, plain, heard, nothing, only, Tuple, calls_at, Ended, Clauses, triple_of, Triple, Contract, entered, says, Stays, stay_dropped, walk_of, ends_at, walk_Meets, token, handle_tells, Goes-blank, Bx, τ, R, P, B, word, box_typed, box_out, box_in}
 use mir.Raw.{raw as bare}
 use Rattle.std_alloc.specs.Box.Ownership.{box_owns}
 use Rattle.std_alloc.specs.contracts.boxed.Box.into_raw_with_allocator as g
 use Rattle.std_alloc.proofs.boxed.Box.into_raw_with_allocator.Met as callee
 use Rattle.std_alloc.proofs.boxed.Box.into_raw_with_allocator.Symbol as callee_name
-use Rattle.heap_handle.specs.contracts.parts.Parts as parts
-use Rattle.heap_handle.specs.contracts.parts.Parts.open as f
-use Rattle.heap_handle.proofs.parts.Parts.open.Statement.{statement}
-use Rattle.heap_handle.proofs.parts.Parts.open.Code as code
+use Rattle.jsstr_c.specs.contracts.parts.Parts as parts
+use Rattle.jsstr_c.specs.contracts.parts.Parts.open as f
+use Rattle.jsstr_c.proofs.parts.Parts.open.Statement.{statement}
+use Rattle.jsstr_c.proofs.parts.Parts.open.Code as code
 
 -- at a type and an allocator, and what drops a value of the type
 module _ (E : Bx) (drops : Dict) where

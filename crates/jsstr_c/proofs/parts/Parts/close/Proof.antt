@@ -1,14 +1,14 @@
 -- `close` gives what the parts own to `from_raw`, which makes a box of it.
 use contract.Running.{tables, tables_of}
-use Rattle.heap_handle.proofs.Walks.{◌≡◌, refl, sym, subst, ap, List, [], ◌∷◌, ◌++◌, T, Fn, Body, place, copy, assign, rv_opd, seq, return, inst_fn, Ura, Val, vptr, has_ty, WT, SProp, ent, id⊢, ftrue, fsep, flft, ◌⊑◌, Fun, fact, Memory, Routine, WpFn, Tables, fm_of, WpFn-mono, Logic, Item, ‵, raw, ◌⊛◌, some, later, prop, at_ret, ◌$◌, ◌∵◌, !, qed, done, move, drop, use1, split, split3, join, fsplit, fjoin, feq_i, pick, await, rewrite, regoal, suffices, whole, sub, stop, fld, no_more, and_then, of_opd, first, blocks, exec, enter, returns, alloc_all, pass_all, free_all, look_at, get, get_in, sets, lands_last, env, no, RattleType, block_ptr, plain, heard, nothing, only, calls_at_last, Ended, Clauses, triple_of, Triple, Contract, entered, says, Stays, stay_dropped, walk_of, ends_at, walk_Meets, token, Goes-blank, Bx, D, R, P, B, args, box_ty, box_typed, box_out, box_in}
+use Rattle.jsstr_c.proofs.Walks.{◌≡◌, refl, sym, subst, ap, List, [], ◌∷◌, ◌++◌, T, Fn, Body, place, copy, assign, rv_opd, seq, return, inst_fn, Ura, Val, vptr, has_ty, WT, SProp, ent, id⊢, ftrue, fsep, flft, ◌⊑◌, Fun, fact, Memory, Routine, WpFn, Tables, fm_of, WpFn-mono, Logic, Item, ‵, raw, ◌⊛◌, some, later, prop, at_ret, ◌$◌, ◌∵◌, !, qed, done, move, drop, use1, split, split3, join, fsplit, fjoin, feq_i, pick, await, rewrite, regoal, suffices, whole, sub, stop, fld, no_more, and_then, of_opd, first, blocks, exec, enter, returns, alloc_all, pass_all, free_all, look_at, get, get_in, sets, lands_last, env, no, RattleType, block_ptr, plain, heard, nothing, only, calls_at_last, Ended, Clauses, triple_of, Triple, Contract, entered, says, Stays, stay_dropped, walk_of, ends_at, walk_Meets, token, Goes-blank, Bx, D, R, P, B, args, box_ty, box_typed, box_out, box_in}
 use Rattle.std_alloc.specs.Box.Ownership.{box_owns}
 use Rattle.std_alloc.specs.contracts.boxed.Box.from_raw as g
 use Rattle.std_alloc.proofs.boxed.Box.from_raw.Met as callee
 use Rattle.std_alloc.proofs.boxed.Box.from_raw.Symbol as callee_name
-use Rattle.heap_handle.specs.contracts.parts.Parts as parts
-use Rattle.heap_handle.specs.contracts.parts.Parts.close as f
-use Rattle.heap_handle.proofs.parts.Parts.close.Statement.{statement}
-use Rattle.heap_handle.proofs.parts.Parts.close.Code as code
+use Rattle.jsstr_c.specs.contracts.parts.Parts as parts
+use Rattle.jsstr_c.specs.contracts.parts.Parts.close as f
+use Rattle.jsstr_c.proofs.parts.Parts.close.Statement.{statement}
+use Rattle.jsstr_c.proofs.parts.Parts.close.Code as code
 
 -- the code behind the `unsafe` block
 abbrev after_block : Body
