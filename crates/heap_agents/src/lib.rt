@@ -6,6 +6,7 @@
 #![tactic(auto)]
 
 mod board;
+mod building;
 mod counts;
 mod held;
 mod ids;

@@ -1,4 +1,5 @@
 pub mod Owned
+pub mod OwnedText
 pub mod Handles
 pub mod Reports
 pub mod Decoded
@@ -8,3 +9,4 @@ pub mod Sources
 pub mod Checked
 pub mod Lists
 pub mod Board
+pub mod Building

@@ -10,6 +10,7 @@
 
 mod agent;
 mod answer;
+mod builder;
 mod bytes;
 mod checked;
 mod decoding;
@@ -17,5 +18,6 @@ mod given;
 mod handle;
 mod parts;
 mod room;
+mod text_handle;
 mod unchecked;
 mod uses;
