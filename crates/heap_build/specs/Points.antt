@@ -1,5 +1,5 @@
 -- Helpers: no public contract reaches these definitions.
--- The code points that bytes spell, and which of them may stand in a row.
+-- The code points that bytes spell, and which of them may follow one another.
 use Rattle.std.specs.Prelude.{◌≡◌, ℕ, ◌+◌, ◌<◌, Bool, true, false, not, ◌&&◌, nat_lt, List, [], ◌∷◌, ◌++◌, length, take, encode_utf8, encode_utf8_all, Result, Ok, Err}
 use lib.Utf8.{scalar}
 use Rattle.std.specs.Str.{chars}
@@ -8,18 +8,18 @@ use Rattle.heap_build.specs.declared.encoding.Encoding.{Encoding}
 use Rattle.heap_build.specs.declared.encoding.Encoding.TheVariants.{Utf8, Wtf8}
 use Rattle.heap_build.specs.Spelled.{SpellsUtf8, SpellsWtf8, utf16}
 
--- A code point may stand behind another one, which is a leading surrogate or not: in UTF-8 where it is no
--- surrogate, in WTF-8 where it doesn't make a pair with the one before it.
+-- A code point may follow another one, which is a leading surrogate or not: in UTF-8 where it is no surrogate,
+-- in WTF-8 where it doesn't make a pair with the one before it.
 abbrev pub may_follow : Encoding → Bool → ℕ → Bool
 may_follow Utf8 lead c = scalar c
 may_follow Wtf8 lead c = nat_lt c 0x110000 && not (lead && is_trail c)
 
--- the code points may stand in a row, behind such a one
+-- the code points may follow one another, behind such a one
 abbrev pub allowed : Encoding → Bool → List ℕ → Bool
 allowed e lead [] = true
 allowed e lead (c ∷ cs) = may_follow e lead c && allowed e (is_lead c) cs
 
--- bytes that spell code points which may stand behind such a one
+-- bytes that spell code points which may follow such a one
 pub record IsSpelled (e : Encoding) (lead : Bool) (bytes : List ℕ) : Type 0 where
   pub same : encode_utf8_all (chars bytes) ≡ bytes
   pub row : allowed e lead (chars bytes) ≡ true
@@ -34,9 +34,10 @@ pub record IsSpelledUpTo (e : Encoding) (bytes : List ℕ) (n : ℕ) : Type 0 wh
 abbrev pub BeginsNone : List ℕ → Type 0
 BeginsNone bytes = (c : ℕ) (rest : List ℕ) → c < 0x110000 → ¬ (bytes ≡ encode_utf8 c ++ rest)
 
--- and none that may stand behind such a one
+-- and none that may follow such a one
 abbrev pub FollowsNone : Encoding → Bool → List ℕ → Type 0
-FollowsNone e lead bytes = (c : ℕ) (rest : List ℕ) → may_follow e lead c ≡ true → ¬ (bytes ≡ encode_utf8 c ++ rest)
+FollowsNone e lead bytes =
+    (c : ℕ) (rest : List ℕ) → may_follow e lead c ≡ true → ¬ (bytes ≡ encode_utf8 c ++ rest)
 
 -- Bytes were read up to here: what spells code points behind what was read spells them behind the front, and
 -- has so many units more.

@@ -86,7 +86,7 @@ fn split_four(bytes: &[u8]) -> Option<(u32, &[u8])>
     Some((front * 4096 + back, &bytes[4..]))
 }
 
-// Whether a byte may stand behind the first of a code point.
+// Whether a byte may follow the first of a code point.
 fn continues(byte: u8) -> bool
     ensures within { result ≡ true → (0x80 ≤ byte) × (byte < 0xC0) }
     ensures outside { result ≡ false → ¬ ((0x80 ≤ byte) × (byte < 0xC0)) }
@@ -115,7 +115,7 @@ pub(crate) fn measure(encoding: Encoding, bytes: &[u8]) -> Result<usize, usize>
     Ok(count)
 }
 
-// A code point off the front that may stand behind one that is a leading surrogate, or isn't.
+// A code point off the front that may follow one that is a leading surrogate, or isn't.
 fn next_point(encoding: Encoding, lead: bool, bytes: &[u8]) -> Option<(u32, &[u8])>
     ensures { MatchOption result (FollowsNone encoding lead bytes.now)
         (λ p. (Points.may_follow encoding lead p.0 ≡ true) × (bytes.now ≡ encode_utf8 p.0 ++ p.1.now)) }
