@@ -8,7 +8,8 @@ use Rattle.heap_build.specs.declared.encoding.Encoding.{Encoding}
 use Rattle.heap_build.specs.declared.encoding.Encoding.TheVariants.{Utf8, Wtf8}
 use Rattle.heap_build.specs.Spelled.{SpellsUtf8, SpellsWtf8, utf16}
 
--- A code point may follow another one, which is a leading surrogate or not: in UTF-8 where it is no surrogate,
+-- A code point may follow another one, which is a leading surrogate or not: in UTF-8 where it is no
+-- surrogate,
 -- in WTF-8 where it doesn't make a pair with the one before it.
 abbrev pub may_follow : Encoding → Bool → ℕ → Bool
 may_follow Utf8 lead c = scalar c
