@@ -1,4 +1,3 @@
-pub mod Entered
 pub mod First
 pub mod Making
 pub mod Sessions

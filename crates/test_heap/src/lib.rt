@@ -5,9 +5,9 @@
 #![tactic(auto)]
 
 #[cfg(test)]
-mod counted;
+mod board;
 #[cfg(test)]
-mod handed_over;
+mod counted;
 #[cfg(test)]
 mod machine;
 #[cfg(test)]

@@ -97,16 +97,20 @@ pub(crate) fn wrong(alloc: Global, line: &str, want: &str, told: &Told) -> Optio
     let Ok(found) = format!(in alloc; "{told:?}") else {
         return fault(alloc, line);
     };
-    let found = found.as_str();
-    let is_well = match (want.split_once(" or "), want.strip_suffix("..")) {
-        (Some((one, other)), _) => found == one || found == other,
-        (None, Some(front)) => found.starts_with(front),
-        (None, None) => found == want,
-    };
-    if is_well {
+    if fits(found.as_str(), want) {
         return None;
     }
     format!(in alloc; "{line}, and not {found}").ok()
+}
+
+fn fits(found: &str, want: &str) -> bool {
+    if let Some((one, other)) = want.split_once(" or ") {
+        return found == one || found == other;
+    }
+    match want.strip_suffix("..") {
+        Some(front) => found.starts_with(front),
+        None => found == want,
+    }
 }
 
 /// A line that can't be played.

@@ -8,9 +8,7 @@ ghost use Rattle.test_strings.specs.Turns.{HasGoneOn, IsPlayed, Turns};
 
 use crate::by_hand::wide;
 use crate::lines::{Told, Words, behind, fault, step_of, units_of, wrong, yes_if};
-use crate::text_calls::{
-    adopted, cut, ends, first_word, flat, interned, joined, of_table, reads, slot_with,
-};
+use crate::text_calls::{cut, ends, first_word, flat, interned, joined, of_table, reads};
 use heap_intern::count_interned;
 use heap_read::Reader;
 use heap_rule::MAX;
@@ -81,6 +79,11 @@ impl<'h> OnText<'h> {
             return None;
         }
         Some(JsStr { id: self.made[k] })
+    }
+
+    // The place of the last string.
+    fn last(&self) -> usize {
+        self.made.len().wrapping_sub(1)
     }
 
     fn units(&mut self, text: &str) -> Option<Told>
@@ -230,43 +233,6 @@ impl<'h> OnText<'h> {
         }
     }
 
-    // The interned string in a slot, by its slot alone.
-    fn adopt(&mut self, slot: u32) -> Option<Told>
-        ensures goes { Moves Turns self.old.text.reader self.new.text.reader }
-    {
-        if slot >= self.text.reader.heap.size().slots {
-            return None;
-        }
-        match adopted(&mut self.text, slot) {
-            Some(id) => put(&mut self.made, JsStr { id }),
-            None => Some(Told::Maybe(None)),
-        }
-    }
-
-    // The slot with the string of these units.
-    fn slot_of(&mut self, text: &str) -> Option<Told>
-        ensures goes { Moves Turns self.old.text.reader self.new.text.reader }
-    {
-        let units = units_of(self.alloc, text)?;
-        if units.len() > 65536 {
-            return None;
-        }
-        match slot_with(&mut self.text, units.as_slice()) {
-            Some(slot) => Some(Told::Number(u64::from(slot))),
-            None => Some(Told::Maybe(None)),
-        }
-    }
-
-    // Both counters, whoever has claimed.
-    fn counters(&mut self) -> Option<Told>
-        ensures goes { Moves Turns self.old.text.reader self.new.text.reader }
-    {
-        let text = &mut self.text;
-        let reader = &mut text.reader;
-        let (ids, words) = reader.agent.counters(reader.heap);
-        Some(Told::Both(ids, words))
-    }
-
     // How many strings are interned.
     fn count(&mut self) -> Option<Told>
         ensures goes { Moves Turns self.old.text.reader self.new.text.reader }
@@ -308,7 +274,7 @@ impl<'h> OnText<'h> {
         ensures goes { Moves Turns self.old.text.reader self.new.text.reader }
     {
         for _turn in 0..times {
-            let last = self.made.len().wrapping_sub(1);
+            let last = self.last();
             self.concat(last, last)?;
         }
         Some(Told::Done)
@@ -319,7 +285,7 @@ impl<'h> OnText<'h> {
         ensures goes { Moves Turns self.old.text.reader self.new.text.reader }
     {
         for _turn in 0..times {
-            let last = self.made.len().wrapping_sub(1);
+            let last = self.last();
             let (left, right) = if front { (unit, last) } else { (last, unit) };
             self.concat(left, right)?;
         }
@@ -334,7 +300,7 @@ impl<'h> OnText<'h> {
             return Some(all);
         }
         self.concat(all, twice)?;
-        Some(self.made.len().wrapping_sub(1))
+        Some(self.last())
     }
 
     // A rope of so many units, at most 2^28 - 1, of a string of one unit and the empty one: for each bit
@@ -350,7 +316,7 @@ impl<'h> OnText<'h> {
             }
             all = self.with_bit(all, twice, (n >> k) % 2 == 1)?;
             self.concat(twice, twice)?;
-            twice = self.made.len().wrapping_sub(1);
+            twice = self.last();
         }
         Some(Told::Done)
     }
@@ -385,8 +351,6 @@ impl<'h> OnText<'h> {
             "intern" => self.intern(a),
             "intern-units" => self.of_table(words.text, true),
             "find-units" => self.of_table(words.text, false),
-            "adopt" => self.adopt(words.a),
-            "slot-of" => self.slot_of(words.text),
             "reads" => self.reads(a, behind(words.text)),
             "wide" => self.wide(words.text),
             "doubled" => self.doubled(words.a),
@@ -413,7 +377,6 @@ impl<'h> OnText<'h> {
             "slot" => self.slot(words.a),
             "count" => self.count(),
             "totals" => self.totals(),
-            "counters" => self.counters(),
             "limit" => self.limit(words.a),
             _ => None,
         }

@@ -204,6 +204,14 @@ concat 0 1 -> Made(2)
 totals -> Both(3, 2)
 ";
 
+#[test]
+fn sessions_alone_and_split(rt: HostRuntime) {
+    plays(&rt, rt.alloc(), SESSIONS);
+    plays(&rt, rt.alloc(), RECENT);
+    plays(&rt, rt.alloc(), SPLIT);
+    plays(&rt, rt.alloc(), REFUSED);
+}
+
 // Two sessions intern the same list at once, each in a thread. Joined again, there is one interned string, and
 // both have its number.
 const SHARED: &str = "== two sessions make and intern one list
@@ -220,11 +228,7 @@ same 1 3 -> Yes
 ";
 
 #[test]
-fn sessions_alone_split_and_at_once(rt: HostRuntime) {
-    plays(&rt, rt.alloc(), SESSIONS);
-    plays(&rt, rt.alloc(), RECENT);
-    plays(&rt, rt.alloc(), SPLIT);
-    plays(&rt, rt.alloc(), REFUSED);
+fn equal_lists_have_one_number(rt: HostRuntime) {
     for _round in 0..1000 {
         plays(&rt, rt.alloc(), SHARED);
     }

@@ -254,6 +254,14 @@ concat 3 3 -> Made(4)
 reads 4 fghijklmnopqrfghijklmnopqr -> Yes
 ";
 
+#[test]
+fn ropes_lengths_refusals_and_slices(rt: HostRuntime) {
+    plays(&rt, rt.alloc(), ROPES);
+    plays(&rt, rt.alloc(), LENGTHS);
+    plays(&rt, rt.alloc(), REFUSALS);
+    plays(&rt, rt.alloc(), SLICES);
+}
+
 // A string of each length up to 13, narrow and wide, is joined with itself and cut again, all on one heap.
 fn trips(alloc: Global) -> Option<String> {
     let mut lines = String::from_str(alloc, "== strings of each length\n200 400 1 1\n").ok()?;
@@ -283,6 +291,14 @@ fn trip(alloc: Global, at: u32, n: u32, text: &str) -> Option<String>
         "reads {at} {n}^{text} -> Yes\nreads {front} {n}^{text} -> Yes\nreads {back} {n}^{text} -> Yes\n"
     ).ok()?;
     format!(in alloc; "{made}{cut}{read}").ok()
+}
+
+#[test]
+fn strings_of_each_length(rt: HostRuntime) {
+    match trips(rt.alloc()) {
+        Some(text) => plays(&rt, rt.alloc(), text.as_str()),
+        None => panic!(rt; "no memory"),
+    }
 }
 
 // Two agents do what follows `both` and behind `and` at once, each in a thread.
@@ -353,15 +369,7 @@ forwards 0 1 -> Yes
 ";
 
 #[test]
-fn strings_alone_and_shared(rt: HostRuntime) {
-    plays(&rt, rt.alloc(), ROPES);
-    plays(&rt, rt.alloc(), LENGTHS);
-    plays(&rt, rt.alloc(), REFUSALS);
-    plays(&rt, rt.alloc(), SLICES);
-    match trips(rt.alloc()) {
-        Some(text) => plays(&rt, rt.alloc(), text.as_str()),
-        None => panic!(rt; "no memory"),
-    }
+fn heaps_that_two_agents_share(rt: HostRuntime) {
     for _round in 0..1000 {
         plays(&rt, rt.alloc(), SHARED);
     }

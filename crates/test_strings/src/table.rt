@@ -1,6 +1,5 @@
 // Strings that are interned, and what interning leaves of the string itself: its header forwards to the
 // string in the table.
-use crate::board::BOARD;
 use crate::plays::plays;
 use crate::units::{ON_SESSIONS, UNITS};
 
@@ -236,7 +235,4 @@ fn strings_are_interned_and_forward(rt: HostRuntime) {
         panic!(&rt; "no memory");
     };
     plays(&rt, rt.alloc(), text.as_str());
-    for _round in 0..100 {
-        plays(&rt, rt.alloc(), BOARD);
-    }
 }
