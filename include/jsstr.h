@@ -266,13 +266,13 @@ jsstr_truth jsstr_is_interned(jsstr_agent *agent, jsstr_id s);
    Condition: a and b are interned, as jsstr_is_interned reports. */
 jsstr_truth jsstr_same(jsstr_agent *agent, jsstr_id a, jsstr_id b);
 
-/* The slot of the string table in which an interned string stands, for good. Nothing is used, ever.
+/* The slot of the string table that an interned string has, for good. Nothing is used, ever.
    Condition: s is interned, as jsstr_is_interned reports. */
 jsstr_number jsstr_slot_of(jsstr_agent *agent, jsstr_id s);
 
 /* The interned string in a slot, which is known, settled and interned from then on; or NONE where the slot is free.
    Nothing is used, ever. So a string goes from one running thread to another by its slot. While another thread
-   claims the slot, either may be the answer; whoever is told a slot of jsstr_slot_of gets its string.
+   claims the slot, either may be the answer; whoever loads a slot that jsstr_slot_of answered gets its string.
    Condition: slot is below the heap's number of slots. */
 jsstr_answer jsstr_adopt(jsstr_agent *agent, uint32_t slot);
 

@@ -1,4 +1,4 @@
--- Strings of the table by their slots: what adopting one, and telling the slot of one, leave and answer.
+-- Strings of the table by their slots: what adopting one, and a request for the slot of one, leave and answer.
 use Rattle.std.specs.Prelude.{◌≡◌, ℕ, ◌<◌, ◌≤◌, ◌+◌, List, Option, Some, None, IfSome}
 use Rattle.heap_rule.specs.Maps.{Has}
 use Rattle.heap_table.specs.Known.{KeepsKnown}
@@ -24,7 +24,7 @@ pub record AdoptedFrom (x y : Held) (k : ℕ) (r : Option ℕ) : Type 0 where
   pub again : (i : ℕ) → Has (view_by x).slots k i → r ≡ Some i
   pub loads : LoadsHere (view_by x) (view_by y) k (adopting_loads r)
 
--- The string i stands in slot k. Nothing was used or marked, each slot loaded once at most, and none behind
+-- The string i is in slot k. Nothing was used or marked, each slot loaded once at most, and none behind
 -- slot k on the path of the string's units.
 pub record ToldSlot (x y : Held) (i k : ℕ) : Type 0 where
   pub held : IsHeld y

@@ -39,7 +39,7 @@ impl Held {
         }
     }
 
-    /// The slot in which an interned string stands, for good. It uses nothing, also on a full heap.
+    /// The slot of an interned string, for good. It uses nothing, also on a full heap.
     pub fn slot_of(&mut self, id: u32) -> u32
         requires held { IsHeld self.old }
         requires known { HasKey (view_by self.old).units id }

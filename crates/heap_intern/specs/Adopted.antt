@@ -35,7 +35,8 @@ pub record LoadsHere (v w : View) (k n : ℕ) : Type 0 where
 
 -- between two views no slot behind slot k on the path of the units us was loaded
 abbrev pub LoadsNoneBehind : View → View → List ℕ → ℕ → Type 0
-LoadsNoneBehind v w us k = (j : ℕ) → rank us v.sizes.slots k < rank us v.sizes.slots j → loads_at w j ≡ loads_at v j
+LoadsNoneBehind v w us k = (j : ℕ)
+    → rank us v.sizes.slots k < rank us v.sizes.slots j → loads_at w j ≡ loads_at v j
 
 -- What two live views have in one slot is one id, and what they know of its units is the same.
 abbrev pub AreOneInEachSlot : List View → Type 0

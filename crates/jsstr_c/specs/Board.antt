@@ -20,7 +20,7 @@ room_answer r = record {
   seen_slots = r.seen_slots;
 }
 
--- a refusal, with nothing told
+-- a refusal, with nothing reported
 abbrev pub no_room : ℕ → JsRoom
 no_room status = record {
   status = status;

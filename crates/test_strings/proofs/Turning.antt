@@ -1,12 +1,10 @@
 -- What calls leave of an agent, one after another, and of the strings that a play made.
 use Rattle.std.proofs.Common.{◌≡◌, ℕ, ◌⊎◌, ⊎_elim, true, List, [], ◌∷◌, ◌++◌, refl, sym, ap, ◌∙◌, subst, append_assoc, arith, Option, Some, None, Result, Ok, Err, IfOk}
 use Rattle.std.proofs.lemmas.List.{append-nil}
-use Rattle.std.proofs.lemmas.List.Elements.{Contains-append_right, Contains-push}
 use Rattle.std.specs.Prelude.{Contains, IfSome}
 use Rattle.heap_rule.specs.declared.view.View.{View}
 use Rattle.heap_rule.specs.Maps.{Has, HasKey}
 use Rattle.heap_rule.specs.Paths.{Calls}
-use Rattle.heap_rule.specs.Views.{history}
 use Rattle.heap_table.specs.Known.{KeepsKnown}
 use Rattle.heap_rule.specs.Births.{part}
 use Rattle.heap_rule.proofs.MapLemmas.{key_of}
@@ -19,7 +17,6 @@ use Rattle.heap_read.specs.Readers.{Moves, view_in}
 use Rattle.heap_read.specs.Reads.{Continues, OnlyLoads}
 use Rattle.heap_read.proofs.Loaded.{key_kept, known_refl, known_trans}
 use Rattle.heap_intern.specs.declared.table.faults.TableFull.{TableFull}
-use Rattle.heap_intern.specs.Adopted.{Adopts}
 use Rattle.heap_intern.specs.Answers.{Finds, IsInternAnswer, HeaderPlan}
 use Rattle.heap_intern.specs.Goes.{AddsCalls}
 use Rattle.heap_rule.specs.Agents.{MayJoin, left_after_split, right_after_split}
@@ -62,18 +59,6 @@ turns_finds v w us None h = turns_goes v w [] h.0.goes
 pub found_key : (v w : View) (us : List ℕ) (r : Option ℕ) → Finds v w us r → IfSome r (λ i. HasKey w.units i)
 found_key v w us (Some i) h = key_of w.units i us h.2.1
 found_key v w us None h = tt
-
--- a call that was added is known
-pub added_call : (v w : View) (us : List ℕ) (i : ℕ) → AddsCalls v w ((us, i) ∷ []) → Contains (history w) (us, i)
-added_call v w us i g = Contains-append_right w.seen w.mine (us, i) (subst (λ (m : Calls). Contains m (us, i)) (sym g.mine) (Contains-push v.mine (us, i)))
-
-pub turns_adopts : (v w : View) (k : ℕ) (r : Option ℕ) → Adopts v w k r → Turns v w
-turns_adopts v w k (Some i) h = turns_goes v w ((h.units, i) ∷ []) h.goes
-turns_adopts v w k None h = turns_goes v w [] h.0.goes
-
-pub adopted_key : (v w : View) (k : ℕ) (r : Option ℕ) → Adopts v w k r → IfSome r (λ i. HasKey w.units i)
-adopted_key v w k (Some i) h = key_of w.units i h.units h.fixed.1
-adopted_key v w k None h = tt
 
 module _ {H : Type 0} {r : Ghosts H} where
   pub moves_refl : (a : Reader H r) → Moves Turns a a

@@ -8,9 +8,7 @@ ghost use Rattle.test_strings.specs.Turns.{HasGoneOn, IsPlayed, Turns};
 
 use crate::by_hand::wide;
 use crate::lines::{Told, Words, behind, fault, step_of, units_of, wrong, yes_if};
-use crate::text_calls::{
-    adopted, cut, ends, first_word, flat, interned, joined, of_table, reads, slot_with,
-};
+use crate::text_calls::{cut, ends, first_word, flat, interned, joined, of_table, reads};
 use heap_intern::count_interned;
 use heap_read::Reader;
 use heap_rule::MAX;
@@ -235,43 +233,6 @@ impl<'h> OnText<'h> {
         }
     }
 
-    // The interned string in a slot, by its slot alone.
-    fn adopt(&mut self, slot: u32) -> Option<Told>
-        ensures goes { Moves Turns self.old.text.reader self.new.text.reader }
-    {
-        if slot >= self.text.reader.heap.size().slots {
-            return None;
-        }
-        match adopted(&mut self.text, slot) {
-            Some(id) => put(&mut self.made, JsStr { id }),
-            None => Some(Told::Maybe(None)),
-        }
-    }
-
-    // The slot with the string of these units.
-    fn slot_of(&mut self, text: &str) -> Option<Told>
-        ensures goes { Moves Turns self.old.text.reader self.new.text.reader }
-    {
-        let units = units_of(self.alloc, text)?;
-        if units.len() > 65536 {
-            return None;
-        }
-        match slot_with(&mut self.text, units.as_slice()) {
-            Some(slot) => Some(Told::Number(u64::from(slot))),
-            None => Some(Told::Maybe(None)),
-        }
-    }
-
-    // Both counters, whoever has claimed.
-    fn counters(&mut self) -> Option<Told>
-        ensures goes { Moves Turns self.old.text.reader self.new.text.reader }
-    {
-        let text = &mut self.text;
-        let reader = &mut text.reader;
-        let (ids, words) = reader.agent.counters(reader.heap);
-        Some(Told::Both(ids, words))
-    }
-
     // How many strings are interned.
     fn count(&mut self) -> Option<Told>
         ensures goes { Moves Turns self.old.text.reader self.new.text.reader }
@@ -390,8 +351,6 @@ impl<'h> OnText<'h> {
             "intern" => self.intern(a),
             "intern-units" => self.of_table(words.text, true),
             "find-units" => self.of_table(words.text, false),
-            "adopt" => self.adopt(words.a),
-            "slot-of" => self.slot_of(words.text),
             "reads" => self.reads(a, behind(words.text)),
             "wide" => self.wide(words.text),
             "doubled" => self.doubled(words.a),
@@ -418,7 +377,6 @@ impl<'h> OnText<'h> {
             "slot" => self.slot(words.a),
             "count" => self.count(),
             "totals" => self.totals(),
-            "counters" => self.counters(),
             "limit" => self.limit(words.a),
             _ => None,
         }

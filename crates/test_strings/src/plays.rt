@@ -8,12 +8,10 @@
 //
 //     units TEXT · concat A B · slice A FROM TO · intern A      make a string
 //     intern-units TEXT · find-units TEXT                       the string of the table with these units
-//     adopt SLOT · slot-of TEXT                                 the string in a slot, and the slot of a string
 //     settle A · reads A TEXT · same A B · count · totals       of `Text`s and of sessions, but `settle`
 //     wide WORD                                                 makes four units by the steps of an agent
 //     doubled N · before A N · behind A N · rope UNIT EMPTY N   make ropes by many joins
-//     len A · ends A · header A · form A · forwards A B · word A · slot K · counters     load
-//     limit N                                                   sets the limit
+//     len A · ends A · header A · form A · forwards A B · word A · slot K · limit N      load, or set the limit
 use crate::lines::fault;
 use crate::on_session::OnSession;
 use crate::on_text::OnText;

@@ -6,7 +6,7 @@ ghost use Rattle.heap_table.specs.Agents.{size_of};
 ghost use Rattle.heap_read.specs.Readers.{Moves, view_in};
 ghost use Rattle.test_strings.specs.Turns.{Turns};
 
-use heap_intern::{TableFull, adopt, find_units, intern, intern_units, slot_of};
+use heap_intern::{TableFull, find_units, intern, intern_units};
 use heap_read::{Reader, Steps};
 use heap_table::Heap;
 use heap_text::{JoinFault, JsStr, Text, TextFull};
@@ -106,26 +106,6 @@ pub(crate) fn of_table(
     }
     match find_units(&mut text.reader, units) {
         Some(id) => Some(Ok(id)),
-        None => None,
-    }
-}
-
-/// The string in a slot of the table, if there is one.
-pub(crate) fn adopted(text: &mut Text<&Heap>, slot: u32) -> Option<u32>
-    requires { slot < (size_of text.old.reader.heap.now).slots }
-    ensures goes { Moves Turns text.old.reader text.new.reader }
-    ensures known { IfSome result (λ i. HasKey (view_in text.new.reader).units i) }
-{
-    adopt(&mut text.reader, slot)
-}
-
-/// The slot with the interned string of these units, if there is one.
-pub(crate) fn slot_with(text: &mut Text<&Heap>, units: &[u16]) -> Option<u32>
-    requires { length units.now ≤ 65536 }
-    ensures { Moves Turns text.old.reader text.new.reader }
-{
-    match find_units(&mut text.reader, units) {
-        Some(id) => Some(slot_of(&mut text.reader, id)),
         None => None,
     }
 }

@@ -1,5 +1,5 @@
-// Strings of the table by their slots. A string that is interned stands in one slot for good, so an
-// agent that is told the slot may load it, and knows the string from then on.
+// Strings of the table by their slots. An interned string is in one slot for good, so an agent that
+// gets the number of the slot may load it, and knows the string from then on.
 ghost use Rattle.std.specs.Prelude.{◌≡◌, ◌↔◌, ℕ, List, ◌+◌, ◌%◌, ◌≤◌, ◌<◌, Contains, IsTrue, Some};
 ghost use Rattle.js_units.specs.Lanes.{hash_of};
 ghost use Rattle.heap_rule.specs.Maps.{Has, HasKey};
@@ -105,7 +105,7 @@ fn walk_to<H: HeapRef>(reader: &mut Reader<H>, id: u32, hash: u32) -> u32
     unreachable!()
 }
 
-/// The slot in which an interned string stands, for good: an answer of the string table that is in
+/// The slot of an interned string, for good: of an answer of the string table that is in
 /// the history. It uses nothing, also on a full heap. Each slot on the path of the string's hash is
 /// loaded once, up to this one, and each of its content words.
 pub fn slot_of<H: HeapRef>(reader: &mut Reader<H>, id: u32) -> u32
