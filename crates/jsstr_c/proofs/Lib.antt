@@ -2,6 +2,8 @@ pub mod Walks
 pub mod Boxed
 pub mod Ready
 pub mod Going
+pub mod Settling
+pub mod Stages
 pub mod Same
 pub mod Decoded
 pub mod Copied
