@@ -9,6 +9,7 @@ use Rattle.heap_rule.specs.declared.size.Counters.{Counters}
 use Rattle.heap_rule.specs.declared.size.HeapSize.{HeapSize}
 use Rattle.heap_rule.specs.declared.view.View.{View}
 use Rattle.heap_rule.specs.Maps.{Has, HasKey}
+use Rattle.heap_rule.specs.Views.{IsSeenSettled}
 use Rattle.heap_table.specs.Agents.{size_of}
 use Rattle.heap_read.specs.Reads.{OnlyLoads}
 use Rattle.heap_read.proofs.Loaded.{reads_trans}
@@ -18,6 +19,7 @@ use Rattle.heap_text.specs.Texts.{IsSpared, KeepsOwn, text_words_wanted}
 use Rattle.heap_agents.specs.declared.held.Held.{Held}
 use Rattle.heap_agents.specs.declared.ids.IdSet.{IdSet}
 use Rattle.heap_agents.specs.Sets.{IsIn}
+use Rattle.heap_agents.specs.Held.{Leaves, MarksOnly, view_by}
 use Rattle.heap_agents.specs.Ready.{HandleLeaves, HandleKnows, size_in, handle_view}
 use Rattle.heap_agents.specs.Shared.{IsSameText, SharedText, size_if}
 use Rattle.jsstr_c.specs.declared.answer.JsAnswer.{JsAnswer}
@@ -121,3 +123,9 @@ module _ (o m p : Option Held) (s : ℕ) (g : Measures o m) where
         no_room_before v w x r e (size_in o) us t.0 t.1
         (subst (λ (z : HeapSize). IsNoRoom w x z us t.0 t.1) (leaves_sizes o m g.looks.leaves) t.4));
   }
+
+-- the same of what lies behind a handle
+pub held_settles : (o p : Option Held) (x y : Held) (s : ℕ) → o ≡ Some x → p ≡ Some y → Leaves x y → KeepsOwn (view_by x) (view_by y) → MarksOnly x y s → IsSeenSettled (view_by y) s
+    → ((us : List ℕ) → Has (view_by x).units s us → IsSettling (view_by x) (view_by y) s us) → (IsSeenSettled (view_by x) s → OnlyLoads (view_by x) (view_by y)) → Settles o p s
+held_settles o p x y s e f leaves own marks settled used again = subst (λ (q : Option Held). Settles o q s) (sym f)
+    (subst (λ (q : Option Held). Settles q (Some y) s) (sym e) record { leaves = leaves; own = own; marks = marks; settled = settled; used = used; again = again })
