@@ -6,7 +6,7 @@ use Rattle.jsstr_c.proofs.Stages.{goes_on, stops}
 use Rattle.jsstr_c.proofs.checked.reading.jsstr_to_utf8.Goals as goal
 
 pub returns-then-settled-ne-DONE-clause-reads : goal.returns-then-settled-ne-DONE-clause-reads
-returns-then-settled-ne-DONE-clause-reads c = let first = c.settle_known-settled in let is = c.without_bytes.ensures in let e = ap (λ (x : JsBytes). x.status) is in
+returns-then-settled-ne-DONE-clause-reads c = let first = c.settle_known-settled in let is = c.without_bytes-then-settled-ne-DONE.ensures in let e = ap (λ (x : JsBytes). x.status) is in
     stops c.args.agent.now.at.value first.new.agent.at.value c.args.s first.result first.ensures.settles _ _ _ e c.if-settled-ne-DONE.true ((is ∙ ap no_bytes (sym e), refl))
 
 pub returns-clause-reads : goal.returns-clause-reads
