@@ -3,10 +3,12 @@ use Rattle.std.proofs.Common.{◌≡◌, ◌≢◌, ◌∙◌, ℕ, List, Option
 use Rattle.heap_rule.specs.Maps.{Has}
 use Rattle.heap_agents.specs.declared.held.Held.{Held}
 use Rattle.heap_agents.specs.Ready.{HandleLeaves, HandleKnows, Searches, handle_view}
+use Rattle.std.specs.declared.cmp.Ordering.{Ordering}
 use Rattle.jsstr_c.specs.declared.answer.JsAnswer.{JsAnswer}
+use Rattle.jsstr_c.specs.declared.answer.JsOrder.{JsOrder}
 use Rattle.jsstr_c.specs.Checked.{IsPairRefused, Looked, Measures, OnlyLooks, ReadsSettled, Refuses, SeeksSettled, Settles, SettlesBoth, SettlesFirst}
 use Rattle.jsstr_c.specs.Pairs.{SettlesPair}
-use Rattle.jsstr_c.specs.Reports.{bad_argument, done}
+use Rattle.jsstr_c.specs.Reports.{bad_argument, done, order_answer, order_number}
 use Rattle.jsstr_c.proofs.Going.{goes_knows, goes_trans, goes_units}
 use Rattle.jsstr_c.proofs.Settling.{measures_trans, one_knows, refuses_before, settles_before}
 
@@ -114,3 +116,6 @@ right_ends o m p a b r ka kb one told does fails = record {
   refused = λ nb nd. ((fails nd).words, (r, refl, inr (m, one, fails nd)));
   done = λ e. (m, one, does e);
 }
+
+pub orders : (r : JsOrder) (o : Ordering) → r.status ≡ 0 → r.order ≡ order_number o → r ≡ order_answer o
+orders r o e f = λ i. record { status = e i; order = f i }

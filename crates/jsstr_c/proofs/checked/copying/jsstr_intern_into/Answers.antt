@@ -1,4 +1,4 @@
-use Rattle.std.proofs.Common.{inr, arith}
+use Rattle.std.proofs.Common.{◌≡◌, inr, arith}
 use Rattle.jsstr_c.proofs.Stages.{settled_first, units_first}
 use Rattle.jsstr_c.proofs.checked.copying.jsstr_intern_into.Goals as goal
 

@@ -1,8 +1,8 @@
 use Rattle.std.proofs.Common.{◌≡◌, ◌∙◌, ap, sym, arith}
-use Rattle.std.specs.Prelude.{ℤ}
+use Rattle.std.proofs.Common.{refl, rules}
 use Rattle.jsstr_c.specs.declared.answer.JsOrder.{JsOrder}
 use Rattle.jsstr_c.specs.Reports.{no_order}
-use Rattle.jsstr_c.proofs.Stages.{goes_on, stops}
+use Rattle.jsstr_c.proofs.Stages.{goes_on, orders, stops}
 use Rattle.jsstr_c.proofs.checked.lists.jsstr_compare_units.Goals as goal
 
 pub returns-then-settled-ne-DONE-clause-compares : goal.returns-then-settled-ne-DONE-clause-compares
@@ -12,4 +12,4 @@ returns-then-settled-ne-DONE-clause-compares c = let first = c.settle_known-sett
 pub returns-clause-compares : goal.returns-clause-compares
 returns-clause-compares c = let first = c.settle_known-settled in let two = c.jsstr_compare_units_unchecked-order in let n = c.if-settled-ne-DONE.false in
     goes_on c.args.agent.now.at.value first.new.agent.at.value c.args.s first.result first.ensures.settles two.new.agent.at.value _ _ _ (omega (arith, n)) two.ensures.looks (λ (x : 0 ≡ 9). absurd (omega (arith, x))) (λ (x : 0 ≡ 4). absurd (omega (arith, x)))
-    (λ us h. ap (λ (n : ℤ). record { status = 0; order = n }) (two.ensures.order us h))
+    (λ us h. let is = two.ensures.order us h in orders _ _ refl (search rules))

@@ -1,4 +1,4 @@
-use Rattle.std.proofs.Common.{inr, arith}
+use Rattle.std.proofs.Common.{◌≡◌, inr, arith}
 use Rattle.heap_rule.proofs.MapLemmas.{has_key}
 use Rattle.heap_agents.specs.Ready.{handle_view}
 use Rattle.jsstr_c.proofs.Stages.{settled_first, units_first}

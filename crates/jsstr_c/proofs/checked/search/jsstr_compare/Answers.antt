@@ -1,8 +1,8 @@
 use Rattle.std.proofs.Common.{◌≡◌, ◌∙◌, ap, sym, arith}
-use Rattle.std.specs.Prelude.{ℤ}
+use Rattle.std.proofs.Common.{refl, rules}
 use Rattle.jsstr_c.specs.declared.answer.JsOrder.{JsOrder}
 use Rattle.jsstr_c.specs.Reports.{no_order}
-use Rattle.jsstr_c.proofs.Stages.{seeks_on, stops_both}
+use Rattle.jsstr_c.proofs.Stages.{orders, seeks_on, stops_both}
 use Rattle.jsstr_c.proofs.checked.search.jsstr_compare.Goals as goal
 
 pub returns-then-status-ne-DONE-clause-seeks : goal.returns-then-status-ne-DONE-clause-seeks
@@ -13,4 +13,4 @@ pub returns-clause-seeks : goal.returns-clause-seeks
 returns-clause-seeks c = let both = c.settle_both-status in let two = c.jsstr_compare_unchecked-order in let n = c.if-status-ne-DONE.false in
     seeks_on c.args.agent.now.at.value both.new.agent.at.value c.args.a c.args.b both.result both.ensures.settles two.new.agent.at.value _ _ _ (omega (arith, n)) two.ensures.searches
     (λ (x : 0 ≡ 9). absurd (omega (arith, x))) (λ (x : 0 ≡ 4). absurd (omega (arith, x)))
-    (λ us vs h k. (ap (λ (x : ℤ). record { status = 0; order = x }) (two.ensures.order us vs h k), two.ensures.means us vs h k))
+    (λ us vs h k. let is = two.ensures.order us vs h k in let r = two.ensures.means us vs h k in let same = r.1 in (orders _ _ refl (search rules), (r.0, search rules, r.2)))
