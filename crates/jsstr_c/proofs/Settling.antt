@@ -1,5 +1,5 @@
 -- What settling a string leaves after a length was read, and before loads alone.
-use Rattle.std.proofs.Common.{◌≡◌, ◌∙◌, ℕ, ◌+◌, ◌≤◌, Bool, List, length, Option, None, Some, inl, inr, ap, subst, sym, ⊎_elim, arith}
+use Rattle.std.proofs.Common.{◌≡◌, ◌∙◌, ℕ, ◌+◌, ◌≤◌, Bool, List, length, Option, None, Some, inl, inr, ap, subst, sym, ⊎_elim}
 use Rattle.std.specs.FinMap.{FinMap}
 use Rattle.std.specs.Ordering.{nat_cmp}
 use Rattle.js_units.specs.Lanes.{words_over}
@@ -119,9 +119,14 @@ module _ (o m p : Option Held) (s : ℕ) (g : Measures o m) where
     marks = none_trans o m p g.looks.marks b.marks;
     unseen = λ k. b.unseen (r.known.settled s k);
     words = b.words;
-    report = λ us h. let t = b.report us (r.known.units s us h) in (t.0, t.1, t.2, bit_before v w x r e s t.1 t.3,
-        no_room_before v w x r e (size_in o) us t.0 t.1
-        (subst (λ (z : HeapSize). IsNoRoom w x z us t.0 t.1) (leaves_sizes o m g.looks.leaves) t.4));
+    report = λ us h. let t = b.report us (r.known.units s us h) in (
+      t.0,
+      t.1,
+      t.2,
+      bit_before v w x r e s t.1 t.3,
+      no_room_before v w x r e (size_in o) us t.0 t.1
+          (subst (λ (z : HeapSize). IsNoRoom w x z us t.0 t.1) (leaves_sizes o m g.looks.leaves) t.4),
+    );
   }
 
 -- the same of what lies behind a handle

@@ -1,12 +1,12 @@
 -- Calls that settle one string or two, and then read or search: each stage that a call may end at.
-use Rattle.std.proofs.Common.{◌≡◌, ◌≢◌, ◌∙◌, ℕ, List, Option, inl, inr, refl, ap, subst, sym, ⊎_elim, arith}
+use Rattle.std.proofs.Common.{◌≡◌, ◌≢◌, ◌∙◌, ℕ, List, Option, inl, inr, refl, subst, sym, ⊎_elim, arith}
 use Rattle.heap_rule.specs.Maps.{Has}
 use Rattle.heap_agents.specs.declared.held.Held.{Held}
 use Rattle.heap_agents.specs.Ready.{HandleLeaves, HandleKnows, Searches, handle_view}
 use Rattle.std.specs.declared.cmp.Ordering.{Ordering}
 use Rattle.jsstr_c.specs.declared.answer.JsAnswer.{JsAnswer}
 use Rattle.jsstr_c.specs.declared.answer.JsOrder.{JsOrder}
-use Rattle.jsstr_c.specs.Checked.{IsPairRefused, Looked, Measures, OnlyLooks, ReadsSettled, Refuses, SeeksSettled, Settles, SettlesBoth, SettlesFirst}
+use Rattle.jsstr_c.specs.Checked.{IsPairRefused, Looked, Measures, OnlyLooks, ReadsSettled, Refuses, SeeksSettled, Settles, SettlesFirst}
 use Rattle.jsstr_c.specs.Pairs.{SettlesPair}
 use Rattle.jsstr_c.specs.Reports.{bad_argument, done, order_answer, order_number}
 use Rattle.jsstr_c.proofs.Going.{goes_knows, goes_trans, goes_units}
@@ -77,8 +77,15 @@ pub pair_before : (o m p : Option Held) (a b status : ℕ) → Measures o m → 
 pair_before o m p a b status g ka kb s = record {
   unknown = λ n. absurd (n (ka, kb));
   bad = λ e. inr (⊎_elim (λ (x : p ≡ m). subst (Measures o) (sym x) g) (λ (h : Measures m p). measures_trans o m p g h) (s.bad e));
-  refused = λ nb nd. let t = s.refused nb nd in (t.0, (t.1.0, t.1.1, ⊎_elim (λ (f : Refuses m p a t.1.0). inl (refuses_before o m p a g t.1.0 f))
-      (λ (f : (n : Option Held) × Settles m n a × Refuses n p b t.1.0). inr (f.0, settles_before o m f.0 a g f.1, f.2)) t.1.2));
+  refused = λ nb nd. let t = s.refused nb nd in (
+    t.0,
+    (
+      t.1.0,
+      t.1.1,
+      ⊎_elim (λ (f : Refuses m p a t.1.0). inl (refuses_before o m p a g t.1.0 f))
+          (λ (f : (n : Option Held) × Settles m n a × Refuses n p b t.1.0). inr (f.0, settles_before o m f.0 a g f.1, f.2)) t.1.2,
+    ),
+  );
   done = λ e. let t = s.done e in (t.0, settles_before o m t.0 a g t.1, t.2);
 }
 

@@ -54,8 +54,8 @@ pub record Measures (o p : Option Held) : Type 0 where
 abbrev pub Looked : Option Held → Option Held → Type 0
 Looked o p = (p ≡ o) ⊎ Measures o p
 
--- String s was settled, and nothing else was done: it alone was marked, what the agent owned it still owns, and
--- what was used is what settling uses. Where it was seen settled, there were loads alone.
+-- String s was settled, and nothing else was done: it alone was marked, what the agent owned it still owns,
+-- and what was used is what settling uses. Where it was seen settled, there were loads alone.
 pub record Settles (o p : Option Held) (s : ℕ) : Type 0 where
   pub leaves : HandleLeaves o p
   pub own : KeepsOwn (handle_view o) (handle_view p)
@@ -93,15 +93,15 @@ IsRefused o p s status = (r : JsAnswer) × (status ≡ r.status) × Refuses o p 
 abbrev pub Settled : Option Held → Option Held → ℕ → Type 0
 Settled o p s = (m : Option Held) × Settles o m s × OnlyLooks m p
 
--- What a call that reads the units of string s, which it settles first, leaves and answers, by its status. A
--- refusal tells `nothing` beside; else the answer is what `tells` says of the units.
+-- What a call that reads the units of string s, which it settles first, leaves and answers, by its status. On
+-- a refusal `nothing` holds, and else `answers` of the units.
 pub record ReadsSettled (o p : Option Held) (s status : ℕ) (nothing : Type 0)
-    (tells : List ℕ → Type 0) : Type 0 where
+    (answers : List ℕ → Type 0) : Type 0 where
   pub unknown : ¬ (HandleKnows o s) → p ≡ o
   pub bad : status ≡ BAD_ARGUMENT → nothing × Looked o p
   pub refused : status ≡ NO_WORDS → nothing × IsRefused o p s status
   pub done : status ≢ BAD_ARGUMENT → status ≢ NO_WORDS
-      → Settled o p s × ((us : List ℕ) → Has (handle_view o).units s us → tells us)
+      → Settled o p s × ((us : List ℕ) → Has (handle_view o).units s us → answers us)
 
 -- strings a and b were settled, one after the other
 abbrev pub SettlesBoth : Option Held → Option Held → ℕ → ℕ → Type 0
@@ -116,16 +116,16 @@ IsPairRefused o p a b status = (r : JsAnswer) × (status ≡ r.status)
 abbrev pub Sought : Option Held → Option Held → ℕ → ℕ → Type 0
 Sought o p a b = (m : Option Held) × SettlesBoth o m a b × Searches m p
 
--- What a call that searches strings a and b, which it settles first, leaves and answers, by its status. A
--- refusal tells `nothing` beside; else the answer is what `tells` says of the units of both.
+-- What a call that searches strings a and b, which it settles first, leaves and answers, by its status. On a
+-- refusal `nothing` holds, and else `answers` of the units of both.
 pub record SeeksSettled (o p : Option Held) (a b status : ℕ) (nothing : Type 0)
-    (tells : List ℕ → List ℕ → Type 0) : Type 0 where
+    (answers : List ℕ → List ℕ → Type 0) : Type 0 where
   pub unknown : ¬ (HandleKnows o a × HandleKnows o b) → p ≡ o
   pub bad : status ≡ BAD_ARGUMENT → nothing × Looked o p
   pub refused : status ≡ NO_WORDS → nothing × IsPairRefused o p a b status
   pub done : status ≢ BAD_ARGUMENT → status ≢ NO_WORDS
       → Sought o p a b × ((us vs : List ℕ) → Has (handle_view o).units a us → Has (handle_view o).units b vs
-      → tells us vs)
+      → answers us vs)
 
 -- both are there, and by their numbers the second one was split off from the first
 abbrev pub IsChild : Option Held → Option Held → Type 0

@@ -10,7 +10,7 @@ use Rattle.heap_text.specs.Texts.{KeepsOwn}
 use Rattle.heap_intern.specs.declared.table.faults.TableFull.{TableFull}
 use Rattle.heap_intern.specs.Answers.{IsForwarded, IsInternAnswer, IsPlan, HeaderPlan}
 use Rattle.heap_agents.specs.declared.held.Held.{Held}
-use Rattle.heap_agents.specs.Interned.{IsEntered, KeepsCalls}
+use Rattle.heap_agents.specs.Interned.{KeepsCalls}
 use Rattle.heap_agents.specs.Ready.{HandleLeaves, IsBeside, MarksStay, handle_limit, size_in, handle_view}
 use Rattle.jsstr_c.specs.declared.answer.JsAnswer.{JsAnswer}
 use Rattle.jsstr_c.specs.Checked.{MarksResult, MarksKey, MarksNone, Refuses, Settles}

@@ -17,8 +17,8 @@ ghost use Rattle.js_header.specs.declared.form.Form as form;
 
 use crate::agent::JsAgent;
 use crate::answer::{
-    BAD_ARGUMENT, DONE, JsAnswer, JsNumber, JsTruth, JsWords, of_number, without_number, without_truth,
-    without_words,
+    BAD_ARGUMENT, DONE, JsAnswer, JsNumber, JsTruth, JsWords, of_number, without_number,
+    without_truth, without_words,
 };
 use crate::bytes::{JsBytes, without_bytes};
 use crate::checked::settling::{settle_known, settle_reaching};

@@ -1,5 +1,5 @@
 // Comparing strings, and finding one in another. Both are settled first.
-ghost use Rattle.std.specs.Prelude.{◌≡◌, ◌↔◌, ℕ, List, Option, IsTrue};
+ghost use Rattle.std.specs.Prelude.{◌≡◌, ◌↔◌, ℕ, Option, IsTrue};
 ghost use Rattle.std.specs.declared.cmp.Ordering as ordering;
 ghost use Rattle.js_search.specs.Order.{units_cmp};
 ghost use Rattle.js_search.specs.Places.{IsFirst, IsLast, Stands, first, last, stands};
@@ -11,9 +11,7 @@ ghost use Rattle.jsstr_c.specs.Reports.{no_order, no_place, no_truth, order_answ
 ghost use Rattle.jsstr_c.specs.Reports as reports;
 
 use crate::agent::JsAgent;
-use crate::answer::{
-    DONE, JsOrder, JsPlace, JsTruth, without_order, without_place, without_truth,
-};
+use crate::answer::{DONE, JsOrder, JsPlace, JsTruth, without_order, without_place, without_truth};
 use crate::checked::settling::{settle_both, settle_both_reaching};
 use crate::unchecked::search::{
     jsstr_compare_unchecked, jsstr_equal_unchecked, jsstr_index_of_unchecked,

@@ -1,4 +1,4 @@
-use Rattle.std.proofs.Common.{◌≡◌, ◌∙◌, ap, sym, arith}
+use Rattle.std.proofs.Common.{◌∙◌, ap, sym, arith}
 use Rattle.jsstr_c.specs.declared.answer.JsNumber.{JsNumber}
 use Rattle.jsstr_c.specs.Reports.{no_number}
 use Rattle.jsstr_c.proofs.Stages.{goes_on, stops}

@@ -1,4 +1,4 @@
-use Rattle.std.proofs.Common.{◌≡◌, ◌∙◌, ap, sym, arith}
+use Rattle.std.proofs.Common.{◌∙◌, ap, sym, arith}
 use Rattle.std.proofs.Common.{ℕ, Some}
 use Rattle.jsstr_c.specs.Reports.{number_answer}
 use Rattle.jsstr_c.specs.declared.answer.JsNumber.{JsNumber}

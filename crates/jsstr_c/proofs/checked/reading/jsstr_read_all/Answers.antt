@@ -1,4 +1,4 @@
-use Rattle.std.proofs.Common.{◌≡◌, ◌∙◌, ap, sym, arith}
+use Rattle.std.proofs.Common.{◌∙◌, ap, sym, arith}
 use Rattle.std.proofs.Common.{refl}
 use Rattle.jsstr_c.specs.declared.bytes.JsBytes.{JsBytes}
 use Rattle.jsstr_c.specs.Bytes.{no_bytes}

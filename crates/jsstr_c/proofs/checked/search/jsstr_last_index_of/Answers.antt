@@ -1,4 +1,4 @@
-use Rattle.std.proofs.Common.{◌≡◌, ◌∙◌, ap, sym, arith}
+use Rattle.std.proofs.Common.{◌∙◌, ap, sym, arith}
 use Rattle.jsstr_c.specs.declared.answer.JsPlace.{JsPlace}
 use Rattle.jsstr_c.specs.Reports.{no_place}
 use Rattle.jsstr_c.proofs.Stages.{seeks_on, stops_both}
