@@ -1,6 +1,6 @@
 // Reading strings: their lengths and units.
 ghost use Rattle.std.specs.Prelude.{◌≡◌, ℕ, ◌+◌, ◌≤◌, ◌<◌, List, length, slice_range, IfOk, IfErr, IsOk, Bool};
-ghost use Rattle.heap_read.specs.Reads.{OnlyLoads};
+ghost use Rattle.heap_read.specs.Reads.{KeepsForms, OnlyLoads};
 ghost use Rattle.heap_rule.specs.Maps.{Has, HasKey};
 ghost use Rattle.heap_rule.specs.Views.{IsSeenSettled};
 ghost use Rattle.heap_table.specs.Agents.{view_of};
@@ -28,13 +28,14 @@ fn read_units<H: HeapRef>(text: &mut Text<H>, s: JsStr, from: u32, out: &mut [u1
 }
 
 impl Held {
-    /// The length of a string, in units, by loads alone.
+    /// The length of a string, in units, by loads alone, and none of a form.
     pub fn length(&mut self, s: JsStr) -> u32
         requires held { IsHeld self.old }
         requires known { HasKey (view_by self.old).units s.id }
         ensures leaves { Leaves self.old self.new }
         ensures reads { OnlyLoads (view_by self.old) (view_by self.new) }
         ensures marked { MarksNothing self.old self.new }
+        ensures forms { KeepsForms (view_by self.old) (view_by self.new) }
         ensures length { (us : List ℕ) → Has (view_by self.old).units s.id us → result ≡ length us }
     {
         match &mut self.text {

@@ -1,7 +1,7 @@
 -- What calls in a row leave of what a handle has.
 use Rattle.std.proofs.lemmas.Bool.Decides.{nat_tests}
 use lib.Dec.{leb}
-use Rattle.std.proofs.Common.{arith, true, inl, inr, ⊎_elim, ◌≡◌, ℕ, ◌≤◌, List, length, ◌∙◌, Option, None, Some, subst, sym}
+use Rattle.std.proofs.Common.{arith, true, ◌≡◌, ℕ, ◌≤◌, List, length, ◌∙◌, Option, None, Some, subst, sym}
 use Rattle.heap_rule.specs.Maps.{Has, HasKey}
 use Rattle.heap_rule.proofs.MapLemmas.{has_key, key_of}
 use Rattle.heap_read.specs.Reads.{Continues}
@@ -16,7 +16,7 @@ use Rattle.heap_agents.proofs.Marks.{same_trans}
 use Rattle.heap_agents.specs.Ready.{HandleLeaves, Searches, IsReady, HandleKnows, handle_view}
 use Rattle.jsstr_c.specs.declared.answer.JsAnswer.{JsAnswer}
 use Rattle.jsstr_c.specs.Given.{Tests}
-use Rattle.jsstr_c.specs.Checked.{Follows, IsPairRefused, IsUnsettled, Reaches}
+use Rattle.jsstr_c.specs.Checked.{Reaches}
 
 marks_trans : (x y z : Held) → KeepsMarks x y → KeepsMarks y z → KeepsMarks x z
 marks_trans x y z a b = record { known = λ i h. b.known i (a.known i h); interned = λ i h. b.interned i (a.interned i h); number = b.number ∙ a.number; giver = b.giver ∙ a.giver }
@@ -75,21 +75,6 @@ module _ (o p : Option Held) (s all n : ℕ) (ready : IsReady o) (known : Handle
 
 pub leb_of : (m n : ℕ) → m ≤ n → leb m n ≡ true
 leb_of m n h = grind (arith, nat_tests, h)
-
-follows_on : (o m n : Option Held) → HandleLeaves o m → Follows m n → HandleLeaves o n
-follows_on o m n g f = ⊎_elim (λ (e : n ≡ m). subst (λ (x : Option Held). HandleLeaves o x) (sym e) g) (λ (h : HandleLeaves m n). goes_trans o m n g h) f
-
-unsettled_on : (o m p : Option Held) (s : ℕ) (r : JsAnswer) → HandleLeaves o m → IsUnsettled m p s r → IsUnsettled o p s r
-unsettled_on o m p s r g u = (u.0, inr (follows_on o m u.0 g u.1), u.2)
-
--- what is refused after other calls
-pub refused_on : (o m p : Option Held) (a b status : ℕ) → HandleLeaves o m → IsPairRefused m p a b status → IsPairRefused o p a b status
-refused_on o m p a b status g r = (
-  r.0,
-  r.1,
-  goes_trans o m p g r.2,
-  ⊎_elim (λ (u : IsUnsettled m p a r.0). inl (unsettled_on o m p a r.0 g u)) (λ (u : IsUnsettled m p b r.0). inr (unsettled_on o m p b r.0 g u)) r.3,
-)
 
 pub goes_known : (o p : Option Held) → HandleLeaves o p → KeepsKnown (handle_view o) (handle_view p)
 goes_known o p g = (goes_continues o p g).known

@@ -3,6 +3,8 @@ pub mod Boxed
 pub mod BoxedTexts
 pub mod Ready
 pub mod Going
+pub mod Settling
+pub mod Stages
 pub mod Same
 pub mod Decoded
 pub mod Copied

@@ -2,11 +2,13 @@ pub mod Owned
 pub mod OwnedText
 pub mod Handles
 pub mod Reports
+pub mod Checked
+pub mod Pairs
+pub mod Made
 pub mod Decoded
 pub mod Bytes
 pub mod Given
 pub mod Sources
-pub mod Checked
 pub mod Lists
 pub mod Board
 pub mod Building

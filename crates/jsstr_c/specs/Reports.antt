@@ -12,8 +12,11 @@ use Rattle.heap_intern.specs.declared.table.faults.TableFull.TheVariants as tabl
 use Rattle.heap_rule.specs.declared.size.HeapSize.{HeapSize}
 use Rattle.jsstr_c.specs.declared.answer.JsAnswer.{JsAnswer}
 use Rattle.jsstr_c.specs.declared.answer.JsNumber.{JsNumber}
+use Rattle.jsstr_c.specs.declared.answer.JsOrder.{JsOrder}
 use Rattle.jsstr_c.specs.declared.answer.JsPlace.{JsPlace}
 use Rattle.jsstr_c.specs.declared.answer.JsSize.{JsSize}
+use Rattle.jsstr_c.specs.declared.answer.JsTotals.{JsTotals}
+use Rattle.jsstr_c.specs.declared.answer.JsTruth.{JsTruth}
 use Rattle.jsstr_c.specs.declared.answer.JsWords.{JsWords}
 use Rattle.heap_agents.specs.declared.words.Shown.{Shown}
 
@@ -127,10 +130,29 @@ order_number Less = negsuc 0
 order_number Equal = pos 0
 order_number Greater = pos 1
 
+abbrev pub order_answer : Ordering → JsOrder
+order_answer o = record { status = DONE; order = order_number o }
+
+-- a refusal, with no order
+abbrev pub no_order : ℕ → JsOrder
+no_order status = record { status = status; order = pos 0 }
+
+-- a refusal, with nothing that holds
+abbrev pub no_truth : ℕ → JsTruth
+no_truth status = record { status = status; holds = false }
+
+-- a refusal, with no place
+abbrev pub no_place : ℕ → JsPlace
+no_place status = record { status = status; at = 0 }
+
 -- the place, or that there is none
 abbrev pub place_answer : Option ℕ → JsPlace
 place_answer (Some k) = record { status = DONE; at = k }
-place_answer None = record { status = NONE; at = 0 }
+place_answer None = no_place NONE
+
+-- a refusal, with no counts
+abbrev pub no_totals : ℕ → JsTotals
+no_totals status = record { status = status; ids = 0; words = 0 }
 
 -- a refusal, with no number
 abbrev pub no_number : ℕ → JsNumber

@@ -1,7 +1,7 @@
 // What a call answers.
-ghost use Rattle.std.specs.Prelude.{◌≡◌, ◌≢◌, false};
+ghost use Rattle.std.specs.Prelude.{◌≡◌, ◌≢◌};
 ghost use Rattle.jsstr_c.specs.Reports as reports;
-ghost use Rattle.jsstr_c.specs.Reports.{found_answer, join_answer, no_number, no_words, number_answer, order_number, place_answer, table_answer, text_answer, words_answer};
+ghost use Rattle.jsstr_c.specs.Reports.{found_answer, join_answer, no_number, no_order, no_place, no_totals, no_truth, no_words, number_answer, order_number, place_answer, table_answer, text_answer, words_answer};
 
 use heap_agents::Shown;
 use heap_intern::TableFull;
@@ -206,19 +206,24 @@ pub(crate) fn no_memory() -> JsAnswer
 pub(crate) fn of_place(answer: Option<u32>) -> JsPlace
     ensures value { result ≡ place_answer answer }
     ensures told { result.status ≢ reports.BAD_ARGUMENT }
+    ensures words { result.status ≢ reports.NO_WORDS }
 {
     match answer {
         Some(at) => JsPlace { status: DONE, at },
-        None => JsPlace {
-            status: NONE,
-            at: 0,
-        },
+        None => without_place(NONE),
     }
+}
+
+pub(crate) fn without_place(status: u32) -> JsPlace
+    ensures { result ≡ no_place status }
+{
+    JsPlace { status, at: 0 }
 }
 
 pub(crate) fn of_number(answer: Option<u32>) -> JsNumber
     ensures value { result ≡ number_answer answer }
     ensures told { result.status ≢ reports.BAD_ARGUMENT }
+    ensures words { result.status ≢ reports.NO_WORDS }
 {
     match answer {
         Some(value) => JsNumber {
@@ -236,12 +241,27 @@ pub(crate) fn without_number(status: u32) -> JsNumber
 }
 
 pub(crate) fn without_truth(status: u32) -> JsTruth
-    ensures status { result.status ≡ status }
-    ensures unused { result.holds ≡ false }
+    ensures { result ≡ no_truth status }
 {
     JsTruth {
         status,
         holds: false,
+    }
+}
+
+pub(crate) fn without_order(status: u32) -> JsOrder
+    ensures { result ≡ no_order status }
+{
+    JsOrder { status, order: 0 }
+}
+
+pub(crate) fn without_totals(status: u32) -> JsTotals
+    ensures { result ≡ no_totals status }
+{
+    JsTotals {
+        status,
+        ids: 0,
+        words: 0,
     }
 }
 

@@ -23,6 +23,7 @@ pub struct JsBytes {
 pub(crate) fn of_bytes(answer: Result<u32, WriteFault>) -> JsBytes
     ensures value { result ≡ specs.bytes_answer answer }
     ensures told { result.status ≢ reports.BAD_ARGUMENT }
+    ensures words { result.status ≢ reports.NO_WORDS }
 {
     let (status, at, size) = match answer {
         Ok(size) => (DONE, 0, size),

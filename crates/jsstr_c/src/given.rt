@@ -3,8 +3,8 @@ ghost use Rattle.std.specs.Prelude.{◌≡◌, ◌≢◌, ◌↔◌, ◌≤◌, 
 ghost use Rattle.heap_rule.specs.Layout.{MAX};
 ghost use Rattle.heap_rule.specs.Maps.{Has, HasKey};
 ghost use Rattle.heap_rule.specs.Views.{IsSeenSettled};
-ghost use Rattle.heap_read.specs.Reads.{OnlyLoads};
-ghost use Rattle.heap_agents.specs.Ready.{HandleLeaves, IsReady, handle_view};
+ghost use Rattle.heap_agents.specs.Ready.{IsReady, handle_view};
+ghost use Rattle.jsstr_c.specs.Checked.{OnlyLooks};
 ghost use Rattle.jsstr_c.specs.Given.{OrNoMemory};
 ghost use Rattle.jsstr_c.specs.Handles.{IsHandle};
 ghost use Rattle.jsstr_c.specs.Reports as reports;
@@ -133,8 +133,7 @@ fn copied(alloc: Global, agent: &mut JsAgent, s: u32) -> Result<Vec<u16>, AllocE
     requires known { HasKey (handle_view agent.old.at.value).units s }
     requires settled { IsSeenSettled (handle_view agent.old.at.value) s }
     ensures handle { IsHandle agent.new }
-    ensures goes { HandleLeaves agent.old.at.value agent.new.at.value }
-    ensures reads { OnlyLoads (handle_view agent.old.at.value) (handle_view agent.new.at.value) }
+    ensures looks { OnlyLooks agent.old.at.value agent.new.at.value }
     ensures units { IfOk result (λ v. (us : List ℕ) → Has (handle_view agent.old.at.value).units s us
         → v.items ≡ us) }
     ensures short { IfOk result (λ v. length v.items ≤ MAX) }
@@ -159,8 +158,7 @@ pub(crate) fn on_string(
     requires other { IsReady to.old.at.value }
     ensures handle { IsHandle from.new }
     ensures other_handle { IsHandle to.new }
-    ensures goes { HandleLeaves from.old.at.value from.new.at.value }
-    ensures reads { OnlyLoads (handle_view from.old.at.value) (handle_view from.new.at.value) }
+    ensures looks { OnlyLooks from.old.at.value from.new.at.value }
     ensures told { result.status ≢ reports.BAD_ARGUMENT }
     ensures leaves { Leaves task to.old.at.value to.new.at.value }
     ensures does { (us : List ℕ) → Has (handle_view from.old.at.value).units s us

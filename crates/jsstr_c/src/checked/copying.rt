@@ -2,15 +2,15 @@
 ghost use Rattle.std.specs.Prelude.{◌≡◌, ◌≢◌, ◌↔◌, ◌⊎◌, ℕ, List};
 ghost use Rattle.heap_rule.specs.Maps.{Has};
 ghost use Rattle.heap_agents.specs.Ready.{HandleLeaves, HandleKnows, IsReady, handle_view};
-ghost use Rattle.jsstr_c.specs.Checked.{IsUnsettled};
+ghost use Rattle.jsstr_c.specs.Checked.{Refuses, Settled};
 ghost use Rattle.jsstr_c.specs.Given.{IsInterning, Makes, OrNoMemory};
 ghost use Rattle.jsstr_c.specs.Handles.{IsHandle};
 ghost use Rattle.jsstr_c.specs.Reports as reports;
 
 use crate::agent::JsAgent;
 use crate::answer::{DONE, JsAnswer, bad_argument};
+use crate::checked::settling::settle_known;
 use crate::unchecked::copying::{jsstr_copy_into_unchecked, jsstr_intern_into_unchecked};
-use crate::unchecked::reading::jsstr_settle_unchecked;
 use std::alloc::Global;
 
 /// A new string in another heap with the units of a string, which is settled first. It allocates for the
@@ -29,17 +29,17 @@ pub extern "C" fn jsstr_copy_into(
         ↔ ¬ (HandleKnows from.old.at.value s × IsReady to.old.at.value) }
     ensures unchanged { result.status ≡ reports.BAD_ARGUMENT → (result ≡ reports.bad_argument)
         × (from.new.at.value ≡ from.old.at.value) × (to.new.at.value ≡ to.old.at.value) }
-    ensures goes { result.status ≢ reports.BAD_ARGUMENT → HandleLeaves from.old.at.value from.new.at.value }
     ensures leaves { result.status ≢ reports.BAD_ARGUMENT → HandleLeaves to.old.at.value to.new.at.value }
     ensures does { result.status ≢ reports.BAD_ARGUMENT
-        → (IsUnsettled from.old.at.value from.new.at.value s result × (to.new.at.value ≡ to.old.at.value))
-        ⊎ ((us : List ℕ) → Has (handle_view from.old.at.value).units s us
-        → OrNoMemory Makes to.old.at.value to.new.at.value us result) }
+        → (Refuses from.old.at.value from.new.at.value s result × (to.new.at.value ≡ to.old.at.value))
+        ⊎ (Settled from.old.at.value from.new.at.value s × ((us : List ℕ)
+        → Has (handle_view from.old.at.value).units s us
+        → OrNoMemory Makes to.old.at.value to.new.at.value us result)) }
 {
-    if to.is_empty() || !from.knows(alloc, s) {
+    if to.is_empty() {
         return bad_argument();
     }
-    let settled = jsstr_settle_unchecked(alloc, from, s);
+    let settled = settle_known(alloc, from, s);
     if settled.status != DONE {
         return settled;
     }
@@ -62,16 +62,16 @@ pub extern "C" fn jsstr_intern_into(
         ↔ ¬ (HandleKnows from.old.at.value s × IsReady to.old.at.value) }
     ensures unchanged { result.status ≡ reports.BAD_ARGUMENT → (result ≡ reports.bad_argument)
         × (from.new.at.value ≡ from.old.at.value) × (to.new.at.value ≡ to.old.at.value) }
-    ensures goes { result.status ≢ reports.BAD_ARGUMENT → HandleLeaves from.old.at.value from.new.at.value }
     ensures does { result.status ≢ reports.BAD_ARGUMENT
-        → (IsUnsettled from.old.at.value from.new.at.value s result × (to.new.at.value ≡ to.old.at.value))
-        ⊎ ((us : List ℕ) → Has (handle_view from.old.at.value).units s us
-        → OrNoMemory IsInterning to.old.at.value to.new.at.value us result) }
+        → (Refuses from.old.at.value from.new.at.value s result × (to.new.at.value ≡ to.old.at.value))
+        ⊎ (Settled from.old.at.value from.new.at.value s × ((us : List ℕ)
+        → Has (handle_view from.old.at.value).units s us
+        → OrNoMemory IsInterning to.old.at.value to.new.at.value us result)) }
 {
-    if to.is_empty() || !from.knows(alloc, s) {
+    if to.is_empty() {
         return bad_argument();
     }
-    let settled = jsstr_settle_unchecked(alloc, from, s);
+    let settled = settle_known(alloc, from, s);
     if settled.status != DONE {
         return settled;
     }

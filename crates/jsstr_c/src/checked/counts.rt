@@ -7,10 +7,11 @@ ghost use Rattle.heap_intern.specs.Counting.{different};
 ghost use Rattle.heap_intern.specs.Goes.{Looks};
 ghost use Rattle.heap_agents.specs.Ready.{HasWhole, IsBeside, IsReady, MarksStay, share_in, handle_view};
 ghost use Rattle.jsstr_c.specs.Handles.{IsHandle};
+ghost use Rattle.jsstr_c.specs.Reports.{no_number, no_totals};
 ghost use Rattle.jsstr_c.specs.Reports as reports;
 
 use crate::agent::JsAgent;
-use crate::answer::{BAD_ARGUMENT, DONE, JsNumber, JsTotals, without_number};
+use crate::answer::{BAD_ARGUMENT, DONE, JsNumber, JsTotals, without_number, without_totals};
 use crate::unchecked::counts::{
     jsstr_count_interned_unchecked, jsstr_share_unchecked, jsstr_totals_unchecked,
 };
@@ -43,7 +44,8 @@ pub extern "C" fn jsstr_totals(alloc: Global, agent: &mut JsAgent) -> JsTotals
     ensures handle { IsHandle agent.new }
     ensures bad { result.status ≡ reports.BAD_ARGUMENT ↔ ¬ (HasWhole agent.old.at.value) }
     ensures status { result.status ≢ reports.BAD_ARGUMENT → result.status ≡ reports.DONE }
-    ensures unchanged { result.status ≡ reports.BAD_ARGUMENT → agent.new.at.value ≡ agent.old.at.value }
+    ensures unchanged { result.status ≡ reports.BAD_ARGUMENT
+        → (result ≡ no_totals reports.BAD_ARGUMENT) × (agent.new.at.value ≡ agent.old.at.value) }
     ensures same { result.status ≡ reports.DONE → IsBeside agent.old.at.value agent.new.at.value }
     ensures marks { result.status ≡ reports.DONE → MarksStay agent.old.at.value agent.new.at.value }
     ensures view { result.status ≡ reports.DONE → handle_view agent.new.at.value
@@ -55,11 +57,7 @@ pub extern "C" fn jsstr_totals(alloc: Global, agent: &mut JsAgent) -> JsTotals
         ≡ (handle_view agent.old.at.value).used.words }
 {
     if !agent.has_whole(alloc) {
-        return JsTotals {
-            status: BAD_ARGUMENT,
-            ids: 0,
-            words: 0,
-        };
+        return without_totals(BAD_ARGUMENT);
     }
     let used = jsstr_totals_unchecked(alloc, agent);
     JsTotals {
@@ -76,7 +74,8 @@ pub extern "C" fn jsstr_count_interned(alloc: Global, agent: &mut JsAgent) -> Js
     ensures handle { IsHandle agent.new }
     ensures bad { result.status ≡ reports.BAD_ARGUMENT ↔ ¬ (HasWhole agent.old.at.value) }
     ensures status { result.status ≢ reports.BAD_ARGUMENT → result.status ≡ reports.DONE }
-    ensures unchanged { result.status ≡ reports.BAD_ARGUMENT → agent.new.at.value ≡ agent.old.at.value }
+    ensures unchanged { result.status ≡ reports.BAD_ARGUMENT
+        → (result ≡ no_number reports.BAD_ARGUMENT) × (agent.new.at.value ≡ agent.old.at.value) }
     ensures same { result.status ≡ reports.DONE → IsBeside agent.old.at.value agent.new.at.value }
     ensures marks { result.status ≡ reports.DONE → MarksStay agent.old.at.value agent.new.at.value }
     ensures looks { result.status ≡ reports.DONE

@@ -6,21 +6,16 @@ ghost use Rattle.heap_agents.specs.Ready.{HandleKnows};
 ghost use Rattle.heap_build.specs.Spelled.{utf8_decoded};
 ghost use Rattle.jsstr_c.specs.Handles.{IsHandle};
 ghost use Rattle.jsstr_c.specs.Lists.{IsUnread, OrdersUnits, ComparesUnits};
+ghost use Rattle.jsstr_c.specs.Reports.{no_order, no_truth};
 ghost use Rattle.jsstr_c.specs.Reports as reports;
 
 use crate::agent::JsAgent;
-use crate::answer::{BAD_ARGUMENT, DONE, JsOrder, JsTruth, without_truth};
+use crate::answer::{BAD_ARGUMENT, DONE, JsOrder, JsTruth, without_order, without_truth};
 use crate::checked::settling::settle_known;
 use crate::decoding::{latin1_units, utf8_units};
 use crate::unchecked::lists::{jsstr_compare_units_unchecked, jsstr_equals_units_unchecked};
 use heap_rule::MAX;
 use std::alloc::Global;
-
-fn no_order(status: u32) -> JsOrder
-    ensures { result.status ≡ status }
-{
-    JsOrder { status, order: 0 }
-}
 
 /// Whether a string has just these units.
 #[unsafe(no_mangle)]
@@ -33,13 +28,11 @@ pub extern "C" fn jsstr_equals_units(
     requires { IsHandle agent.old }
     ensures handle { IsHandle agent.new }
     ensures bad { result.status ≡ reports.BAD_ARGUMENT ↔ ¬ (HandleKnows agent.old.at.value s) }
-    ensures unchanged { result.status ≡ reports.BAD_ARGUMENT → agent.new.at.value ≡ agent.old.at.value }
-    ensures compares { result.status ≢ reports.BAD_ARGUMENT
-        → ComparesUnits agent.old.at.value agent.new.at.value s units.now result }
+    ensures compares { ComparesUnits agent.old.at.value agent.new.at.value s units.now result }
 {
-    let status = settle_known(alloc, agent, s);
-    if status != DONE {
-        return without_truth(status);
+    let settled = settle_known(alloc, agent, s);
+    if settled.status != DONE {
+        return without_truth(settled.status);
     }
     let holds = jsstr_equals_units_unchecked(alloc, agent, s, units);
     JsTruth {
@@ -59,9 +52,7 @@ pub extern "C" fn jsstr_equals_latin1(
     requires { IsHandle agent.old }
     ensures handle { IsHandle agent.new }
     ensures bad { result.status ≡ reports.BAD_ARGUMENT ↔ ¬ (HandleKnows agent.old.at.value s) }
-    ensures unchanged { result.status ≡ reports.BAD_ARGUMENT → agent.new.at.value ≡ agent.old.at.value }
-    ensures compares { result.status ≢ reports.BAD_ARGUMENT
-        → ((result.status ≡ reports.NO_MEMORY) × (agent.new.at.value ≡ agent.old.at.value))
+    ensures compares { ((result ≡ no_truth reports.NO_MEMORY) × (agent.new.at.value ≡ agent.old.at.value))
         ⊎ ComparesUnits agent.old.at.value agent.new.at.value s bytes.now result }
 {
     if !agent.knows(alloc, s) {
@@ -86,9 +77,11 @@ pub extern "C" fn jsstr_equals_utf8(
     ensures handle { IsHandle agent.new }
     ensures bad { result.status ≡ reports.BAD_ARGUMENT
         ↔ ¬ (HandleKnows agent.old.at.value s × (length bytes.now ≤ MAX)) }
-    ensures unchanged { result.status ≡ reports.BAD_ARGUMENT → agent.new.at.value ≡ agent.old.at.value }
+    ensures unchanged { result.status ≡ reports.BAD_ARGUMENT
+        → (result ≡ no_truth result.status) × (agent.new.at.value ≡ agent.old.at.value) }
     ensures compares { result.status ≢ reports.BAD_ARGUMENT
-        → (IsUnread bytes.now result.status × (agent.new.at.value ≡ agent.old.at.value))
+        → ((result ≡ no_truth result.status) × IsUnread bytes.now result.status
+        × (agent.new.at.value ≡ agent.old.at.value))
         ⊎ (IsUtf8 bytes.now
         × ComparesUnits agent.old.at.value agent.new.at.value s (utf8_decoded bytes.now) result) }
 {
@@ -113,13 +106,11 @@ pub extern "C" fn jsstr_compare_units(
     requires { IsHandle agent.old }
     ensures handle { IsHandle agent.new }
     ensures bad { result.status ≡ reports.BAD_ARGUMENT ↔ ¬ (HandleKnows agent.old.at.value s) }
-    ensures unchanged { result.status ≡ reports.BAD_ARGUMENT → agent.new.at.value ≡ agent.old.at.value }
-    ensures compares { result.status ≢ reports.BAD_ARGUMENT
-        → OrdersUnits agent.old.at.value agent.new.at.value s units.now result }
+    ensures compares { OrdersUnits agent.old.at.value agent.new.at.value s units.now result }
 {
-    let status = settle_known(alloc, agent, s);
-    if status != DONE {
-        return no_order(status);
+    let settled = settle_known(alloc, agent, s);
+    if settled.status != DONE {
+        return without_order(settled.status);
     }
     let order = jsstr_compare_units_unchecked(alloc, agent, s, units);
     JsOrder {
@@ -139,17 +130,15 @@ pub extern "C" fn jsstr_compare_latin1(
     requires { IsHandle agent.old }
     ensures handle { IsHandle agent.new }
     ensures bad { result.status ≡ reports.BAD_ARGUMENT ↔ ¬ (HandleKnows agent.old.at.value s) }
-    ensures unchanged { result.status ≡ reports.BAD_ARGUMENT → agent.new.at.value ≡ agent.old.at.value }
-    ensures compares { result.status ≢ reports.BAD_ARGUMENT
-        → ((result.status ≡ reports.NO_MEMORY) × (agent.new.at.value ≡ agent.old.at.value))
+    ensures compares { ((result ≡ no_order reports.NO_MEMORY) × (agent.new.at.value ≡ agent.old.at.value))
         ⊎ OrdersUnits agent.old.at.value agent.new.at.value s bytes.now result }
 {
     if !agent.knows(alloc, s) {
-        return no_order(BAD_ARGUMENT);
+        return without_order(BAD_ARGUMENT);
     }
     match latin1_units(alloc, bytes) {
         Ok(units) => jsstr_compare_units(alloc, agent, s, units.as_slice()),
-        Err(refusal) => no_order(refusal.status),
+        Err(refusal) => without_order(refusal.status),
     }
 }
 
@@ -166,17 +155,19 @@ pub extern "C" fn jsstr_compare_utf8(
     ensures handle { IsHandle agent.new }
     ensures bad { result.status ≡ reports.BAD_ARGUMENT
         ↔ ¬ (HandleKnows agent.old.at.value s × (length bytes.now ≤ MAX)) }
-    ensures unchanged { result.status ≡ reports.BAD_ARGUMENT → agent.new.at.value ≡ agent.old.at.value }
+    ensures unchanged { result.status ≡ reports.BAD_ARGUMENT
+        → (result ≡ no_order result.status) × (agent.new.at.value ≡ agent.old.at.value) }
     ensures compares { result.status ≢ reports.BAD_ARGUMENT
-        → (IsUnread bytes.now result.status × (agent.new.at.value ≡ agent.old.at.value))
+        → ((result ≡ no_order result.status) × IsUnread bytes.now result.status
+        × (agent.new.at.value ≡ agent.old.at.value))
         ⊎ (IsUtf8 bytes.now
         × OrdersUnits agent.old.at.value agent.new.at.value s (utf8_decoded bytes.now) result) }
 {
     if bytes.len() > MAX as usize || !agent.knows(alloc, s) {
-        return no_order(BAD_ARGUMENT);
+        return without_order(BAD_ARGUMENT);
     }
     match utf8_units(alloc, bytes) {
         Ok(units) => jsstr_compare_units(alloc, agent, s, units.as_slice()),
-        Err(refusal) => no_order(refusal.status),
+        Err(refusal) => without_order(refusal.status),
     }
 }

@@ -1,20 +1,18 @@
 // Comparing strings, and finding one in another. Both are settled first.
-ghost use Rattle.std.specs.Prelude.{◌≡◌, ◌≢◌, ◌↔◌, ℕ, ◌⊎◌, List, Option, IsTrue};
+ghost use Rattle.std.specs.Prelude.{◌≡◌, ◌↔◌, ℕ, Option, IsTrue};
 ghost use Rattle.std.specs.declared.cmp.Ordering as ordering;
-ghost use Rattle.heap_rule.specs.Maps.{Has};
 ghost use Rattle.js_search.specs.Order.{units_cmp};
 ghost use Rattle.js_search.specs.Places.{IsFirst, IsLast, Stands, first, last, stands};
-ghost use Rattle.heap_agents.specs.Ready.{HandleKnows, handle_view};
+ghost use Rattle.heap_agents.specs.Ready.{HandleKnows};
 ghost use Rattle.heap_agents.specs.Searched.{IsOrder};
-ghost use Rattle.jsstr_c.specs.Checked.{Follows, IsPairRefused, Reaches, Sought};
+ghost use Rattle.jsstr_c.specs.Checked.{Reaches, SeeksSettled};
 ghost use Rattle.jsstr_c.specs.Handles.{IsHandle};
-ghost use Rattle.jsstr_c.specs.Reports.{order_number, place_answer};
+ghost use Rattle.jsstr_c.specs.Reports.{no_order, no_place, no_truth, order_answer, order_number, place_answer};
 ghost use Rattle.jsstr_c.specs.Reports as reports;
 
 use crate::agent::JsAgent;
-use crate::answer::{BAD_ARGUMENT, DONE, JsOrder, JsPlace, JsTruth, without_truth};
-use crate::checked::reading::reaches;
-use crate::checked::settling::settle_both;
+use crate::answer::{DONE, JsOrder, JsPlace, JsTruth, without_order, without_place, without_truth};
+use crate::checked::settling::{settle_both, settle_both_reaching};
 use crate::unchecked::search::{
     jsstr_compare_unchecked, jsstr_equal_unchecked, jsstr_index_of_unchecked,
     jsstr_last_index_of_unchecked, jsstr_starts_with_unchecked,
@@ -29,22 +27,14 @@ pub extern "C" fn jsstr_compare(alloc: Global, agent: &mut JsAgent, a: u32, b: u
     ensures handle { IsHandle agent.new }
     ensures bad { result.status ≡ reports.BAD_ARGUMENT
         ↔ ¬ (HandleKnows agent.old.at.value a × HandleKnows agent.old.at.value b) }
-    ensures unchanged { result.status ≡ reports.BAD_ARGUMENT → agent.new.at.value ≡ agent.old.at.value }
-    ensures sought { result.status ≡ reports.DONE → Sought agent.old.at.value agent.new.at.value }
-    ensures refused { result.status ≢ reports.DONE → result.status ≢ reports.BAD_ARGUMENT
-        → IsPairRefused agent.old.at.value agent.new.at.value a b result.status }
-    ensures order { result.status ≡ reports.DONE → (us vs : List ℕ)
-        → Has (handle_view agent.old.at.value).units a us
-        → Has (handle_view agent.old.at.value).units b vs
-        → result.order ≡ order_number (units_cmp us vs) }
-    ensures means { result.status ≡ reports.DONE → (us vs : List ℕ)
-        → Has (handle_view agent.old.at.value).units a us
-        → Has (handle_view agent.old.at.value).units b vs
-        → (o : ordering.Ordering) × (result.order ≡ order_number o) × IsOrder us vs o }
+    ensures seeks { SeeksSettled agent.old.at.value agent.new.at.value a b result.status
+        (result ≡ no_order result.status)
+        (λ us vs. (result ≡ order_answer (units_cmp us vs))
+        × ((o : ordering.Ordering) × (result.order ≡ order_number o) × IsOrder us vs o)) }
 {
     let status = settle_both(alloc, agent, a, b);
     if status != DONE {
-        return JsOrder { status, order: 0 };
+        return without_order(status);
     }
     let order = jsstr_compare_unchecked(alloc, agent, a, b);
     JsOrder {
@@ -60,14 +50,9 @@ pub extern "C" fn jsstr_equal(alloc: Global, agent: &mut JsAgent, a: u32, b: u32
     ensures handle { IsHandle agent.new }
     ensures bad { result.status ≡ reports.BAD_ARGUMENT
         ↔ ¬ (HandleKnows agent.old.at.value a × HandleKnows agent.old.at.value b) }
-    ensures unchanged { result.status ≡ reports.BAD_ARGUMENT → agent.new.at.value ≡ agent.old.at.value }
-    ensures sought { result.status ≡ reports.DONE → Sought agent.old.at.value agent.new.at.value }
-    ensures refused { result.status ≢ reports.DONE → result.status ≢ reports.BAD_ARGUMENT
-        → IsPairRefused agent.old.at.value agent.new.at.value a b result.status }
-    ensures value { result.status ≡ reports.DONE → (us vs : List ℕ)
-        → Has (handle_view agent.old.at.value).units a us
-        → Has (handle_view agent.old.at.value).units b vs
-        → IsTrue result.holds ↔ (us ≡ vs) }
+    ensures seeks { SeeksSettled agent.old.at.value agent.new.at.value a b result.status
+        (result ≡ no_truth result.status)
+        (λ us vs. (result.status ≡ reports.DONE) × (IsTrue result.holds ↔ (us ≡ vs))) }
 {
     let status = settle_both(alloc, agent, a, b);
     if status != DONE {
@@ -93,18 +78,10 @@ pub extern "C" fn jsstr_starts_with(
     ensures handle { IsHandle agent.new }
     ensures bad { result.status ≡ reports.BAD_ARGUMENT
         ↔ ¬ (HandleKnows agent.old.at.value hay × HandleKnows agent.old.at.value needle) }
-    ensures unchanged { result.status ≡ reports.BAD_ARGUMENT → agent.new.at.value ≡ agent.old.at.value }
-    ensures sought { result.status ≡ reports.DONE → Sought agent.old.at.value agent.new.at.value }
-    ensures refused { result.status ≢ reports.DONE → result.status ≢ reports.BAD_ARGUMENT
-        → IsPairRefused agent.old.at.value agent.new.at.value hay needle result.status }
-    ensures stands { result.status ≡ reports.DONE → (us vs : List ℕ)
-        → Has (handle_view agent.old.at.value).units hay us
-        → Has (handle_view agent.old.at.value).units needle vs
-        → IsTrue result.holds ↔ Stands us vs at }
-    ensures test { result.status ≡ reports.DONE → (us vs : List ℕ)
-        → Has (handle_view agent.old.at.value).units hay us
-        → Has (handle_view agent.old.at.value).units needle vs
-        → result.holds ≡ stands us vs at }
+    ensures seeks { SeeksSettled agent.old.at.value agent.new.at.value hay needle result.status
+        (result ≡ no_truth result.status)
+        (λ us vs. (result.status ≡ reports.DONE) × (result.holds ≡ stands us vs at)
+        × (IsTrue result.holds ↔ Stands us vs at)) }
 {
     let status = settle_both(alloc, agent, hay, needle);
     if status != DONE {
@@ -130,18 +107,14 @@ pub extern "C" fn jsstr_last_index_of(
     ensures handle { IsHandle agent.new }
     ensures bad { result.status ≡ reports.BAD_ARGUMENT
         ↔ ¬ (HandleKnows agent.old.at.value hay × HandleKnows agent.old.at.value needle) }
-    ensures unchanged { result.status ≡ reports.BAD_ARGUMENT → agent.new.at.value ≡ agent.old.at.value }
-    ensures found { result.status ≢ reports.BAD_ARGUMENT
-        → IsPairRefused agent.old.at.value agent.new.at.value hay needle result.status
-        ⊎ (Sought agent.old.at.value agent.new.at.value × ((us vs : List ℕ)
-        → Has (handle_view agent.old.at.value).units hay us
-        → Has (handle_view agent.old.at.value).units needle vs
-        → (result ≡ place_answer (last us vs limit))
-        × ((r : Option ℕ) × (result ≡ place_answer r) × IsLast us vs limit r))) }
+    ensures seeks { SeeksSettled agent.old.at.value agent.new.at.value hay needle result.status
+        (result ≡ no_place result.status)
+        (λ us vs. (result ≡ place_answer (last us vs limit))
+        × ((r : Option ℕ) × (result ≡ place_answer r) × IsLast us vs limit r)) }
 {
     let status = settle_both(alloc, agent, hay, needle);
     if status != DONE {
-        return JsPlace { status, at: 0 };
+        return without_place(status);
     }
     jsstr_last_index_of_unchecked(alloc, agent, hay, needle, limit)
 }
@@ -159,33 +132,14 @@ pub extern "C" fn jsstr_index_of(
     ensures handle { IsHandle agent.new }
     ensures bad { result.status ≡ reports.BAD_ARGUMENT
         ↔ ¬ (Reaches agent.old.at.value hay from × HandleKnows agent.old.at.value needle) }
-    ensures unchanged { ¬ (HandleKnows agent.old.at.value hay × HandleKnows agent.old.at.value needle)
-        → agent.new.at.value ≡ agent.old.at.value }
-    ensures left { result.status ≡ reports.BAD_ARGUMENT
-        → Follows agent.old.at.value agent.new.at.value }
-    ensures found { result.status ≢ reports.BAD_ARGUMENT
-        → IsPairRefused agent.old.at.value agent.new.at.value hay needle result.status
-        ⊎ (Sought agent.old.at.value agent.new.at.value × ((us vs : List ℕ)
-        → Has (handle_view agent.old.at.value).units hay us
-        → Has (handle_view agent.old.at.value).units needle vs
-        → (result ≡ place_answer (first us vs from))
-        × ((r : Option ℕ) × (result ≡ place_answer r) × IsFirst us vs from r))) }
+    ensures seeks { SeeksSettled agent.old.at.value agent.new.at.value hay needle result.status
+        (result ≡ no_place result.status)
+        (λ us vs. (result ≡ place_answer (first us vs from))
+        × ((r : Option ℕ) × (result ≡ place_answer r) × IsFirst us vs from r)) }
 {
-    if !agent.knows(alloc, needle) {
-        return JsPlace {
-            status: BAD_ARGUMENT,
-            at: 0,
-        };
-    }
-    if !reaches(alloc, agent, hay, from, 0) {
-        return JsPlace {
-            status: BAD_ARGUMENT,
-            at: 0,
-        };
-    }
-    let status = settle_both(alloc, agent, hay, needle);
+    let status = settle_both_reaching(alloc, agent, hay, needle, from);
     if status != DONE {
-        return JsPlace { status, at: 0 };
+        return without_place(status);
     }
     jsstr_index_of_unchecked(alloc, agent, hay, needle, from)
 }

@@ -1,16 +1,17 @@
 // The string table.
-ghost use Rattle.std.specs.Prelude.{◌≡◌, ◌≢◌, ◌↔◌, ◌⊎◌, ℕ, List, IsTrue};
+ghost use Rattle.std.specs.Prelude.{◌≡◌, ◌≢◌, ◌↔◌, ℕ, List, IsTrue};
 ghost use Rattle.heap_rule.specs.Maps.{Has};
 ghost use Rattle.heap_table.specs.Known.{KeepsKnown};
 ghost use Rattle.heap_agents.specs.Interned.{IsEntered, KeepsCalls};
-ghost use Rattle.heap_agents.specs.Ready.{HasInterned, IsBeside, IsReady, HandleKnows, MarksStay, handle_view};
-ghost use Rattle.jsstr_c.specs.Checked.{IsEnteredIn, IsUnsettled};
+ghost use Rattle.heap_agents.specs.Ready.{HasInterned, IsReady, HandleKnows, handle_view};
 ghost use Rattle.jsstr_c.specs.Handles.{IsHandle};
+ghost use Rattle.jsstr_c.specs.Made.{EntersSettled};
+ghost use Rattle.jsstr_c.specs.Reports.{no_truth};
 ghost use Rattle.jsstr_c.specs.Reports as reports;
 
 use crate::agent::JsAgent;
-use crate::answer::{BAD_ARGUMENT, DONE, JsAnswer, JsTruth, bad_argument, without_truth};
-use crate::unchecked::reading::jsstr_settle_unchecked;
+use crate::answer::{BAD_ARGUMENT, DONE, JsAnswer, JsTruth, without_truth};
+use crate::checked::settling::settle_known;
 use crate::unchecked::table::{jsstr_intern_unchecked, jsstr_is_interned_unchecked};
 use std::alloc::Global;
 
@@ -20,9 +21,8 @@ pub extern "C" fn jsstr_intern(alloc: Global, agent: &mut JsAgent, s: u32) -> Js
     requires { IsHandle agent.old }
     ensures handle { IsHandle agent.new }
     ensures bad { result.status ≡ reports.BAD_ARGUMENT ↔ ¬ (HandleKnows agent.old.at.value s) }
-    ensures unchanged { result.status ≡ reports.BAD_ARGUMENT → agent.new.at.value ≡ agent.old.at.value }
-    ensures same { result.status ≢ reports.BAD_ARGUMENT → IsBeside agent.old.at.value agent.new.at.value }
-    ensures marks { result.status ≢ reports.BAD_ARGUMENT → MarksStay agent.old.at.value agent.new.at.value }
+    ensures unchanged { result.status ≡ reports.BAD_ARGUMENT
+        → (result ≡ reports.bad_argument) × (agent.new.at.value ≡ agent.old.at.value) }
     ensures known { result.status ≢ reports.BAD_ARGUMENT
         → KeepsKnown (handle_view agent.old.at.value) (handle_view agent.new.at.value) }
     ensures calls { result.status ≢ reports.BAD_ARGUMENT
@@ -31,14 +31,10 @@ pub extern "C" fn jsstr_intern(alloc: Global, agent: &mut JsAgent, s: u32) -> Js
         → HandleKnows agent.new.at.value result.id × HasInterned agent.new.at.value result.id }
     ensures entered { result.status ≡ reports.DONE
         → IsEntered (handle_view agent.old.at.value) (handle_view agent.new.at.value) s result.id }
-    ensures interns { result.status ≢ reports.BAD_ARGUMENT
-        → IsUnsettled agent.old.at.value agent.new.at.value s result
-        ⊎ IsEnteredIn agent.old.at.value agent.new.at.value s result }
+    ensures enters { result.status ≢ reports.BAD_ARGUMENT
+        → EntersSettled agent.old.at.value agent.new.at.value s result }
 {
-    if !agent.knows(alloc, s) {
-        return bad_argument();
-    }
-    let settled = jsstr_settle_unchecked(alloc, agent, s);
+    let settled = settle_known(alloc, agent, s);
     if settled.status != DONE {
         return settled;
     }
@@ -74,6 +70,7 @@ pub extern "C" fn jsstr_same(alloc: Global, agent: &mut JsAgent, a: u32, b: u32)
     ensures bad { result.status ≡ reports.BAD_ARGUMENT
         ↔ ¬ (HasInterned agent.old.at.value a × HasInterned agent.old.at.value b) }
     ensures status { result.status ≢ reports.BAD_ARGUMENT → result.status ≡ reports.DONE }
+    ensures unused { result.status ≢ reports.DONE → result ≡ no_truth result.status }
     ensures numbers { result.status ≡ reports.DONE → IsTrue result.holds ↔ (a ≡ b) }
     ensures units { result.status ≡ reports.DONE → (us vs : List ℕ)
         → Has (handle_view agent.old.at.value).units a us

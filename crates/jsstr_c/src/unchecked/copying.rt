@@ -1,9 +1,9 @@
 // Strings of one heap that are made, or interned, in another.
-ghost use Rattle.std.specs.Prelude.{◌≡◌, ◌≢◌, ℕ, List};
+ghost use Rattle.std.specs.Prelude.{◌≢◌, ℕ, List};
 ghost use Rattle.heap_rule.specs.Maps.{Has, HasKey};
 ghost use Rattle.heap_rule.specs.Views.{IsSeenSettled};
-ghost use Rattle.heap_read.specs.Reads.{OnlyLoads};
 ghost use Rattle.heap_agents.specs.Ready.{HandleLeaves, IsReady, handle_view};
+ghost use Rattle.jsstr_c.specs.Checked.{OnlyLooks};
 ghost use Rattle.jsstr_c.specs.Given.{IsInterning, Makes, OrNoMemory};
 ghost use Rattle.jsstr_c.specs.Handles.{IsHandle};
 ghost use Rattle.jsstr_c.specs.Reports as reports;
@@ -28,8 +28,7 @@ pub extern "C" fn jsstr_copy_into_unchecked(
     requires other { IsReady to.old.at.value }
     ensures handle { IsHandle from.new }
     ensures other_handle { IsHandle to.new }
-    ensures goes { HandleLeaves from.old.at.value from.new.at.value }
-    ensures reads { OnlyLoads (handle_view from.old.at.value) (handle_view from.new.at.value) }
+    ensures looks { OnlyLooks from.old.at.value from.new.at.value }
     ensures told { result.status ≢ reports.BAD_ARGUMENT }
     ensures leaves { HandleLeaves to.old.at.value to.new.at.value }
     ensures does { (us : List ℕ) → Has (handle_view from.old.at.value).units s us
@@ -53,8 +52,7 @@ pub extern "C" fn jsstr_intern_into_unchecked(
     requires other { IsReady to.old.at.value }
     ensures handle { IsHandle from.new }
     ensures other_handle { IsHandle to.new }
-    ensures goes { HandleLeaves from.old.at.value from.new.at.value }
-    ensures reads { OnlyLoads (handle_view from.old.at.value) (handle_view from.new.at.value) }
+    ensures looks { OnlyLooks from.old.at.value from.new.at.value }
     ensures told { result.status ≢ reports.BAD_ARGUMENT }
     ensures does { (us : List ℕ) → Has (handle_view from.old.at.value).units s us
         → OrNoMemory IsInterning to.old.at.value to.new.at.value us result }

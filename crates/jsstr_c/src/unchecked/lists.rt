@@ -3,8 +3,8 @@ ghost use Rattle.std.specs.Prelude.{◌≡◌, ◌↔◌, ℕ, List, IsTrue};
 ghost use Rattle.js_search.specs.Order.{units_cmp};
 ghost use Rattle.heap_rule.specs.Maps.{Has, HasKey};
 ghost use Rattle.heap_rule.specs.Views.{IsSeenSettled};
-ghost use Rattle.heap_read.specs.Reads.{OnlyLoads};
-ghost use Rattle.heap_agents.specs.Ready.{HandleLeaves, IsReady, handle_view};
+ghost use Rattle.heap_agents.specs.Ready.{IsReady, handle_view};
+ghost use Rattle.jsstr_c.specs.Checked.{OnlyLooks};
 ghost use Rattle.jsstr_c.specs.Handles.{IsHandle};
 ghost use Rattle.jsstr_c.specs.Reports.{order_number};
 
@@ -25,8 +25,7 @@ pub extern "C" fn jsstr_equals_units_unchecked(
     requires known { HasKey (handle_view agent.old.at.value).units s }
     requires settled { IsSeenSettled (handle_view agent.old.at.value) s }
     ensures handle { IsHandle agent.new }
-    ensures goes { HandleLeaves agent.old.at.value agent.new.at.value }
-    ensures reads { OnlyLoads (handle_view agent.old.at.value) (handle_view agent.new.at.value) }
+    ensures looks { OnlyLooks agent.old.at.value agent.new.at.value }
     ensures same { (us : List ℕ) → Has (handle_view agent.old.at.value).units s us
         → IsTrue result ↔ (us ≡ units.now) }
 {
@@ -49,8 +48,7 @@ pub extern "C" fn jsstr_compare_units_unchecked(
     requires known { HasKey (handle_view agent.old.at.value).units s }
     requires settled { IsSeenSettled (handle_view agent.old.at.value) s }
     ensures handle { IsHandle agent.new }
-    ensures goes { HandleLeaves agent.old.at.value agent.new.at.value }
-    ensures reads { OnlyLoads (handle_view agent.old.at.value) (handle_view agent.new.at.value) }
+    ensures looks { OnlyLooks agent.old.at.value agent.new.at.value }
     ensures order { (us : List ℕ) → Has (handle_view agent.old.at.value).units s us
         → result ≡ order_number (units_cmp us units.now) }
 {

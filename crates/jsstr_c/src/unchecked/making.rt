@@ -1,15 +1,11 @@
 // Strings made of two strings, and of a part of one.
-ghost use Rattle.std.specs.Prelude.{◌≡◌, ◌≢◌, ℕ, ◌-◌, ◌++◌, ◌≤◌, List, length, Result};
-ghost use Rattle.heap_read.specs.declared.string.JsStr as js_str;
+ghost use Rattle.std.specs.Prelude.{◌≡◌, ◌≢◌, ℕ, ◌-◌, ◌++◌, ◌≤◌, List, length};
 ghost use Rattle.heap_rule.specs.Births.{part};
 ghost use Rattle.heap_rule.specs.Maps.{Has, HasKey};
 ghost use Rattle.heap_rule.specs.Views.{IsSeenSettled};
-ghost use Rattle.heap_text.specs.declared.faults.JoinFault as join_fault;
-ghost use Rattle.heap_text.specs.declared.faults.TextFull as text_full;
-ghost use Rattle.heap_text.specs.Joins.{IsCut, IsJoined};
-ghost use Rattle.heap_agents.specs.Ready.{HandleLeaves, IsReady, HandleKnows, handle_limit, size_in, handle_view};
+ghost use Rattle.heap_agents.specs.Ready.{IsReady, handle_view};
 ghost use Rattle.jsstr_c.specs.Handles.{IsHandle};
-ghost use Rattle.jsstr_c.specs.Reports.{join_answer, text_answer};
+ghost use Rattle.jsstr_c.specs.Made.{Cuts, Joins};
 ghost use Rattle.jsstr_c.specs.Reports as reports;
 
 use crate::agent::JsAgent;
@@ -29,19 +25,12 @@ pub extern "C" fn jsstr_concat_unchecked(
     requires known { HasKey (handle_view agent.old.at.value).units a
         × HasKey (handle_view agent.old.at.value).units b }
     ensures handle { IsHandle agent.new }
-    ensures goes { HandleLeaves agent.old.at.value agent.new.at.value }
-    ensures marked { result.status ≡ reports.DONE → HandleKnows agent.new.at.value result.id }
     ensures told { result.status ≢ reports.BAD_ARGUMENT }
+    ensures joins { Joins agent.old.at.value agent.new.at.value a b result }
     ensures units { result.status ≡ reports.DONE
         → (us vs : List ℕ) → Has (handle_view agent.old.at.value).units a us
         → Has (handle_view agent.old.at.value).units b vs
         → Has (handle_view agent.new.at.value).units result.id (us ++ vs) }
-    ensures joined { (us vs : List ℕ) → Has (handle_view agent.old.at.value).units a us
-        → Has (handle_view agent.old.at.value).units b vs
-        → (r : Result js_str.JsStr join_fault.JoinFault) × (result ≡ join_answer r)
-        × IsJoined (handle_view agent.old.at.value) (handle_view agent.new.at.value)
-        (size_in agent.old.at.value)
-        (handle_limit agent.old.at.value) (record { id = a }) (record { id = b }) us vs r }
 {
     let mut held = agent.take(alloc);
     let answer = held.concat(JsStr { id: a }, JsStr { id: b });
@@ -63,18 +52,13 @@ pub extern "C" fn jsstr_slice_unchecked(
     requires within { (us : List ℕ) × Has (handle_view agent.old.at.value).units s us × (from ≤ to)
         × (to ≤ length us) }
     ensures handle { IsHandle agent.new }
-    ensures goes { HandleLeaves agent.old.at.value agent.new.at.value }
-    ensures marked { result.status ≡ reports.DONE → HandleKnows agent.new.at.value result.id }
     ensures told { result.status ≢ reports.BAD_ARGUMENT }
+    ensures cuts { Cuts agent.old.at.value agent.new.at.value s from to result }
     ensures units { result.status ≡ reports.DONE
         → (us : List ℕ) → Has (handle_view agent.old.at.value).units s us
         → Has (handle_view agent.new.at.value).units result.id (part from (to - from) us) }
     ensures settled { result.status ≡ reports.DONE
         → IsSeenSettled (handle_view agent.new.at.value) result.id }
-    ensures cut { (us : List ℕ) → Has (handle_view agent.old.at.value).units s us
-        → (r : Result js_str.JsStr text_full.TextFull) × (result ≡ text_answer r)
-        × IsCut (handle_view agent.old.at.value) (handle_view agent.new.at.value) (size_in agent.old.at.value)
-        (record { id = s }) from to us r }
 {
     let mut held = agent.take(alloc);
     let answer = held.slice(JsStr { id: s }, from, to);

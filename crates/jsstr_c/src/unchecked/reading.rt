@@ -1,19 +1,17 @@
 // Reading settled strings: lengths, units, words and bytes, hashes, array indexes. And settling them.
-ghost use Rattle.std.specs.Prelude.{◌≡◌, ◌≢◌, ℕ, ◌+◌, ◌≤◌, List, length, slice_range, Bool, ◌↔◌, Option, ◌<◌, slice_index, IsTrue, None};
+ghost use Rattle.std.specs.Prelude.{◌≡◌, ◌≢◌, ℕ, ◌+◌, ◌≤◌, List, length, slice_range, ◌↔◌, Option, ◌<◌, slice_index, IsTrue, None};
 ghost use Rattle.heap_rule.specs.Maps.{Has, HasKey};
 ghost use Rattle.heap_rule.specs.Views.{IsSeenSettled};
-ghost use Rattle.heap_read.specs.Reads.{OnlyLoads};
-ghost use Rattle.heap_text.specs.Settling.{IsNoRoom};
-ghost use Rattle.heap_agents.specs.Ready.{HandleLeaves, IsReady, HandleKnows, size_in, handle_view};
+ghost use Rattle.heap_agents.specs.Ready.{IsReady, handle_view};
 ghost use Rattle.heap_agents.specs.Words.{AreShown, AreThere};
+ghost use Rattle.jsstr_c.specs.Checked.{Measures, OnlyLooks, Refuses, Settles};
 ghost use Rattle.jsstr_c.specs.Handles.{IsHandle};
-ghost use Rattle.jsstr_c.specs.Reports.{shown_by, text_report, number_answer};
+ghost use Rattle.jsstr_c.specs.Reports.{shown_by, number_answer};
 ghost use Rattle.js_units.specs.Lanes.{hash_of};
 ghost use Rattle.heap_rule.specs.Forms.{IsCons};
 ghost use Rattle.heap_export.specs.Index.{IsIndex};
 ghost use Rattle.heap_export.specs.Encoded.{bytes_of, past_latin1, refused};
 ghost use Rattle.jsstr_c.specs.Bytes.{IsGiven, unpaired_by};
-ghost use Rattle.heap_text.specs.declared.faults.TextFull as text_full;
 ghost use Rattle.jsstr_c.specs.Reports as reports;
 ghost use Rattle.js_header.specs.declared.form.Form as form;
 
@@ -29,8 +27,7 @@ pub extern "C" fn jsstr_length_unchecked(alloc: Global, agent: &mut JsAgent, s: 
     requires ready { IsReady agent.old.at.value }
     requires known { HasKey (handle_view agent.old.at.value).units s }
     ensures handle { IsHandle agent.new }
-    ensures goes { HandleLeaves agent.old.at.value agent.new.at.value }
-    ensures reads { OnlyLoads (handle_view agent.old.at.value) (handle_view agent.new.at.value) }
+    ensures measures { Measures agent.old.at.value agent.new.at.value }
     ensures length { (us : List ℕ) → Has (handle_view agent.old.at.value).units s us → result ≡ length us }
 {
     let mut held = agent.take(alloc);
@@ -46,17 +43,11 @@ pub extern "C" fn jsstr_settle_unchecked(alloc: Global, agent: &mut JsAgent, s: 
     requires ready { IsReady agent.old.at.value }
     requires known { HasKey (handle_view agent.old.at.value).units s }
     ensures handle { IsHandle agent.new }
-    ensures goes { HandleLeaves agent.old.at.value agent.new.at.value }
-    ensures marked { result.status ≡ reports.DONE → HandleKnows agent.new.at.value result.id }
     ensures told { result.status ≢ reports.BAD_ARGUMENT }
     ensures settled { result.status ≡ reports.DONE
-        → (result.id ≡ s) × IsSeenSettled (handle_view agent.new.at.value) s }
+        → (result ≡ reports.done s) × Settles agent.old.at.value agent.new.at.value s }
     ensures refused { result.status ≢ reports.DONE
-        → (us : List ℕ) → Has (handle_view agent.old.at.value).units s us
-        → (f : text_full.TextFull) × (wide : Bool) × (result ≡ text_report f)
-        × IsNoRoom (handle_view agent.old.at.value) (handle_view agent.new.at.value)
-        (size_in agent.old.at.value)
-        us f wide }
+        → Refuses agent.old.at.value agent.new.at.value s result }
 {
     let mut held = agent.take(alloc);
     let answer = held.settle(JsStr { id: s });
@@ -81,8 +72,7 @@ pub extern "C" fn jsstr_read_unchecked(
     requires within { (us : List ℕ) × Has (handle_view agent.old.at.value).units s us
         × (from + length out.old ≤ length us) }
     ensures handle { IsHandle agent.new }
-    ensures goes { HandleLeaves agent.old.at.value agent.new.at.value }
-    ensures reads { OnlyLoads (handle_view agent.old.at.value) (handle_view agent.new.at.value) }
+    ensures looks { OnlyLooks agent.old.at.value agent.new.at.value }
     ensures units { (us : List ℕ) → Has (handle_view agent.old.at.value).units s us
         → out.new ≡ slice_range us from (from + length out.old) }
 {
@@ -105,8 +95,7 @@ pub extern "C" fn jsstr_window_unchecked(
     requires known { HasKey (handle_view agent.old.at.value).units s }
     requires settled { IsSeenSettled (handle_view agent.old.at.value) s }
     ensures handle { IsHandle agent.new }
-    ensures goes { HandleLeaves agent.old.at.value agent.new.at.value }
-    ensures reads { OnlyLoads (handle_view agent.old.at.value) (handle_view agent.new.at.value) }
+    ensures looks { OnlyLooks agent.old.at.value agent.new.at.value }
     ensures told { result.status ≡ reports.DONE }
     ensures shown { (us : List ℕ) → Has (handle_view agent.old.at.value).units s us
         → AreShown us at out.old out.new (shown_by result) }
@@ -131,8 +120,7 @@ pub extern "C" fn jsstr_unit_at_unchecked(
     requires settled { IsSeenSettled (handle_view agent.old.at.value) s }
     requires within { (us : List ℕ) × Has (handle_view agent.old.at.value).units s us × (place < length us) }
     ensures handle { IsHandle agent.new }
-    ensures goes { HandleLeaves agent.old.at.value agent.new.at.value }
-    ensures reads { OnlyLoads (handle_view agent.old.at.value) (handle_view agent.new.at.value) }
+    ensures looks { OnlyLooks agent.old.at.value agent.new.at.value }
     ensures unit { (us : List ℕ) → Has (handle_view agent.old.at.value).units s us
         → result ≡ slice_index us place }
 {
@@ -149,8 +137,7 @@ pub extern "C" fn jsstr_hash_unchecked(alloc: Global, agent: &mut JsAgent, s: u3
     requires known { HasKey (handle_view agent.old.at.value).units s }
     requires settled { IsSeenSettled (handle_view agent.old.at.value) s }
     ensures handle { IsHandle agent.new }
-    ensures goes { HandleLeaves agent.old.at.value agent.new.at.value }
-    ensures reads { OnlyLoads (handle_view agent.old.at.value) (handle_view agent.new.at.value) }
+    ensures looks { OnlyLooks agent.old.at.value agent.new.at.value }
     ensures hash { (us : List ℕ) → Has (handle_view agent.old.at.value).units s us → result ≡ hash_of us }
 {
     let mut held = agent.take(alloc);
@@ -170,9 +157,9 @@ pub extern "C" fn jsstr_array_index_unchecked(
     requires known { HasKey (handle_view agent.old.at.value).units s }
     requires settled { IsSeenSettled (handle_view agent.old.at.value) s }
     ensures handle { IsHandle agent.new }
-    ensures goes { HandleLeaves agent.old.at.value agent.new.at.value }
-    ensures reads { OnlyLoads (handle_view agent.old.at.value) (handle_view agent.new.at.value) }
+    ensures looks { OnlyLooks agent.old.at.value agent.new.at.value }
     ensures told { result.status ≢ reports.BAD_ARGUMENT }
+    ensures words { result.status ≢ reports.NO_WORDS }
     ensures index { (us : List ℕ) → Has (handle_view agent.old.at.value).units s us
         → (n : Option ℕ) × (result ≡ number_answer n) × IsIndex us n }
 {
@@ -188,8 +175,7 @@ pub extern "C" fn jsstr_is_settled_unchecked(alloc: Global, agent: &mut JsAgent,
     requires ready { IsReady agent.old.at.value }
     requires known { HasKey (handle_view agent.old.at.value).units s }
     ensures handle { IsHandle agent.new }
-    ensures goes { HandleLeaves agent.old.at.value agent.new.at.value }
-    ensures reads { OnlyLoads (handle_view agent.old.at.value) (handle_view agent.new.at.value) }
+    ensures looks { OnlyLooks agent.old.at.value agent.new.at.value }
     ensures seen { (f : form.Form) × Has (handle_view agent.new.at.value).forms s f
         × (IsTrue result ↔ ¬ IsCons f) }
     ensures stays { IsSeenSettled (handle_view agent.old.at.value) s → IsTrue result }
@@ -215,9 +201,9 @@ pub extern "C" fn jsstr_to_utf8_unchecked(
     requires settled { IsSeenSettled (handle_view agent.old.at.value) s }
     requires way { unpaired ≤ 2 }
     ensures handle { IsHandle agent.new }
-    ensures goes { HandleLeaves agent.old.at.value agent.new.at.value }
-    ensures reads { OnlyLoads (handle_view agent.old.at.value) (handle_view agent.new.at.value) }
+    ensures looks { OnlyLooks agent.old.at.value agent.new.at.value }
     ensures told { result.status ≢ reports.BAD_ARGUMENT }
+    ensures words { result.status ≢ reports.NO_WORDS }
     ensures given { (us : List ℕ) → Has (handle_view agent.old.at.value).units s us
         → IsGiven (refused (unpaired_by unpaired) us) (bytes_of (unpaired_by unpaired) us)
         out.old out.new result }
@@ -242,9 +228,9 @@ pub extern "C" fn jsstr_to_latin1_unchecked(
     requires known { HasKey (handle_view agent.old.at.value).units s }
     requires settled { IsSeenSettled (handle_view agent.old.at.value) s }
     ensures handle { IsHandle agent.new }
-    ensures goes { HandleLeaves agent.old.at.value agent.new.at.value }
-    ensures reads { OnlyLoads (handle_view agent.old.at.value) (handle_view agent.new.at.value) }
+    ensures looks { OnlyLooks agent.old.at.value agent.new.at.value }
     ensures told { result.status ≢ reports.BAD_ARGUMENT }
+    ensures words { result.status ≢ reports.NO_WORDS }
     ensures given { (us : List ℕ) → Has (handle_view agent.old.at.value).units s us
         → IsGiven (past_latin1 0 us) us out.old out.new result }
 {
@@ -266,9 +252,9 @@ pub extern "C" fn jsstr_read_all_unchecked(
     requires known { HasKey (handle_view agent.old.at.value).units s }
     requires settled { IsSeenSettled (handle_view agent.old.at.value) s }
     ensures handle { IsHandle agent.new }
-    ensures goes { HandleLeaves agent.old.at.value agent.new.at.value }
-    ensures reads { OnlyLoads (handle_view agent.old.at.value) (handle_view agent.new.at.value) }
+    ensures looks { OnlyLooks agent.old.at.value agent.new.at.value }
     ensures told { result.status ≢ reports.BAD_ARGUMENT }
+    ensures words { result.status ≢ reports.NO_WORDS }
     ensures given { (us : List ℕ) → Has (handle_view agent.old.at.value).units s us
         → IsGiven None us out.old out.new result }
 {

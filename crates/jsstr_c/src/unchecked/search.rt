@@ -100,6 +100,7 @@ pub extern "C" fn jsstr_index_of_unchecked(
     ensures handle { IsHandle agent.new }
     ensures searches { Searches agent.old.at.value agent.new.at.value }
     ensures told { result.status ≢ reports.BAD_ARGUMENT }
+    ensures words { result.status ≢ reports.NO_WORDS }
     ensures least { (us vs : List ℕ) → Has (handle_view agent.old.at.value).units hay us
         → Has (handle_view agent.old.at.value).units needle vs
         → (r : Option ℕ) × (result ≡ place_answer r) × IsFirst us vs from r }
@@ -129,6 +130,7 @@ pub extern "C" fn jsstr_last_index_of_unchecked(
     ensures handle { IsHandle agent.new }
     ensures searches { Searches agent.old.at.value agent.new.at.value }
     ensures told { result.status ≢ reports.BAD_ARGUMENT }
+    ensures words { result.status ≢ reports.NO_WORDS }
     ensures greatest { (us vs : List ℕ) → Has (handle_view agent.old.at.value).units hay us
         → Has (handle_view agent.old.at.value).units needle vs
         → (r : Option ℕ) × (result ≡ place_answer r) × IsLast us vs limit r }

@@ -1,14 +1,11 @@
 // The string table.
-ghost use Rattle.std.specs.Prelude.{◌≡◌, ◌≢◌, ◌↔◌, ℕ, List, Result, IsTrue, Contains};
+ghost use Rattle.std.specs.Prelude.{◌≡◌, ◌≢◌, ◌↔◌, ℕ, List, IsTrue, Contains};
 ghost use Rattle.heap_rule.specs.Maps.{Has, HasKey};
 ghost use Rattle.heap_rule.specs.Views.{IsSeenSettled, history};
-ghost use Rattle.heap_intern.specs.declared.table.faults.TableFull as table_full;
-ghost use Rattle.heap_intern.specs.Answers.{IsInternAnswer, IsForwarded, IsPlan, HeaderPlan};
-ghost use Rattle.heap_table.specs.Known.{KeepsKnown};
-ghost use Rattle.heap_agents.specs.Interned.{IsEntered, KeepsCalls};
-ghost use Rattle.heap_agents.specs.Ready.{HasInterned, IsBeside, IsReady, HandleKnows, MarksStay, handle_view};
+ghost use Rattle.heap_agents.specs.Interned.{IsEntered};
+ghost use Rattle.heap_agents.specs.Ready.{HasInterned, IsReady, handle_view};
 ghost use Rattle.jsstr_c.specs.Handles.{IsHandle};
-ghost use Rattle.jsstr_c.specs.Reports.{table_answer};
+ghost use Rattle.jsstr_c.specs.Made.{Enters};
 ghost use Rattle.jsstr_c.specs.Reports as reports;
 
 use crate::agent::JsAgent;
@@ -23,21 +20,10 @@ pub extern "C" fn jsstr_intern_unchecked(alloc: Global, agent: &mut JsAgent, s: 
     requires settled { IsSeenSettled (handle_view agent.old.at.value) s }
     ensures handle { IsHandle agent.new }
     ensures ready { IsReady agent.new.at.value }
-    ensures same { IsBeside agent.old.at.value agent.new.at.value }
-    ensures marks { MarksStay agent.old.at.value agent.new.at.value }
-    ensures marked { result.status ≡ reports.DONE
-        → HandleKnows agent.new.at.value result.id × HasInterned agent.new.at.value result.id }
     ensures told { result.status ≢ reports.BAD_ARGUMENT }
-    ensures known { KeepsKnown (handle_view agent.old.at.value) (handle_view agent.new.at.value) }
-    ensures calls { KeepsCalls (handle_view agent.old.at.value) (handle_view agent.new.at.value) }
+    ensures enters { Enters agent.old.at.value agent.new.at.value s result }
     ensures entered { result.status ≡ reports.DONE
         → IsEntered (handle_view agent.old.at.value) (handle_view agent.new.at.value) s result.id }
-    ensures interns { (us : List ℕ) → Has (handle_view agent.old.at.value).units s us
-        → (plan : HeaderPlan) × (r : Result ℕ table_full.TableFull) × (result ≡ table_answer r)
-        × IsPlan (handle_view agent.old.at.value) (handle_view agent.new.at.value) s us plan
-        × IsInternAnswer (handle_view agent.old.at.value) (handle_view agent.new.at.value) us plan r }
-    ensures forwards { result.status ≡ reports.DONE
-        → IsForwarded (handle_view agent.new.at.value) s result.id }
 {
     let mut held = agent.take(alloc);
     let answer = held.intern(s);

@@ -2,18 +2,15 @@ use Rattle.std.proofs.Common.{◌≤◌, ℕ, List, length, drop, subst, sym, ar
 use Rattle.heap_rule.specs.Layout.{MAX}
 use Rattle.heap_rule.proofs.MapLemmas.{has_key}
 use Rattle.heap_rule.proofs.Possible.{possible_short}
-use Rattle.heap_read.proofs.Loaded.{reads_trans}
 use Rattle.heap_agents.specs.Ready.{handle_view}
 use Rattle.jsstr_c.proofs.Copied.{read_over}
-use Rattle.jsstr_c.proofs.Going.{goes_trans, goes_units}
+use Rattle.jsstr_c.proofs.Going.{goes_units}
 use Rattle.jsstr_c.proofs.Ready.{possible}
+use Rattle.jsstr_c.proofs.Settling.{looks_trans}
 use Rattle.jsstr_c.proofs.given.copied.Goals as goal
 
-pub returns-clause-goes : goal.returns-clause-goes
-returns-clause-goes c = let one = c.jsstr_length_unchecked-len in let two = c.jsstr_read_unchecked in goes_trans c.args.agent.now.at.value one.new.agent.at.value two.new.agent.at.value one.ensures.goes two.ensures.goes
-
-pub returns-clause-reads : goal.returns-clause-reads
-returns-clause-reads c = reads_trans _ _ _ c.jsstr_length_unchecked-len.ensures.reads c.jsstr_read_unchecked.ensures.reads
+pub returns-clause-looks : goal.returns-clause-looks
+returns-clause-looks c = let one = c.jsstr_length_unchecked-len in let two = c.jsstr_read_unchecked in looks_trans c.args.agent.now.at.value one.new.agent.at.value two.new.agent.at.value one.ensures.measures.looks two.ensures.looks
 
 pub returns-clause-units : goal.returns-clause-units
 returns-clause-units c = λ us h. let one = c.jsstr_length_unchecked-len in let two = c.jsstr_read_unchecked in let made = c.in_ok-units in let out = c.as_mut_slice in
@@ -22,7 +19,7 @@ returns-clause-units c = λ us h. let one = c.jsstr_length_unchecked-len in let 
     (omega (arith, is, made.ensures.len, out.ensures.len))
     (omega (arith, is, made.ensures.len, out.ensures.len))
     (omega (arith, two.auto.out))
-    (two.ensures.units us (goes_units c.args.agent.now.at.value one.new.agent.at.value one.ensures.goes c.args.s us h))
+    (two.ensures.units us (goes_units c.args.agent.now.at.value one.new.agent.at.value one.ensures.measures.looks.leaves c.args.s us h))
 
 pub returns-clause-short : goal.returns-clause-short
 returns-clause-short c = let v = handle_view c.args.agent.now.at.value in let u = has_key v.units c.args.s c.requires.known in

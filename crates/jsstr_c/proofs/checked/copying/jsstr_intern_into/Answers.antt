@@ -1,9 +1,8 @@
-use Rattle.std.proofs.Common.{Option, subst}
-use Rattle.heap_agents.specs.declared.held.Held.{Held}
-use Rattle.heap_agents.specs.Ready.{HandleLeaves}
-use Rattle.jsstr_c.proofs.Going.{goes_trans}
+use Rattle.std.proofs.Common.{◌≡◌, inr, arith}
+use Rattle.jsstr_c.proofs.Stages.{settled_first, units_first}
 use Rattle.jsstr_c.proofs.checked.copying.jsstr_intern_into.Goals as goal
 
-pub returns-clause-goes : goal.returns-clause-goes
-returns-clause-goes c = λ told. let one = c.jsstr_settle_unchecked-settled in let two = c.jsstr_intern_into_unchecked in let m = one.new.agent.at.value in
-    goes_trans c.args.from.now.at.value m two.new.from.at.value (subst (λ (x : Option Held). HandleLeaves x m) c.knows.ensures.same one.ensures.goes) two.ensures.goes
+pub returns-clause-does : goal.returns-clause-does
+returns-clause-does c = λ told. let one = c.settle_known-settled in let two = c.jsstr_intern_into_unchecked in let o = c.args.from.now.at.value in let m = one.new.from.at.value in
+    let e : one.result.status ≡ 0 = omega (arith, c.if-settled-ne-DONE.false) in let s = one.ensures.settles in
+    inr ((m, settled_first o m c.args.s one.result s e, two.ensures.looks), λ us h. two.ensures.does us (units_first o m c.args.s one.result s e us h))

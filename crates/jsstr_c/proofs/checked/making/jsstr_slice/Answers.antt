@@ -1,28 +1,18 @@
-use Rattle.std.proofs.Common.{inr, arith}
+use Rattle.std.proofs.Common.{◌≡◌, inr, arith}
 use Rattle.heap_rule.proofs.MapLemmas.{has_key}
 use Rattle.heap_agents.specs.Ready.{handle_view}
-use Rattle.jsstr_c.proofs.Going.{goes_trans, goes_units}
+use Rattle.jsstr_c.proofs.Stages.{settled_first, units_first}
 use Rattle.jsstr_c.proofs.checked.making.jsstr_slice.Goals as goal
 
-pub returns-then-settled-ne-DONE-clause-goes : goal.returns-then-settled-ne-DONE-clause-goes
-returns-then-settled-ne-DONE-clause-goes c = λ told. let one = c.reaches in let two = c.jsstr_settle_unchecked-settled in
-    goes_trans c.args.agent.now.at.value one.new.agent.at.value two.new.agent.at.value (one.ensures.goes c.if-not-reaches.false) two.ensures.goes
-
 pub jsstr_slice_unchecked-requires-clause-within : goal.jsstr_slice_unchecked-requires-clause-within
-jsstr_slice_unchecked-requires-clause-within c = let one = c.reaches in let two = c.jsstr_settle_unchecked-settled in let t = c.if-not-reaches.false in
-    let u = has_key (handle_view one.new.agent.at.value).units c.args.s (one.ensures.key t) in let long = one.ensures.long t u.0 u.1 in let low = c.if-to-from.false in
-    (u.0, goes_units one.new.agent.at.value two.new.agent.at.value two.ensures.goes c.args.s u.0 u.1, omega (arith, low), omega (arith, long, low))
-
-pub returns-clause-goes : goal.returns-clause-goes
-returns-clause-goes c = λ told. let o = c.args.agent.now.at.value in let one = c.reaches in let two = c.jsstr_settle_unchecked-settled in let three = c.jsstr_slice_unchecked in
-    goes_trans o two.new.agent.at.value three.new.agent.at.value
-    (goes_trans o one.new.agent.at.value two.new.agent.at.value (one.ensures.goes c.if-not-reaches.false) two.ensures.goes) three.ensures.goes
+jsstr_slice_unchecked-requires-clause-within c = let one = c.settle_reaching-settled in let e : one.result.status ≡ 0 = omega (arith, c.if-settled-ne-DONE.false) in
+    let u = has_key (handle_view one.new.agent.at.value).units c.args.s (one.ensures.readable e).0 in let long = one.ensures.long e u.0 u.1 in let low = c.if-to-from.false in
+    (u.0, u.1, omega (arith, low), omega (arith, long, low))
 
 pub returns-clause-units : goal.returns-clause-units
-returns-clause-units c = λ done us h. let o = c.args.agent.now.at.value in let one = c.reaches in let two = c.jsstr_settle_unchecked-settled in
-    c.jsstr_slice_unchecked.ensures.units done us (goes_units o two.new.agent.at.value
-    (goes_trans o one.new.agent.at.value two.new.agent.at.value (one.ensures.goes c.if-not-reaches.false) two.ensures.goes) c.args.s us h)
+returns-clause-units c = λ done us h. let one = c.settle_reaching-settled in
+    c.jsstr_slice_unchecked.ensures.units done us (units_first c.args.agent.now.at.value one.new.agent.at.value c.args.s one.result one.ensures.settles (omega (arith, c.if-settled-ne-DONE.false)) us h)
 
-pub returns-clause-cut : goal.returns-clause-cut
-returns-clause-cut c = λ told. let o = c.args.agent.now.at.value in let one = c.reaches in let two = c.jsstr_settle_unchecked-settled in
-    inr (two.new.agent.at.value, goes_trans o one.new.agent.at.value two.new.agent.at.value (one.ensures.goes c.if-not-reaches.false) two.ensures.goes, c.jsstr_slice_unchecked.ensures.cut)
+pub returns-clause-cuts : goal.returns-clause-cuts
+returns-clause-cuts c = λ told. let one = c.settle_reaching-settled in let m = one.new.agent.at.value in
+    inr (m, settled_first c.args.agent.now.at.value m c.args.s one.result one.ensures.settles (omega (arith, c.if-settled-ne-DONE.false)), c.jsstr_slice_unchecked.ensures.cuts)

@@ -1,7 +1,16 @@
-use Rattle.std.proofs.Common.{◌≡◌, arith}
-use Rattle.jsstr_c.proofs.Going.{goes_trans}
+use Rattle.std.proofs.Common.{◌∙◌, ap, sym, arith}
+use Rattle.std.proofs.Common.{ℕ, Some}
+use Rattle.jsstr_c.specs.Reports.{number_answer}
+use Rattle.jsstr_c.specs.declared.answer.JsNumber.{JsNumber}
+use Rattle.jsstr_c.specs.Reports.{no_number}
+use Rattle.jsstr_c.proofs.Stages.{goes_on, stops}
 use Rattle.jsstr_c.proofs.checked.reading.jsstr_hash.Goals as goal
 
-pub returns-clause-goes : goal.returns-clause-goes
-returns-clause-goes c = λ told. let one = c.settle_known-status in let two = c.jsstr_hash_unchecked-value in let n = c.if-status-ne-DONE.false in
-    goes_trans c.args.agent.now.at.value one.new.agent.at.value two.new.agent.at.value (one.ensures.goes (λ (e : one.result ≡ 9). absurd (omega (arith, e, n)))) two.ensures.goes
+pub returns-then-settled-ne-DONE-clause-reads : goal.returns-then-settled-ne-DONE-clause-reads
+returns-then-settled-ne-DONE-clause-reads c = let first = c.settle_known-settled in let is = c.without_number.ensures in let e = ap (λ (x : JsNumber). x.status) is in
+    stops c.args.agent.now.at.value first.new.agent.at.value c.args.s first.result first.ensures.settles _ _ _ e c.if-settled-ne-DONE.true (is ∙ ap no_number (sym e))
+
+pub returns-clause-reads : goal.returns-clause-reads
+returns-clause-reads c = let first = c.settle_known-settled in let two = c.jsstr_hash_unchecked-value in let n = c.if-settled-ne-DONE.false in
+    goes_on c.args.agent.now.at.value first.new.agent.at.value c.args.s first.result first.ensures.settles two.new.agent.at.value _ _ _ (omega (arith, n)) two.ensures.looks (c.of_number.ensures.told) (c.of_number.ensures.words)
+    (λ us h. c.of_number.ensures.value ∙ ap (λ (n : ℕ). number_answer (Some n)) (two.ensures.hash us h))

@@ -1,19 +1,22 @@
-use Rattle.std.proofs.Common.{arith}
+use Rattle.std.proofs.Common.{◌≡◌, ◌∙◌, ap, sym, arith}
+use Rattle.std.proofs.Common.{ℕ, Some}
+use Rattle.jsstr_c.specs.Reports.{number_answer}
 use Rattle.heap_rule.proofs.MapLemmas.{has_key}
 use Rattle.heap_agents.specs.Ready.{handle_view}
-use Rattle.jsstr_c.proofs.Going.{goes_trans, goes_units}
+use Rattle.jsstr_c.specs.declared.answer.JsNumber.{JsNumber}
+use Rattle.jsstr_c.specs.Reports.{no_number}
+use Rattle.jsstr_c.proofs.Stages.{goes_on, stops}
 use Rattle.jsstr_c.proofs.checked.reading.jsstr_unit_at.Goals as goal
 
-pub returns-then-settled-ne-DONE-clause-goes : goal.returns-then-settled-ne-DONE-clause-goes
-returns-then-settled-ne-DONE-clause-goes c = λ told. let one = c.reaches in let two = c.jsstr_settle_unchecked-settled in
-    goes_trans c.args.agent.now.at.value one.new.agent.at.value two.new.agent.at.value (one.ensures.goes c.if-not-reaches.false) two.ensures.goes
+pub returns-then-settled-ne-DONE-clause-reads : goal.returns-then-settled-ne-DONE-clause-reads
+returns-then-settled-ne-DONE-clause-reads c = let first = c.settle_reaching-settled in let is = c.without_number.ensures in let e = ap (λ (x : JsNumber). x.status) is in
+    stops c.args.agent.now.at.value first.new.agent.at.value c.args.s first.result first.ensures.settles _ _ _ e c.if-settled-ne-DONE.true (is ∙ ap no_number (sym e))
 
 pub jsstr_unit_at_unchecked-unit-requires-clause-within : goal.jsstr_unit_at_unchecked-unit-requires-clause-within
-jsstr_unit_at_unchecked-unit-requires-clause-within c = let one = c.reaches in let two = c.jsstr_settle_unchecked-settled in let t = c.if-not-reaches.false in
-    let u = has_key (handle_view one.new.agent.at.value).units c.args.s (one.ensures.key t) in let long = one.ensures.long t u.0 u.1 in
-    (u.0, goes_units one.new.agent.at.value two.new.agent.at.value two.ensures.goes c.args.s u.0 u.1, omega (arith, long))
+jsstr_unit_at_unchecked-unit-requires-clause-within c = let first = c.settle_reaching-settled in let e : first.result.status ≡ 0 = omega (arith, c.if-settled-ne-DONE.false) in
+    let u = has_key (handle_view first.new.agent.at.value).units c.args.s (first.ensures.readable e).0 in let long = first.ensures.long e u.0 u.1 in (u.0, u.1, omega (arith, long))
 
-pub returns-clause-goes : goal.returns-clause-goes
-returns-clause-goes c = λ told. let o = c.args.agent.now.at.value in let one = c.reaches in let two = c.jsstr_settle_unchecked-settled in let three = c.jsstr_unit_at_unchecked-unit in
-    goes_trans o two.new.agent.at.value three.new.agent.at.value
-    (goes_trans o one.new.agent.at.value two.new.agent.at.value (one.ensures.goes c.if-not-reaches.false) two.ensures.goes) three.ensures.goes
+pub returns-clause-reads : goal.returns-clause-reads
+returns-clause-reads c = let first = c.settle_reaching-settled in let two = c.jsstr_unit_at_unchecked-unit in let n = c.if-settled-ne-DONE.false in
+    goes_on c.args.agent.now.at.value first.new.agent.at.value c.args.s first.result first.ensures.settles two.new.agent.at.value _ _ _ (omega (arith, n)) two.ensures.looks (c.of_number.ensures.told) (c.of_number.ensures.words)
+    (λ us h. c.of_number.ensures.value ∙ ap (λ (n : ℕ). number_answer (Some n)) (c.from.ensures ∙ two.ensures.unit us h))

@@ -1,21 +1,15 @@
-use Rattle.std.proofs.Common.{Option, subst, sym}
-use Rattle.heap_rule.specs.Maps.{Has}
-use Rattle.heap_agents.specs.declared.held.Held.{Held}
-use Rattle.heap_agents.specs.Ready.{HandleLeaves, handle_view}
-use Rattle.jsstr_c.proofs.Going.{goes_trans, goes_units}
+use Rattle.std.proofs.Common.{◌≡◌, ◌∙◌, ap, sym, arith}
+use Rattle.std.proofs.Common.{refl}
+use Rattle.jsstr_c.specs.declared.answer.JsWords.{JsWords}
+use Rattle.jsstr_c.specs.Reports.{no_words}
+use Rattle.jsstr_c.proofs.Stages.{goes_on, stops}
 use Rattle.jsstr_c.proofs.checked.reading.jsstr_window.Goals as goal
 
-pub returns-clause-goes : goal.returns-clause-goes
-returns-clause-goes c = λ told. let one = c.knows in let two = c.jsstr_settle_unchecked-settled in let three = c.jsstr_window_unchecked in
-    subst (λ (o : Option Held). HandleLeaves o three.new.agent.at.value) one.ensures.same
-    (goes_trans one.new.self.at.value two.new.agent.at.value three.new.agent.at.value two.ensures.goes three.ensures.goes)
+pub returns-then-settled-ne-DONE-clause-reads : goal.returns-then-settled-ne-DONE-clause-reads
+returns-then-settled-ne-DONE-clause-reads c = let first = c.settle_known-settled in let is = c.without_words.ensures in let e = ap (λ (x : JsWords). x.status) is in
+    stops c.args.agent.now.at.value first.new.agent.at.value c.args.s first.result first.ensures.settles _ _ _ e c.if-settled-ne-DONE.true ((is ∙ ap no_words (sym e), refl))
 
-pub returns-clause-shown : goal.returns-clause-shown
-returns-clause-shown c = λ told us h. let one = c.knows in let two = c.jsstr_settle_unchecked-settled in
-    let has = subst (λ (o : Option Held). Has (handle_view o).units c.args.s us) (sym one.ensures.same) h in
-    c.jsstr_window_unchecked.ensures.shown us (goes_units one.new.self.at.value two.new.agent.at.value two.ensures.goes c.args.s us has)
-
-pub returns-clause-there : goal.returns-clause-there
-returns-clause-there c = λ told us h. let one = c.knows in let two = c.jsstr_settle_unchecked-settled in
-    let has = subst (λ (o : Option Held). Has (handle_view o).units c.args.s us) (sym one.ensures.same) h in
-    c.jsstr_window_unchecked.ensures.there us (goes_units one.new.self.at.value two.new.agent.at.value two.ensures.goes c.args.s us has)
+pub returns-clause-reads : goal.returns-clause-reads
+returns-clause-reads c = let first = c.settle_known-settled in let two = c.jsstr_window_unchecked in let n = c.if-settled-ne-DONE.false in
+    goes_on c.args.agent.now.at.value first.new.agent.at.value c.args.s first.result first.ensures.settles two.new.agent.at.value _ _ _ (omega (arith, n)) two.ensures.looks (λ (x : two.result.status ≡ 9). absurd (omega (arith, x, two.ensures.told))) (λ (x : two.result.status ≡ 4). absurd (omega (arith, x, two.ensures.told)))
+    (λ us h. (two.ensures.told, two.ensures.shown us h, two.ensures.there us h))

@@ -1,9 +1,16 @@
-use Rattle.std.proofs.Common.{◌≡◌, arith, rules}
-use Rattle.jsstr_c.proofs.Going.{goes_units}
+use Rattle.std.proofs.Common.{◌≡◌, ◌∙◌, ap, sym, arith}
+use Rattle.std.proofs.Common.{refl, rules}
+use Rattle.jsstr_c.specs.declared.answer.JsOrder.{JsOrder}
+use Rattle.jsstr_c.specs.Reports.{no_order}
+use Rattle.jsstr_c.proofs.Stages.{orders, seeks_on, stops_both}
 use Rattle.jsstr_c.proofs.checked.search.jsstr_compare.Goals as goal
 
-pub returns-clause-means : goal.returns-clause-means
-returns-clause-means c d us vs h k = let both = c.settle_both-status in let o = c.args.agent.now.at.value in let m = both.new.agent.at.value in let n = c.if-status-ne-DONE.false in
-    let g = both.ensures.goes (λ (e : both.result ≡ 9). absurd (omega (arith, e, n))) in
-    let r = c.jsstr_compare_unchecked-order.ensures.means us vs (goes_units o m g c.args.a us h) (goes_units o m g c.args.b vs k) in
-    let is = r.1 in (r.0, search rules, r.2)
+pub returns-then-status-ne-DONE-clause-seeks : goal.returns-then-status-ne-DONE-clause-seeks
+returns-then-status-ne-DONE-clause-seeks c = let both = c.settle_both-status in let is = c.without_order.ensures in let e = ap (λ (x : JsOrder). x.status) is in
+    stops_both c.args.agent.now.at.value both.new.agent.at.value c.args.a c.args.b both.result both.ensures.settles _ _ _ e c.if-status-ne-DONE.true (is ∙ ap no_order (sym e))
+
+pub returns-clause-seeks : goal.returns-clause-seeks
+returns-clause-seeks c = let both = c.settle_both-status in let two = c.jsstr_compare_unchecked-order in let n = c.if-status-ne-DONE.false in
+    seeks_on c.args.agent.now.at.value both.new.agent.at.value c.args.a c.args.b both.result both.ensures.settles two.new.agent.at.value _ _ _ (omega (arith, n)) two.ensures.searches
+    (λ (x : 0 ≡ 9). absurd (omega (arith, x))) (λ (x : 0 ≡ 4). absurd (omega (arith, x)))
+    (λ us vs h k. let is = two.ensures.order us vs h k in let r = two.ensures.means us vs h k in let same = r.1 in (orders _ _ refl (search rules), (r.0, search rules, r.2)))

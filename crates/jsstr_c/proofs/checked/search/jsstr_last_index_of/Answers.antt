@@ -1,19 +1,15 @@
-use Rattle.std.proofs.Common.{◌≡◌, inr, arith}
-use Rattle.jsstr_c.proofs.Going.{goes_units}
+use Rattle.std.proofs.Common.{◌∙◌, ap, sym, arith}
+use Rattle.jsstr_c.specs.declared.answer.JsPlace.{JsPlace}
+use Rattle.jsstr_c.specs.Reports.{no_place}
+use Rattle.jsstr_c.proofs.Stages.{seeks_on, stops_both}
 use Rattle.jsstr_c.proofs.checked.search.jsstr_last_index_of.Goals as goal
 
-pub returns-clause-bad : goal.returns-clause-bad
-returns-clause-bad c = let both = c.settle_both-status in let n = c.if-status-ne-DONE.false in
-    (λ e. absurd (c.jsstr_last_index_of_unchecked.ensures.told e), λ f. let e : both.result ≡ 9 = both.ensures.bad.1 f in absurd (omega (arith, e, n)))
+pub returns-then-status-ne-DONE-clause-seeks : goal.returns-then-status-ne-DONE-clause-seeks
+returns-then-status-ne-DONE-clause-seeks c = let both = c.settle_both-status in let is = c.without_place.ensures in let e = ap (λ (x : JsPlace). x.status) is in
+    stops_both c.args.agent.now.at.value both.new.agent.at.value c.args.hay c.args.needle both.result both.ensures.settles _ _ _ e c.if-status-ne-DONE.true (is ∙ ap no_place (sym e))
 
-pub returns-clause-unchanged : goal.returns-clause-unchanged
-returns-clause-unchanged c = λ e. absurd (c.jsstr_last_index_of_unchecked.ensures.told e)
-
-pub returns-clause-found : goal.returns-clause-found
-returns-clause-found c = λ told. let both = c.settle_both-status in let last = c.jsstr_last_index_of_unchecked in let o = c.args.agent.now.at.value in let m = both.new.agent.at.value in
-    let n = c.if-status-ne-DONE.false in let g = both.ensures.goes (λ (e : both.result ≡ 9). absurd (omega (arith, e, n))) in
-    inr (
-      (m, g, last.ensures.searches),
-      λ us vs h k. let p = goes_units o m g c.args.hay us h in let q = goes_units o m g c.args.needle vs k in
-          (last.ensures.place us vs p q, last.ensures.greatest us vs p q),
-    )
+pub returns-clause-seeks : goal.returns-clause-seeks
+returns-clause-seeks c = let both = c.settle_both-status in let two = c.jsstr_last_index_of_unchecked in let n = c.if-status-ne-DONE.false in
+    seeks_on c.args.agent.now.at.value both.new.agent.at.value c.args.hay c.args.needle both.result both.ensures.settles two.new.agent.at.value _ _ _ (omega (arith, n)) two.ensures.searches
+    (two.ensures.told) (two.ensures.words)
+    (λ us vs h k. (two.ensures.place us vs h k, two.ensures.greatest us vs h k))

@@ -1,8 +1,16 @@
-use Rattle.std.proofs.Common.{◌≡◌, arith}
-use Rattle.jsstr_c.proofs.Going.{goes_units}
+use Rattle.std.proofs.Common.{◌≡◌, ◌∙◌, ap, sym, arith}
+use Rattle.std.proofs.Common.{refl}
+use Rattle.jsstr_c.specs.declared.answer.JsTruth.{JsTruth}
+use Rattle.jsstr_c.specs.Reports.{no_truth}
+use Rattle.jsstr_c.proofs.Stages.{seeks_on, stops_both}
 use Rattle.jsstr_c.proofs.checked.search.jsstr_starts_with.Goals as goal
 
-pub returns-clause-stands : goal.returns-clause-stands
-returns-clause-stands c d us vs h k = let both = c.settle_both-status in let o = c.args.agent.now.at.value in let m = both.new.agent.at.value in let n = c.if-status-ne-DONE.false in
-    let g = both.ensures.goes (λ (e : both.result ≡ 9). absurd (omega (arith, e, n))) in
-    c.jsstr_starts_with_unchecked-holds.ensures.stands us vs (goes_units o m g c.args.hay us h) (goes_units o m g c.args.needle vs k)
+pub returns-then-status-ne-DONE-clause-seeks : goal.returns-then-status-ne-DONE-clause-seeks
+returns-then-status-ne-DONE-clause-seeks c = let both = c.settle_both-status in let is = c.without_truth.ensures in let e = ap (λ (x : JsTruth). x.status) is in
+    stops_both c.args.agent.now.at.value both.new.agent.at.value c.args.hay c.args.needle both.result both.ensures.settles _ _ _ e c.if-status-ne-DONE.true (is ∙ ap no_truth (sym e))
+
+pub returns-clause-seeks : goal.returns-clause-seeks
+returns-clause-seeks c = let both = c.settle_both-status in let two = c.jsstr_starts_with_unchecked-holds in let n = c.if-status-ne-DONE.false in
+    seeks_on c.args.agent.now.at.value both.new.agent.at.value c.args.hay c.args.needle both.result both.ensures.settles two.new.agent.at.value _ _ _ (omega (arith, n)) two.ensures.searches
+    (λ (x : 0 ≡ 9). absurd (omega (arith, x))) (λ (x : 0 ≡ 4). absurd (omega (arith, x)))
+    (λ us vs h k. (refl, two.ensures.test us vs h k, two.ensures.stands us vs h k))

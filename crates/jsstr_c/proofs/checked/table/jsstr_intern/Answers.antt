@@ -1,14 +1,18 @@
-use Rattle.std.proofs.Common.{Option, subst}
+use Rattle.std.proofs.Common.{inr, arith}
 use Rattle.heap_read.proofs.Loaded.{known_trans}
-use Rattle.heap_agents.specs.declared.held.Held.{Held}
-use Rattle.heap_agents.specs.Ready.{HandleLeaves}
 use Rattle.jsstr_c.proofs.Going.{goes_continues}
+use Rattle.jsstr_c.proofs.Stages.{leaves_first, settled_first, units_first}
 use Rattle.jsstr_c.proofs.checked.table.jsstr_intern.Goals as goal
 
-pub returns-then-settled-ne-DONE-clause-known : goal.returns-then-settled-ne-DONE-clause-known
-returns-then-settled-ne-DONE-clause-known c = λ told. let two = c.jsstr_settle_unchecked-settled in let m = two.new.agent.at.value in
-    (goes_continues c.args.agent.now.at.value m (subst (λ (x : Option Held). HandleLeaves x m) c.knows.ensures.same two.ensures.goes)).known
-
 pub returns-clause-known : goal.returns-clause-known
-returns-clause-known c = λ told. let two = c.jsstr_settle_unchecked-settled in let m = two.new.agent.at.value in
-    known_trans _ _ _ (goes_continues c.args.agent.now.at.value m (subst (λ (x : Option Held). HandleLeaves x m) c.knows.ensures.same two.ensures.goes)).known c.jsstr_intern_unchecked.ensures.known
+returns-clause-known c = λ told. let one = c.settle_known-settled in let o = c.args.agent.now.at.value in let m = one.new.agent.at.value in
+    known_trans _ _ _ (goes_continues o m (leaves_first o m c.args.s one.result one.ensures.settles (omega (arith, c.if-settled-ne-DONE.false)))).known c.jsstr_intern_unchecked.ensures.enters.known
+
+pub returns-clause-enters : goal.returns-clause-enters
+returns-clause-enters c = λ told. let one = c.settle_known-settled in let o = c.args.agent.now.at.value in let m = one.new.agent.at.value in
+    inr (m, settled_first o m c.args.s one.result one.ensures.settles (omega (arith, c.if-settled-ne-DONE.false)), c.jsstr_intern_unchecked.ensures.enters)
+
+pub returns-clause-entered : goal.returns-clause-entered
+returns-clause-entered c = λ done. let one = c.settle_known-settled in let n = c.if-settled-ne-DONE.false in let t = c.jsstr_intern_unchecked.ensures.entered done in
+    let kept = units_first c.args.agent.now.at.value one.new.agent.at.value c.args.s one.result one.ensures.settles (omega (arith, n)) in
+    record { units = λ us h. t.units us (kept us h); call = λ us h. t.call us (kept us h); settled = t.settled }

@@ -4,7 +4,7 @@ use Rattle.heap_agents.specs.declared.held.Held.{Held}
 use Rattle.heap_agents.specs.Ready.{HandleKnows}
 use Rattle.jsstr_c.specs.Checked.{Reaches}
 use Rattle.jsstr_c.proofs.Going.{leb_of, reached, reaching}
-use Rattle.jsstr_c.proofs.checked.reading.reaches.Goals as goal
+use Rattle.jsstr_c.proofs.checked.settling.reaches.Goals as goal
 
 pub returns-then-all-from-clause-reaches : goal.returns-then-all-from-clause-reaches
 returns-then-all-from-clause-reaches c = let o = c.args.agent.now.at.value in let mid = c.knows.new.self.at.value in let n = c.args.from + c.args.room in

@@ -1,0 +1,58 @@
+-- What joining, cutting and interning strings leave and answer.
+use Rattle.std.specs.Prelude.{◌≡◌, ◌≢◌, ◌⊎◌, ℕ, List, Option, Result}
+use Rattle.heap_rule.specs.Maps.{Has}
+use Rattle.heap_table.specs.Known.{KeepsKnown}
+use Rattle.heap_read.specs.declared.string.JsStr.{JsStr}
+use Rattle.heap_text.specs.declared.faults.JoinFault.{JoinFault}
+use Rattle.heap_text.specs.declared.faults.TextFull.{TextFull}
+use Rattle.heap_text.specs.Joins.{IsCut, IsJoined}
+use Rattle.heap_text.specs.Texts.{KeepsOwn}
+use Rattle.heap_intern.specs.declared.table.faults.TableFull.{TableFull}
+use Rattle.heap_intern.specs.Answers.{IsForwarded, IsInternAnswer, IsPlan, HeaderPlan}
+use Rattle.heap_agents.specs.declared.held.Held.{Held}
+use Rattle.heap_agents.specs.Interned.{KeepsCalls}
+use Rattle.heap_agents.specs.Ready.{HandleLeaves, IsBeside, MarksStay, handle_limit, size_in, handle_view}
+use Rattle.jsstr_c.specs.declared.answer.JsAnswer.{JsAnswer}
+use Rattle.jsstr_c.specs.Checked.{MarksResult, MarksKey, MarksNone, Refuses, Settles}
+use Rattle.jsstr_c.specs.Reports.{DONE, join_answer, table_answer, text_answer}
+
+-- strings a and b were joined, with r as the answer
+pub record Joins (o p : Option Held) (a b : ℕ) (r : JsAnswer) : Type 0 where
+  pub leaves : HandleLeaves o p
+  pub own : KeepsOwn (handle_view o) (handle_view p)
+  pub marks : MarksResult o p r
+  pub joined : (us vs : List ℕ) → Has (handle_view o).units a us → Has (handle_view o).units b vs
+      → (t : Result JsStr JoinFault) × (r ≡ join_answer t)
+      × IsJoined (handle_view o) (handle_view p) (size_in o) (handle_limit o) (record { id = a })
+      (record { id = b }) us vs t
+
+-- the settled string s was cut, with r as the answer
+pub record Cuts (o p : Option Held) (s from to : ℕ) (r : JsAnswer) : Type 0 where
+  pub leaves : HandleLeaves o p
+  pub own : KeepsOwn (handle_view o) (handle_view p)
+  pub marks : MarksResult o p r
+  pub cut : (us : List ℕ) → Has (handle_view o).units s us
+      → (t : Result JsStr TextFull) × (r ≡ text_answer t)
+      × IsCut (handle_view o) (handle_view p) (size_in o) (record { id = s }) from to us t
+
+-- the settled string s was interned, with r as the answer
+pub record Enters (o p : Option Held) (s : ℕ) (r : JsAnswer) : Type 0 where
+  pub same : IsBeside o p
+  pub stays : MarksStay o p
+  pub marked : r.status ≡ DONE → MarksKey o p r.id
+  pub unmarked : r.status ≢ DONE → MarksNone o p
+  pub known : KeepsKnown (handle_view o) (handle_view p)
+  pub calls : KeepsCalls (handle_view o) (handle_view p)
+  pub interned : (us : List ℕ) → Has (handle_view o).units s us
+      → (plan : HeaderPlan) × (t : Result ℕ TableFull) × (r ≡ table_answer t)
+      × IsPlan (handle_view o) (handle_view p) s us plan
+      × IsInternAnswer (handle_view o) (handle_view p) us plan t
+  pub forwards : r.status ≡ DONE → IsForwarded (handle_view p) s r.id
+
+-- string s could not be settled, or it was and then cut, or interned
+abbrev pub CutsSettled : Option Held → Option Held → ℕ → ℕ → ℕ → JsAnswer → Type 0
+CutsSettled o p s from to r =
+    Refuses o p s r ⊎ ((m : Option Held) × Settles o m s × Cuts m p s from to r)
+
+abbrev pub EntersSettled : Option Held → Option Held → ℕ → JsAnswer → Type 0
+EntersSettled o p s r = Refuses o p s r ⊎ ((m : Option Held) × Settles o m s × Enters m p s r)
