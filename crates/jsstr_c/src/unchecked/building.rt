@@ -61,7 +61,7 @@ pub extern "C" fn jsstr_built_unchecked(
 ) -> JsAnswer
     requires text { IsBuilder text.old }
     requires ready { IsReady agent.old.at.value }
-    ensures handles { IsBuilder text.new × IsHandle agent.new }
+    ensures handle { IsBuilder text.new × IsHandle agent.new }
     ensures told { result.status ≢ reports.BAD_ARGUMENT }
     ensures makes { Makes agent.old.at.value agent.new.at.value (built text.old.at.value) result }
     ensures spent { Spends text.old.at.value text.new.at.value result.status }
@@ -78,7 +78,7 @@ pub extern "C" fn jsstr_built_interned_unchecked(
 ) -> JsAnswer
     requires text { IsBuilder text.old }
     requires ready { IsReady agent.old.at.value }
-    ensures handles { IsBuilder text.new × IsHandle agent.new }
+    ensures handle { IsBuilder text.new × IsHandle agent.new }
     ensures told { result.status ≢ reports.BAD_ARGUMENT }
     ensures interns { IsInterning agent.old.at.value agent.new.at.value (built text.old.at.value) result }
     ensures spent { Spends text.old.at.value text.new.at.value result.status }
