@@ -1,6 +1,5 @@
 pub mod Walks
 pub mod Boxed
-pub mod BoxedTexts
 pub mod Ready
 pub mod Going
 pub mod Settling
@@ -8,4 +7,4 @@ pub mod Stages
 pub mod Same
 pub mod Decoded
 pub mod Copied
-pub mod Texts
+pub mod Slots

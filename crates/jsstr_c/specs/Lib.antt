@@ -1,5 +1,4 @@
 pub mod Owned
-pub mod OwnedText
 pub mod Handles
 pub mod Reports
 pub mod Checked
@@ -11,4 +10,3 @@ pub mod Given
 pub mod Sources
 pub mod Lists
 pub mod Board
-pub mod Building

@@ -31,7 +31,7 @@ pub extern "C" fn jsstr_room_of(alloc: Global, agent: &mut JsAgent) -> JsRoom
     jsstr_room_of_unchecked(alloc, agent)
 }
 
-/// The slot that an interned string is in, for good. Nothing is used, ever.
+/// The slot of an interned string, for good. Nothing is used, ever.
 #[unsafe(no_mangle)]
 pub extern "C" fn jsstr_slot_of(alloc: Global, agent: &mut JsAgent, s: u32) -> JsNumber
     requires { IsHandle agent.old }

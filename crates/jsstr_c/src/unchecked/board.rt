@@ -28,7 +28,7 @@ pub extern "C" fn jsstr_room_of_unchecked(alloc: Global, agent: &mut JsAgent) ->
     of_room(room)
 }
 
-/// The slot that an interned string is in, for good. Nothing is used, ever.
+/// The slot of an interned string, for good. Nothing is used, ever.
 #[unsafe(no_mangle)]
 pub extern "C" fn jsstr_slot_of_unchecked(alloc: Global, agent: &mut JsAgent, s: u32) -> u32
     requires ready { IsReady agent.old.at.value }

@@ -3,6 +3,6 @@ use Rattle.jsstr_c.proofs.Stages.{settled_first, units_first}
 use Rattle.jsstr_c.proofs.checked.copying.jsstr_copy_into.Goals as goal
 
 pub returns-clause-does : goal.returns-clause-does
-returns-clause-does c = λ told. let one = c.settle_known-settled in let two = c.jsstr_copy_into_unchecked in let o = c.args.from.now.at.value in let m = one.new.from.at.value in
+returns-clause-does c = λ told. let one = c.settle_known-settled in let two = c.jsstr_copy_into_unchecked in let o = c.args.from.now.at.value in let m = one.new.agent.at.value in
     let e : one.result.status ≡ 0 = omega (arith, c.if-settled-ne-DONE.false) in let s = one.ensures.settles in
     inr ((m, settled_first o m c.args.s one.result s e, two.ensures.looks), λ us h. two.ensures.does us (units_first o m c.args.s one.result s e us h))
