@@ -7,6 +7,8 @@
 #[cfg(test)]
 mod board;
 #[cfg(test)]
+mod building;
+#[cfg(test)]
 mod counted;
 #[cfg(test)]
 mod machine;
