@@ -5,6 +5,7 @@
 //! `heap_text`, the string table of `heap_intern` and `js_search`, and mark each string that they answer.
 #![tactic(auto)]
 
+mod building;
 mod counts;
 mod held;
 mod ids;

@@ -1,0 +1,4 @@
+pub mod Spelled
+pub mod Built
+pub mod Points
+pub mod Room
