@@ -19,7 +19,8 @@ impl Held {
         ensures leaves { Leaves self.old self.new }
         ensures reads { OnlyLoads (view_by self.old) (view_by self.new) }
         ensures marked { MarksNothing self.old self.new }
-        ensures added { (us : List ℕ) → Has (view_by self.old).units s.id us → Adds out.old out.new us result }
+        ensures added { (us : List ℕ) → Has (view_by self.old).units s.id us
+            → Adds out.old out.new us result }
         ensures room { room_in out.old ≤ room_in out.new }
     {
         match &mut self.text {

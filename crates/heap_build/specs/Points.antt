@@ -36,7 +36,8 @@ BeginsNone bytes = (c : ℕ) (rest : List ℕ) → c < 0x110000 → ¬ (bytes �
 
 -- and none that may follow such a one
 abbrev pub FollowsNone : Encoding → Bool → List ℕ → Type 0
-FollowsNone e lead bytes = (c : ℕ) (rest : List ℕ) → may_follow e lead c ≡ true → ¬ (bytes ≡ encode_utf8 c ++ rest)
+FollowsNone e lead bytes = (c : ℕ) (rest : List ℕ) → may_follow e lead c ≡ true
+    → ¬ (bytes ≡ encode_utf8 c ++ rest)
 
 -- Bytes were read up to here: what spells code points behind what was read spells them behind the front, and
 -- has so many units more.

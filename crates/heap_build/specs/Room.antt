@@ -9,6 +9,8 @@ use Rattle.heap_build.specs.Built.{room_in, units_in}
 
 -- there is room for so many units more, and a string may have them; or why not
 abbrev pub HasRoom : Builder → Builder → ℕ → Result (Unit {0}) BuildFault → Type 0
-HasRoom o p count (Ok u) = (length (units_in o) + count ≤ MAX) × (vec_len p.units + count ≤ vec_capacity p.units)
+HasRoom o p count (Ok u) =
+    (length (units_in o) + count ≤ MAX) × (vec_len p.units + count ≤ vec_capacity p.units)
 HasRoom o p count (Err TooLong) = MAX < length (units_in o) + count
-HasRoom o p count (Err NoMemory) = (length (units_in o) + count ≤ MAX) × (room_in o < length (units_in o) + count)
+HasRoom o p count (Err NoMemory) =
+    (length (units_in o) + count ≤ MAX) × (room_in o < length (units_in o) + count)
