@@ -1,7 +1,9 @@
 pub mod Walks
 pub mod Boxed
+pub mod BoxedTexts
 pub mod Ready
 pub mod Going
 pub mod Same
 pub mod Decoded
 pub mod Copied
+pub mod Texts

@@ -1,4 +1,5 @@
 pub mod Owned
+pub mod OwnedText
 pub mod Handles
 pub mod Reports
 pub mod Decoded
@@ -7,3 +8,4 @@ pub mod Given
 pub mod Sources
 pub mod Checked
 pub mod Lists
+pub mod Building

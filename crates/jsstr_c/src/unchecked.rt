@@ -1,4 +1,5 @@
 // The calls whose conditions are the caller's to keep: none of them tests anything.
+pub(crate) mod building;
 pub(crate) mod copying;
 pub(crate) mod counts;
 pub(crate) mod life;
