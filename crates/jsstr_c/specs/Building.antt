@@ -22,7 +22,8 @@ abbrev pub room : Option Builder → ℕ
 room None = 0
 room (Some b) = room_in b
 
--- `live` is 0 where the handle has no text yet, and more where it has one; `len` is how many units the text has
+-- `live` is 0 where the handle has no text yet, and more where it has one; `len` is how many units the text
+-- has
 abbrev pub HasText : ℕ → ℕ → Option Builder → Type 0
 HasText live n None = (live ≡ 0) × (n ≡ 0)
 HasText live n (Some b) = (0 < live) × (n ≡ length (units_in b))
@@ -79,8 +80,8 @@ abbrev pub BuildsSpelled : (List ℕ → List ℕ → Type 0) → Option Builder
 BuildsSpelled Spells o p bytes r =
     (t : Result (Unit {0}) DecodeFault) × (r ≡ decoded_answer t) × AddsSpelledTo Spells o p bytes t
 
--- what becomes of a text whose units were to become a string: it is empty then, and keeps its memory; where the
--- call was refused, it stays
+-- what becomes of a text whose units were to become a string: it is empty then, and keeps its memory; where
+-- the call was refused, it stays
 abbrev pub Spends : Option Builder → Option Builder → ℕ → Type 0
 Spends o p status = (status ≡ DONE → (built p ≡ []) × (room p ≡ room o)) × (status ≢ DONE → p ≡ o)
 
