@@ -8,7 +8,7 @@ MINUTES = {
     "--test": 7.3,
     "--build": 121,
     "--library": 27,
-    "gate": 182,
+    "gate": 95,
 }
 
 
