@@ -5,9 +5,11 @@ ghost use Rattle.heap_rule.specs.Layout.{MAX};
 ghost use Rattle.js_number.specs.Arith.{text_of};
 ghost use Rattle.js_number.specs.declared.Num.TheVariants.{Int};
 ghost use Rattle.heap_build.specs.Built.{Adds, AddsSpelled, room_in, units_in};
-ghost use Rattle.heap_build.specs.Points.{IsMeasured, spells};
+ghost use Rattle.heap_bytes.specs.Points.{IsMeasured};
+ghost use Rattle.heap_build.specs.Spells.{spells};
 ghost use Rattle.heap_build.specs.Room.{HasRoom};
-ghost use Rattle.heap_build.specs.Spelled.{SpellsUtf8, SpellsWtf8, utf16};
+ghost use Rattle.heap_build.specs.Spelled.{SpellsUtf8, SpellsWtf8};
+ghost use Rattle.heap_bytes.specs.Points.{utf16};
 
 use crate::builder::Builder;
 use crate::decoding::{fill_latin1, fill_points, measure};
