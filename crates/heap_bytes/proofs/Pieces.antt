@@ -1,6 +1,6 @@
 -- Pieces of what bytes spell: the first units, and those that are left.
-use Rattle.std.proofs.Common.{◌≡◌, ℕ, ◌+◌, ◌-◌, ◌<◌, ◌≤◌, List, [], ◌++◌, length, get_or, take, drop, sym, ap, ◌∙◌, arith, append_assoc, length-append, length-drop, ◌∷◌}
-use Rattle.std.proofs.lemmas.List.{drop-drop, drop_at, get_or-drop, get_or-take, get_or_append_left, length-set, length-take-le, take-append-drop, take_more_set}
+use Rattle.std.proofs.Common.{◌≡◌, ℕ, ◌+◌, ◌-◌, ◌<◌, ◌≤◌, List, [], ◌++◌, length, get_or, take, drop, sym, ap, ap₂, ◌∙◌, arith, append_assoc, length-append, length-drop, ◌∷◌}
+use Rattle.std.proofs.lemmas.List.{drop-drop, drop_at, get_or-drop, get_or-take, get_or_append_left, length-set, length-take-le, take-append-drop, take_all, take_more_set}
 use Rattle.std.proofs.lemmas.Grind.{same_number_lists}
 use Rattle.std.specs.Prelude.{set}
 use Rattle.js_units.specs.Lanes.{hash_from}
@@ -12,8 +12,8 @@ take_alike n xs ys a b h = let p = length-take-le n xs a in let q = length-take-
     same_number_lists (take n xs) (take n ys) (p ∙ sym q) (λ k l. get_or-take n xs k 0 (omega arith) ∙ (h k (omega arith) ∙ sym (get_or-take n ys k 0 (omega arith))))
 
 -- a copy of the first bytes
-pub copied_front : (n : ℕ) (bytes room : List ℕ) → n ≤ length bytes → n ≤ length room → ((k : ℕ) → k < n → get_or room k 0 ≡ get_or bytes k 0) → bytes ≡ take n room ++ drop n bytes
-copied_front n bytes room a b h = sym (take-append-drop n bytes) ∙ ap (λ (xs : List ℕ). xs ++ drop n bytes) (sym (take_alike n room bytes b a h))
+pub copied_front : (n : ℕ) (bytes room : List ℕ) → n ≤ length bytes → n ≤ length room → ((k : ℕ) → k < n → get_or room k 0 ≡ get_or bytes k 0) → bytes ≡ take n room ++ take (length bytes - n) (drop n bytes)
+copied_front n bytes room a b h = sym (take-append-drop n bytes) ∙ ap₂ (λ (xs ys : List ℕ). xs ++ ys) (sym (take_alike n room bytes b a h)) (sym (take_all (length bytes - n) (drop n bytes) (omega (arith, length-drop n bytes))))
 
 -- what is left, of units of which `done` were read, once a piece more is
 module _ (us room vs ws : List ℕ) (done count : ℕ) (left : vs ≡ drop done us) (most : count ≤ length room) (split : vs ≡ take count room ++ ws) where

@@ -1,5 +1,5 @@
 // The code points that bytes spell.
-ghost use Rattle.std.specs.Prelude.{◌≡◌, ◌++◌, ◌-◌, ◌<◌, ◌≤◌, length, slice_index, true, false, MatchOption};
+ghost use Rattle.std.specs.Prelude.{◌≡◌, ◌++◌, ◌-◌, ◌*◌, ◌<◌, ◌≤◌, length, slice_index, true, false, MatchOption};
 ghost use Rattle.std.specs.Char.{encode_utf8};
 ghost use Rattle.js_units.specs.Text as text;
 ghost use Rattle.heap_rule.specs.Layout.{MAX};

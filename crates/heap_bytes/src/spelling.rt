@@ -1,5 +1,5 @@
 // The units that bytes spell, read front to back.
-ghost use Rattle.std.specs.Prelude.{◌≡◌, [], ℕ, ◌+◌, ◌*◌, ◌<◌, ◌≤◌, ◌++◌, length, take, nat_lt, MatchOption};
+ghost use Rattle.std.specs.Prelude.{◌≡◌, [], ℕ, ◌+◌, ◌-◌, ◌*◌, ◌<◌, ◌≤◌, ◌++◌, length, take, nat_lt, MatchOption};
 ghost use Rattle.std.specs.List.{list_any};
 ghost use Rattle.std.specs.Str.{chars};
 ghost use Rattle.js_units.specs.Lanes.{hash_of, is_wide};
@@ -69,7 +69,7 @@ impl<'b> Spelling<'b> {
                     count,
                     Spelling::Points {
                         bytes: rest,
-                        len: *len - count as u32,
+                        len: units_behind(*len, count),
                     },
                 )),
                 None => None,
@@ -83,7 +83,7 @@ impl<'b> Spelling<'b> {
         ensures { result ≡ is_wide (units_of self.now) }
     {
         match self {
-            Spelling::Latin1(_) => false,
+            Spelling::Latin1(bytes) => is_wide_byte(bytes),
             Spelling::Points { bytes, .. } => has_high(bytes),
         }
     }
@@ -102,6 +102,14 @@ impl<'b> Spelling<'b> {
         }
         hash
     }
+}
+
+// How many units are left behind the first `count` of them.
+fn units_behind(len: u32, count: usize) -> u32
+    requires { count ≤ len }
+    ensures { result ≡ len - count }
+{
+    len - count as u32
 }
 
 // The first bytes as units, put into the room, with their count and the other bytes; none at the end.
@@ -177,6 +185,13 @@ fn put_point(room: &mut [u16], at: usize, point: u32) -> usize
     room[at] = (0xD800 + bits / 0x400) as u16;
     room[at + 1] = (0xDC00 + bits % 0x400) as u16;
     at + 2
+}
+
+// Whether a unit that is a byte is over 255.
+fn is_wide_byte(_bytes: &[u8]) -> bool
+    ensures { result ≡ is_wide _bytes.now }
+{
+    false
 }
 
 // Whether a byte is over C3, as the first of a code point over 255 is, and no other.

@@ -1,5 +1,5 @@
 use Rattle.std.proofs.Common.{sym, arith}
-use Rattle.heap_bytes.proofs.WidePoints.{none_high, some_high}
+use Rattle.heap_bytes.proofs.WidePoints.{none_high}
 use Rattle.heap_bytes.proofs.spelling.has_high.Goals as goal
 
 pub returns : goal.returns

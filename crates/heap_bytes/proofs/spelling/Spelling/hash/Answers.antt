@@ -10,7 +10,7 @@ loop-count-smaller c = let p = c.in-Some.ensures in
 
 pub loop-count-preserved : goal.loop-count-preserved
 loop-count-preserved c = let p = c.in-Some.ensures in let i = c.loop-count.invariant in record {
-  long = ?;
+  long = c.split_front.auto.room ∙ i.long;
   small = c.hash_units-hash.type_inv;
   read = p.read;
   hashed = hash_piece c.loop-count.hash c.hash_units-hash.result (hash_of (units_of c.args.self.now)) (take c.in-Some.count c.split_front.new.room) (units_of c.loop-count.rest) (units_of c.in-Some.after) p.split c.hash_units-hash.ensures i.hashed;

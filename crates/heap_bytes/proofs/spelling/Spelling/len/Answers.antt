@@ -4,8 +4,8 @@ use Rattle.heap_bytes.specs.declared.spelling.Spelling.{Spelling}
 use Rattle.heap_bytes.specs.Spellings.{IsReadable, units_of}
 use Rattle.heap_bytes.proofs.spelling.Spelling.len.Goals as goal
 
-pub overflow_cast : goal.overflow_cast
-overflow_cast c = let h = subst (λ (s : Spelling). length (units_of s) ≤ MAX) c.in-Latin1.is c.requires.short in omega arith
+pub overflow_cast-result : goal.overflow_cast-result
+overflow_cast-result c = let h = subst (λ (s : Spelling). length (units_of s) ≤ MAX) c.in-Latin1.is c.requires.short in omega arith
 
 pub returns-in-Latin1 : goal.returns-in-Latin1
 returns-in-Latin1 c = ap (λ (s : Spelling). length (units_of s)) (sym c.in-Latin1.is)
