@@ -11,7 +11,7 @@ use Rattle.heap_intern.proofs.table.matching.shows_spelled.Goals as goal
 
 pub loop-count-init : goal.loop-count-init
 loop-count-init g c = let v : View = c.args.reader.now.agent.seat.me.0 in record {
-  long = ?;
+  long = refl;
   heap = refl;
   reads = reads_refl v;
   forms = (refl, refl);
@@ -26,6 +26,10 @@ pub overflow_add-part : goal.overflow_add-part
 overflow_add-part g c = let v : View = c.args.reader.now.agent.seat.me.0 in let us : List ℕ = units_of c.args.source.now in let p = c.in-Some.ensures in let i = c.loop-count.invariant in
     let n = piece_within us c.split_front.new.room (units_of c.loop-count.rest) (units_of c.in-Some.after) c.loop-count.done c.in-Some.count i.left p.most p.split i.within in
     let a = place_small v c.args.w c.loop-count.done c.args.reader.now.belongs.5 c.requires.frozen (omega (arith, n, p.some, c.requires.long)) in omega arith
+
+pub overflow_add-done : goal.overflow_add-done
+overflow_add-done g c = let us : List ℕ = units_of c.args.source.now in let p = c.in-Some.ensures in let i = c.loop-count.invariant in
+    let n = piece_within us c.split_front.new.room (units_of c.loop-count.rest) (units_of c.in-Some.after) c.loop-count.done c.in-Some.count i.left p.most p.split i.within in omega (arith, n, c.requires.short)
 
 pub shows_list-requires-clause-frozen : goal.shows_list-requires-clause-frozen
 shows_list-requires-clause-frozen g c = let v : View = c.args.reader.now.agent.seat.me.0 in let u : View = c.loop-count.reader.agent.seat.me.0 in let us : List ℕ = units_of c.args.source.now in let p = c.in-Some.ensures in let i = c.loop-count.invariant in
@@ -44,7 +48,7 @@ pub loop-count-preserved : goal.loop-count-preserved
 loop-count-preserved g c = let v : View = c.args.reader.now.agent.seat.me.0 in let u : View = c.loop-count.reader.agent.seat.me.0 in let x : View = c.shows_list.new.reader.agent.seat.me.0 in
     let us : List ℕ = units_of c.args.source.now in let p = c.in-Some.ensures in let i = c.loop-count.invariant in let e = c.shows_list.ensures in let done = c.loop-count.done in let count = c.in-Some.count in
     let room = c.split_front.new.room in let vs : List ℕ = units_of c.loop-count.rest in let ws : List ℕ = units_of c.in-Some.after in record {
-      long = ?;
+      long = c.split_front.auto.room ∙ i.long;
       heap = e.reads.heap ∙ i.heap;
       reads = reads_trans v u x i.reads e.reads.view;
       forms = forms_trans v u x i.forms e.forms;
@@ -52,7 +56,7 @@ loop-count-preserved g c = let v : View = c.args.reader.now.agent.seat.me.0 in l
       within = piece_within us room vs ws done count i.left p.most p.split i.within;
       read = p.read;
       left = piece_left us room vs ws done count i.left p.most p.split;
-      same = piece_on u x c.args.w us (take count room) done count (piece_long us room vs ws done count i.left p.most p.split) (piece_unit us room vs ws done count i.left p.most p.split) e.reads.view.known i.same c.if-not-shows_list.ensures;
+      same = piece_on u x c.args.w us (take count room) done count (piece_long us room vs ws done count i.left p.most p.split) (piece_unit us room vs ws done count i.left p.most p.split) e.reads.view.known i.same c.if-not-shows_list.ensures.same;
     }
 
 pub returns-then-not-shows_list-clause-reads : goal.returns-then-not-shows_list-clause-reads
@@ -68,7 +72,7 @@ returns-then-not-shows_list-clause-same g c = let u : View = c.loop-count.reader
     let us : List ℕ = units_of c.args.source.now in let p = c.in-Some.ensures in let i = c.loop-count.invariant in let done = c.loop-count.done in let count = c.in-Some.count in
     let room = c.split_front.new.room in let vs : List ℕ = units_of c.loop-count.rest in let ws : List ℕ = units_of c.in-Some.after in
     piece_other u x c.args.w us (take count room) done count (piece_long us room vs ws done count i.left p.most p.split) (piece_unit us room vs ws done count i.left p.most p.split)
-    (piece_within us room vs ws done count i.left p.most p.split i.within) c.if-not-shows_list.ensures
+    (piece_within us room vs ws done count i.left p.most p.split i.within) c.if-not-shows_list.ensures.same
 
 pub returns-clause-same : goal.returns-clause-same
 returns-clause-same g c = let us : List ℕ = units_of c.args.source.now in let i = c.loop-count.invariant in let all = all_done us (units_of c.loop-count.rest) c.loop-count.done i.left c.in_default.ensures i.within in
