@@ -12,9 +12,9 @@ ghost use Rattle.heap_build.specs.Spelled.{SpellsUtf8, SpellsWtf8};
 ghost use Rattle.heap_bytes.specs.Points.{utf16};
 
 use crate::builder::Builder;
-use crate::decoding::{fill_latin1, fill_points, measure};
-use crate::encoding::Encoding;
+use crate::decoding::{fill_latin1, fill_points};
 use crate::faults::{BuildFault, DecodeFault};
+use heap_bytes::{Encoding, measure};
 use heap_rule::MAX;
 use itoa::Buffer;
 use std::alloc::Global;

@@ -1,5 +1,5 @@
 // The units that bytes spell, read front to back.
-ghost use Rattle.std.specs.Prelude.{◌≡◌, [], ℕ, ◌+◌, ◌-◌, ◌*◌, ◌<◌, ◌≤◌, ◌++◌, length, take, nat_lt, MatchOption};
+ghost use Rattle.std.specs.Prelude.{◌≡◌, [], ℕ, ◌+◌, ◌-◌, ◌*◌, ◌<◌, ◌≤◌, ◌++◌, length, take, nat_lt, IfOk, MatchOption};
 ghost use Rattle.std.specs.List.{list_any};
 ghost use Rattle.std.specs.Str.{chars};
 ghost use Rattle.js_units.specs.Lanes.{hash_of, is_wide};
@@ -29,7 +29,8 @@ impl<'b> Spelling<'b> {
     /// What bytes of UTF-8 or WTF-8 spell; or the length of the longest front that spells some.
     pub fn read(encoding: Encoding, bytes: &'b [u8]) -> Result<Spelling<'b>, usize>
         requires { length bytes.now ≤ 3 * MAX }
-        ensures { IsReadAs encoding bytes.now result }
+        ensures read { IsReadAs encoding bytes.now result }
+        ensures most { IfOk result (λ s. length (units_of s) ≤ length bytes.now) }
     {
         match measure(encoding, bytes) {
             Ok(count) => Ok(Spelling::Points {

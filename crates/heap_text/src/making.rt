@@ -63,8 +63,20 @@ impl<H: HeapRef> Text<H> {
         ensures kept { KeepsText self.old self.new }
         ensures continues { Continues (view_of self.old.reader.agent) (view_of self.new.reader.agent) }
         ensures own { KeepsOwn (view_of self.old.reader.agent) (view_of self.new.reader.agent) }
-        ensures copied { IsCopied (view_of self.old.reader.agent) (view_of self.new.reader.agent)
-            (size_of (H.reached self.old.reader.heap)) (units_of source.now) result }
+        ensures units { IfOk result
+            (λ s. Has (view_of self.new.reader.agent).units s.id (units_of source.now)) }
+        ensures form { IfOk result
+            (λ s. (start : ℕ) × Has (view_of self.new.reader.agent).forms s.id
+            (Flat (is_wide (units_of source.now)) start false)) }
+        ensures used { IfOk result
+            (λ s. UsesExactly (view_of self.old.reader.agent) (view_of self.new.reader.agent) 1
+            (words_over (is_wide (units_of source.now)) (length (units_of source.now)))) }
+        ensures refused { IfErr result
+            (λ f. Told (view_of self.new.reader.agent) (size_of (H.reached self.old.reader.heap))
+            (words_over (is_wide (units_of source.now)) (length (units_of source.now))) f) }
+        ensures spared { IfErr result
+            (λ f. IsSpared (view_of self.old.reader.agent) (view_of self.new.reader.agent)
+            (words_over (is_wide (units_of source.now)) (length (units_of source.now))) f) }
     {
         copy_spelled(&mut self.reader, source)
     }

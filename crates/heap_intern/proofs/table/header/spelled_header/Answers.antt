@@ -70,9 +70,10 @@ returns-in-Err-bear-clause-loads g c = c.bear.ensures.loads ∙ c.write_spelled.
 
 pub returns-in-Ok-bear-clause-ok : goal.returns-in-Ok-bear-clause-ok
 returns-in-Ok-bear-clause-ok g c = let v : View = c.args.reader.now.agent.seat.me.0 in let w : View = c.write_spelled.new.reader.agent.seat.me.0 in let us : List ℕ = units_of c.args.source.now in let n = c.len-n.result in let wide = c.is_wide-wide.result in
-    let short : n ≤ MAX = omega (arith, c.len-n.ensures, c.requires.short) in let words : words_over wide n ≡ words_of_copy us = (λ j. words_over (c.is_wide-wide.ensures j) (c.len-n.ensures j)) in
-    (header_of c.bear.new.reader.agent.seat.me.0 (copy_plan us) wide c.in-Ok.start us c.in-Ok-bear.id (c.in-Ok-bear.ensures.ok us (copied_over w wide c.in-Ok.start n us c.in-Ok.ensures.ok.0 c.len-n.ensures short)) c.is_wide-wide.ensures tt,
-    c.bear.ensures.words ∙ (c.in-Ok.ensures.ok.1 ∙ ap (λ (m : ℕ). v.used.words + m) words))
+    let short : n ≤ MAX = omega (arith, c.len-n.ensures, c.requires.short) in let words : words_over wide n ≡ words_of_copy us = (λ j. words_over (c.is_wide-wide.ensures j) (c.len-n.ensures j)) in (
+      header_of c.bear.new.reader.agent.seat.me.0 (copy_plan us) wide c.in-Ok.start us c.in-Ok-bear.id (c.in-Ok-bear.ensures.ok us (copied_over w wide c.in-Ok.start n us c.in-Ok.ensures.ok.0 c.len-n.ensures short)) c.is_wide-wide.ensures tt,
+      c.bear.ensures.words ∙ (c.in-Ok.ensures.ok.1 ∙ ap (λ (m : ℕ). v.used.words + m) words),
+    )
 
 pub returns-in-Ok-bear-clause-used : goal.returns-in-Ok-bear-clause-used
 returns-in-Ok-bear-clause-used g c = c.in-Ok-bear.ensures.used ∙ ap (λ (n : ℕ). n + 1) c.write_spelled.ensures.ids
