@@ -129,7 +129,7 @@ fn wide_units_about_the_end_of_a_piece(rt: HostRuntime) {
     }
 }
 
-// The place of a fault is told with no heap there. A pair in three bytes each is no WTF-8.
+// The place of a fault is shown with no heap there. A pair in three bytes each is no WTF-8.
 #[test]
 fn bytes_that_spell_nothing(rt: HostRuntime) {
     let pair = [0x61, 0xED, 0xA0, 0xB4, 0xED, 0xB4, 0x9E];
