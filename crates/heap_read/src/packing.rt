@@ -60,14 +60,14 @@ pub(crate) fn lanes_of(units: &[u16], wide: bool, first: u32, count: u32) -> u64
     requires fits { FitsLanes wide units.now }
     ensures { HoldsLanes wide result count (λ k. slice_index units.now (first + k)) }
 {
-    let from = first as usize;
+    let at = first as usize;
     if count < lanes(wide) {
-        return some_lanes(units, wide, from, from + count as usize);
+        return some_lanes(units, wide, at, at + count as usize);
     }
     if wide {
-        return wide_word(units, from);
+        return wide_word(units, at);
     }
-    narrow_word(units, from)
+    narrow_word(units, at)
 }
 
 // The units from place `from` up to place `to` as the lowest lanes of a word.
