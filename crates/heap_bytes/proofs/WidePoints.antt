@@ -1,5 +1,5 @@
 -- Code points over 255 by their bytes: the first byte of such a one is C4 or more, and no other byte is.
-use Rattle.std.proofs.Common.{◌≡◌, ℕ, ◌+◌, ◌-◌, ◌/◌, ◌%◌, ◌<◌, ◌≤◌, ⊎_elim, Bool, true, false, suc, length, get_or, List, [], ◌∷◌, ◌++◌, sym, ap, ap₂, ◌∙◌, arith, subst, ltb-true, refl}
+use Rattle.std.proofs.Common.{◌≡◌, ℕ, ◌+◌, ◌-◌, ◌/◌, ◌%◌, ◌<◌, ◌≤◌, ⊎_elim, Bool, true, false, suc, length, get_or, List, [], ◌∷◌, sym, ap, ap₂, ◌∙◌, arith, ltb-true, refl}
 use Rattle.std.specs.Prelude.{encode_utf8, encode_utf8_all, nat_lt, ◌||◌}
 use Rattle.std.specs.List.{list_any}
 use Rattle.std.specs.Str.{chars}

@@ -1,12 +1,10 @@
 -- Own words that were filled with the units of a Cons, and what the compare-exchange that flattens it leaves.
-use Rattle.std.proofs.Common.{◌≡◌, ◌≢◌, ℕ, zero, suc, ◌+◌, ◌*◌, ◌/◌, ◌%◌, ◌^◌, ◌<◌, ◌≤◌, ◌==◌, ◌⊎◌, inl, inr, Bool, true, false, cond, List, [], length, get_or, refl, ap, sym, subst, ◌∙◌, arith, eq-eqb, ne_eqb, Option, Some, None}
+use Rattle.std.proofs.Common.{◌≡◌, ◌≢◌, ℕ, zero, suc, ◌+◌, ◌*◌, ◌/◌, ◌<◌, ◌≤◌, ◌==◌, ◌⊎◌, inl, inr, Bool, true, false, cond, List, [], length, get_or, refl, ap, sym, subst, ◌∙◌, arith, eq-eqb, ne_eqb, Option, Some, None}
 use Rattle.std.specs.Prelude.{unwrap_or}
 use Rattle.std.proofs.lemmas.Grind.{same_number_lists}
-use mathlib.Core.Logic.{dite}
-use native.Mathlib.Decide.{ℕ_discrete}
 use Rattle.std.specs.FinMap.{FinMap, get, insert, remove}
 use Rattle.std.specs.Ordering.{nat_cmp}
-use Rattle.js_units.specs.Lanes.{lane_base, lane_count, lane_of, words_over}
+use Rattle.js_units.specs.Lanes.{lane_count, words_over}
 use Rattle.js_header.specs.Form.{form_of, word_of}
 use Rattle.js_header.specs.declared.form.Form.{Form}
 use Rattle.js_header.specs.declared.form.Form.TheVariants.{Flat}
@@ -15,10 +13,10 @@ use Rattle.heap_rule.specs.Births.{freeze_form}
 use Rattle.heap_rule.specs.Contents.{lane_in, span}
 use Rattle.heap_rule.specs.HeaderMoves.{flattened, seen_form}
 use Rattle.heap_rule.specs.Learning.{learned_all}
-use Rattle.heap_rule.specs.Maps.{Has, HasKey, with_run, without_run}
+use Rattle.heap_rule.specs.Maps.{Has, HasKey, without_run}
 use Rattle.heap_rule.specs.Views.{shown_word}
 use Rattle.heap_rule.proofs.Birth.{length_span}
-use Rattle.heap_rule.proofs.MapLemmas.{has_key, insert_other, insert_same, key_of, remove_other}
+use Rattle.heap_rule.proofs.MapLemmas.{has_key, insert_same, key_of, remove_other}
 use Rattle.heap_rule.proofs.Possible.{span_lane}
 use Rattle.heap_rule.proofs.UnitLemmas.{lane_same}
 use Rattle.heap_table.specs.Headers.{IsMoved, header_found}
@@ -29,7 +27,6 @@ use Rattle.heap_bytes.proofs.Runs.{lane_there, word_inside, zero_lane}
 use Rattle.heap_read.specs.Filling.{IsFilled, own_word}
 use Rattle.heap_read.specs.Reads.{Continues, KeepsBelow}
 use Rattle.heap_text.proofs.Owned.{without_other}
-use Rattle.js_units.proofs.PackedWords.{lane_past}
 use Rattle.heap_read.proofs.Storing.{shown_own}
 
 -- the words of a run are all own, were 0, and the units stand in the lanes from 0 on

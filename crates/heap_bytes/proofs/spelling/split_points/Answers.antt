@@ -1,6 +1,5 @@
 use Rattle.std.proofs.Common.{◌∙◌, ◌++◌, ℕ, List, ap, sym, arith}
 use Rattle.std.specs.Str.{chars}
-use Rattle.js_units.specs.Text.{utf16_of}
 use Rattle.heap_bytes.specs.Points.{utf16}
 use Rattle.heap_bytes.proofs.Reading.{read_end, read_rest}
 use Rattle.heap_bytes.proofs.spelling.split_points.Goals as goal

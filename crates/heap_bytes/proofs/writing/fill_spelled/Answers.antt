@@ -1,7 +1,6 @@
-use Rattle.std.proofs.Common.{◌≡◌, ◌+◌, ◌<◌, ◌≤◌, ◌∙◌, ◌/◌, ℕ, List, ap, drop, get_or, length, refl, subst, sym, take, arith}
+use Rattle.std.proofs.Common.{◌+◌, ◌<◌, ◌∙◌, ◌/◌, ℕ, List, get_or, length, refl, subst, take, arith}
 use Rattle.js_units.specs.Lanes.{lane_count}
 use Rattle.heap_rule.specs.declared.view.View.{View}
-use Rattle.heap_rule.specs.Maps.{HasKey}
 use Rattle.heap_read.specs.Filling.{IsFilled, own_word}
 use Rattle.heap_read.proofs.Placing.{filled_none, filled_on}
 use Rattle.heap_read.proofs.Storing.{writes_refl, writes_trans}

@@ -1,6 +1,4 @@
-use Rattle.std.proofs.Common.{◌≡◌, ◌+◌, ◌<◌, ◌≤◌, ◌∙◌, ◌/◌, ◌^◌, ℕ, List, ap, get_or, length, refl, subst, sym, arith}
-use Rattle.std.specs.FinMap.{FinMap}
-use Rattle.std.specs.Ordering.{nat_cmp}
+use Rattle.std.proofs.Common.{◌≡◌, ◌+◌, ◌<◌, ◌∙◌, ◌/◌, ◌^◌, ℕ, List, ap, length, subst, sym, arith}
 use Rattle.js_units.specs.Lanes.{lane_count, words_over}
 use Rattle.heap_rule.specs.declared.size.Counters.{Counters}
 use Rattle.heap_rule.specs.declared.view.View.{View}

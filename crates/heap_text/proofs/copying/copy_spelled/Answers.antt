@@ -3,18 +3,17 @@ use Rattle.js_header.specs.declared.form.Form.TheVariants.{Flat}
 use Rattle.heap_rule.specs.declared.view.View.{View}
 use Rattle.heap_rule.specs.declared.size.Counter.TheVariants.{Ids}
 use Rattle.heap_rule.specs.Maps.{Has, HasKey}
-use Rattle.heap_rule.specs.Births.{MayBear, born, stored_length}
+use Rattle.heap_rule.specs.Births.{born, stored_length}
 use Rattle.heap_rule.specs.Claims.{won_claim}
 use Rattle.heap_rule.proofs.MapLemmas.{insert_same, key_of}
 use Rattle.heap_table.specs.Known.{KeepsKnown}
 use Rattle.heap_bytes.specs.Spellings.{units_of}
 use Rattle.heap_text.specs.declared.faults.TextFull.TheVariants as fault
 use Rattle.heap_read.specs.Reads.{Continues}
-use Rattle.heap_text.specs.Texts.{IsSpared, KeepsOwn, Told, UsesExactly}
+use Rattle.heap_text.specs.Texts.{IsSpared, KeepsOwn}
 use Rattle.js_units.specs.Lanes.{is_wide, words_over}
 use Rattle.heap_text.proofs.Pieces.{spared_ids, spared_words}
 use Rattle.heap_read.specs.Written.{IsWritten}
-use Rattle.heap_table.specs.Agents.{size_of}
 use Rattle.heap_text.proofs.Owned.{own_flat, own_full, own_written}
 use Rattle.heap_text.proofs.Bearing.{born_form, born_units, continues_born, written_fits, written_still}
 use Rattle.heap_read.proofs.Going.{continues_full_ids, continues_ids, continues_length, continues_trans}

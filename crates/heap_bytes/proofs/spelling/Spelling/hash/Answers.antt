@@ -1,4 +1,4 @@
-use Rattle.std.proofs.Common.{◌<◌, ◌∙◌, ℕ, List, ap, length, sym, take, arith}
+use Rattle.std.proofs.Common.{◌<◌, ◌∙◌, ap, length, sym, take}
 use Rattle.js_units.specs.Lanes.{hash_from, hash_of}
 use Rattle.heap_bytes.specs.Spellings.{units_of}
 use Rattle.heap_bytes.proofs.Pieces.{fewer_left, hash_piece}

@@ -1,5 +1,4 @@
 use Rattle.std.proofs.Common.{◌∙◌, subst}
-use Rattle.heap_bytes.specs.declared.spelling.Spelling.{Spelling}
 use Rattle.heap_bytes.specs.Spellings.{IsReadable}
 use Rattle.heap_bytes.proofs.WidePoints.{high_points}
 use Rattle.heap_bytes.proofs.spelling.Spelling.is_wide.Goals as goal

@@ -1,4 +1,4 @@
-use Rattle.std.proofs.Common.{◌∙◌, ap, length, subst, arith}
+use Rattle.std.proofs.Common.{◌∙◌, ap, subst, arith}
 use Rattle.std.specs.Str.{chars}
 use Rattle.heap_bytes.specs.Points.{utf16}
 use Rattle.heap_bytes.specs.Spellings.{IsReadable, units_of}

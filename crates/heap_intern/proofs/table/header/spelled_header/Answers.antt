@@ -1,5 +1,5 @@
 use Rattle.std.proofs.Common.{◌≡◌, ◌<◌, ◌≤◌, ◌+◌, ◌-◌, ◌∙◌, ℕ, Bool, List, length, ap, subst, sym, arith}
-use Rattle.js_units.specs.Lanes.{is_wide, words_over}
+use Rattle.js_units.specs.Lanes.{words_over}
 use Rattle.heap_rule.specs.Layout.{MAX}
 use Rattle.heap_rule.specs.Maps.{HasKey}
 use Rattle.heap_rule.specs.declared.size.HeapSize.{HeapSize}

@@ -1,4 +1,4 @@
-use Rattle.std.proofs.Common.{◌≡◌, ◌∙◌, ℕ, ◌+◌, ◌<◌, ◌≤◌, List, get_or, length, refl, subst, sym, take, arith}
+use Rattle.std.proofs.Common.{◌∙◌, ℕ, ◌<◌, List, length, refl, sym, take, arith}
 use Rattle.heap_rule.specs.declared.view.View.{View}
 use Rattle.heap_bytes.specs.Spellings.{units_of}
 use Rattle.heap_bytes.proofs.Pieces.{all_done, fewer_left, piece_left, piece_long, piece_unit, piece_within}

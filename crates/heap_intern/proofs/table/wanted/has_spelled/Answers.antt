@@ -1,4 +1,4 @@
-use Rattle.std.proofs.Common.{◌∙◌, sym}
+use Rattle.std.proofs.Common.{◌∙◌}
 use Rattle.heap_rule.specs.declared.view.View.{View}
 use Rattle.heap_bytes.specs.Spellings.{units_of}
 use Rattle.heap_read.proofs.Loaded.{reads_trans}
