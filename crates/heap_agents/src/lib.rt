@@ -17,6 +17,7 @@ mod out;
 mod reading;
 mod room;
 mod search;
+mod streams;
 mod table;
 mod words;
 

@@ -1,9 +1,10 @@
 -- What adding to a text answers.
 use Rattle.std.proofs.Common.{false, ℕ, List, take, ◌≤◌, length, subst, sym}
-use Rattle.heap_build.specs.declared.encoding.Encoding.{Encoding}
-use Rattle.heap_build.specs.Points.{IsSpelledUpTo, spells}
+use Rattle.heap_bytes.specs.declared.encoding.Encoding.{Encoding}
+use Rattle.heap_bytes.specs.Points.{IsSpelledUpTo}
+use Rattle.heap_build.specs.Spells.{spells}
 use Rattle.heap_build.specs.Spelled.{IsSpellingUpTo}
-use Rattle.heap_build.proofs.Reading.{most_units}
+use Rattle.heap_bytes.proofs.Reading.{most_units}
 use Rattle.heap_build.proofs.Surrogates.{spelled_units, units_spelled}
 
 pub spelling_up_to : (e : Encoding) (bytes : List ℕ) (n : ℕ) → IsSpelledUpTo e bytes n → IsSpellingUpTo (spells e) bytes n

@@ -8,11 +8,12 @@ use Rattle.std.proofs.lemmas.List.Elements.{All-append, All-cons, All-head, All-
 use Rattle.std.proofs.lemmas.Str.{chars-nil, encodes-chars, scalars-chars}
 use lib.Utf8.{scalar, scalars}
 use Rattle.js_units.specs.Text.{is_lead, is_trail, pair_value, points, utf16_of}
-use Rattle.heap_build.specs.declared.encoding.Encoding.{Encoding}
-use Rattle.heap_build.specs.declared.encoding.Encoding.TheVariants.{Utf8, Wtf8}
-use Rattle.heap_build.specs.Points.{IsSpelled, allowed, may_follow, spells}
-use Rattle.heap_build.specs.Spelled.{utf16}
-use Rattle.heap_build.proofs.Rows.{chars_point, may_small}
+use Rattle.heap_bytes.specs.declared.encoding.Encoding.{Encoding}
+use Rattle.heap_bytes.specs.declared.encoding.Encoding.TheVariants.{Utf8, Wtf8}
+use Rattle.heap_bytes.specs.Points.{IsSpelled, allowed, may_follow}
+use Rattle.heap_build.specs.Spells.{spells}
+use Rattle.heap_bytes.specs.Points.{utf16}
+use Rattle.heap_bytes.proofs.Rows.{chars_point, may_small}
 
 abbrev IsUnit : ℕ → Type 0
 IsUnit u = u < 2 ^ 16

@@ -1,4 +1,4 @@
 pub mod Spelled
 pub mod Built
-pub mod Points
+pub mod Spells
 pub mod Room

@@ -1,13 +1,8 @@
 -- The units that bytes spell, in UTF-8 and in WTF-8.
 use Rattle.std.specs.Prelude.{◌≡◌, ℕ, ◌<◌, ◌^◌, List, [], ◌∷◌, ◌++◌, length, take, All}
 use Rattle.std.specs.Str.{IsUtf8, chars}
-use Rattle.js_units.specs.Text.{utf16_of}
+use Rattle.heap_bytes.specs.Points.{utf16}
 use Rattle.heap_export.specs.Encoded.{wtf8}
-
--- the units of these code points (ECMA-262, "CodePointsToString")
-abbrev pub utf16 : List ℕ → List ℕ
-utf16 [] = []
-utf16 (c ∷ cs) = utf16_of c ++ utf16 cs
 
 -- the units of the characters that bytes of UTF-8 spell
 abbrev pub utf8_decoded : List ℕ → List ℕ

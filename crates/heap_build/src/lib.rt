@@ -8,7 +8,6 @@
 mod adding;
 mod builder;
 mod decoding;
-mod encoding;
 mod faults;
 mod text;
 

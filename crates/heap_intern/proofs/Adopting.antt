@@ -1,16 +1,13 @@
 -- Strings by their slots: what loads of a slot leave and count, what adopting one gives, and where the walk to the slot of a string ends.
-use Rattle.std.proofs.Common.{◌≡◌, ◌≢◌, ℕ, suc, ◌+◌, ◌%◌, ◌<◌, ◌≤◌, inl, true, List, [], ◌∷◌, length, sym, refl, ap, ◌∙◌, subst, arith, Option, Some, None}
+use Rattle.std.proofs.Common.{◌≡◌, ◌≢◌, ℕ, ◌+◌, ◌%◌, ◌<◌, ◌≤◌, inl, true, List, [], ◌∷◌, length, sym, refl, ap, ◌∙◌, subst, arith, Option, Some}
 use Rattle.std.specs.Prelude.{Contains, unwrap_or}
 use Rattle.std.proofs.Math.Logic.{∥∥₁_elim}
 use Rattle.std.proofs.Props.{props}
 use Rattle.std.proofs.lemmas.List.{take_all}
-use mathlib.Core.Logic.{dite}
-use native.Mathlib.Decide.{ℕ_discrete}
 use std.HLevel.{Σ_prop_path}
 use Rattle.std.specs.FinMap.{FinMap, get, insert}
 use Rattle.std.specs.Ordering.{nat_cmp}
 use Rattle.js_units.specs.Lanes.{hash_of}
-use Rattle.js_header.specs.declared.form.Form.TheVariants.{Flat}
 use Rattle.heap_rule.specs.declared.view.View.{View}
 use Rattle.heap_rule.specs.declared.size.Counters.{Counters}
 use Rattle.heap_rule.specs.declared.size.HeapSize.{HeapSize}
@@ -30,8 +27,8 @@ use Rattle.heap_read.specs.Frozen.{AreFrozen, IsFixedWindow, IsLearned}
 use Rattle.heap_read.specs.Reads.{HoldsForms}
 use Rattle.heap_read.specs.Windows.{IsWindow}
 use Rattle.heap_intern.specs.Adopted.{IsAdopted, LoadsHere, LoadsNoneBehind}
-use Rattle.heap_intern.specs.Answers.{IsFixed, UsesNothing}
-use Rattle.heap_intern.specs.Goes.{AddsCalls, Looks}
+use Rattle.heap_intern.specs.Answers.{IsFixed}
+use Rattle.heap_intern.specs.Goes.{Looks}
 use Rattle.heap_intern.specs.SlotLoads.{counted_on, loads_at}
 use Rattle.heap_intern.proofs.Going.{forms_trans, goes_slot, goes_trans, looks_trans}
 use Rattle.heap_intern.proofs.Loading.{Walking, on_most, walking_next, walking_none}

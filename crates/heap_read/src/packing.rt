@@ -1,9 +1,12 @@
 // Units of a list as the lanes of words, four or eight at once.
-ghost use Rattle.std.specs.Prelude.{◌≡◌, ℕ, ◌+◌, ◌<◌, ◌≤◌, ◌^◌, false, true, length, slice_index};
+ghost use Rattle.std.specs.Prelude.{◌≡◌, ℕ, ◌+◌, ◌-◌, ◌<◌, ◌≤◌, ◌^◌, false, true, length, slice_index};
 ghost use Rattle.std.specs.Simd.Lanes.{chunk};
-ghost use Rattle.js_units.specs.Lanes.{IsWordOf, is_wide, lane_of, words_over};
+ghost use Rattle.js_units.specs.Lanes.{IsWordOf, is_wide, lane_count, lane_of, words_over};
+ghost use Rattle.heap_read.specs.Shifted.{HoldsLanes};
+ghost use Rattle.heap_read.specs.Sources.{FitsLanes};
 
-use js_units::lanes;
+use crate::source::unit_of;
+use js_units::{lane_size, lanes};
 use std::simd::prelude::*;
 
 // Whether a unit is over 255.
@@ -48,6 +51,38 @@ pub(crate) fn pack(units: &[u16], wide: bool, at: u32) -> u64
         return wide_word(units, from);
     }
     narrow_word(units, from)
+}
+
+// The `count` units from place `first` on, which fit their lanes, as the lowest lanes of a word.
+pub(crate) fn lanes_of(units: &[u16], wide: bool, first: u32, count: u32) -> u64
+    requires within { first + count ≤ length units.now }
+    requires room { count ≤ lane_count wide }
+    requires fits { FitsLanes wide units.now }
+    ensures { HoldsLanes wide result count (λ k. slice_index units.now (first + k)) }
+{
+    let at = first as usize;
+    if count < lanes(wide) {
+        return some_lanes(units, wide, at, at + count as usize);
+    }
+    if wide {
+        return wide_word(units, at);
+    }
+    narrow_word(units, at)
+}
+
+// The units from place `from` up to place `to` as the lowest lanes of a word.
+fn some_lanes(units: &[u16], wide: bool, from: usize, to: usize) -> u64
+    requires within { (from ≤ to) × (to ≤ length units.now) }
+    requires room { to - from ≤ lane_count wide }
+    requires fits { FitsLanes wide units.now }
+    ensures { HoldsLanes wide result (to - from) (λ k. slice_index units.now (from + k)) }
+{
+    let base = lane_size(wide);
+    let mut word = 0;
+    for i in (from..to).rev() {
+        word = word * base + u64::from(unit_of(units, i));
+    }
+    word
 }
 
 // The word whose two-byte lanes are the four units from place `at` on.

@@ -11,6 +11,7 @@ ghost use Rattle.heap_read.specs.Windows.{IsFrozenWindow, IsWindow};
 ghost use Rattle.heap_read.specs.Written.{HasAt, Holds, held_unit};
 
 use crate::heap_ref::HeapRef;
+use crate::packing::lanes_of;
 use crate::reader::Reader;
 use crate::shifting::{lanes_at, narrowed, put_above, widened};
 use crate::string::{JsStr, Window};
@@ -190,6 +191,9 @@ impl<H: HeapRef> Reader<H> {
         ensures word { HoldsLanes wide result count
             (λ k. slice_index (listed_in self.old source.now) (first + k)) }
     {
+        if let UnitSource::Units(units) = source {
+            return lanes_of(units, wide, first, count);
+        }
         let mut word = 0;
         let mut done = 0;
         while done < count {
@@ -205,7 +209,7 @@ impl<H: HeapRef> Reader<H> {
 }
 
 // The unit with this number.
-fn unit_of(units: &[u16], i: usize) -> u16
+pub(crate) fn unit_of(units: &[u16], i: usize) -> u16
     requires { i < length units.now }
     ensures fits { result < 65536 }
     ensures unit { result ≡ slice_index units.now i }

@@ -1,12 +1,10 @@
 -- Own words that were filled with the units of a Cons, and what the compare-exchange that flattens it leaves.
-use Rattle.std.proofs.Common.{◌≡◌, ◌≢◌, ℕ, zero, suc, ◌+◌, ◌*◌, ◌/◌, ◌%◌, ◌^◌, ◌<◌, ◌≤◌, ◌==◌, ◌⊎◌, inl, inr, Bool, true, false, cond, List, [], length, get_or, refl, ap, sym, subst, ◌∙◌, arith, eq-eqb, ne_eqb, Option, Some, None}
+use Rattle.std.proofs.Common.{◌≡◌, ◌≢◌, ℕ, zero, suc, ◌+◌, ◌*◌, ◌/◌, ◌<◌, ◌≤◌, ◌==◌, ◌⊎◌, inl, inr, Bool, true, false, cond, List, [], length, get_or, refl, ap, sym, subst, ◌∙◌, arith, eq-eqb, ne_eqb, Option, Some, None}
 use Rattle.std.specs.Prelude.{unwrap_or}
 use Rattle.std.proofs.lemmas.Grind.{same_number_lists}
-use mathlib.Core.Logic.{dite}
-use native.Mathlib.Decide.{ℕ_discrete}
 use Rattle.std.specs.FinMap.{FinMap, get, insert, remove}
 use Rattle.std.specs.Ordering.{nat_cmp}
-use Rattle.js_units.specs.Lanes.{lane_base, lane_count, lane_of, words_over}
+use Rattle.js_units.specs.Lanes.{lane_count, words_over}
 use Rattle.js_header.specs.Form.{form_of, word_of}
 use Rattle.js_header.specs.declared.form.Form.{Form}
 use Rattle.js_header.specs.declared.form.Form.TheVariants.{Flat}
@@ -15,55 +13,21 @@ use Rattle.heap_rule.specs.Births.{freeze_form}
 use Rattle.heap_rule.specs.Contents.{lane_in, span}
 use Rattle.heap_rule.specs.HeaderMoves.{flattened, seen_form}
 use Rattle.heap_rule.specs.Learning.{learned_all}
-use Rattle.heap_rule.specs.Maps.{Has, HasKey, with_run, without_run}
+use Rattle.heap_rule.specs.Maps.{Has, HasKey, without_run}
 use Rattle.heap_rule.specs.Views.{shown_word}
 use Rattle.heap_rule.proofs.Birth.{length_span}
-use Rattle.heap_rule.proofs.MapLemmas.{has_key, insert_other, insert_same, key_of, remove_other}
+use Rattle.heap_rule.proofs.MapLemmas.{has_key, insert_same, key_of, remove_other}
 use Rattle.heap_rule.proofs.Possible.{span_lane}
 use Rattle.heap_rule.proofs.UnitLemmas.{lane_same}
 use Rattle.heap_table.specs.Headers.{IsMoved, header_found}
 use Rattle.heap_table.specs.Known.{KeepsKnown}
 use Rattle.heap_table.specs.declared.stores.Step.{Step}
 use Rattle.heap_table.specs.declared.stores.Step.TheVariants.{Won, Lost}
+use Rattle.heap_bytes.proofs.Runs.{lane_there, word_inside, zero_lane}
 use Rattle.heap_read.specs.Filling.{IsFilled, own_word}
 use Rattle.heap_read.specs.Reads.{Continues, KeepsBelow}
 use Rattle.heap_text.proofs.Owned.{without_other}
-use Rattle.js_units.proofs.PackedWords.{lane_past}
 use Rattle.heap_read.proofs.Storing.{shown_own}
-
--- the words of a claim are 0
-put_still : (m : FinMap nat_cmp ℕ) (k q : ℕ) → Has m q 0 → Has (insert m k 0) q 0
-put_still m k q h = dite (ℕ_discrete q k)
-    (λ e. ap (get (insert m k 0)) e ∙ insert_same m k 0)
-    (λ ne. insert_other m k q 0 ne ∙ h)
-
-run_still : (m : FinMap nat_cmp ℕ) (k n q : ℕ) → Has m q 0 → Has (with_run m k n 0) q 0
-run_still m k zero q h = h
-run_still m k (suc n) q h = run_still (insert m k 0) (suc k) n q (put_still m k q h)
-
-pub run_zero : (m : FinMap nat_cmp ℕ) (k n q : ℕ) → q < n → Has (with_run m k n 0) (k + q) 0
-run_zero m k zero q l = absurd (omega arith)
-run_zero m k (suc n) zero l = let e : k ≡ k + 0 = omega arith in subst (λ (c : ℕ). Has (with_run (insert m k 0) (suc k) n 0) c 0) e (run_still (insert m k 0) (suc k) n k (insert_same m k 0))
-run_zero m k (suc n) (suc q) l = let e : suc k + q ≡ k + suc q = omega arith in subst (λ (c : ℕ). Has (with_run (insert m k 0) (suc k) n 0) c 0) e (run_zero (insert m k 0) (suc k) n q (omega arith))
-
-word_inside : (wide : Bool) (n o : ℕ) → o < words_over wide n * lane_count wide → o / lane_count wide < words_over wide n
-word_inside true n o l = omega arith
-word_inside false n o l = omega arith
-
-lane_there : (wide : Bool) (n o : ℕ) → o < n → o < words_over wide n * lane_count wide
-lane_there true n o l = omega arith
-lane_there false n o l = omega arith
-
-pub unit_inside : (wide : Bool) (n o : ℕ) → o < n → o / lane_count wide < words_over wide n
-unit_inside wide n o l = word_inside wide n o (lane_there wide n o l)
-
-one_base : (wide : Bool) → 0 < lane_base wide ^ 0
-one_base true = omega arith
-one_base false = omega arith
-
-zero_lane : (f : ℕ → ℕ) (wide : Bool) (start o : ℕ) → f (start + o / lane_count wide) ≡ 0 → lane_in f wide start o ≡ 0
-unfolding lane_in
-zero_lane f wide start o e = ap (λ (x : ℕ). lane_of wide x (o % lane_count wide)) e ∙ lane_past wide 0 0 (o % lane_count wide) (one_base wide) (omega arith)
 
 -- the words of a run are all own, were 0, and the units stand in the lanes from 0 on
 module _ (v : View) (before : FinMap nat_cmp ℕ) (wide : Bool) (start : ℕ) (us : List ℕ) (f : IsFilled wide start (own_word before) (own_word v.own_words) 0 (length us) (λ k. get_or us k 0))

@@ -8,9 +8,11 @@ ghost use Rattle.heap_table.specs.Agents.{size_of};
 ghost use Rattle.heap_read.specs.Readers.{Moves, view_in};
 ghost use Rattle.heap_read.specs.Reads.{Continues};
 ghost use Rattle.heap_read.specs.Sources.{ShowsSource, listed_in};
+ghost use Rattle.heap_bytes.specs.Spellings.{IsReadable, units_of};
 ghost use Rattle.heap_text.specs.Texts.{IsSpared, KeepsOwn, Told, UsesExactly};
 
 use crate::faults::TextFull;
+use heap_bytes::{Spelling, write_spelled};
 use heap_read::{HeapRef, JsStr, Reader, UnitSource};
 use js_header::Form;
 
@@ -44,6 +46,49 @@ pub(crate) fn copy<H: HeapRef>(
 {
     let wide = reader.has_wide(source, n);
     let start = match reader.write(source, n, wide) {
+        Ok(start) => start,
+        Err(full) => return Err(TextFull::Words(full)),
+    };
+    let id = match reader.agent.claim_id(reader.heap.heap()) {
+        Ok(id) => id,
+        Err(full) => return Err(TextFull::Ids(full)),
+    };
+    reader.agent.store_length(reader.heap.heap(), id, n);
+    let form = Form::Flat {
+        wide,
+        start,
+        fixed: false,
+    };
+    reader.agent.birth(reader.heap.heap(), id, form);
+    Ok(JsStr { id })
+}
+
+// A new flat string with the units that bytes spell, made in the same order.
+pub(crate) fn copy_spelled<H: HeapRef>(
+    reader: &mut Reader<H>,
+    source: &Spelling,
+) -> Result<JsStr, TextFull>
+    requires read { IsReadable source.now }
+    requires short { length (units_of source.now) ≤ MAX }
+    ensures continues { Moves Continues reader.old reader.new }
+    ensures own { KeepsOwn (view_in reader.old) (view_in reader.new) }
+    ensures units { IfOk result (λ s. Has (view_in reader.new).units s.id (units_of source.now)) }
+    ensures form { IfOk result
+        (λ s. (start : ℕ)
+        × Has (view_in reader.new).forms s.id (Flat (is_wide (units_of source.now)) start false)) }
+    ensures used { IfOk result
+        (λ s. UsesExactly (view_in reader.old) (view_in reader.new) 1
+        (words_over (is_wide (units_of source.now)) (length (units_of source.now)))) }
+    ensures refused { IfErr result
+        (λ f. Told (view_in reader.new) (size_of (H.reached reader.old.heap))
+        (words_over (is_wide (units_of source.now)) (length (units_of source.now))) f) }
+    ensures spared { IfErr result
+        (λ f. IsSpared (view_in reader.old) (view_in reader.new)
+        (words_over (is_wide (units_of source.now)) (length (units_of source.now))) f) }
+{
+    let n = source.len();
+    let wide = source.is_wide();
+    let start = match write_spelled(reader, source, n, wide) {
         Ok(start) => start,
         Err(full) => return Err(TextFull::Words(full)),
     };

@@ -7,6 +7,7 @@ ghost use Rattle.heap_rule.specs.Births.{part};
 ghost use Rattle.heap_rule.specs.Maps.{Has, HasKey};
 ghost use Rattle.heap_rule.specs.Views.{IsSeenSettled};
 ghost use Rattle.heap_table.specs.Agents.{size_of, view_of};
+ghost use Rattle.heap_bytes.specs.Spellings.{IsReadable, units_of};
 ghost use Rattle.heap_read.specs.Readers.{Moves, view_in};
 ghost use Rattle.heap_read.specs.Reads.{Continues, HoldsForms, OnlyLoads};
 ghost use Rattle.heap_read.specs.Sides.{KnowsSide};
@@ -15,9 +16,10 @@ ghost use Rattle.heap_text.specs.Joins.{AreJoinable, IsCopied, IsCut, IsJoined, 
 ghost use Rattle.heap_text.specs.Joins as joins;
 ghost use Rattle.heap_text.specs.Keeping.{KeepsText};
 
-use crate::copying::copy;
+use crate::copying::{copy, copy_spelled};
 use crate::faults::{JoinFault, TextFull};
 use crate::text::Text;
+use heap_bytes::Spelling;
 use heap_read::{HeapRef, JsStr, Piece, Reader, UnitSource, Window};
 use js_header::Form;
 
@@ -51,6 +53,32 @@ impl<H: HeapRef> Text<H> {
             &UnitSource::Units(units),
             units.len() as u32,
         )
+    }
+
+    /// A new string with the units that bytes spell, as [`make_flat`](Text::make_flat) makes one of units. The
+    /// bytes are read piece by piece, so no memory is requested but the heap's.
+    pub fn make_from(&mut self, source: &Spelling) -> Result<JsStr, TextFull>
+        requires read { IsReadable source.now }
+        requires short { length (units_of source.now) ≤ MAX }
+        ensures kept { KeepsText self.old self.new }
+        ensures continues { Continues (view_of self.old.reader.agent) (view_of self.new.reader.agent) }
+        ensures own { KeepsOwn (view_of self.old.reader.agent) (view_of self.new.reader.agent) }
+        ensures units { IfOk result
+            (λ s. Has (view_of self.new.reader.agent).units s.id (units_of source.now)) }
+        ensures form { IfOk result
+            (λ s. (start : ℕ) × Has (view_of self.new.reader.agent).forms s.id
+            (Flat (is_wide (units_of source.now)) start false)) }
+        ensures used { IfOk result
+            (λ s. UsesExactly (view_of self.old.reader.agent) (view_of self.new.reader.agent) 1
+            (words_over (is_wide (units_of source.now)) (length (units_of source.now)))) }
+        ensures refused { IfErr result
+            (λ f. Told (view_of self.new.reader.agent) (size_of (H.reached self.old.reader.heap))
+            (words_over (is_wide (units_of source.now)) (length (units_of source.now))) f) }
+        ensures spared { IfErr result
+            (λ f. IsSpared (view_of self.old.reader.agent) (view_of self.new.reader.agent)
+            (words_over (is_wide (units_of source.now)) (length (units_of source.now))) f) }
+    {
+        copy_spelled(&mut self.reader, source)
     }
 
     /// The units of one string followed by those of another. It is refused as too long exactly

@@ -19,6 +19,8 @@ mod reading;
 #[cfg(test)]
 mod ropes;
 #[cfg(test)]
+mod spelled;
+#[cfg(test)]
 mod stores;
 #[cfg(test)]
 mod table;

@@ -5,6 +5,8 @@ ghost use Rattle.heap_rule.specs.Layout.{MAX};
 ghost use Rattle.heap_rule.specs.Maps.{Has};
 ghost use Rattle.heap_table.specs.Agents.{size_of};
 ghost use Rattle.heap_intern.specs.Answers.{Finds, StandsInSlot};
+ghost use Rattle.heap_bytes.specs.Spellings.{IsReadable, units_of};
+ghost use Rattle.heap_intern.specs.Given.{FindsGiven};
 ghost use Rattle.heap_intern.specs.SlotLoads.{LoadsSlots, loads_at};
 ghost use Rattle.heap_intern.specs.Visits.{Looked, LoadsOne, entries_seen};
 ghost use Rattle.heap_intern.specs.Wanted.{IsWanted, wanted_plan};
@@ -13,6 +15,7 @@ ghost use Rattle.heap_read.specs.Reads.{HoldsForms};
 
 use crate::table::probing::{Visit, visit_used};
 use crate::table::wanted::Wanted;
+use heap_bytes::Spelling;
 use heap_read::{HeapRef, Reader, Steps};
 use js_units::hash_units;
 use std::marker::Brand;
@@ -126,4 +129,34 @@ pub fn find_units<H: HeapRef>(reader: &mut Reader<H>, units: &[u16]) -> Option<u
     ensures few { (k : ℕ) → loads_at (view_in reader.new) k ≤ loads_at (view_in reader.old) k + 2 }
 {
     find_units_by::<Brand, _>(reader, units, Blank::new(1))
+}
+
+// The ledger of a caller that counts nothing.
+fn find_from_by<L: Ledger, H: HeapRef>(
+    reader: &mut Reader<H>,
+    source: &Spelling,
+    blank: Blank,
+) -> Option<u32>
+    requires name { blank.name ≡ L.name }
+    requires parts { blank.parts ≡ L.parts }
+    requires some { 0 < blank.parts }
+    requires read { IsReadable source.now }
+    requires short { length (units_of source.now) ≤ MAX }
+    ensures heap { reader.new.heap ≡ reader.old.heap }
+    ensures finds { FindsGiven (view_in reader.old) (view_in reader.new) (units_of source.now) result }
+{
+    let mut steps = Steps::<L>::start(blank);
+    let hash = source.hash();
+    walk(reader, &Wanted::Spelled(*source), hash, &mut steps)
+}
+
+/// The interned string of the units that bytes spell, by its number, if it is in the table, as [`find_units`]
+/// answers it. The bytes are read piece by piece.
+pub fn find_from<H: HeapRef>(reader: &mut Reader<H>, source: &Spelling) -> Option<u32>
+    requires read { IsReadable source.now }
+    requires short { length (units_of source.now) ≤ MAX }
+    ensures heap { reader.new.heap ≡ reader.old.heap }
+    ensures finds { FindsGiven (view_in reader.old) (view_in reader.new) (units_of source.now) result }
+{
+    find_from_by::<Brand, _>(reader, source, Blank::new(1))
 }

@@ -1,8 +1,8 @@
 use Rattle.std.proofs.Common.{◌++◌, ◌<◌, ◌∙◌, ℕ, List, length, ap, sym, arith, append_assoc, append-nil, length-append}
 use Rattle.std.specs.Str.{chars}
 use Rattle.js_units.specs.Text.{utf16_of}
-use Rattle.heap_build.specs.Spelled.{utf16}
-use Rattle.heap_build.proofs.Reading.{read_end, read_rest, shorter_by}
+use Rattle.heap_bytes.specs.Points.{utf16}
+use Rattle.heap_bytes.proofs.Reading.{read_end, read_rest, shorter_by}
 use Rattle.heap_build.proofs.decoding.fill_points.Goals as goal
 
 pub fill_point-requires-clause-room : goal.fill_point-requires-clause-room

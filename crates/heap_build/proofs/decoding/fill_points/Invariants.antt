@@ -1,7 +1,7 @@
 use Rattle.std.proofs.Common.{◌≡◌, ◌++◌, ◌+◌, ◌≤◌, length}
 use Rattle.std.specs.Str.{chars}
-use Rattle.heap_build.specs.Points.{IsRead}
-use Rattle.heap_build.specs.Spelled.{utf16}
+use Rattle.heap_bytes.specs.Points.{IsRead}
+use Rattle.heap_bytes.specs.Points.{utf16}
 use Rattle.heap_build.proofs.decoding.fill_points.Given as goal
 
 abbrev pub invariant-loop-point : goal.invariant-loop-point

@@ -1,4 +1,4 @@
-use Rattle.std.proofs.Common.{◌≡◌, ◌+◌, ◌∙◌, ℕ, List, ap, sym, arith}
+use Rattle.std.proofs.Common.{◌≡◌, ◌+◌, ◌∙◌, ap, sym, arith}
 use Rattle.heap_rule.specs.Contents.{units_of}
 use Rattle.heap_intern.proofs.laws.one_in_each_slot.Goals as goal
 

@@ -1,4 +1,4 @@
-use Rattle.std.proofs.Common.{◌≡◌, ◌+◌, ◌∙◌, refl, sym, ap, length, arith}
+use Rattle.std.proofs.Common.{◌∙◌, sym, arith}
 use Rattle.js_units.specs.Lanes.{is_wide}
 use Rattle.heap_read.proofs.LanesAtOnce.{last_wide, wide_behind, wide_here}
 use Rattle.heap_read.proofs.packing.has_wide.Goals as goal

@@ -1,4 +1,4 @@
-use Rattle.std.proofs.Common.{◌∙◌, ◌∷◌, [], ◌^◌, refl, arith}
+use Rattle.std.proofs.Common.{◌∙◌, ◌∷◌, [], ◌^◌, arith}
 use Rattle.std.proofs.lemmas.Simd.{get_or-put_chunk_at, get_or-put_chunk_below}
 use Rattle.std.specs.Simd.Lanes.{digits_l, number_l}
 use Rattle.js_units.proofs.LaneMarks.{byte_lane}

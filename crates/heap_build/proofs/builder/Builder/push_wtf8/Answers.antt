@@ -1,5 +1,5 @@
 use Rattle.std.proofs.Common.{◌∙◌, sym}
-use Rattle.heap_build.specs.declared.encoding.Encoding.TheVariants.{Wtf8}
+use Rattle.heap_bytes.specs.declared.encoding.Encoding.TheVariants.{Wtf8}
 use Rattle.heap_build.proofs.Surrogates.{units_spelled}
 use Rattle.heap_build.proofs.builder.Builder.push_wtf8.Goals as goal
 

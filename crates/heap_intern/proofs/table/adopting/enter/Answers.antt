@@ -1,4 +1,4 @@
-use Rattle.std.proofs.Common.{ℕ, inl, ap, ◌∙◌}
+use Rattle.std.proofs.Common.{ℕ, inl, ◌∙◌}
 use Rattle.heap_rule.specs.declared.view.View.{View}
 use Rattle.heap_rule.specs.Slots.{entry_in}
 use Rattle.heap_read.proofs.Freezing.{fixed_frozen}

@@ -1,11 +1,10 @@
-use Rattle.std.proofs.Common.{◌≡◌, ◌∙◌, ◌+◌, ◌%◌, ◌<◌, ◌≤◌, ℕ, List, ap, refl, subst, sym, arith}
+use Rattle.std.proofs.Common.{◌≡◌, ◌∙◌, ◌≤◌, ap, refl, sym, arith}
 use Rattle.js_units.specs.Lanes.{hash_of}
 use Rattle.heap_rule.specs.declared.size.HeapSize.{HeapSize}
 use Rattle.heap_rule.specs.declared.view.View.{View}
-use Rattle.heap_rule.specs.Maps.{Has}
 use Rattle.heap_rule.proofs.Possible.{possible_lawful}
 use Rattle.heap_table.specs.Agents.{size_of}
-use Rattle.heap_intern.proofs.Adopting.{ahead_first, ahead_next, loaded_once, never_passed, none_behind, one_units, place_within}
+use Rattle.heap_intern.proofs.Adopting.{ahead_first, ahead_next, loaded_once, never_passed, none_behind, one_units}
 use Rattle.heap_intern.proofs.Going.{forms_self, forms_trans, looks_self, looks_trans}
 use Rattle.heap_intern.proofs.table.adopting.walk_to.Goals as goal
 

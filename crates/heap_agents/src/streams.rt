@@ -1,0 +1,84 @@
+// Units that bytes spell: strings made of them, interning them, and looking for them in the string table. No
+// call requests memory but the heap's.
+ghost use Rattle.std.specs.Prelude.{◌≤◌, length, IfOk, IfErr};
+ghost use Rattle.js_units.specs.Lanes.{is_wide, words_over};
+ghost use Rattle.heap_rule.specs.Layout.{MAX};
+ghost use Rattle.heap_rule.specs.Maps.{Has};
+ghost use Rattle.heap_rule.specs.Views.{IsSeenSettled};
+ghost use Rattle.heap_bytes.specs.Spellings.{IsReadable, units_of};
+ghost use Rattle.heap_text.specs.Texts.{IsSpared, KeepsOwn, Told, UsesExactly};
+ghost use Rattle.heap_agents.specs.Held.{IsHeld, Leaves, MarksMade, held_size, view_by};
+ghost use Rattle.heap_agents.specs.Keys.{FoundUnits, InternedUnits};
+
+use crate::held::Held;
+use heap_bytes::Spelling;
+use heap_intern::TableFull;
+use heap_text::{JsStr, TextFull};
+
+impl Held {
+    /// A new string with the units that bytes spell, settled.
+    pub fn make_from(&mut self, source: &Spelling) -> Result<JsStr, TextFull>
+        requires held { IsHeld self.old }
+        requires read { IsReadable source.now }
+        requires short { length (units_of source.now) ≤ MAX }
+        ensures leaves { Leaves self.old self.new }
+        ensures own { KeepsOwn (view_by self.old) (view_by self.new) }
+        ensures marked { MarksMade self.old self.new result }
+        ensures units { IfOk result (λ s. Has (view_by self.new).units s.id (units_of source.now)) }
+        ensures settled { IfOk result (λ s. IsSeenSettled (view_by self.new) s.id) }
+        ensures used { IfOk result
+            (λ s. UsesExactly (view_by self.old) (view_by self.new) 1
+            (words_over (is_wide (units_of source.now)) (length (units_of source.now)))) }
+        ensures refused { IfErr result
+            (λ f. Told (view_by self.new) (held_size self.old)
+            (words_over (is_wide (units_of source.now)) (length (units_of source.now))) f) }
+        ensures spared { IfErr result
+            (λ f. IsSpared (view_by self.old) (view_by self.new)
+            (words_over (is_wide (units_of source.now)) (length (units_of source.now))) f) }
+    {
+        let made = match &mut self.text {
+            Some(text) => text.make_from(source),
+            None => unreachable!(),
+        };
+        let s = made?;
+        self.mark(s.id);
+        Ok(s)
+    }
+
+    /// The one string of the table with the units that bytes spell. Where it is there, nothing is used.
+    pub fn intern_from(&mut self, source: &Spelling) -> Result<u32, TableFull>
+        requires held { IsHeld self.old }
+        requires read { IsReadable source.now }
+        requires short { length (units_of source.now) ≤ MAX }
+        ensures { InternedUnits self.old self.new (units_of source.now) result }
+    {
+        let answer = match &mut self.text {
+            Some(text) => heap_intern::intern_from(&mut text.reader, source),
+            None => unreachable!(),
+        };
+        let id = answer?;
+        self.mark_interned(id);
+        Ok(id)
+    }
+
+    /// The one string of the table with the units that bytes spell, if it is there. It uses nothing, also
+    /// on a full heap.
+    pub fn find_from(&mut self, source: &Spelling) -> Option<u32>
+        requires held { IsHeld self.old }
+        requires read { IsReadable source.now }
+        requires short { length (units_of source.now) ≤ MAX }
+        ensures { FoundUnits self.old self.new (units_of source.now) result }
+    {
+        let found = match &mut self.text {
+            Some(text) => heap_intern::find_from(&mut text.reader, source),
+            None => unreachable!(),
+        };
+        match found {
+            Some(id) => {
+                self.mark_interned(id);
+                Some(id)
+            }
+            None => None,
+        }
+    }
+}

@@ -1,0 +1,6 @@
+pub mod PointBytes
+pub mod Rows
+pub mod Reading
+pub mod Pieces
+pub mod Runs
+pub mod WidePoints

@@ -1,0 +1,15 @@
+use Rattle.std.proofs.Common.{◌≡◌, ◌^◌, ◌<◌, length}
+use Rattle.js_units.specs.Lanes.{hash_from, hash_of}
+use Rattle.heap_bytes.specs.Spellings.{IsReadable, units_of}
+use Rattle.heap_bytes.proofs.spelling.Spelling.hash.Given as goal
+
+abbrev pub invariant-loop-count : goal.invariant-loop-count
+invariant-loop-count l = record {
+  long : length l.room ≡ 65;
+  small : l.hash < 2 ^ 32;
+  read : IsReadable l.rest;
+  hashed : hash_from l.hash (units_of l.rest) ≡ hash_of (units_of l.self);
+}
+
+abbrev pub decreases-loop-count : goal.decreases-loop-count
+decreases-loop-count l = length (units_of l.rest)

@@ -1,0 +1,3 @@
+pub mod Points
+pub mod Spellings
+pub mod Reading

@@ -1,0 +1,16 @@
+//! Units that bytes spell, as Latin-1, UTF-8 and WTF-8 have them, and strings of a heap that are written straight
+//! from them.
+//!
+//! A [`Spelling`] is read front to back, in pieces of 64 units or so, into room that the caller has. So it is
+//! measured, hashed, and written into content words with no memory but the heap's.
+#![tactic(auto)]
+
+mod decoding;
+mod encoding;
+mod spelling;
+mod writing;
+
+pub use decoding::{measure, split_point};
+pub use encoding::Encoding;
+pub use spelling::{ROOM, Spelling};
+pub use writing::write_spelled;
