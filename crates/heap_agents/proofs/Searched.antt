@@ -1,5 +1,5 @@
 -- What a search through a session leaves of what an agent knows, and what it says of the strings.
-use Rattle.std.proofs.Common.{◌≡◌, ◌↔◌, ℕ, List, refl, sym, ◌∙◌, subst, arith, Option, Some, None}
+use Rattle.std.proofs.Common.{◌≡◌, ◌↔◌, ℕ, ◌++◌, List, refl, sym, ◌∙◌, subst, arith, Option, Some, None}
 use Rattle.std.specs.Prelude.{Contains, IsSome}
 use Rattle.heap_rule.specs.Paths.{Calls}
 use Rattle.std.specs.declared.cmp.Ordering.{Ordering}
@@ -14,17 +14,19 @@ use Rattle.heap_rule.specs.Maps.{Has}
 use Rattle.heap_table.specs.declared.agent.Agent.{Agent}
 use Rattle.heap_table.specs.declared.heap.Heap.{Heap}
 use Rattle.heap_table.specs.Agents.{Belongs, view_of}
+use Rattle.heap_read.specs.Reads.{OnlyLoads}
 use Rattle.heap_session.specs.declared.session.Session.{Session}
 use Rattle.heap_session.specs.Sessions.{state_by, state_in, table_of, session_view}
 use Rattle.heap_session.specs.Shares.{BelongsAs}
 use Rattle.heap_session.proofs.States.{settled_test, test_settled, text_is}
-use Rattle.js_search.specs.Order.{Precedes}
+use Rattle.js_search.specs.Order.{Precedes, units_cmp}
+use Rattle.js_search.proofs.Lexical.{is_greater, is_less, is_same}
 use Rattle.heap_read.specs.declared.heap_ref.HeapRef.{Ghosts}
 use Rattle.heap_agents.specs.declared.held.Held.{Held}
 use Rattle.heap_agents.specs.Held.{IsHeld, Searched, view_by}
 use Rattle.heap_agents.specs.Shared.{IsSameText, SharedText, heap_of, view_if}
 use Rattle.heap_agents.specs.Searched.{IsOrder, KeepsStrings}
-use Rattle.heap_agents.proofs.Marks.{kept_marks, still}
+use Rattle.heap_agents.proofs.Marks.{held_on, kept_marks, same_text, still, told}
 
 is_some : (o : Option (List ℕ)) (us : List ℕ) → o ≡ Some us → IsSome o
 is_some o us e = subst (λ (p : Option (List ℕ)). IsSome p) (sym e) refl
@@ -52,10 +54,44 @@ module _ {H : Type 0} {g : Ghosts H} where
     k.grows.sizes ∙ (λ i. (e i).sizes) ∙ (λ i. record { ids = (is.1 i).ids; words = (is.1 i).words; slots = (is.1 i).slots }),
   )
 
-pub order_of : (us vs : List ℕ) (o : Ordering) → (o ≡ Less) ↔ Precedes us vs → (o ≡ Equal) ↔ (us ≡ vs) → (o ≡ Greater) ↔ Precedes vs us → IsOrder us vs o
+-- what loads alone leave
+by_loads : (v w : View) → OnlyLoads v w → KeepsStrings v w
+by_loads v w o = let ids : w.low.ids ≡ v.low.ids = λ i. (o.low i).ids in let words : w.low.words ≡ v.low.words = λ i. (o.low i).words in record {
+  units = o.known.units;
+  settled = o.known.settled;
+  sizes = o.sizes;
+  agents = o.agents;
+  share = o.share;
+  used_ids = λ i. (o.used i).ids;
+  used_words = λ i. (o.used i).words;
+  low_ids = omega (arith, ids);
+  low_words = omega (arith, words);
+  seen = o.seen;
+  calls = λ i. o.seen i ++ o.mine i;
+}
+
+pub loaded : (x : Held) (t u : SharedText) → x.text ≡ Some t → heap_of u ≡ heap_of t → u.limit ≡ t.limit → IsHeld x
+    → OnlyLoads (view_of t.reader.agent) (view_of u.reader.agent) → Searched x (record x { text = Some u })
+loaded x t u own heap limit held o = let kept = by_loads (view_of t.reader.agent) (view_of u.reader.agent) o in record {
+  held = held_on x t u own heap limit held o.known (record { calls = λ v i h. subst (λ (m : Calls). Contains m (v, i)) (sym kept.calls) h }) o.agents;
+  same = same_text x t u own heap limit;
+  strings = told x t u own KeepsStrings kept;
+  marks = kept_marks x (Some u);
+  marked = (refl, refl);
+}
+
+order_of : (us vs : List ℕ) (o : Ordering) → (o ≡ Less) ↔ Precedes us vs → (o ≡ Equal) ↔ (us ≡ vs) → (o ≡ Greater) ↔ Precedes vs us → IsOrder us vs o
 order_of us vs Less a b d = a.0 refl
 order_of us vs Equal a b d = b.0 refl
 order_of us vs Greater a b d = d.0 refl
+
+-- the order of two strings means what it says
+pub means : (x : Held) (t : SharedText) → x.text ≡ Some t → (a b : ℕ) (o : Ordering)
+    → ((us vs : List ℕ) → Has (view_of t.reader.agent).units a us → Has (view_of t.reader.agent).units b vs → o ≡ units_cmp us vs)
+    → (us vs : List ℕ) → Has (view_by x).units a us → Has (view_by x).units b vs → IsOrder us vs o
+means x t own a b o f us vs h k =
+    let e = f us vs (subst (λ (m : Option SharedText). Has (view_if m).units a us) own h) (subst (λ (m : Option SharedText). Has (view_if m).units b vs) own k) in
+    order_of us vs o (is_less us vs o e) (is_same us vs o e) (is_greater us vs o e)
 
 -- the agent of x looks through the session s
 module _ {H : Type 0} {g : Ghosts H} (x : Held) (t : SharedText) (s : Session H g) (own : x.text ≡ Some t) (same : session_view s ≡ view_of t.reader.agent) where

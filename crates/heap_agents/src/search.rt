@@ -1,6 +1,7 @@
-// Comparing settled strings, and finding one in another, by the calls of `js_search` on a session.
+// Comparing settled strings, and finding one in another, which goes by the calls of `js_search` on a session.
 ghost use Rattle.std.specs.Prelude.{◌≡◌, Some, ◌↔◌, ℕ, ◌≤◌, List, length, Option, IsTrue};
 ghost use Rattle.heap_rule.specs.Maps.{Has};
+ghost use Rattle.heap_read.specs.Reads.{OnlyLoads};
 ghost use Rattle.js_search.specs.Order.{units_cmp};
 ghost use Rattle.js_search.specs.Places.{IsFirst, IsLast, Stands, first, last, stands};
 ghost use Rattle.heap_agents.specs.Held.{IsHeld, Searched, view_by, without_text};
@@ -29,7 +30,7 @@ impl Held {
         }
     }
 
-    /// The order of two settled strings by their units, where a proper prefix comes first.
+    /// The order of two settled strings by their units, where a proper prefix comes first, by loads alone.
     pub fn compare(&mut self, a: JsStr, b: JsStr) -> Ordering
         requires held { IsHeld self.old }
         requires left { IsReadable (view_by self.old) a.id }
@@ -41,17 +42,15 @@ impl Held {
         ensures means { (us vs : List ℕ) → Has (view_by self.old).units a.id us
             → Has (view_by self.old).units b.id vs
             → IsOrder us vs result }
+        ensures reads { OnlyLoads (view_by self.old) (view_by self.new) }
     {
-        let Text { reader, limit } = self.take_text();
-        let Reader { heap, agent } = reader;
-        let mut session = Session::new(&*heap, agent, Limit::Bits64);
-        let answer = js_search::compare(&mut session, a, b);
-        let agent = session.into_agent();
-        self.text = Some(Text::new(heap, agent, limit));
-        answer
+        match &mut self.text {
+            Some(text) => heap_export::compare_strings(text, a, b),
+            None => unreachable!(),
+        }
     }
 
-    /// Whether two settled strings have the same units.
+    /// Whether two settled strings have the same units, by loads alone.
     pub fn equal(&mut self, a: JsStr, b: JsStr) -> bool
         requires held { IsHeld self.old }
         requires left { IsReadable (view_by self.old) a.id }
@@ -60,14 +59,12 @@ impl Held {
         ensures value { (us vs : List ℕ) → Has (view_by self.old).units a.id us
             → Has (view_by self.old).units b.id vs
             → IsTrue result ↔ (us ≡ vs) }
+        ensures reads { OnlyLoads (view_by self.old) (view_by self.new) }
     {
-        let Text { reader, limit } = self.take_text();
-        let Reader { heap, agent } = reader;
-        let mut session = Session::new(&*heap, agent, Limit::Bits64);
-        let answer = js_search::equal(&mut session, a, b);
-        let agent = session.into_agent();
-        self.text = Some(Text::new(heap, agent, limit));
-        answer
+        match &mut self.text {
+            Some(text) => heap_export::has_same_units(text, a, b),
+            None => unreachable!(),
+        }
     }
 
     /// Whether the units of `needle` occur in `hay` at place `at`, both settled.
