@@ -5,7 +5,7 @@
 //! C holds an agent by a handle, [`agent::JsAgent`], with a pointer; behind it are the agent, a counted
 //! reference to its heap, so that the heap goes with the last handle, and the marks of the strings that
 //! the agent may use. A string is its number. What a call answers is a [`answer::JsAnswer`]: a status,
-//! with the string or with the report.
+//! with the string or with the report. A text that is built up has another handle, [`builder::JsBuilder`].
 #![tactic(auto)]
 
 mod agent;
