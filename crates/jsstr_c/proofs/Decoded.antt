@@ -1,5 +1,5 @@
 -- Why bytes gave no units, where they are no more than a string may have.
-use Rattle.std.proofs.Common.{◌≡◌, ◌⊎◌, ⊎_elim, inl, inr, true, false, refl, sym, ap, subst, arith, ℕ, suc, ◌*◌, ◌<◌, ◌≤◌, Bool, List, [], ◌∷◌, length, length-append, take, Err}
+use Rattle.std.proofs.Common.{◌≡◌, ⊎_elim, inl, inr, true, false, refl, sym, ap, subst, arith, ℕ, suc, ◌*◌, ◌<◌, ◌≤◌, Bool, List, [], ◌∷◌, length, length-append, take, Err}
 use Rattle.std.proofs.lemmas.Bool.Decides.{nat_tests}
 use Rattle.std.proofs.lemmas.List.{take_all}
 use Rattle.std.proofs.lemmas.Str.{encodes-chars, length-encode}

@@ -1,5 +1,5 @@
 -- Texts that are built up, behind a handle.
-use Rattle.std.proofs.Common.{◌≡◌, ◌∙◌, ◌⊎◌, ⊎_elim, inl, inr, refl, sym, ap, subst, arith, ℕ, ◌*◌, ◌<◌, ◌≤◌, List, [], ◌++◌, length, Option, None, Some, Result, Ok, Err}
+use Rattle.std.proofs.Common.{◌≡◌, ◌∙◌, ⊎_elim, inl, inr, refl, sym, ap, subst, arith, ℕ, ◌*◌, ◌<◌, ◌≤◌, List, [], ◌++◌, length, Option, None, Some, Result, Ok, Err}
 use Rattle.heap_rule.specs.Layout.{MAX}
 use Rattle.heap_rule.specs.declared.view.View.{View}
 use Rattle.heap_read.specs.Reads.{OnlyLoads}
