@@ -1,5 +1,6 @@
 pub mod Walks
 pub mod Boxed
+pub mod BoxedTexts
 pub mod Ready
 pub mod Going
 pub mod Settling
@@ -8,3 +9,4 @@ pub mod Same
 pub mod Decoded
 pub mod Copied
 pub mod Slots
+pub mod Texts

@@ -1,10 +1,8 @@
 -- A string that is interned is known.
-use Rattle.std.proofs.Common.{◌≡◌, ℕ, List, Option, None, Some, subst, sym}
-use Rattle.std.specs.List.{Contains}
+use Rattle.std.proofs.Common.{◌≡◌, ℕ, Option, None, Some, subst, sym}
 use Rattle.heap_rule.specs.Maps.{HasKey}
-use Rattle.heap_rule.specs.Views.{history}
 use Rattle.heap_agents.specs.declared.held.Held.{Held}
-use Rattle.heap_agents.specs.Ready.{HasInterned, IsReady, handle_view}
+use Rattle.heap_agents.specs.Ready.{HasInterned, handle_view}
 use Rattle.jsstr_c.specs.Handles.{HasAs}
 
 known_too : (o : Option Held) (live : ℕ) → HasAs live o → (i : ℕ) → HasInterned o i → HasKey (handle_view o).units i

@@ -1,20 +1,25 @@
--- The units of bytes of UTF-8.
-use Rattle.std.specs.Prelude.{◌≡◌, ◌⊎◌, ℕ, List, [], ◌∷◌, ◌++◌}
-use Rattle.std.specs.Str.{IsUtf8, IsValidUpTo, chars}
-use Rattle.js_units.specs.Text.{utf16_of}
+-- Why bytes give no units.
+use Rattle.std.specs.Prelude.{◌≡◌, ◌⊎◌, ℕ, List}
+use Rattle.std.specs.Str.{IsUtf8, IsValidUpTo}
+use Rattle.heap_build.specs.declared.faults.BuildFault.TheVariants.{NoMemory, TooLong}
+use Rattle.heap_build.specs.declared.faults.DecodeFault.{DecodeFault}
+use Rattle.heap_build.specs.declared.faults.DecodeFault.TheVariants.{Malformed, NotAdded}
+use Rattle.heap_build.specs.Spelled.{IsSpelling, IsSpellingUpTo, SpellsWtf8}
 use Rattle.jsstr_c.specs.declared.answer.JsAnswer.{JsAnswer}
-use Rattle.jsstr_c.specs.Reports.{no_memory, not_utf8}
-
--- the units of these characters (ECMA-262, "CodePointsToString")
-abbrev pub utf16 : List ℕ → List ℕ
-utf16 [] = []
-utf16 (c ∷ cs) = utf16_of c ++ utf16 cs
-
--- the units of the characters that the bytes spell
-abbrev pub utf8_decoded : List ℕ → List ℕ
-utf8_decoded bytes = utf16 (chars bytes)
+use Rattle.jsstr_c.specs.Reports.{TOO_LONG, no_memory, not_utf8, refusal}
 
 -- Why bytes gave no units: they are no UTF-8, which is reported wherever it is so; or memory runs out.
 abbrev pub IsUndecoded : List ℕ → JsAnswer → Type 0
 IsUndecoded bytes r = ((IsUtf8 bytes → ⊥) × ((n : ℕ) × (r ≡ not_utf8 n) × IsValidUpTo bytes n))
     ⊎ (IsUtf8 bytes × (r ≡ no_memory))
+
+-- The same of bytes that are no WTF-8.
+abbrev pub IsUnspelled : List ℕ → JsAnswer → Type 0
+IsUnspelled bytes r = ((n : ℕ) × (r ≡ not_utf8 n) × IsSpellingUpTo SpellsWtf8 bytes n)
+    ⊎ (IsSpelling SpellsWtf8 bytes × (r ≡ no_memory))
+
+-- why no units were decoded; where bytes spell none, how many of them do
+abbrev pub fault_answer : DecodeFault → JsAnswer
+fault_answer (Malformed at) = not_utf8 at
+fault_answer (NotAdded NoMemory) = no_memory
+fault_answer (NotAdded TooLong) = refusal TOO_LONG 0 0 0

@@ -12,7 +12,8 @@ use Rattle.heap_agents.specs.declared.held.Held.{Held}
 use Rattle.heap_agents.specs.Keys.{FindsUnits, InternsUnits}
 use Rattle.heap_agents.specs.Ready.{HandleLeaves, HandleKnows, size_in, handle_view}
 use Rattle.jsstr_c.specs.declared.answer.JsAnswer.{JsAnswer}
-use Rattle.jsstr_c.specs.Decoded.{IsUndecoded, utf8_decoded}
+use Rattle.heap_build.specs.Spelled.{SpellsWtf8, utf8_decoded}
+use Rattle.jsstr_c.specs.Decoded.{IsUndecoded, IsUnspelled}
 use Rattle.jsstr_c.specs.Reports.{BAD_ARGUMENT, DONE, NO_MEMORY, bad_argument, done, found_answer, no_memory, table_answer, text_report}
 
 -- the units us were made into a new string, with r as the answer
@@ -47,6 +48,12 @@ OrNoMemory does o p us r = ((r ≡ no_memory) × (p ≡ o)) ⊎ does o p us r
 abbrev pub OnUtf8 : (Option Held → Option Held → List ℕ → JsAnswer → Type 0) → Option Held → Option Held
     → List ℕ → JsAnswer → Type 0
 OnUtf8 does o p bytes r = (IsUndecoded bytes r × (p ≡ o)) ⊎ (IsUtf8 bytes × does o p (utf8_decoded bytes) r)
+
+-- The same with the units that bytes of WTF-8 spell.
+abbrev pub OnWtf8 : (Option Held → Option Held → List ℕ → JsAnswer → Type 0) → Option Held → Option Held
+    → List ℕ → JsAnswer → Type 0
+OnWtf8 does o p bytes r = (IsUnspelled bytes r × (p ≡ o))
+    ⊎ ((us : List ℕ) × SpellsWtf8 bytes us × does o p us r)
 
 -- a call on units or bytes that are given does this, unless its condition fails, and then nothing has changed
 pub record Tests (call : Option Held → Option Held → List ℕ → JsAnswer → Type 0) (o p : Option Held)

@@ -1,4 +1,5 @@
 pub mod Owned
+pub mod OwnedText
 pub mod Handles
 pub mod Reports
 pub mod Checked
@@ -10,3 +11,4 @@ pub mod Given
 pub mod Sources
 pub mod Lists
 pub mod Board
+pub mod Building

@@ -20,7 +20,7 @@ const NO_WORDS: u32 = 4;
 
 const NO_SLOTS: u32 = 5;
 
-const TOO_LONG: u32 = 6;
+pub(crate) const TOO_LONG: u32 = 6;
 
 const NONE: u32 = 7;
 
@@ -125,7 +125,7 @@ fn done(s: JsStr) -> JsAnswer
 }
 
 // A refusal with its numbers.
-fn refusal(status: u32, at: u32, want: u32, end: u32) -> JsAnswer
+pub(crate) fn refusal(status: u32, at: u32, want: u32, end: u32) -> JsAnswer
     ensures { result ≡ reports.refusal status at want end }
 {
     JsAnswer {

@@ -1,54 +1,62 @@
-// The units that bytes spell, as Latin-1 or as UTF-8.
+// The units that bytes spell, as Latin-1, as UTF-8 or as WTF-8.
 ghost use Rattle.std.specs.Prelude.{◌≡◌, ◌≤◌, length, IfOk, IfErr};
 ghost use Rattle.std.specs.Str.{IsUtf8};
+ghost use Rattle.heap_build.specs.Built.{units_in};
+ghost use Rattle.heap_build.specs.Spelled.{SpellsWtf8, utf8_decoded};
 ghost use Rattle.heap_rule.specs.Layout.{MAX};
-ghost use Rattle.jsstr_c.specs.Decoded.{IsUndecoded, utf8_decoded};
+ghost use Rattle.jsstr_c.specs.Decoded.{IsUndecoded, IsUnspelled, fault_answer};
 ghost use Rattle.jsstr_c.specs.Reports as reports;
 
-use crate::answer::{JsAnswer, no_memory, not_utf8};
-use js_units::{NoMemory, Units, split_char};
+use crate::answer::{JsAnswer, TOO_LONG, no_memory, not_utf8, refusal};
+use heap_build::{BuildFault, Builder, DecodeFault};
 use std::alloc::Global;
 
 // The units of bytes, one each; or the answer that memory runs out.
-pub(crate) fn latin1_units(alloc: Global, bytes: &[u8]) -> Result<Units, JsAnswer>
-    ensures units { IfOk result (λ units. units ≡ bytes.now) }
+pub(crate) fn latin1_units(alloc: Global, bytes: &[u8]) -> Result<Builder, JsAnswer>
+    ensures units { IfOk result (λ units. units_in units ≡ bytes.now) }
     ensures refused { IfErr result (λ r. r ≡ reports.no_memory) }
 {
-    let mut units = Units::new(alloc);
-    match units.extend_from_latin1(bytes) {
+    let mut units = Builder::new(alloc);
+    match units.push_latin1(bytes) {
         Ok(()) => Ok(units),
-        Err(NoMemory) => Err(no_memory()),
+        Err(_) => Err(no_memory()),
     }
 }
 
 // The units that bytes of UTF-8 spell; or the answer why there are none.
-pub(crate) fn utf8_units(alloc: Global, bytes: &[u8]) -> Result<Units, JsAnswer>
+pub(crate) fn utf8_units(alloc: Global, bytes: &[u8]) -> Result<Builder, JsAnswer>
     requires short { length bytes.now ≤ MAX }
     ensures utf8 { IfOk result (λ units. IsUtf8 bytes.now) }
-    ensures units { IfOk result (λ units. units ≡ utf8_decoded bytes.now) }
-    ensures most { IfOk result (λ units. length units ≤ length bytes.now) }
+    ensures units { IfOk result (λ units. units_in units ≡ utf8_decoded bytes.now) }
     ensures refused { IfErr result (λ r. IsUndecoded bytes.now r) }
 {
-    match str::from_utf8(bytes) {
-        Ok(text) => match units_of(alloc, text) {
-            Ok(units) => Ok(units),
-            Err(NoMemory) => Err(no_memory()),
-        },
-        Err(fault) => Err(not_utf8(fault.valid_up_to() as u32)),
+    let mut units = Builder::new(alloc);
+    match units.push_utf8(bytes) {
+        Ok(()) => Ok(units),
+        Err(fault) => Err(undecoded(fault)),
     }
 }
 
-// The units of a `str`, which are no more than its bytes.
-fn units_of(alloc: Global, text: &str) -> Result<Units, NoMemory>
-    ensures units { IfOk result (λ units. units ≡ utf8_decoded text.now) }
-    ensures most { IfOk result (λ units. length units ≤ length text.now) }
+// The units that bytes of WTF-8 spell; or the answer why there are none.
+pub(crate) fn wtf8_units(alloc: Global, bytes: &[u8]) -> Result<Builder, JsAnswer>
+    requires short { length bytes.now ≤ MAX }
+    ensures units { IfOk result (λ units. SpellsWtf8 bytes.now (units_in units)) }
+    ensures refused { IfErr result (λ r. IsUnspelled bytes.now r) }
 {
-    let mut units = Units::new(alloc);
-    units.reserve(text.len())?;
-    let mut rest = text;
-    while let Some((c, after)) = split_char(rest) {
-        units.push_code_point(c)?;
-        rest = after;
+    let mut units = Builder::new(alloc);
+    match units.push_wtf8(bytes) {
+        Ok(()) => Ok(units),
+        Err(fault) => Err(undecoded(fault)),
     }
-    Ok(units)
+}
+
+/// What is answered where no units were decoded.
+pub(crate) fn undecoded(fault: DecodeFault) -> JsAnswer
+    ensures { result ≡ fault_answer fault }
+{
+    match fault {
+        DecodeFault::Malformed { at } => not_utf8(at),
+        DecodeFault::NotAdded(BuildFault::NoMemory) => no_memory(),
+        DecodeFault::NotAdded(BuildFault::TooLong) => refusal(TOO_LONG, 0, 0, 0),
+    }
 }

@@ -12,7 +12,7 @@ ghost use Rattle.jsstr_c.specs.Sources.{Does, DoesOn, Leaves, given};
 
 use crate::agent::JsAgent;
 use crate::answer::{JsAnswer, bad_argument, no_memory};
-use crate::decoding::{latin1_units, utf8_units};
+use crate::decoding::{latin1_units, utf8_units, wtf8_units};
 use crate::unchecked::reading::{jsstr_length_unchecked, jsstr_read_unchecked};
 use crate::unchecked::units::{
     jsstr_find_units_unchecked, jsstr_from_units_unchecked, jsstr_intern_units_unchecked,
@@ -20,12 +20,13 @@ use crate::unchecked::units::{
 use heap_rule::MAX;
 use std::alloc::{AllocError, Global};
 
-/// Units as they are given: as they are, in a byte each, as Latin-1 has them, or in UTF-8.
+/// Units as they are given: as they are, in a byte each, as Latin-1 has them, in UTF-8 or in WTF-8.
 #[derive(Clone, Copy)]
 pub enum Source<'u> {
     Units(&'u [u16]),
     Latin1(&'u [u8]),
     Utf8(&'u [u8]),
+    Wtf8(&'u [u8]),
 }
 
 impl Source<'_> {
@@ -37,6 +38,7 @@ impl Source<'_> {
             Source::Units(units) => units.len(),
             Source::Latin1(bytes) => bytes.len(),
             Source::Utf8(bytes) => bytes.len(),
+            Source::Wtf8(bytes) => bytes.len(),
         }
     }
 }
@@ -53,7 +55,7 @@ pub enum Task {
 }
 
 // A task on units.
-fn on_units(alloc: Global, agent: &mut JsAgent, task: Task, units: &[u16]) -> JsAnswer
+pub(crate) fn on_units(alloc: Global, agent: &mut JsAgent, task: Task, units: &[u16]) -> JsAnswer
     requires ready { IsReady agent.old.at.value }
     requires short { length units.now ≤ MAX }
     ensures handle { IsHandle agent.new }
@@ -96,6 +98,10 @@ pub(crate) fn on_source(alloc: Global, agent: &mut JsAgent, task: Task, source: 
             Err(refusal) => left(alloc, agent, refusal),
         },
         Source::Utf8(bytes) => match utf8_units(alloc, bytes) {
+            Ok(units) => on_units(alloc, agent, task, units.as_slice()),
+            Err(refusal) => left(alloc, agent, refusal),
+        },
+        Source::Wtf8(bytes) => match wtf8_units(alloc, bytes) {
             Ok(units) => on_units(alloc, agent, task, units.as_slice()),
             Err(refusal) => left(alloc, agent, refusal),
         },

@@ -1,15 +1,17 @@
 //! The heap of strings for C: each export is a call of `heap_agents`, and states its clauses again. Each
 //! call is there twice: [`checked`] tests the condition first, and answers `JSSTR_BAD_ARGUMENT` where it
-//! fails; [`unchecked`], whose names end so, leaves it to the caller.
+//! fails; [`unchecked`], whose names end so, leaves it to the caller. Those of [`building`] have no condition.
 //!
 //! C holds an agent by a handle, [`agent::JsAgent`], with a pointer; behind it are the agent, a counted
 //! reference to its heap, so that the heap goes with the last handle, and the marks of the strings that
 //! the agent may use. A string is its number. What a call answers is a [`answer::JsAnswer`]: a status,
-//! with the string or with the report.
+//! with the string or with the report. A text that is built up has another handle, [`builder::JsBuilder`].
 #![tactic(auto)]
 
 mod agent;
 mod answer;
+mod builder;
+mod building;
 mod bytes;
 mod checked;
 mod decoding;
@@ -17,5 +19,6 @@ mod given;
 mod handle;
 mod parts;
 mod room;
+mod text_handle;
 mod unchecked;
 mod uses;

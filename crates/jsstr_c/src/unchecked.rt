@@ -1,5 +1,6 @@
 // The calls whose conditions are the caller's to keep: none of them tests anything.
 pub(crate) mod board;
+pub(crate) mod building;
 pub(crate) mod copying;
 pub(crate) mod counts;
 pub(crate) mod life;

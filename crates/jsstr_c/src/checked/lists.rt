@@ -3,7 +3,7 @@ ghost use Rattle.std.specs.Prelude.{◌≡◌, ◌≢◌, ◌↔◌, ◌⊎◌, 
 ghost use Rattle.std.specs.Str.{IsUtf8};
 ghost use Rattle.heap_rule.specs.Layout.{MAX};
 ghost use Rattle.heap_agents.specs.Ready.{HandleKnows};
-ghost use Rattle.jsstr_c.specs.Decoded.{utf8_decoded};
+ghost use Rattle.heap_build.specs.Spelled.{utf8_decoded};
 ghost use Rattle.jsstr_c.specs.Handles.{IsHandle};
 ghost use Rattle.jsstr_c.specs.Lists.{IsUnread, OrdersUnits, ComparesUnits};
 ghost use Rattle.jsstr_c.specs.Reports.{no_order, no_truth};

@@ -2,7 +2,7 @@
 ghost use Rattle.std.specs.Prelude.{◌≡◌, ◌≢◌, ◌↔◌, ◌≤◌, length};
 ghost use Rattle.heap_rule.specs.Layout.{MAX};
 ghost use Rattle.heap_agents.specs.Ready.{HandleLeaves, IsReady};
-ghost use Rattle.jsstr_c.specs.Given.{IsFinding, IsInterning, Makes, OrNoMemory, OnUtf8, Tests};
+ghost use Rattle.jsstr_c.specs.Given.{IsFinding, IsInterning, Makes, OrNoMemory, OnUtf8, OnWtf8, Tests};
 ghost use Rattle.jsstr_c.specs.Handles.{IsHandle};
 ghost use Rattle.jsstr_c.specs.Reports as reports;
 
@@ -50,6 +50,20 @@ pub extern "C" fn jsstr_from_utf8(alloc: Global, agent: &mut JsAgent, bytes: &[u
     tested(alloc, agent, Task::Make, Source::Utf8(bytes))
 }
 
+/// A new string decoded from these bytes of WTF-8, settled. Other bytes are refused
+/// before anything is done. It allocates for the duration of the call.
+#[unsafe(no_mangle)]
+pub extern "C" fn jsstr_from_wtf8(alloc: Global, agent: &mut JsAgent, bytes: &[u8]) -> JsAnswer
+    requires { IsHandle agent.old }
+    ensures handle { IsHandle agent.new }
+    ensures bad { result.status ≡ reports.BAD_ARGUMENT
+        ↔ ¬ (IsReady agent.old.at.value × (length bytes.now ≤ MAX)) }
+    ensures goes { result.status ≢ reports.BAD_ARGUMENT → HandleLeaves agent.old.at.value agent.new.at.value }
+    ensures makes { Tests (OnWtf8 Makes) agent.old.at.value agent.new.at.value bytes.now result }
+{
+    tested(alloc, agent, Task::Make, Source::Wtf8(bytes))
+}
+
 /// The one string of the table with these units. No string is made first: where it is in the table,
 /// nothing is used.
 #[unsafe(no_mangle)]
@@ -88,6 +102,19 @@ pub extern "C" fn jsstr_intern_utf8(alloc: Global, agent: &mut JsAgent, bytes: &
     tested(alloc, agent, Task::Intern, Source::Utf8(bytes))
 }
 
+/// The one string of the table that these bytes of WTF-8 spell. Other bytes are refused
+/// before anything is done. It allocates for the duration of the call.
+#[unsafe(no_mangle)]
+pub extern "C" fn jsstr_intern_wtf8(alloc: Global, agent: &mut JsAgent, bytes: &[u8]) -> JsAnswer
+    requires { IsHandle agent.old }
+    ensures handle { IsHandle agent.new }
+    ensures bad { result.status ≡ reports.BAD_ARGUMENT
+        ↔ ¬ (IsReady agent.old.at.value × (length bytes.now ≤ MAX)) }
+    ensures interns { Tests (OnWtf8 IsInterning) agent.old.at.value agent.new.at.value bytes.now result }
+{
+    tested(alloc, agent, Task::Intern, Source::Wtf8(bytes))
+}
+
 /// The one string of the table with these units, if it is there. Nothing is used, ever.
 #[unsafe(no_mangle)]
 pub extern "C" fn jsstr_find_units(alloc: Global, agent: &mut JsAgent, units: &[u16]) -> JsAnswer
@@ -124,4 +151,17 @@ pub extern "C" fn jsstr_find_utf8(alloc: Global, agent: &mut JsAgent, bytes: &[u
     ensures finds { Tests (OnUtf8 IsFinding) agent.old.at.value agent.new.at.value bytes.now result }
 {
     tested(alloc, agent, Task::Find, Source::Utf8(bytes))
+}
+
+/// The one string of the table that these bytes of WTF-8 spell, if it is there. Bytes that
+/// are none are refused before anything is done. It allocates for the duration of the call.
+#[unsafe(no_mangle)]
+pub extern "C" fn jsstr_find_wtf8(alloc: Global, agent: &mut JsAgent, bytes: &[u8]) -> JsAnswer
+    requires { IsHandle agent.old }
+    ensures handle { IsHandle agent.new }
+    ensures bad { result.status ≡ reports.BAD_ARGUMENT
+        ↔ ¬ (IsReady agent.old.at.value × (length bytes.now ≤ MAX)) }
+    ensures finds { Tests (OnWtf8 IsFinding) agent.old.at.value agent.new.at.value bytes.now result }
+{
+    tested(alloc, agent, Task::Find, Source::Wtf8(bytes))
 }

@@ -2,7 +2,7 @@
 ghost use Rattle.std.specs.Prelude.{◌≡◌, ◌≢◌, ◌≤◌, length};
 ghost use Rattle.heap_rule.specs.Layout.{MAX};
 ghost use Rattle.heap_agents.specs.Ready.{HandleLeaves, IsReady};
-ghost use Rattle.jsstr_c.specs.Given.{IsFinding, IsInterning, Makes, OrNoMemory, OnUtf8};
+ghost use Rattle.jsstr_c.specs.Given.{IsFinding, IsInterning, Makes, OrNoMemory, OnUtf8, OnWtf8};
 ghost use Rattle.jsstr_c.specs.Handles.{IsHandle};
 ghost use Rattle.jsstr_c.specs.Reports as reports;
 
@@ -65,6 +65,24 @@ pub extern "C" fn jsstr_from_utf8_unchecked(
     on_source(alloc, agent, Task::Make, Source::Utf8(bytes))
 }
 
+/// A new string decoded from these bytes of WTF-8, settled. Other bytes are refused
+/// before anything is done. It allocates for the duration of the call.
+#[unsafe(no_mangle)]
+pub extern "C" fn jsstr_from_wtf8_unchecked(
+    alloc: Global,
+    agent: &mut JsAgent,
+    bytes: &[u8],
+) -> JsAnswer
+    requires ready { IsReady agent.old.at.value }
+    requires short { length bytes.now ≤ MAX }
+    ensures handle { IsHandle agent.new }
+    ensures told { result.status ≢ reports.BAD_ARGUMENT }
+    ensures goes { HandleLeaves agent.old.at.value agent.new.at.value }
+    ensures makes { OnWtf8 Makes agent.old.at.value agent.new.at.value bytes.now result }
+{
+    on_source(alloc, agent, Task::Make, Source::Wtf8(bytes))
+}
+
 /// The one string of the table with these units. No string is made first: where it is in the table,
 /// nothing is used.
 #[unsafe(no_mangle)]
@@ -118,6 +136,23 @@ pub extern "C" fn jsstr_intern_utf8_unchecked(
     on_source(alloc, agent, Task::Intern, Source::Utf8(bytes))
 }
 
+/// The one string of the table that these bytes of WTF-8 spell. Other bytes are refused
+/// before anything is done. It allocates for the duration of the call.
+#[unsafe(no_mangle)]
+pub extern "C" fn jsstr_intern_wtf8_unchecked(
+    alloc: Global,
+    agent: &mut JsAgent,
+    bytes: &[u8],
+) -> JsAnswer
+    requires ready { IsReady agent.old.at.value }
+    requires short { length bytes.now ≤ MAX }
+    ensures handle { IsHandle agent.new }
+    ensures told { result.status ≢ reports.BAD_ARGUMENT }
+    ensures interns { OnWtf8 IsInterning agent.old.at.value agent.new.at.value bytes.now result }
+{
+    on_source(alloc, agent, Task::Intern, Source::Wtf8(bytes))
+}
+
 /// The one string of the table with these units, if it is there. Nothing is used, ever.
 #[unsafe(no_mangle)]
 pub extern "C" fn jsstr_find_units_unchecked(
@@ -169,4 +204,21 @@ pub extern "C" fn jsstr_find_utf8_unchecked(
     ensures finds { OnUtf8 IsFinding agent.old.at.value agent.new.at.value bytes.now result }
 {
     on_source(alloc, agent, Task::Find, Source::Utf8(bytes))
+}
+
+/// The one string of the table that these bytes of WTF-8 spell, if it is there. Bytes that
+/// are none are refused before anything is done. It allocates for the duration of the call.
+#[unsafe(no_mangle)]
+pub extern "C" fn jsstr_find_wtf8_unchecked(
+    alloc: Global,
+    agent: &mut JsAgent,
+    bytes: &[u8],
+) -> JsAnswer
+    requires ready { IsReady agent.old.at.value }
+    requires short { length bytes.now ≤ MAX }
+    ensures handle { IsHandle agent.new }
+    ensures told { result.status ≢ reports.BAD_ARGUMENT }
+    ensures finds { OnWtf8 IsFinding agent.old.at.value agent.new.at.value bytes.now result }
+{
+    on_source(alloc, agent, Task::Find, Source::Wtf8(bytes))
 }

@@ -1,0 +1,78 @@
+// Texts that are built up outside any heap: strings are added to them, and they become strings.
+ghost use Rattle.std.specs.Prelude.{◌≡◌, ◌↔◌};
+ghost use Rattle.heap_agents.specs.Ready.{HandleKnows, IsReady};
+ghost use Rattle.jsstr_c.specs.Building.{Builds, IsBuilder, Spends, built};
+ghost use Rattle.jsstr_c.specs.Checked.{ReadsSettled};
+ghost use Rattle.jsstr_c.specs.Given.{IsInterning, Makes, Tests};
+ghost use Rattle.jsstr_c.specs.Handles.{IsHandle};
+ghost use Rattle.jsstr_c.specs.Reports as reports;
+
+use crate::agent::JsAgent;
+use crate::answer::{DONE, JsAnswer, bad_argument};
+use crate::builder::JsBuilder;
+use crate::checked::settling::settle_known;
+use crate::unchecked::building::{
+    jsstr_build_string_unchecked, jsstr_built_interned_unchecked, jsstr_built_unchecked,
+};
+use std::alloc::Global;
+
+/// Adds the units of a string, which is settled first.
+#[unsafe(no_mangle)]
+pub extern "C" fn jsstr_build_string(
+    alloc: Global,
+    text: &mut JsBuilder,
+    agent: &mut JsAgent,
+    s: u32,
+) -> u32
+    requires text { IsBuilder text.old }
+    requires handle { IsHandle agent.old }
+    ensures handle { IsBuilder text.new × IsHandle agent.new }
+    ensures bad { result ≡ reports.BAD_ARGUMENT ↔ ¬ (HandleKnows agent.old.at.value s) }
+    ensures builds { ReadsSettled agent.old.at.value agent.new.at.value s result
+        (text.new.at.value ≡ text.old.at.value)
+        (λ us. Builds text.old.at.value text.new.at.value us result) }
+{
+    let settled = settle_known(alloc, agent, s);
+    if settled.status != DONE {
+        return settled.status;
+    }
+    jsstr_build_string_unchecked(alloc, text, agent, s)
+}
+
+/// A new string with the units of a text, settled. The text is empty then, and keeps its memory for the next
+/// one; where there is no room for the string, the text stays, so that it can go into another heap.
+#[unsafe(no_mangle)]
+pub extern "C" fn jsstr_built(alloc: Global, text: &mut JsBuilder, agent: &mut JsAgent) -> JsAnswer
+    requires text { IsBuilder text.old }
+    requires handle { IsHandle agent.old }
+    ensures handle { IsBuilder text.new × IsHandle agent.new }
+    ensures bad { result.status ≡ reports.BAD_ARGUMENT ↔ ¬ (IsReady agent.old.at.value) }
+    ensures makes { Tests Makes agent.old.at.value agent.new.at.value (built text.old.at.value) result }
+    ensures spent { Spends text.old.at.value text.new.at.value result.status }
+{
+    if agent.is_empty() {
+        return bad_argument();
+    }
+    jsstr_built_unchecked(alloc, text, agent)
+}
+
+/// The one string of the table with the units of a text, which is then empty or stays, as for a new string.
+#[unsafe(no_mangle)]
+pub extern "C" fn jsstr_built_interned(
+    alloc: Global,
+    text: &mut JsBuilder,
+    agent: &mut JsAgent,
+) -> JsAnswer
+    requires text { IsBuilder text.old }
+    requires handle { IsHandle agent.old }
+    ensures handle { IsBuilder text.new × IsHandle agent.new }
+    ensures bad { result.status ≡ reports.BAD_ARGUMENT ↔ ¬ (IsReady agent.old.at.value) }
+    ensures interns { Tests IsInterning agent.old.at.value agent.new.at.value (built text.old.at.value)
+        result }
+    ensures spent { Spends text.old.at.value text.new.at.value result.status }
+{
+    if agent.is_empty() {
+        return bad_argument();
+    }
+    jsstr_built_interned_unchecked(alloc, text, agent)
+}
