@@ -4,19 +4,22 @@ use Rattle.std.specs.Str.{IsUtf8, IsValidUpTo}
 use Rattle.heap_build.specs.declared.faults.BuildFault.TheVariants.{NoMemory, TooLong}
 use Rattle.heap_build.specs.declared.faults.DecodeFault.{DecodeFault}
 use Rattle.heap_build.specs.declared.faults.DecodeFault.TheVariants.{Malformed, NotAdded}
-use Rattle.heap_build.specs.Spelled.{IsSpelling, IsSpellingUpTo, SpellsWtf8}
+use Rattle.heap_build.specs.Spelled.{IsSpellingUpTo, SpellsWtf8}
 use Rattle.jsstr_c.specs.declared.answer.JsAnswer.{JsAnswer}
 use Rattle.jsstr_c.specs.Reports.{TOO_LONG, no_memory, not_utf8, refusal}
 
--- Why bytes gave no units: they are no UTF-8, which is reported wherever it is so; or memory runs out.
-abbrev pub IsUndecoded : List ℕ → JsAnswer → Type 0
-IsUndecoded bytes r = ((IsUtf8 bytes → ⊥) × ((n : ℕ) × (r ≡ not_utf8 n) × IsValidUpTo bytes n))
-    ⊎ (IsUtf8 bytes × (r ≡ no_memory))
+-- the bytes are no UTF-8, and the longest front that is some is reported
+abbrev pub IsNoUtf8 : List ℕ → JsAnswer → Type 0
+IsNoUtf8 bytes r = (IsUtf8 bytes → ⊥) × ((n : ℕ) × (r ≡ not_utf8 n) × IsValidUpTo bytes n)
 
--- The same of bytes that are no WTF-8.
-abbrev pub IsUnspelled : List ℕ → JsAnswer → Type 0
-IsUnspelled bytes r = ((n : ℕ) × (r ≡ not_utf8 n) × IsSpellingUpTo SpellsWtf8 bytes n)
-    ⊎ (IsSpelling SpellsWtf8 bytes × (r ≡ no_memory))
+-- the same of WTF-8
+abbrev pub IsNoWtf8 : List ℕ → JsAnswer → Type 0
+IsNoWtf8 bytes r = (n : ℕ) × (r ≡ not_utf8 n) × IsSpellingUpTo SpellsWtf8 bytes n
+
+-- Why bytes gave no list of units: they are no UTF-8, which is reported wherever it is so; or memory
+-- runs out.
+abbrev pub IsUndecoded : List ℕ → JsAnswer → Type 0
+IsUndecoded bytes r = IsNoUtf8 bytes r ⊎ (IsUtf8 bytes × (r ≡ no_memory))
 
 -- why no units were decoded; where bytes spell none, how many of them do
 abbrev pub fault_answer : DecodeFault → JsAnswer

@@ -13,7 +13,7 @@ use Rattle.heap_agents.specs.Keys.{FindsUnits, InternsUnits}
 use Rattle.heap_agents.specs.Ready.{HandleLeaves, HandleKnows, size_in, handle_view}
 use Rattle.jsstr_c.specs.declared.answer.JsAnswer.{JsAnswer}
 use Rattle.heap_build.specs.Spelled.{SpellsWtf8, utf8_decoded}
-use Rattle.jsstr_c.specs.Decoded.{IsUndecoded, IsUnspelled}
+use Rattle.jsstr_c.specs.Decoded.{IsNoUtf8, IsNoWtf8}
 use Rattle.jsstr_c.specs.Reports.{BAD_ARGUMENT, DONE, NO_MEMORY, bad_argument, done, found_answer, no_memory, table_answer, text_report}
 
 -- the units us were made into a new string, with r as the answer
@@ -37,23 +37,21 @@ IsInterning o p us r = (t : Result ℕ TableFull) × (r ≡ table_answer t) × I
 abbrev pub IsFinding : Option Held → Option Held → List ℕ → JsAnswer → Type 0
 IsFinding o p us r = (t : Option ℕ) × (r ≡ found_answer t) × FindsUnits o p us t
 
--- What a call does with units that it first copies; or memory runs out, and nothing has changed. Bytes of
--- Latin-1 are a unit each.
+-- What a call does with the units of a string of another heap, which it first copies; or memory runs out,
+-- and nothing has changed.
 abbrev pub OrNoMemory : (Option Held → Option Held → List ℕ → JsAnswer → Type 0) → Option Held → Option Held
     → List ℕ → JsAnswer → Type 0
 OrNoMemory does o p us r = ((r ≡ no_memory) × (p ≡ o)) ⊎ does o p us r
 
--- What a call does with the units that bytes of UTF-8 spell; or they spell none, or memory runs out, and
--- nothing has changed.
+-- what a call does with the units that bytes of UTF-8 spell; or they spell none, and nothing has changed
 abbrev pub OnUtf8 : (Option Held → Option Held → List ℕ → JsAnswer → Type 0) → Option Held → Option Held
     → List ℕ → JsAnswer → Type 0
-OnUtf8 does o p bytes r = (IsUndecoded bytes r × (p ≡ o)) ⊎ (IsUtf8 bytes × does o p (utf8_decoded bytes) r)
+OnUtf8 does o p bytes r = (IsNoUtf8 bytes r × (p ≡ o)) ⊎ (IsUtf8 bytes × does o p (utf8_decoded bytes) r)
 
--- The same with the units that bytes of WTF-8 spell.
+-- the same with the units that bytes of WTF-8 spell
 abbrev pub OnWtf8 : (Option Held → Option Held → List ℕ → JsAnswer → Type 0) → Option Held → Option Held
     → List ℕ → JsAnswer → Type 0
-OnWtf8 does o p bytes r = (IsUnspelled bytes r × (p ≡ o))
-    ⊎ ((us : List ℕ) × SpellsWtf8 bytes us × does o p us r)
+OnWtf8 does o p bytes r = (IsNoWtf8 bytes r × (p ≡ o)) ⊎ ((us : List ℕ) × SpellsWtf8 bytes us × does o p us r)
 
 -- a call on units or bytes that are given does this, unless its condition fails, and then nothing has changed
 pub record Tests (call : Option Held → Option Held → List ℕ → JsAnswer → Type 0) (o p : Option Held)

@@ -1,6 +1,8 @@
 -- Helpers: no public contract reaches these definitions.
 -- How units are given, and what is done with them.
 use Rattle.std.specs.Prelude.{ℕ, List, Option}
+use Rattle.heap_bytes.specs.declared.encoding.Encoding.{Encoding}
+use Rattle.heap_bytes.specs.declared.encoding.Encoding.TheVariants.{Utf8, Wtf8}
 use Rattle.heap_agents.specs.declared.held.Held.{Held}
 use Rattle.heap_agents.specs.Ready.{HandleLeaves}
 use Rattle.jsstr_c.specs.declared.answer.JsAnswer.{JsAnswer}
@@ -8,7 +10,7 @@ use Rattle.jsstr_c.specs.declared.given.Source.{Source}
 use Rattle.jsstr_c.specs.declared.given.Source.TheVariants as source
 use Rattle.jsstr_c.specs.declared.given.Task.{Task}
 use Rattle.jsstr_c.specs.declared.given.Task.TheVariants.{Make, Intern, Find}
-use Rattle.jsstr_c.specs.Given.{IsFinding, IsInterning, Makes, OrNoMemory, OnUtf8, OnWtf8}
+use Rattle.jsstr_c.specs.Given.{IsFinding, IsInterning, Makes, OnUtf8, OnWtf8}
 
 -- the units or bytes as they are given
 abbrev pub given : Source → List ℕ
@@ -23,14 +25,19 @@ Does Make o p us r = Makes o p us r
 Does Intern o p us r = IsInterning o p us r
 Does Find o p us r = IsFinding o p us r
 
+-- what a task does with the units that bytes spell, if they spell any
+abbrev pub DoesSpelled : Encoding → Task → Option Held → Option Held → List ℕ → JsAnswer → Type 0
+DoesSpelled Utf8 task o p bytes r = OnUtf8 (Does task) o p bytes r
+DoesSpelled Wtf8 task o p bytes r = OnWtf8 (Does task) o p bytes r
+
 -- what a task does with a source
 abbrev pub DoesOn : Task → Source → Option Held → Option Held → JsAnswer → Type 0
 DoesOn task (source.Units us) o p r = Does task o p us.now r
-DoesOn task (source.Latin1 bytes) o p r = OrNoMemory (Does task) o p bytes.now r
-DoesOn task (source.Utf8 bytes) o p r = OnUtf8 (Does task) o p bytes.now r
-DoesOn task (source.Wtf8 bytes) o p r = OnWtf8 (Does task) o p bytes.now r
+DoesOn task (source.Latin1 bytes) o p r = Does task o p bytes.now r
+DoesOn task (source.Utf8 bytes) o p r = DoesSpelled Utf8 task o p bytes.now r
+DoesOn task (source.Wtf8 bytes) o p r = DoesSpelled Wtf8 task o p bytes.now r
 
--- what making leaves, memory or not
+-- what making leaves
 abbrev pub Leaves : Task → Option Held → Option Held → Type 0
 Leaves Make o p = HandleLeaves o p
 Leaves Intern o p = Unit {0}

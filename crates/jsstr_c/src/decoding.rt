@@ -1,10 +1,10 @@
-// The units that bytes spell, as Latin-1, as UTF-8 or as WTF-8.
+// Lists of the units that bytes spell, as Latin-1 and as UTF-8.
 ghost use Rattle.std.specs.Prelude.{◌≡◌, ◌≤◌, length, IfOk, IfErr};
 ghost use Rattle.std.specs.Str.{IsUtf8};
 ghost use Rattle.heap_build.specs.Built.{units_in};
-ghost use Rattle.heap_build.specs.Spelled.{SpellsWtf8, utf8_decoded};
+ghost use Rattle.heap_build.specs.Spelled.{utf8_decoded};
 ghost use Rattle.heap_rule.specs.Layout.{MAX};
-ghost use Rattle.jsstr_c.specs.Decoded.{IsUndecoded, IsUnspelled, fault_answer};
+ghost use Rattle.jsstr_c.specs.Decoded.{IsUndecoded, fault_answer};
 ghost use Rattle.jsstr_c.specs.Reports as reports;
 
 use crate::answer::{JsAnswer, TOO_LONG, no_memory, not_utf8, refusal};
@@ -32,19 +32,6 @@ pub(crate) fn utf8_units(alloc: Global, bytes: &[u8]) -> Result<Builder, JsAnswe
 {
     let mut units = Builder::new(alloc);
     match units.push_utf8(bytes) {
-        Ok(()) => Ok(units),
-        Err(fault) => Err(undecoded(fault)),
-    }
-}
-
-// The units that bytes of WTF-8 spell; or the answer why there are none.
-pub(crate) fn wtf8_units(alloc: Global, bytes: &[u8]) -> Result<Builder, JsAnswer>
-    requires short { length bytes.now ≤ MAX }
-    ensures units { IfOk result (λ units. SpellsWtf8 bytes.now (units_in units)) }
-    ensures refused { IfErr result (λ r. IsUnspelled bytes.now r) }
-{
-    let mut units = Builder::new(alloc);
-    match units.push_wtf8(bytes) {
         Ok(()) => Ok(units),
         Err(fault) => Err(undecoded(fault)),
     }

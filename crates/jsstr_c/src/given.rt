@@ -5,18 +5,19 @@ ghost use Rattle.heap_rule.specs.Maps.{Has, HasKey};
 ghost use Rattle.heap_rule.specs.Views.{IsSeenSettled};
 ghost use Rattle.heap_agents.specs.Ready.{IsReady, handle_view};
 ghost use Rattle.jsstr_c.specs.Checked.{OnlyLooks};
-ghost use Rattle.jsstr_c.specs.Given.{OrNoMemory};
+ghost use Rattle.heap_bytes.specs.Spellings.{IsReadable, units_of};
+ghost use Rattle.jsstr_c.specs.Given.{IsFinding, IsInterning, Makes, OrNoMemory};
 ghost use Rattle.jsstr_c.specs.Handles.{IsHandle};
 ghost use Rattle.jsstr_c.specs.Reports as reports;
-ghost use Rattle.jsstr_c.specs.Sources.{Does, DoesOn, Leaves, given};
+ghost use Rattle.jsstr_c.specs.Sources.{Does, DoesOn, DoesSpelled, Leaves, given};
 
 use crate::agent::JsAgent;
-use crate::answer::{JsAnswer, bad_argument, no_memory};
-use crate::decoding::{latin1_units, utf8_units, wtf8_units};
+use crate::answer::{JsAnswer, bad_argument, no_memory, not_utf8, of_found, of_table, of_text};
 use crate::unchecked::reading::{jsstr_length_unchecked, jsstr_read_unchecked};
 use crate::unchecked::units::{
     jsstr_find_units_unchecked, jsstr_from_units_unchecked, jsstr_intern_units_unchecked,
 };
+use heap_bytes::{Encoding, Spelling};
 use heap_rule::MAX;
 use std::alloc::{AllocError, Global};
 
@@ -82,6 +83,89 @@ fn left(alloc: Global, agent: &mut JsAgent, refusal: JsAnswer) -> JsAnswer
     refusal
 }
 
+// A string made of the units that bytes spell.
+fn make_from(alloc: Global, agent: &mut JsAgent, spelled: &Spelling) -> JsAnswer
+    requires ready { IsReady agent.old.at.value }
+    requires read { IsReadable spelled.now }
+    requires short { length (units_of spelled.now) ≤ MAX }
+    ensures handle { IsHandle agent.new }
+    ensures told { result.status ≢ reports.BAD_ARGUMENT }
+    ensures makes { Makes agent.old.at.value agent.new.at.value (units_of spelled.now) result }
+{
+    let mut held = agent.take(alloc);
+    let answer = held.make_from(spelled);
+    agent.put(held);
+    of_text(answer)
+}
+
+// The one string of the table with the units that bytes spell.
+fn intern_from(alloc: Global, agent: &mut JsAgent, spelled: &Spelling) -> JsAnswer
+    requires ready { IsReady agent.old.at.value }
+    requires read { IsReadable spelled.now }
+    requires short { length (units_of spelled.now) ≤ MAX }
+    ensures handle { IsHandle agent.new }
+    ensures told { result.status ≢ reports.BAD_ARGUMENT }
+    ensures interns { IsInterning agent.old.at.value agent.new.at.value (units_of spelled.now) result }
+{
+    let mut held = agent.take(alloc);
+    let answer = held.intern_from(spelled);
+    agent.put(held);
+    of_table(answer)
+}
+
+// The one string of the table with the units that bytes spell, if it is there.
+fn find_from(alloc: Global, agent: &mut JsAgent, spelled: &Spelling) -> JsAnswer
+    requires ready { IsReady agent.old.at.value }
+    requires read { IsReadable spelled.now }
+    requires short { length (units_of spelled.now) ≤ MAX }
+    ensures handle { IsHandle agent.new }
+    ensures told { result.status ≢ reports.BAD_ARGUMENT }
+    ensures finds { IsFinding agent.old.at.value agent.new.at.value (units_of spelled.now) result }
+{
+    let mut held = agent.take(alloc);
+    let answer = held.find_from(spelled);
+    agent.put(held);
+    of_found(answer)
+}
+
+// A task on the units that bytes spell.
+fn on_spelling(alloc: Global, agent: &mut JsAgent, task: Task, spelled: &Spelling) -> JsAnswer
+    requires ready { IsReady agent.old.at.value }
+    requires read { IsReadable spelled.now }
+    requires short { length (units_of spelled.now) ≤ MAX }
+    ensures handle { IsHandle agent.new }
+    ensures told { result.status ≢ reports.BAD_ARGUMENT }
+    ensures does { Does task agent.old.at.value agent.new.at.value (units_of spelled.now) result }
+    ensures leaves { Leaves task agent.old.at.value agent.new.at.value }
+{
+    match task {
+        Task::Make => make_from(alloc, agent, spelled),
+        Task::Intern => intern_from(alloc, agent, spelled),
+        Task::Find => find_from(alloc, agent, spelled),
+    }
+}
+
+// A task on the units that bytes of UTF-8 or WTF-8 spell, if they spell any.
+fn on_bytes(
+    alloc: Global,
+    agent: &mut JsAgent,
+    task: Task,
+    encoding: Encoding,
+    bytes: &[u8],
+) -> JsAnswer
+    requires ready { IsReady agent.old.at.value }
+    requires short { length bytes.now ≤ MAX }
+    ensures handle { IsHandle agent.new }
+    ensures told { result.status ≢ reports.BAD_ARGUMENT }
+    ensures does { DoesSpelled encoding task agent.old.at.value agent.new.at.value bytes.now result }
+    ensures leaves { Leaves task agent.old.at.value agent.new.at.value }
+{
+    match Spelling::read(encoding, bytes) {
+        Ok(spelled) => on_spelling(alloc, agent, task, &spelled),
+        Err(at) => left(alloc, agent, not_utf8(at as u32)),
+    }
+}
+
 /// A task on the units of a source.
 pub(crate) fn on_source(alloc: Global, agent: &mut JsAgent, task: Task, source: Source) -> JsAnswer
     requires ready { IsReady agent.old.at.value }
@@ -93,18 +177,9 @@ pub(crate) fn on_source(alloc: Global, agent: &mut JsAgent, task: Task, source: 
 {
     match source {
         Source::Units(units) => on_units(alloc, agent, task, units),
-        Source::Latin1(bytes) => match latin1_units(alloc, bytes) {
-            Ok(units) => on_units(alloc, agent, task, units.as_slice()),
-            Err(refusal) => left(alloc, agent, refusal),
-        },
-        Source::Utf8(bytes) => match utf8_units(alloc, bytes) {
-            Ok(units) => on_units(alloc, agent, task, units.as_slice()),
-            Err(refusal) => left(alloc, agent, refusal),
-        },
-        Source::Wtf8(bytes) => match wtf8_units(alloc, bytes) {
-            Ok(units) => on_units(alloc, agent, task, units.as_slice()),
-            Err(refusal) => left(alloc, agent, refusal),
-        },
+        Source::Latin1(bytes) => on_spelling(alloc, agent, task, &Spelling::Latin1(bytes)),
+        Source::Utf8(bytes) => on_bytes(alloc, agent, task, Encoding::Utf8, bytes),
+        Source::Wtf8(bytes) => on_bytes(alloc, agent, task, Encoding::Wtf8, bytes),
     }
 }
 

@@ -2,7 +2,7 @@
 ghost use Rattle.std.specs.Prelude.{◌≡◌, ◌≢◌, ◌↔◌, ◌≤◌, length};
 ghost use Rattle.heap_rule.specs.Layout.{MAX};
 ghost use Rattle.heap_agents.specs.Ready.{HandleLeaves, IsReady};
-ghost use Rattle.jsstr_c.specs.Given.{IsFinding, IsInterning, Makes, OrNoMemory, OnUtf8, OnWtf8, Tests};
+ghost use Rattle.jsstr_c.specs.Given.{IsFinding, IsInterning, Makes, OnUtf8, OnWtf8, Tests};
 ghost use Rattle.jsstr_c.specs.Handles.{IsHandle};
 ghost use Rattle.jsstr_c.specs.Reports as reports;
 
@@ -23,7 +23,7 @@ pub extern "C" fn jsstr_from_units(alloc: Global, agent: &mut JsAgent, units: &[
     tested(alloc, agent, Task::Make, Source::Units(units))
 }
 
-/// A new string of one-byte units, as Latin-1 is, settled. It allocates for the duration of the call.
+/// A new string of one-byte units, as Latin-1 is, settled.
 #[unsafe(no_mangle)]
 pub extern "C" fn jsstr_from_latin1(alloc: Global, agent: &mut JsAgent, bytes: &[u8]) -> JsAnswer
     requires { IsHandle agent.old }
@@ -31,13 +31,13 @@ pub extern "C" fn jsstr_from_latin1(alloc: Global, agent: &mut JsAgent, bytes: &
     ensures bad { result.status ≡ reports.BAD_ARGUMENT
         ↔ ¬ (IsReady agent.old.at.value × (length bytes.now ≤ MAX)) }
     ensures goes { result.status ≢ reports.BAD_ARGUMENT → HandleLeaves agent.old.at.value agent.new.at.value }
-    ensures makes { Tests (OrNoMemory Makes) agent.old.at.value agent.new.at.value bytes.now result }
+    ensures makes { Tests Makes agent.old.at.value agent.new.at.value bytes.now result }
 {
     tested(alloc, agent, Task::Make, Source::Latin1(bytes))
 }
 
 /// A new string decoded from these bytes of UTF-8, settled. Other bytes are refused
-/// before anything is done. It allocates for the duration of the call.
+/// before anything is done.
 #[unsafe(no_mangle)]
 pub extern "C" fn jsstr_from_utf8(alloc: Global, agent: &mut JsAgent, bytes: &[u8]) -> JsAnswer
     requires { IsHandle agent.old }
@@ -51,7 +51,7 @@ pub extern "C" fn jsstr_from_utf8(alloc: Global, agent: &mut JsAgent, bytes: &[u
 }
 
 /// A new string decoded from these bytes of WTF-8, settled. Other bytes are refused
-/// before anything is done. It allocates for the duration of the call.
+/// before anything is done.
 #[unsafe(no_mangle)]
 pub extern "C" fn jsstr_from_wtf8(alloc: Global, agent: &mut JsAgent, bytes: &[u8]) -> JsAnswer
     requires { IsHandle agent.old }
@@ -77,20 +77,20 @@ pub extern "C" fn jsstr_intern_units(alloc: Global, agent: &mut JsAgent, units: 
     tested(alloc, agent, Task::Intern, Source::Units(units))
 }
 
-/// The one string of the table with one-byte units, as Latin-1 is. It allocates for the duration of the call.
+/// The one string of the table with one-byte units, as Latin-1 is.
 #[unsafe(no_mangle)]
 pub extern "C" fn jsstr_intern_latin1(alloc: Global, agent: &mut JsAgent, bytes: &[u8]) -> JsAnswer
     requires { IsHandle agent.old }
     ensures handle { IsHandle agent.new }
     ensures bad { result.status ≡ reports.BAD_ARGUMENT
         ↔ ¬ (IsReady agent.old.at.value × (length bytes.now ≤ MAX)) }
-    ensures interns { Tests (OrNoMemory IsInterning) agent.old.at.value agent.new.at.value bytes.now result }
+    ensures interns { Tests IsInterning agent.old.at.value agent.new.at.value bytes.now result }
 {
     tested(alloc, agent, Task::Intern, Source::Latin1(bytes))
 }
 
 /// The one string of the table that these bytes of UTF-8 spell. Other bytes are refused
-/// before anything is done. It allocates for the duration of the call.
+/// before anything is done.
 #[unsafe(no_mangle)]
 pub extern "C" fn jsstr_intern_utf8(alloc: Global, agent: &mut JsAgent, bytes: &[u8]) -> JsAnswer
     requires { IsHandle agent.old }
@@ -103,7 +103,7 @@ pub extern "C" fn jsstr_intern_utf8(alloc: Global, agent: &mut JsAgent, bytes: &
 }
 
 /// The one string of the table that these bytes of WTF-8 spell. Other bytes are refused
-/// before anything is done. It allocates for the duration of the call.
+/// before anything is done.
 #[unsafe(no_mangle)]
 pub extern "C" fn jsstr_intern_wtf8(alloc: Global, agent: &mut JsAgent, bytes: &[u8]) -> JsAnswer
     requires { IsHandle agent.old }
@@ -127,21 +127,20 @@ pub extern "C" fn jsstr_find_units(alloc: Global, agent: &mut JsAgent, units: &[
     tested(alloc, agent, Task::Find, Source::Units(units))
 }
 
-/// The one string of the table with one-byte units, as Latin-1 is, if it is there. It allocates for
-/// the duration of the call.
+/// The one string of the table with one-byte units, as Latin-1 is, if it is there.
 #[unsafe(no_mangle)]
 pub extern "C" fn jsstr_find_latin1(alloc: Global, agent: &mut JsAgent, bytes: &[u8]) -> JsAnswer
     requires { IsHandle agent.old }
     ensures handle { IsHandle agent.new }
     ensures bad { result.status ≡ reports.BAD_ARGUMENT
         ↔ ¬ (IsReady agent.old.at.value × (length bytes.now ≤ MAX)) }
-    ensures finds { Tests (OrNoMemory IsFinding) agent.old.at.value agent.new.at.value bytes.now result }
+    ensures finds { Tests IsFinding agent.old.at.value agent.new.at.value bytes.now result }
 {
     tested(alloc, agent, Task::Find, Source::Latin1(bytes))
 }
 
 /// The one string of the table that these bytes of UTF-8 spell, if it is there. Bytes that
-/// are none are refused before anything is done. It allocates for the duration of the call.
+/// are none are refused before anything is done.
 #[unsafe(no_mangle)]
 pub extern "C" fn jsstr_find_utf8(alloc: Global, agent: &mut JsAgent, bytes: &[u8]) -> JsAnswer
     requires { IsHandle agent.old }
@@ -154,7 +153,7 @@ pub extern "C" fn jsstr_find_utf8(alloc: Global, agent: &mut JsAgent, bytes: &[u
 }
 
 /// The one string of the table that these bytes of WTF-8 spell, if it is there. Bytes that
-/// are none are refused before anything is done. It allocates for the duration of the call.
+/// are none are refused before anything is done.
 #[unsafe(no_mangle)]
 pub extern "C" fn jsstr_find_wtf8(alloc: Global, agent: &mut JsAgent, bytes: &[u8]) -> JsAnswer
     requires { IsHandle agent.old }

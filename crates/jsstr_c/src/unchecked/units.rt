@@ -2,7 +2,7 @@
 ghost use Rattle.std.specs.Prelude.{◌≡◌, ◌≢◌, ◌≤◌, length};
 ghost use Rattle.heap_rule.specs.Layout.{MAX};
 ghost use Rattle.heap_agents.specs.Ready.{HandleLeaves, IsReady};
-ghost use Rattle.jsstr_c.specs.Given.{IsFinding, IsInterning, Makes, OrNoMemory, OnUtf8, OnWtf8};
+ghost use Rattle.jsstr_c.specs.Given.{IsFinding, IsInterning, Makes, OnUtf8, OnWtf8};
 ghost use Rattle.jsstr_c.specs.Handles.{IsHandle};
 ghost use Rattle.jsstr_c.specs.Reports as reports;
 
@@ -30,7 +30,7 @@ pub extern "C" fn jsstr_from_units_unchecked(
     of_text(answer)
 }
 
-/// A new string of one-byte units, as Latin-1 is, settled. It allocates for the duration of the call.
+/// A new string of one-byte units, as Latin-1 is, settled.
 #[unsafe(no_mangle)]
 pub extern "C" fn jsstr_from_latin1_unchecked(
     alloc: Global,
@@ -42,13 +42,13 @@ pub extern "C" fn jsstr_from_latin1_unchecked(
     ensures handle { IsHandle agent.new }
     ensures told { result.status ≢ reports.BAD_ARGUMENT }
     ensures goes { HandleLeaves agent.old.at.value agent.new.at.value }
-    ensures makes { OrNoMemory Makes agent.old.at.value agent.new.at.value bytes.now result }
+    ensures makes { Makes agent.old.at.value agent.new.at.value bytes.now result }
 {
     on_source(alloc, agent, Task::Make, Source::Latin1(bytes))
 }
 
 /// A new string decoded from these bytes of UTF-8, settled. Other bytes are refused
-/// before anything is done. It allocates for the duration of the call.
+/// before anything is done.
 #[unsafe(no_mangle)]
 pub extern "C" fn jsstr_from_utf8_unchecked(
     alloc: Global,
@@ -66,7 +66,7 @@ pub extern "C" fn jsstr_from_utf8_unchecked(
 }
 
 /// A new string decoded from these bytes of WTF-8, settled. Other bytes are refused
-/// before anything is done. It allocates for the duration of the call.
+/// before anything is done.
 #[unsafe(no_mangle)]
 pub extern "C" fn jsstr_from_wtf8_unchecked(
     alloc: Global,
@@ -103,7 +103,7 @@ pub extern "C" fn jsstr_intern_units_unchecked(
     of_table(answer)
 }
 
-/// The one string of the table with one-byte units, as Latin-1 is. It allocates for the duration of the call.
+/// The one string of the table with one-byte units, as Latin-1 is.
 #[unsafe(no_mangle)]
 pub extern "C" fn jsstr_intern_latin1_unchecked(
     alloc: Global,
@@ -114,13 +114,13 @@ pub extern "C" fn jsstr_intern_latin1_unchecked(
     requires short { length bytes.now ≤ MAX }
     ensures handle { IsHandle agent.new }
     ensures told { result.status ≢ reports.BAD_ARGUMENT }
-    ensures interns { OrNoMemory IsInterning agent.old.at.value agent.new.at.value bytes.now result }
+    ensures interns { IsInterning agent.old.at.value agent.new.at.value bytes.now result }
 {
     on_source(alloc, agent, Task::Intern, Source::Latin1(bytes))
 }
 
 /// The one string of the table that these bytes of UTF-8 spell. Other bytes are refused
-/// before anything is done. It allocates for the duration of the call.
+/// before anything is done.
 #[unsafe(no_mangle)]
 pub extern "C" fn jsstr_intern_utf8_unchecked(
     alloc: Global,
@@ -137,7 +137,7 @@ pub extern "C" fn jsstr_intern_utf8_unchecked(
 }
 
 /// The one string of the table that these bytes of WTF-8 spell. Other bytes are refused
-/// before anything is done. It allocates for the duration of the call.
+/// before anything is done.
 #[unsafe(no_mangle)]
 pub extern "C" fn jsstr_intern_wtf8_unchecked(
     alloc: Global,
@@ -172,8 +172,7 @@ pub extern "C" fn jsstr_find_units_unchecked(
     of_found(answer)
 }
 
-/// The one string of the table with one-byte units, as Latin-1 is, if it is there. It allocates for
-/// the duration of the call.
+/// The one string of the table with one-byte units, as Latin-1 is, if it is there.
 #[unsafe(no_mangle)]
 pub extern "C" fn jsstr_find_latin1_unchecked(
     alloc: Global,
@@ -184,13 +183,13 @@ pub extern "C" fn jsstr_find_latin1_unchecked(
     requires short { length bytes.now ≤ MAX }
     ensures handle { IsHandle agent.new }
     ensures told { result.status ≢ reports.BAD_ARGUMENT }
-    ensures finds { OrNoMemory IsFinding agent.old.at.value agent.new.at.value bytes.now result }
+    ensures finds { IsFinding agent.old.at.value agent.new.at.value bytes.now result }
 {
     on_source(alloc, agent, Task::Find, Source::Latin1(bytes))
 }
 
 /// The one string of the table that these bytes of UTF-8 spell, if it is there. Bytes that
-/// are none are refused before anything is done. It allocates for the duration of the call.
+/// are none are refused before anything is done.
 #[unsafe(no_mangle)]
 pub extern "C" fn jsstr_find_utf8_unchecked(
     alloc: Global,
@@ -207,7 +206,7 @@ pub extern "C" fn jsstr_find_utf8_unchecked(
 }
 
 /// The one string of the table that these bytes of WTF-8 spell, if it is there. Bytes that
-/// are none are refused before anything is done. It allocates for the duration of the call.
+/// are none are refused before anything is done.
 #[unsafe(no_mangle)]
 pub extern "C" fn jsstr_find_wtf8_unchecked(
     alloc: Global,
