@@ -1,5 +1,5 @@
 -- The units that bytes spell, in UTF-8 and in WTF-8.
-use Rattle.std.specs.Prelude.{◌≡◌, ℕ, ◌<◌, ◌^◌, List, [], ◌∷◌, ◌++◌, length, take, All}
+use Rattle.std.specs.Prelude.{◌≡◌, ℕ, ◌<◌, ◌^◌, List, length, take, All}
 use Rattle.std.specs.Str.{IsUtf8, chars}
 use Rattle.heap_bytes.specs.Points.{utf16}
 use Rattle.heap_export.specs.Encoded.{wtf8}

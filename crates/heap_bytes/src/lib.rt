@@ -1,8 +1,8 @@
-//! Units that bytes spell, as Latin-1, UTF-8 and WTF-8 have them, and strings of a heap that are written straight
+//! Units that bytes spell, as Latin-1, UTF-8 and WTF-8 have them, and content words that are written straight
 //! from them.
 //!
-//! A [`Spelling`] is read front to back, in pieces of 64 units or so, into room that the caller has. So it is
-//! measured, hashed, and written into content words with no memory but the heap's.
+//! A [`Spelling`] is read front to back, in pieces of some 64 units, into room that the caller has. So it is
+//! hashed, compared and written with no memory but the heap's.
 #![tactic(auto)]
 
 mod decoding;

@@ -10,7 +10,7 @@ ghost use Rattle.heap_bytes.specs.Spellings.{IsFront, IsReadAs, IsReadable, unit
 
 use crate::decoding::{measure, split_point};
 use crate::encoding::Encoding;
-use js_units::{has_wide, hash_units};
+use js_units::hash_units;
 
 /// Room for one piece: 64 units, so that the next piece begins with a word, and one more where the last two
 /// are a pair.
