@@ -9,8 +9,8 @@
    may happen, as with a wrong index in C. Both serve one handle.
 
    WHAT C STILL OWES to both forms:
-   - A handle is zero, or was written by this library, and by nothing else. Never copy a handle; to move
-     one, copy its bytes and zero the old place before the next call.
+   - A handle, of an agent or a text, is zero, or was written by this library, and by nothing else. Never copy
+     a handle; to move one, copy its bytes and zero the old place before the next call.
    - One call at a time on a handle. It goes to another thread by what orders memory: the start or the join
      of a thread, a lock, a sequentially consistent atomic. No call from a signal handler, or from the child
      of a process that was forked while it had threads.
@@ -49,6 +49,9 @@ extern "C" {
 /* An agent; all zero where there is none. */
 typedef struct jsstr_agent { void *at; uint32_t live; } jsstr_agent;
 
+/* A text that is built up, outside any heap; all zero is an empty one. */
+typedef struct jsstr_builder { void *at; uint32_t live, len; } jsstr_builder;
+
 /* A string; JSSTR_NO_STRING is none. */
 typedef uint32_t jsstr_id;
 #define JSSTR_NO_STRING UINT32_MAX
@@ -71,7 +74,7 @@ enum jsstr_status {
   JSSTR_NO_SLOTS = 5,    /* all `end` slots of the string table are used by other units */
   JSSTR_TOO_LONG = 6,    /* the sides, `at` and `want` units long, are longer together than the limit */
   JSSTR_NONE = 7,        /* there is no such place, number or interned string */
-  JSSTR_NOT_UTF8 = 8,    /* the first `at` bytes are UTF-8, and no more of them are; nothing has changed */
+  JSSTR_NOT_UTF8 = 8,    /* the first `at` bytes are UTF-8, or WTF-8, and no more of them are; nothing has changed */
   JSSTR_BAD_ARGUMENT = 9, /* the condition of the call doesn't hold; no string and no heap has changed */
   JSSTR_NO_ROOM = 10,    /* `size` bytes, or units, are needed, and there is room for fewer; nothing is written */
   JSSTR_UNMAPPED = 11    /* unit number `at` has no bytes; nothing is written */
@@ -139,6 +142,10 @@ jsstr_answer jsstr_from_latin1(jsstr_agent *agent, const uint8_t *bytes, size_t 
    exactly where the bytes are no UTF-8, as where they end within a character, spell a surrogate, or a character
    by too many bytes. */
 jsstr_answer jsstr_from_utf8(jsstr_agent *agent, const uint8_t *bytes, size_t len);
+
+/* The same of WTF-8, where three bytes may also spell an unpaired surrogate, as JSSTR_KEEP writes it. A lead and
+   a trail behind it, three bytes each, are refused: four bytes spell a pair. */
+jsstr_answer jsstr_from_wtf8(jsstr_agent *agent, const uint8_t *bytes, size_t len);
 
 /* The units of a, and then those of b. Fewer than 13 units are copied; from 13 on the answer is a rope,
    which uses an id and no word. Where one side is empty, the answer is the other side. */
@@ -239,6 +246,7 @@ jsstr_answer jsstr_intern_units(jsstr_agent *agent, const uint16_t *units, size_
 /* The same of bytes, by the rules of jsstr_from_latin1 and its kin. */
 jsstr_answer jsstr_intern_latin1(jsstr_agent *agent, const uint8_t *bytes, size_t len);
 jsstr_answer jsstr_intern_utf8(jsstr_agent *agent, const uint8_t *bytes, size_t len);
+jsstr_answer jsstr_intern_wtf8(jsstr_agent *agent, const uint8_t *bytes, size_t len);
 
 /* The one string of the string table with these units, or NONE where it has no such string. It is known, settled
    and interned. No id, no word and no slot is used, ever. While another thread interns these units, either may be
@@ -248,6 +256,7 @@ jsstr_answer jsstr_find_units(jsstr_agent *agent, const uint16_t *units, size_t 
 /* The same of bytes. */
 jsstr_answer jsstr_find_latin1(jsstr_agent *agent, const uint8_t *bytes, size_t len);
 jsstr_answer jsstr_find_utf8(jsstr_agent *agent, const uint8_t *bytes, size_t len);
+jsstr_answer jsstr_find_wtf8(jsstr_agent *agent, const uint8_t *bytes, size_t len);
 
 /* The slot of the string table that an interned string is in, for good. Nothing is used.
    Condition: s is interned (jsstr_is_interned). */
@@ -262,6 +271,28 @@ jsstr_answer jsstr_adopt(jsstr_agent *agent, uint32_t slot);
    report is of `to`. Condition: `to` isn't zero. */
 jsstr_answer jsstr_copy_into(jsstr_agent *from, jsstr_id s, jsstr_agent *to);
 jsstr_answer jsstr_intern_into(jsstr_agent *from, jsstr_id s, jsstr_agent *to);
+
+/* Each appends to a text: units; bytes, by the rules of jsstr_from_latin1 and its kin; the units of s, which is
+   settled first; the decimal digits of a number, with - before those of one below 0. Answers DONE; or NO_MEMORY,
+   NOT_UTF8 or, past JSSTR_MAX_LENGTH units or three times as many bytes, TOO_LONG, and then the text is what it
+   was. */
+uint32_t jsstr_build_units(jsstr_builder *text, const uint16_t *units, size_t len);
+uint32_t jsstr_build_latin1(jsstr_builder *text, const uint8_t *bytes, size_t len);
+jsstr_answer jsstr_build_utf8(jsstr_builder *text, const uint8_t *bytes, size_t len);
+jsstr_answer jsstr_build_wtf8(jsstr_builder *text, const uint8_t *bytes, size_t len);
+uint32_t jsstr_build_string(jsstr_builder *text, jsstr_agent *agent, jsstr_id s);
+uint32_t jsstr_build_number(jsstr_builder *text, int32_t number);
+
+/* How many units a text has. */
+uint32_t jsstr_built_length(const jsstr_builder *text);
+
+/* A new string with the units of a text, settled; and the one string of the string table with them. Where it
+   answers DONE the text is empty then, and keeps its memory for the next one; else it is what it was. */
+jsstr_answer jsstr_built(jsstr_builder *text, jsstr_agent *agent);
+jsstr_answer jsstr_built_interned(jsstr_builder *text, jsstr_agent *agent);
+
+/* Frees the memory of a text; *text is zero afterwards. */
+void jsstr_drop_builder(jsstr_builder *text);
 
 /* Whether s is an interned string of this agent: one that a call above answered, to it or to an agent from which
    it knows its strings. Any number is allowed. */
@@ -281,7 +312,7 @@ jsstr_used jsstr_totals(jsstr_agent *agent);
 jsstr_number jsstr_count_interned(jsstr_agent *agent);
 
 /* THE SAME, with the same parameters, CONDITION NOT TESTED. And nothing is settled on the way: the strings that
-   are cut, read, compared, searched, searched for or interned are settled already. What has no
+   are cut, read, compared, searched, searched for, interned or appended are settled already. What has no
    status here always succeeds. */
 uint32_t jsstr_make_unchecked(jsstr_size, uint32_t, uint32_t, jsstr_agent *);
 void jsstr_free_unchecked(jsstr_agent *);
@@ -291,6 +322,7 @@ uint32_t jsstr_share_unchecked(jsstr_agent *);
 jsstr_answer jsstr_from_units_unchecked(jsstr_agent *, const uint16_t *, size_t);
 jsstr_answer jsstr_from_latin1_unchecked(jsstr_agent *, const uint8_t *, size_t);
 jsstr_answer jsstr_from_utf8_unchecked(jsstr_agent *, const uint8_t *, size_t);
+jsstr_answer jsstr_from_wtf8_unchecked(jsstr_agent *, const uint8_t *, size_t);
 jsstr_answer jsstr_concat_unchecked(jsstr_agent *, jsstr_id, jsstr_id);
 jsstr_answer jsstr_slice_unchecked(jsstr_agent *, jsstr_id, uint32_t, uint32_t);
 uint32_t jsstr_length_unchecked(jsstr_agent *, jsstr_id);
@@ -315,15 +347,20 @@ jsstr_answer jsstr_intern_unchecked(jsstr_agent *, jsstr_id);
 jsstr_answer jsstr_intern_units_unchecked(jsstr_agent *, const uint16_t *, size_t);
 jsstr_answer jsstr_intern_latin1_unchecked(jsstr_agent *, const uint8_t *, size_t);
 jsstr_answer jsstr_intern_utf8_unchecked(jsstr_agent *, const uint8_t *, size_t);
+jsstr_answer jsstr_intern_wtf8_unchecked(jsstr_agent *, const uint8_t *, size_t);
 jsstr_answer jsstr_find_units_unchecked(jsstr_agent *, const uint16_t *, size_t);
 jsstr_answer jsstr_find_latin1_unchecked(jsstr_agent *, const uint8_t *, size_t);
 jsstr_answer jsstr_find_utf8_unchecked(jsstr_agent *, const uint8_t *, size_t);
+jsstr_answer jsstr_find_wtf8_unchecked(jsstr_agent *, const uint8_t *, size_t);
 uint32_t jsstr_slot_of_unchecked(jsstr_agent *, jsstr_id);
 jsstr_answer jsstr_adopt_unchecked(jsstr_agent *, uint32_t);
 jsstr_answer jsstr_copy_into_unchecked(jsstr_agent *, jsstr_id, jsstr_agent *);
 jsstr_answer jsstr_intern_into_unchecked(jsstr_agent *, jsstr_id, jsstr_agent *);
 bool jsstr_is_interned_unchecked(jsstr_agent *, jsstr_id);
 bool jsstr_same_unchecked(const jsstr_agent *, jsstr_id, jsstr_id);
+uint32_t jsstr_build_string_unchecked(jsstr_builder *, jsstr_agent *, jsstr_id);
+jsstr_answer jsstr_built_unchecked(jsstr_builder *, jsstr_agent *);
+jsstr_answer jsstr_built_interned_unchecked(jsstr_builder *, jsstr_agent *);
 jsstr_room jsstr_room_of_unchecked(jsstr_agent *);
 jsstr_use jsstr_totals_unchecked(jsstr_agent *);
 uint32_t jsstr_count_interned_unchecked(jsstr_agent *);

@@ -1,5 +1,5 @@
-/* Every export that out.c and board.c don't try, in both forms, each refusal and each bad argument, and two threads
-   that intern the same units. Prints "ok". */
+/* Every export that out.c, building.c and board.c don't try, in both forms, each refusal and each bad argument, and
+   two threads that intern the same units. Prints "ok". */
 #include "jsstr.h"
 #include <pthread.h>
 #include <stdio.h>
