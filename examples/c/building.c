@@ -137,6 +137,40 @@ static void every_list(void) {
   CHECK(jsstr_free(&a) == JSSTR_DONE);
 }
 
+/* Every call that reads bytes tells the same place. */
+static void try_all(jsstr_agent *a, jsstr_builder *text, const uint8_t *b, size_t n) {
+  for (int wtf8 = 0; wtf8 < 2; wtf8++) {
+    size_t good = well(b, n, wtf8);
+    jsstr_used use = jsstr_totals(a);
+    const jsstr_answer told[] = {
+      (wtf8 ? jsstr_from_wtf8 : jsstr_from_utf8)(a, b, n), (wtf8 ? jsstr_from_wtf8_unchecked : jsstr_from_utf8_unchecked)(a, b, n),
+      (wtf8 ? jsstr_intern_wtf8 : jsstr_intern_utf8)(a, b, n), (wtf8 ? jsstr_find_wtf8 : jsstr_find_utf8)(a, b, n),
+      (wtf8 ? jsstr_build_wtf8 : jsstr_build_utf8)(text, b, n)};
+    for (size_t i = 0; i < sizeof told / sizeof *told; i++) CHECK(good < n ? is_fault(told[i], (uint32_t)good) : told[i].status == JSSTR_DONE);
+    CHECK(good == n || has_used(a, use.ids, use.words));
+    CHECK(wtf8 || jsstr_equals_utf8(a, 0, b, n).status == (good < n ? JSSTR_NOT_UTF8 : JSSTR_DONE));
+  }
+}
+
+/* A text that is cut short at each place, and with each byte replaced. */
+static void each_place(const char *text, size_t size) {
+  static const uint8_t others[] = {'x', 0x80, 0xA0, 0xBF, 0xC0, 0xC3, 0xE0, 0xED, 0xF0, 0xF4, 0xF5, 0xFF};
+  jsstr_agent a = {0};
+  jsstr_builder built = {0};
+  uint8_t bytes[64];
+  CHECK(jsstr_make((jsstr_size){4000, 20000, 1009}, 1, 9, &a) == JSSTR_DONE && made(&a, "") == 0);
+  for (size_t at = 0; at < size; at++) {
+    try_all(&a, &built, (const uint8_t *)text, at);
+    for (size_t i = 0; i < sizeof others; i++) {
+      memcpy(bytes, text, size);
+      bytes[at] = others[i];
+      try_all(&a, &built, bytes, size);
+    }
+  }
+  jsstr_drop_builder(&built);
+  CHECK(jsstr_free(&a) == JSSTR_DONE);
+}
+
 /* Each surrogate alone, and characters beside them, back in the bytes that they came by. */
 static void every_surrogate(void) {
   jsstr_agent a = {0};
@@ -288,6 +322,9 @@ static void ropes(void) {
 int main(void) {
   read_rows();
   every_list();
+  static const char utf8[] = "a\xC3\xA9\xE4\xB8\x96\xF0\x9F\x98\x80z", wtf8[] = "a" LEAD "\xC3\xA9" TRAIL "\xF0\x9F\x98\x80" LEADS "z";
+  each_place(utf8, sizeof utf8 - 1);
+  each_place(wtf8, sizeof wtf8 - 1);
   every_surrogate();
   append();
   too_long();
