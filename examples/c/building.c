@@ -137,7 +137,7 @@ static void every_list(void) {
   CHECK(jsstr_free(&a) == JSSTR_DONE);
 }
 
-/* Every call that reads bytes tells the same place. */
+/* Every call that reads bytes reports the same place. */
 static void try_all(jsstr_agent *a, jsstr_builder *text, const uint8_t *b, size_t n) {
   for (int wtf8 = 0; wtf8 < 2; wtf8++) {
     size_t good = well(b, n, wtf8);

@@ -109,7 +109,7 @@ static void give(void) {
   free(units);
 }
 
-/* Each unit needs three bytes: their number is told. */
+/* Each unit needs three bytes: how many these are is in the answer. */
 static void write_out(void) {
   jsstr_agent a = {0};
   static const uint16_t units[] = {0xFFFF, 0xD800, 0xFFFE, 0xDC00, 0x800, 0xDFFF, 0x4E16, 0xDBFF};

@@ -1,7 +1,7 @@
 /* What memory the calls take. The rows below say which calls allocate, and no other does. Where malloc answers null, at each
    place in turn, such a call answers JSSTR_NO_MEMORY, has changed nothing, and succeeds when it is made again.
 
-   It stands in front of malloc, realloc and free, so it is linked with -Wl,--wrap=malloc,--wrap=realloc,--wrap=free.
+   It has a malloc, realloc and free of its own in front of the C library's, so it is linked with -Wl,--wrap=malloc,--wrap=realloc,--wrap=free.
    Prints "ok". */
 #include "jsstr.h"
 #include <limits.h>
