@@ -139,8 +139,12 @@ typedef struct row { const char *name; enum takes takes; jsstr_answer (*call)(wo
 #define LISTED(name, takes, call) {#name, takes, name##_call},
 static const row rows[] = {CALLS(LISTED)};
 
-/* How many allocations succeed yet, how many were asked for, and how many blocks there are. */
+/* How many allocations succeed yet, how many were asked for, how many blocks there are, and their bytes now and at most. */
 static long left = LONG_MAX, asked, blocks;
+static size_t used, most;
+
+/* What is in front of each block. */
+typedef struct front { size_t size, rest; } front;
 
 void *__real_malloc(size_t n);
 void *__real_realloc(void *p, size_t n);
@@ -154,21 +158,32 @@ static int is_refused(void) {
   return left == 0 || left-- == 0;
 }
 
+static void *begun(front *p, size_t n) {
+  p->size = n;
+  used += n;
+  most = used > most ? used : most;
+  return p + 1;
+}
+
 void *__wrap_malloc(size_t n) {
-  void *p = is_refused() ? NULL : __real_malloc(n);
+  front *p = is_refused() ? NULL : __real_malloc(sizeof *p + n);
   blocks += p != NULL;
-  return p;
+  return p ? begun(p, n) : NULL;
 }
 
 void *__wrap_realloc(void *p, size_t n) {
-  void *q = is_refused() ? NULL : __real_realloc(p, n);
-  blocks += !p && q;
-  return q;
+  if (!p) return __wrap_malloc(n);
+  size_t had = ((front *)p - 1)->size;
+  front *q = is_refused() ? NULL : __real_realloc((front *)p - 1, sizeof *q + n);
+  used -= q ? had : 0;
+  return q ? begun(q, n) : NULL;
 }
 
 void __wrap_free(void *p) {
-  blocks -= p != NULL;
-  __real_free(p);
+  if (!p) return;
+  blocks--;
+  used -= ((front *)p - 1)->size;
+  __real_free((front *)p - 1);
 }
 
 static jsstr_id id_of(jsstr_answer s) {
@@ -259,7 +274,25 @@ static void try_row(const row *r) {
   end(&w);
 }
 
+/* A heap has the bytes that jsstr.h says, beside two bits an id for each agent and a little, and twice as many while it is made. */
+static void measure(void) {
+  enum { IDS = 4000, LITTLE = 512 };
+  const jsstr_size sizes[] = {{IDS, 3000, 1009}, {IDS, 9, 9}, {IDS, 90000, 9}, {IDS, 9, 90001}};
+  jsstr_agent a = {0}, b = {0};
+  for (size_t i = 0; i < sizeof sizes / sizeof *sizes; i++) {
+    size_t heap = 8 * (2 + (size_t)sizes[i].slots + 2 * IDS + sizes[i].words), bits = IDS / 4;
+    most = used;
+    CHECK(used == 0 && jsstr_make(sizes[i], 2, 100, &a) == JSSTR_DONE);
+    CHECK(used >= heap + bits && used <= heap + bits + LITTLE && most >= heap && most <= 2 * heap + bits + LITTLE);
+    size_t before = used;
+    CHECK(jsstr_split(&a, 1, &b) == JSSTR_DONE);
+    CHECK(used >= before + bits && used <= before + bits + LITTLE);
+    CHECK(jsstr_free(&a) == JSSTR_DONE && used >= heap && jsstr_free(&b) == JSSTR_DONE && used == 0);
+  }
+}
+
 int main(void) {
+  measure();
   for (size_t i = 0; i < sizeof rows / sizeof *rows; i++) try_row(&rows[i]);
   puts("ok");
   return 0;
