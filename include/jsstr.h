@@ -59,9 +59,10 @@ typedef uint32_t jsstr_id;
 #define JSSTR_NO_STRING UINT32_MAX
 
 /* What a heap has for its life; nothing is given back. Each is 1 to 2^29 - 1, together at most 2^29. A string
-   uses an id, and its units words of 8 bytes; each list of units that is interned uses a slot and a second
-   id. Set a prime number of slots, at least 2.6 for each. A heap occupies 8 * (2 + slots + 2 * ids + words)
-   bytes, twice that while it is made, and two bits an id for each agent (tested, not proved). */
+   uses an id, and its units words of 8 bytes; each list of units that is interned uses a slot, and a second id
+   where a string was made first. Set a prime number of slots, at least 2.6 for each. A heap occupies
+   8 * (2 + slots + 2 * ids + words) bytes, twice that while it is made, and two bits an id for each agent
+   (tested, not proved). */
 typedef struct jsstr_size { uint32_t ids, words, slots; } jsstr_size;
 
 /* The greatest length of a string, and the greatest limit. */
