@@ -1,16 +1,17 @@
 /* The string heap of jsstr, for C99 and C++.
 
    A heap is one array of words that threads share, without a lock. An agent is one user of a heap, and
-   makes its calls from one thread at a time. A string is a number below 2^29; the first one of a heap is
-   0. docs/EMBEDDING.md says what is proved of the calls, and what to do when a heap is full.
+   makes its calls from one thread at a time. A string is a number below 2^29, and may be 0.
+   docs/EMBEDDING.md says what is proved of the calls, and what to do when a heap is full.
 
    TWO FORMS. jsstr_x tests its condition, and where it fails answers JSSTR_BAD_ARGUMENT and has done
    nothing. jsstr_x_unchecked, at the end, leaves the condition to the caller; where it is broken, anything
-   may happen, as with a wrong index in C. Both serve one handle.
+   may happen, as with a wrong index in C. Both serve one handle. A call on a text alone has no condition, and
+   one form.
 
    WHAT C STILL OWES to both forms:
-   - A handle is zero, or was written by this library, and by nothing else. Never copy a handle; to move
-     one, copy its bytes and zero the old place before the next call.
+   - A handle, of an agent or a text, is zero, or was written by this library, and by nothing else. Never copy
+     a handle; to move one, copy its bytes and zero the old place before the next call.
    - One call at a time on a handle. It goes to another thread by what orders memory: the start or the join
      of a thread, a lock, a sequentially consistent atomic. No call from a signal handler, or from the child
      of a process that was forked while it had threads.
@@ -25,11 +26,12 @@
    adopts what is in a slot (jsstr_slot_of).
 
    SETTLED. A string that was made of units, and a slice, is settled. What jsstr_concat answers may be a
-   rope; the calls that need a settled string settle it first, once for all agents, and may then be refused
-   with JSSTR_NO_WORDS.
+   rope; the calls that need a settled string settle it first, for all agents, and may then be refused with
+   JSSTR_NO_WORDS.
 
-   BYTES. A call of an agent that reads bytes, and one that copies into another heap, allocates memory for its own
-   duration, and may answer JSSTR_NO_MEMORY.
+   MEMORY. jsstr_make and jsstr_split allocate; a call that appends to a text may; and for its own duration one that
+   compares with bytes, or copies into another heap. These alone may answer JSSTR_NO_MEMORY. That no other call
+   allocates is tested, not proved.
 
    Link -ljsstr: there is one archive, libjsstr.a, and no shared object. malloc, realloc and free are the C
    library's, and malloc aligns to 16. */
@@ -49,14 +51,18 @@ extern "C" {
 /* An agent; all zero where there is none. */
 typedef struct jsstr_agent { void *at; uint32_t live; } jsstr_agent;
 
+/* A text that is built up, outside any heap; all zero is an empty one. */
+typedef struct jsstr_builder { void *at; uint32_t live, len; } jsstr_builder;
+
 /* A string; JSSTR_NO_STRING is none. */
 typedef uint32_t jsstr_id;
 #define JSSTR_NO_STRING UINT32_MAX
 
 /* What a heap has for its life; nothing is given back. Each is 1 to 2^29 - 1, together at most 2^29. A string
-   uses an id, and its units words of 8 bytes; each list of units that is interned uses a slot and a second
-   id. Set a prime number of slots, at least 2.6 for each. A heap occupies 8 * (2 + slots + 2 * ids + words)
-   bytes, twice that while it is made, and two bits an id for each agent. */
+   uses an id, and its units words of 8 bytes; each list of units that is interned uses a slot, and a second id
+   where a string was made first. Set a prime number of slots, at least 2.6 for each. A heap occupies
+   8 * (2 + slots + 2 * ids + words) bytes, twice that while it is made, and two bits an id for each agent
+   (tested, not proved). */
 typedef struct jsstr_size { uint32_t ids, words, slots; } jsstr_size;
 
 /* The greatest length of a string, and the greatest limit. */
@@ -64,14 +70,15 @@ typedef struct jsstr_size { uint32_t ids, words, slots; } jsstr_size;
 
 enum jsstr_status {
   JSSTR_DONE = 0,
-  JSSTR_NO_MEMORY = 1,   /* malloc answered null; nothing has changed */
+  JSSTR_NO_MEMORY = 1,   /* malloc answered null; nothing has changed, but that a rope may have been settled */
   JSSTR_BAD_SIZE = 2,    /* sizes, number of agents or limit are out of bounds */
   JSSTR_NO_IDS = 3,      /* no id is left: `at` used, `want` requested, `end` in all */
   JSSTR_NO_WORDS = 4,    /* not enough words are left: the same of words */
   JSSTR_NO_SLOTS = 5,    /* all `end` slots of the string table are used by other units */
-  JSSTR_TOO_LONG = 6,    /* the sides, `at` and `want` units long, are longer together than the limit */
+  JSSTR_TOO_LONG = 6,    /* the sides, `at` and `want` units long, are longer together than the limit; or, with
+                            neither number, a text is as long as may be */
   JSSTR_NONE = 7,        /* there is no such place, number or interned string */
-  JSSTR_NOT_UTF8 = 8,    /* the first `at` bytes are UTF-8, and no more of them are; nothing has changed */
+  JSSTR_NOT_UTF8 = 8,    /* the first `at` bytes are UTF-8, or WTF-8, and no more of them are; nothing has changed */
   JSSTR_BAD_ARGUMENT = 9, /* the condition of the call doesn't hold; no string and no heap has changed */
   JSSTR_NO_ROOM = 10,    /* `size` bytes, or units, are needed, and there is room for fewer; nothing is written */
   JSSTR_UNMAPPED = 11    /* unit number `at` has no bytes; nothing is written */
@@ -85,6 +92,9 @@ static inline const char *jsstr_status_name(uint32_t status) {
     "JSSTR_NO_ROOM", "JSSTR_UNMAPPED"};
   return status < sizeof names / sizeof *names ? names[status] : "unknown";
 }
+
+/* JSSTR_VERSION_NUMBER of the header that the library was built with. */
+uint32_t jsstr_version(void);
 
 /* Unused fields are 0. After a refusal each string is what it was, and what the call had claimed by then
    is lost. After NO_IDS, NO_WORDS or NO_SLOTS any later request of that size fails, for every agent. */
@@ -112,8 +122,8 @@ typedef struct jsstr_room {
    Answers DONE, BAD_SIZE or NO_MEMORY. Condition: *out is zero. It stays zero where no heap is made. */
 uint32_t jsstr_make(jsstr_size size, uint32_t agents, uint32_t limit, jsstr_agent *out);
 
-/* Frees an agent, and with the last one the heap; *agent is zero afterwards. Its share doesn't return to the
-   others: where the heap goes on, join the agent instead. */
+/* Frees an agent, and with the last one the heap (tested, not proved); *agent is zero afterwards. Its share
+   doesn't return to the others: where the heap goes on, join the agent instead. */
 uint32_t jsstr_free(jsstr_agent *agent);
 
 /* In `out` an agent of the same heap with `give` of the share, which knows all that this one knows.
@@ -121,8 +131,9 @@ uint32_t jsstr_free(jsstr_agent *agent);
 uint32_t jsstr_split(jsstr_agent *agent, uint32_t give, jsstr_agent *out);
 
 /* Takes over the share of another agent, and all that it has and knows; *other is zero afterwards. Answers DONE
-   or BAD_ARGUMENT. Condition: `other` was split off from `agent` itself. Any other agent, of this heap or
-   another, is refused. */
+   or BAD_ARGUMENT. Condition: `other` was split off from `agent` itself. Tested, not proved: none that was is
+   refused, and any other one is; but one of another heap may not be, if that heap's agents split or join in that
+   moment. */
 uint32_t jsstr_join(jsstr_agent *agent, jsstr_agent *other);
 
 /* How many agents this one may become, itself counted. */
@@ -140,6 +151,10 @@ jsstr_answer jsstr_from_latin1(jsstr_agent *agent, const uint8_t *bytes, size_t 
    by too many bytes. */
 jsstr_answer jsstr_from_utf8(jsstr_agent *agent, const uint8_t *bytes, size_t len);
 
+/* The same of WTF-8, where three bytes may also spell an unpaired surrogate, as JSSTR_KEEP writes it. A lead and
+   a trail behind it, three bytes each, are refused: four bytes spell a pair. */
+jsstr_answer jsstr_from_wtf8(jsstr_agent *agent, const uint8_t *bytes, size_t len);
+
 /* The units of a, and then those of b. Fewer than 13 units are copied; from 13 on the answer is a rope,
    which uses an id and no word. Where one side is empty, the answer is the other side. */
 jsstr_answer jsstr_concat(jsstr_agent *agent, jsstr_id a, jsstr_id b);
@@ -152,7 +167,8 @@ jsstr_answer jsstr_slice(jsstr_agent *agent, jsstr_id s, uint32_t from, uint32_t
 /* The number of units. */
 jsstr_number jsstr_length(jsstr_agent *agent, jsstr_id s);
 
-/* Settles s, and answers s. A rope's units are copied, once for all agents. */
+/* Settles s, and answers s. A rope's units are copied, for all agents; where another thread settles it at that
+   moment, the words may be lost. */
 jsstr_answer jsstr_settle(jsstr_agent *agent, jsstr_id s);
 
 /* The units of s from number `from` on, `len` of them, into `out`; nothing is written but where it answers
@@ -204,8 +220,7 @@ jsstr_order jsstr_compare(jsstr_agent *agent, jsstr_id a, jsstr_id b);
 /* Whether two strings have the same units. Settles both. */
 jsstr_truth jsstr_equal(jsstr_agent *agent, jsstr_id a, jsstr_id b);
 
-/* The same of s and units that are in no string, with no string made: the order of s and of them, and whether s
-   has just these units. Settles s. */
+/* The same of s and units that are in no string. Settles s. */
 jsstr_order jsstr_compare_units(jsstr_agent *agent, jsstr_id s, const uint16_t *units, size_t len);
 jsstr_truth jsstr_equals_units(jsstr_agent *agent, jsstr_id s, const uint16_t *units, size_t len);
 
@@ -232,22 +247,23 @@ jsstr_place jsstr_last_index_of(jsstr_agent *agent, jsstr_id hay, jsstr_id needl
 jsstr_answer jsstr_intern(jsstr_agent *agent, jsstr_id s);
 
 /* The same of units that are in no string yet. Where the table has their string by then, nothing is used: no id,
-   no word and no slot. Else the call makes it, which uses an id, its words and a slot; where another thread interns
-   these units at that moment, the id and the words may be lost. */
+   no word and no slot. Else an id, its words and a slot are; where another thread interns these units at that
+   moment, id and words may be lost. */
 jsstr_answer jsstr_intern_units(jsstr_agent *agent, const uint16_t *units, size_t len);
 
 /* The same of bytes, by the rules of jsstr_from_latin1 and its kin. */
 jsstr_answer jsstr_intern_latin1(jsstr_agent *agent, const uint8_t *bytes, size_t len);
 jsstr_answer jsstr_intern_utf8(jsstr_agent *agent, const uint8_t *bytes, size_t len);
+jsstr_answer jsstr_intern_wtf8(jsstr_agent *agent, const uint8_t *bytes, size_t len);
 
-/* The one string of the string table with these units, or NONE where it has no such string. It is known, settled
-   and interned. No id, no word and no slot is used, ever. While another thread interns these units, either may be
-   the answer. */
+/* The one string of the string table with these units, or NONE. It is known, settled and interned. Nothing is used,
+   ever. While another thread interns these units, either may be the answer. */
 jsstr_answer jsstr_find_units(jsstr_agent *agent, const uint16_t *units, size_t len);
 
 /* The same of bytes. */
 jsstr_answer jsstr_find_latin1(jsstr_agent *agent, const uint8_t *bytes, size_t len);
 jsstr_answer jsstr_find_utf8(jsstr_agent *agent, const uint8_t *bytes, size_t len);
+jsstr_answer jsstr_find_wtf8(jsstr_agent *agent, const uint8_t *bytes, size_t len);
 
 /* The slot of the string table that an interned string is in, for good. Nothing is used.
    Condition: s is interned (jsstr_is_interned). */
@@ -259,9 +275,32 @@ jsstr_answer jsstr_adopt(jsstr_agent *agent, uint32_t slot);
 
 /* In the heap of `to`, which may be that of `from`: a new string with the units of s, settled; and the one string
    of the string table there with them. Settles s: NO_WORDS may be of its own heap, with `to` unchanged; any other
-   report is of `to`. Condition: `to` isn't zero. */
+   report is of `to`, which NO_MEMORY leaves unchanged. Condition: `to` isn't zero. */
 jsstr_answer jsstr_copy_into(jsstr_agent *from, jsstr_id s, jsstr_agent *to);
 jsstr_answer jsstr_intern_into(jsstr_agent *from, jsstr_id s, jsstr_agent *to);
+
+/* Each appends to a text: units; bytes, by the rules of jsstr_from_latin1 and its kin; the units of s, which is
+   settled first; the decimal digits of a number, with - before those of one below 0. Answers DONE; or, and then the
+   text is what it was, NO_MEMORY, NOT_UTF8, TOO_LONG past JSSTR_MAX_LENGTH units or three times as many bytes of
+   UTF-8 or WTF-8, and of a string NO_WORDS or BAD_ARGUMENT. */
+uint32_t jsstr_build_units(jsstr_builder *text, const uint16_t *units, size_t len);
+uint32_t jsstr_build_latin1(jsstr_builder *text, const uint8_t *bytes, size_t len);
+jsstr_answer jsstr_build_utf8(jsstr_builder *text, const uint8_t *bytes, size_t len);
+jsstr_answer jsstr_build_wtf8(jsstr_builder *text, const uint8_t *bytes, size_t len);
+uint32_t jsstr_build_string(jsstr_builder *text, jsstr_agent *agent, jsstr_id s);
+uint32_t jsstr_build_number(jsstr_builder *text, int32_t number);
+
+/* How many units a text has. */
+uint32_t jsstr_built_length(const jsstr_builder *text);
+
+/* A new string with the units of a text, settled; and the one string of the string table with them. They answer and
+   use what jsstr_from_units and jsstr_intern_units do. After DONE the text is empty, and keeps its memory for the
+   next one; else it is what it was. */
+jsstr_answer jsstr_built(jsstr_builder *text, jsstr_agent *agent);
+jsstr_answer jsstr_built_interned(jsstr_builder *text, jsstr_agent *agent);
+
+/* Frees the memory of a text; *text is zero afterwards. */
+void jsstr_drop_builder(jsstr_builder *text);
 
 /* Whether s is an interned string of this agent: one that a call above answered, to it or to an agent from which
    it knows its strings. Any number is allowed. */
@@ -281,7 +320,7 @@ jsstr_used jsstr_totals(jsstr_agent *agent);
 jsstr_number jsstr_count_interned(jsstr_agent *agent);
 
 /* THE SAME, with the same parameters, CONDITION NOT TESTED. And nothing is settled on the way: the strings that
-   are cut, read, compared, searched, searched for or interned are settled already. What has no
+   are cut, read, compared, searched, searched for, interned or appended are settled already. What has no
    status here always succeeds. */
 uint32_t jsstr_make_unchecked(jsstr_size, uint32_t, uint32_t, jsstr_agent *);
 void jsstr_free_unchecked(jsstr_agent *);
@@ -291,6 +330,7 @@ uint32_t jsstr_share_unchecked(jsstr_agent *);
 jsstr_answer jsstr_from_units_unchecked(jsstr_agent *, const uint16_t *, size_t);
 jsstr_answer jsstr_from_latin1_unchecked(jsstr_agent *, const uint8_t *, size_t);
 jsstr_answer jsstr_from_utf8_unchecked(jsstr_agent *, const uint8_t *, size_t);
+jsstr_answer jsstr_from_wtf8_unchecked(jsstr_agent *, const uint8_t *, size_t);
 jsstr_answer jsstr_concat_unchecked(jsstr_agent *, jsstr_id, jsstr_id);
 jsstr_answer jsstr_slice_unchecked(jsstr_agent *, jsstr_id, uint32_t, uint32_t);
 uint32_t jsstr_length_unchecked(jsstr_agent *, jsstr_id);
@@ -315,15 +355,20 @@ jsstr_answer jsstr_intern_unchecked(jsstr_agent *, jsstr_id);
 jsstr_answer jsstr_intern_units_unchecked(jsstr_agent *, const uint16_t *, size_t);
 jsstr_answer jsstr_intern_latin1_unchecked(jsstr_agent *, const uint8_t *, size_t);
 jsstr_answer jsstr_intern_utf8_unchecked(jsstr_agent *, const uint8_t *, size_t);
+jsstr_answer jsstr_intern_wtf8_unchecked(jsstr_agent *, const uint8_t *, size_t);
 jsstr_answer jsstr_find_units_unchecked(jsstr_agent *, const uint16_t *, size_t);
 jsstr_answer jsstr_find_latin1_unchecked(jsstr_agent *, const uint8_t *, size_t);
 jsstr_answer jsstr_find_utf8_unchecked(jsstr_agent *, const uint8_t *, size_t);
+jsstr_answer jsstr_find_wtf8_unchecked(jsstr_agent *, const uint8_t *, size_t);
 uint32_t jsstr_slot_of_unchecked(jsstr_agent *, jsstr_id);
 jsstr_answer jsstr_adopt_unchecked(jsstr_agent *, uint32_t);
 jsstr_answer jsstr_copy_into_unchecked(jsstr_agent *, jsstr_id, jsstr_agent *);
 jsstr_answer jsstr_intern_into_unchecked(jsstr_agent *, jsstr_id, jsstr_agent *);
 bool jsstr_is_interned_unchecked(jsstr_agent *, jsstr_id);
 bool jsstr_same_unchecked(const jsstr_agent *, jsstr_id, jsstr_id);
+uint32_t jsstr_build_string_unchecked(jsstr_builder *, jsstr_agent *, jsstr_id);
+jsstr_answer jsstr_built_unchecked(jsstr_builder *, jsstr_agent *);
+jsstr_answer jsstr_built_interned_unchecked(jsstr_builder *, jsstr_agent *);
 jsstr_room jsstr_room_of_unchecked(jsstr_agent *);
 jsstr_use jsstr_totals_unchecked(jsstr_agent *);
 uint32_t jsstr_count_interned_unchecked(jsstr_agent *);

@@ -25,6 +25,7 @@
 #include <stdexcept>
 #include <string>
 #include <string_view>
+#include <type_traits>
 #include <utility>
 #include <variant>
 
@@ -216,6 +217,9 @@ public:
   answer<string> from_utf8(std::string_view bytes) {
     return given(made<string>(jsstr_from_utf8(handle(), data(bytes), bytes.size())));
   }
+  answer<string> from_wtf8(std::string_view bytes) {
+    return given(made<string>(jsstr_from_wtf8(handle(), data(bytes), bytes.size())));
+  }
 
   answer<string> concat(string a, string b) { return given(made<string>(jsstr_concat(handle(), a.id(), b.id()))); }
   answer<string> slice(string s, std::uint32_t from, std::uint32_t to) {
@@ -308,6 +312,9 @@ public:
   answer<key> intern_utf8(std::string_view bytes) {
     return given(made<key>(jsstr_intern_utf8(handle(), data(bytes), bytes.size())));
   }
+  answer<key> intern_wtf8(std::string_view bytes) {
+    return given(made<key>(jsstr_intern_wtf8(handle(), data(bytes), bytes.size())));
+  }
 
   /// The one string of the string table with these units, if it has one. Nothing is used.
   answer<std::optional<key>> find(std::u16string_view units) {
@@ -319,6 +326,9 @@ public:
   }
   answer<std::optional<key>> find_utf8(std::string_view bytes) {
     return given(found(jsstr_find_utf8(handle(), data(bytes), bytes.size())));
+  }
+  answer<std::optional<key>> find_wtf8(std::string_view bytes) {
+    return given(found(jsstr_find_wtf8(handle(), data(bytes), bytes.size())));
   }
 
   /// The slot of the string table that a key is in. An agent of the same heap that gets this number adopts the key.
@@ -360,6 +370,8 @@ public:
   jsstr_agent *handle() noexcept { return line ? &line->handle : &none(); }
 
 private:
+  friend class builder;
+
   struct alignas(64) owned {
     jsstr_agent handle{};
     owned() = default;
@@ -452,6 +464,56 @@ private:
     }
     if (answer.status != JSSTR_DONE) return refusal{static_cast<status>(answer.status), answer.at};
     return out;
+  }
+};
+
+/// A text that is built up, outside any heap, until a string is made of it. After a refusal it is what it was. It
+/// can be moved, and is empty then, and is never copied.
+class builder {
+public:
+  builder() noexcept = default;
+  builder(builder &&other) noexcept : text(std::exchange(other.text, {})) {}
+  builder &operator=(builder &&other) noexcept {
+    builder old(std::move(other));
+    std::swap(text, old.text);
+    return *this;
+  }
+  ~builder() { jsstr_drop_builder(&text); }
+
+  answer<nothing> append(std::u16string_view units) {
+    return agent::given(agent::done(jsstr_build_units(&text, agent::data(units), units.size())));
+  }
+  answer<nothing> append(literal of) { return append(of.units); }
+  answer<nothing> append_latin1(std::string_view bytes) {
+    return agent::given(agent::done(jsstr_build_latin1(&text, agent::data(bytes), bytes.size())));
+  }
+  answer<nothing> append_utf8(std::string_view bytes) {
+    return agent::given(did(jsstr_build_utf8(&text, agent::data(bytes), bytes.size())));
+  }
+  answer<nothing> append_wtf8(std::string_view bytes) {
+    return agent::given(did(jsstr_build_wtf8(&text, agent::data(bytes), bytes.size())));
+  }
+
+  /// The units of a string of this agent.
+  answer<nothing> append(agent &of, jsstr::string s) { return agent::given(agent::done(jsstr_build_string(&text, of.handle(), s.id()))); }
+
+  /// The decimal digits of a number. Its type is this one alone, so that no character is taken for a number.
+  template <class T, class = std::enable_if_t<std::is_same_v<T, std::int32_t>>> answer<nothing> append(T number) {
+    return agent::given(agent::done(jsstr_build_number(&text, number)));
+  }
+
+  /// How many units there are.
+  std::uint32_t length() const noexcept { return jsstr_built_length(&text); }
+
+  /// A new string with these units, and the one string of the string table with them. The text is empty then.
+  answer<jsstr::string> string(agent &to) { return agent::given(agent::made<jsstr::string>(jsstr_built(&text, to.handle()))); }
+  answer<key> interned(agent &to) { return agent::given(agent::made<key>(jsstr_built_interned(&text, to.handle()))); }
+
+private:
+  jsstr_builder text{};
+
+  static result<nothing> did(const jsstr_answer &a) {
+    return a.status == JSSTR_DONE ? result<nothing>(nothing{}) : result<nothing>(agent::made<key>(a).error());
   }
 };
 

@@ -101,6 +101,19 @@ static void refuse(void) {
   CHECK(jsstr_length(&a, others).value == 13 && jsstr_free(&a) == JSSTR_DONE && jsstr_room_of(&a).status == JSSTR_BAD_ARGUMENT);
 }
 
+/* A slot is one of its own heap: in another one it is free, or has what was interned there. */
+static void other_heap(void) {
+  jsstr_agent a = {0}, b = {0};
+  CHECK(jsstr_make((jsstr_size){10, 10, 101}, 1, 100, &a) == JSSTR_DONE && jsstr_make((jsstr_size){10, 10, 7}, 1, 100, &b) == JSSTR_DONE);
+  uint32_t slot = jsstr_slot_of(&a, jsstr_intern_units(&a, texts[2].units, texts[2].len).id).value;
+  CHECK(slot == 'a' % 101 && is_bare(jsstr_adopt(&b, slot), JSSTR_BAD_ARGUMENT));
+  slot = jsstr_slot_of(&a, jsstr_intern_units(&a, texts[1].units, texts[1].len).id).value;
+  CHECK(slot == 0 && is_bare(jsstr_adopt(&b, slot), JSSTR_NONE) && is_bare(jsstr_adopt(&b, 7), JSSTR_BAD_ARGUMENT));
+  jsstr_id own = jsstr_intern_units(&b, texts[0].units, texts[0].len).id;
+  CHECK(is_string(jsstr_adopt(&b, slot), own) && has_units(&b, own, &texts[0]) && jsstr_room_of(&b).ids == 1);
+  CHECK(jsstr_free(&a) == JSSTR_DONE && jsstr_free(&b) == JSSTR_DONE);
+}
+
 /* No id, no word and no slot is left, and keys still go over; each counter is what was used, of all agents. */
 static void full_heaps(void) {
   jsstr_agent a = {0}, b = {0};
@@ -182,6 +195,7 @@ int main(void) {
   hand_over(TEXTS + 1);
   hand_over(61);
   refuse();
+  other_heap();
   full_heaps();
   two_threads();
   puts("ok");

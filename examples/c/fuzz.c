@@ -1,6 +1,6 @@
 /* Calls made by chance, valid ones and others, by several agents of a heap, each compared with a plain
-   reference: a string is an array of units, an agent is the ids that it was answered, and the string table is an
-   array of ids, each in the slot that its units have by the rule.
+   reference: a string, and the text that is built up, is an array of units, an agent is the ids that it was
+   answered, and the string table is an array of ids, each in the slot that its units have by the rule.
 
        fuzz [COUNT [SEED]]
 
@@ -30,6 +30,7 @@ static text texts[IDS];
 static agent agents[AGENTS], stranger;
 static jsstr_id table[SLOTS]; /* JSSTR_NO_STRING in a free slot */
 static uint32_t entries, numbers;
+static struct { jsstr_builder handle; uint16_t units[LIMIT]; uint32_t len; } built;
 static jsstr_room last;
 static int full;
 static long call, lawful;
@@ -112,17 +113,22 @@ static uint32_t to_utf8(const uint16_t *units, uint32_t len, uint8_t *bytes) {
 }
 
 /* What a call is given: units, and the bytes that spell them. */
-enum kind { UNITS, LATIN1, UTF8, KINDS };
+enum kind { UNITS, LATIN1, UTF8, WTF8, KINDS };
 typedef struct given { uint16_t units[102]; uint8_t bytes[310]; uint32_t len, n; long fault; } given;
 
-/* Behind the bytes, now and then, a surrogate in three bytes, and a byte that ends no character. `fault` is how many
-   bytes are UTF-8, where not all are. */
-static void spoil(given *g) {
-  uint16_t half = (uint16_t)(0xD800 + chance(0x800));
-  uint32_t well = g->n;
-  if (chance(20) == 0) g->n += to_utf8(&half, 1, g->bytes + g->n);
-  if (chance(20) == 0) g->bytes[g->n++] = (uint8_t)(0x80 + chance(0x80));
-  if (g->n > well) g->fault = well;
+/* Behind the bytes, now and then, one or two surrogates in three bytes each, and a byte that ends no character.
+   `fault` is how many bytes are UTF-8, or WTF-8, where not all are. */
+static void spoil(given *g, enum kind kind) {
+  for (uint32_t i = chance(9) ? 0 : 1 + chance(2), first = 1; i > 0; i--, first = 0) {
+    uint16_t half = (uint16_t)(0xD800 + chance(0x800));
+    int is_pair = !first && half >= 0xDC00 && g->units[g->len - 1] < 0xDC00;
+    if (g->fault < 0 && (kind == UTF8 || is_pair)) g->fault = g->n;
+    g->units[g->len++] = half;
+    g->n += to_utf8(&half, 1, g->bytes + g->n);
+  }
+  if (chance(20)) return;
+  if (g->fault < 0) g->fault = g->n;
+  g->bytes[g->n++] = (uint8_t)(0x80 + chance(0x80));
 }
 
 static void give(given *g, enum kind kind) {
@@ -133,7 +139,7 @@ static void give(given *g, enum kind kind) {
   if (kind == LATIN1) to_latin1(g->units, g->len, g->bytes);
   if (kind < UTF8) return;
   g->n = to_utf8(g->units, g->len, g->bytes);
-  spoil(g);
+  spoil(g, kind);
 }
 
 /* Whether the call refuses its bytes, as it should. */
@@ -149,7 +155,7 @@ static void make(agent *a) {
   enum kind kind = (enum kind)chance(KINDS);
   give(&g, kind);
   jsstr_answer s = kind == UNITS ? jsstr_from_units(&a->handle, g.units, g.len) : kind == LATIN1 ? jsstr_from_latin1(&a->handle, g.bytes, g.n)
-    : jsstr_from_utf8(&a->handle, g.bytes, g.n);
+    : kind == UTF8 ? jsstr_from_utf8(&a->handle, g.bytes, g.n) : jsstr_from_wtf8(&a->handle, g.bytes, g.n);
   if (!a->handle.live) { CHECK(s.status == JSSTR_BAD_ARGUMENT); return; }
   lawful++;
   if (!is_refused(&g, s)) answered(a, s, g.units, g.len);
@@ -340,7 +346,8 @@ static void key(agent *a) {
   int find = (int)chance(2);
   give(&g, kind);
   jsstr_answer one = kind == UNITS ? (find ? jsstr_find_units : jsstr_intern_units)(&a->handle, g.units, g.len)
-    : (kind == LATIN1 ? find ? jsstr_find_latin1 : jsstr_intern_latin1 : find ? jsstr_find_utf8 : jsstr_intern_utf8)(&a->handle, g.bytes, g.n);
+    : (kind == LATIN1 ? find ? jsstr_find_latin1 : jsstr_intern_latin1 : kind == UTF8 ? find ? jsstr_find_utf8 : jsstr_intern_utf8
+    : find ? jsstr_find_wtf8 : jsstr_intern_wtf8)(&a->handle, g.bytes, g.n);
   if (!a->handle.live) { CHECK(one.status == JSSTR_BAD_ARGUMENT); return; }
   lawful++;
   if (is_refused(&g, one)) return;
@@ -369,6 +376,69 @@ static void adopt(agent *a) {
   lawful++;
   if (is_used(slot)) interned(a, one, texts[table[slot]].units, texts[table[slot]].len);
   else CHECK(one.status == JSSTR_NONE && !one.id && !one.at && !one.want && !one.end);
+}
+
+/* The text has these units behind those that it had. */
+static void appended(uint32_t status, const uint16_t *units, uint32_t len) {
+  CHECK(status == JSSTR_DONE && built.len + len <= LIMIT);
+  if (len) memcpy(built.units + built.len, units, len * 2);
+  built.len += len;
+}
+
+static void append_given(void) {
+  given g;
+  enum kind kind = (enum kind)chance(KINDS);
+  give(&g, kind);
+  if (built.len + g.len > LIMIT) return;
+  if (kind == UNITS) appended(jsstr_build_units(&built.handle, g.units, g.len), g.units, g.len);
+  else if (kind == LATIN1) appended(jsstr_build_latin1(&built.handle, g.bytes, g.n), g.units, g.len);
+  else {
+    jsstr_answer s = (kind == UTF8 ? jsstr_build_utf8 : jsstr_build_wtf8)(&built.handle, g.bytes, g.n);
+    if (!is_refused(&g, s)) appended(s.status, g.units, g.len);
+  }
+}
+
+static void append_number(void) {
+  char digits[16];
+  uint16_t units[16];
+  int32_t number = (int32_t)chance(1u << 31) >> chance(31);
+  if (chance(2)) number = -number - 1;
+  uint32_t len = (uint32_t)snprintf(digits, sizeof digits, "%ld", (long)number);
+  for (uint32_t i = 0; i < len; i++) units[i] = (uint8_t)digits[i];
+  if (built.len + len <= LIMIT) appended(jsstr_build_number(&built.handle, number), units, len);
+}
+
+static void append_string(agent *a) {
+  jsstr_id s = some_id(a);
+  if (knows(a, s) && built.len + texts[s].len > LIMIT) return;
+  uint32_t status = jsstr_build_string(&built.handle, &a->handle, s);
+  if (!knows(a, s)) CHECK(status == JSSTR_BAD_ARGUMENT);
+  else if (!refused_for_room(status)) appended(status, texts[s].units, texts[s].len);
+}
+
+/* A string of the text, here or in a heap that has little room; a refusal leaves the text. */
+static void finish(agent *a) {
+  int interns = (int)chance(2), here = chance(9) > 0;
+  jsstr_answer s = (interns ? jsstr_built_interned : jsstr_built)(&built.handle, here ? &a->handle : &stranger.handle);
+  if (here && !a->handle.live) CHECK(s.status == JSSTR_BAD_ARGUMENT);
+  else if (here) (interns ? interned : answered)(a, s, built.units, built.len);
+  else CHECK(s.status == JSSTR_DONE || s.status == JSSTR_NO_IDS || s.status == JSSTR_NO_WORDS || s.status == JSSTR_NO_SLOTS);
+  if (s.status == JSSTR_DONE) built.len = 0;
+}
+
+static void build(agent *a) {
+  lawful++;
+  switch (chance(6)) {
+  case 0: append_number(); break;
+  case 1: append_string(a); break;
+  case 2: case 3: append_given(); break;
+  default: finish(a);
+  }
+  CHECK(jsstr_built_length(&built.handle) == built.len);
+  if (chance(50)) return;
+  jsstr_drop_builder(&built.handle);
+  CHECK(!built.handle.at && !built.handle.live && jsstr_built_length(&built.handle) == 0);
+  built.len = 0;
 }
 
 /* How full the heap is, for any agent. */
@@ -455,7 +525,7 @@ int main(int count_of, char **told) {
   for (call = 0; call < calls; call++) {
     agent *a = &agents[chance(AGENTS)], *b = &agents[chance(AGENTS)];
     if (!a->handle.live && chance(3)) a = &agents[0];
-    switch (chance(23)) {
+    switch (chance(25)) {
     case 0: case 1: make(a); break;
     case 2: case 3: concat(a); break;
     case 4: case 5: slice(a); break;
@@ -470,8 +540,9 @@ int main(int count_of, char **told) {
     case 16: case 17: key(a); break;
     case 18: read_out(a); break;
     case 19: carry(a, b); break;
-    case 20: adopt(a); break;
-    case 21: gauge(a); break;
+    case 20: case 21: build(a); break;
+    case 22: adopt(a); break;
+    case 23: gauge(a); break;
     default: join(a, b);
     }
     if (full > 300) begin();
@@ -479,6 +550,7 @@ int main(int count_of, char **told) {
   for (int i = 0; i < AGENTS; i++)
     if (agents[i].handle.live) CHECK(jsstr_free(&agents[i].handle) == JSSTR_DONE);
   CHECK(jsstr_free(&stranger.handle) == JSSTR_DONE);
+  jsstr_drop_builder(&built.handle);
   for (int i = 0; i < IDS; i++) free(texts[i].units);
   printf("%ld calls, %ld valid, none differs\n", calls, lawful);
   return 0;

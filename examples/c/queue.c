@@ -23,7 +23,7 @@ typedef struct job {
   char text[64];
   size_t count, length;
   uint32_t slots[WORDS]; /* of the keys */
-  uint16_t answer[96];   /* the words, the last one first */
+  uint16_t answer[80];   /* "N words, backwards: .." */
 } job;
 
 typedef struct queue {
@@ -59,16 +59,18 @@ static jsstr_id string_of(jsstr_answer s) {
   return s.id;
 }
 
-/* What an answer has for these keys: a rope of them, the last one first. */
-static jsstr_id answer_of(jsstr_agent *agent, const jsstr_id *keys, size_t count) {
-  jsstr_id answer = string_of(jsstr_from_latin1(agent, (const uint8_t *)"the words, the last one first:", 30));
-  jsstr_id space = string_of(jsstr_from_latin1(agent, (const uint8_t *)" ", 1));
-  while (count--) answer = string_of(jsstr_concat(agent, string_of(jsstr_concat(agent, answer, space)), keys[count]));
-  return answer;
+/* Appends to a text what an answer has for these keys: how many there are, and the last one first. */
+static void build_answer(jsstr_builder *text, jsstr_agent *agent, const jsstr_id *keys, size_t count) {
+  CHECK(jsstr_build_number(text, (int32_t)count) == JSSTR_DONE);
+  CHECK(jsstr_build_latin1(text, (const uint8_t *)" words, backwards:", 18) == JSSTR_DONE);
+  while (count--) {
+    CHECK(jsstr_build_latin1(text, (const uint8_t *)" ", 1) == JSSTR_DONE);
+    CHECK(jsstr_build_string(text, agent, keys[count]) == JSSTR_DONE);
+  }
 }
 
 /* Each call writes the handle, and a worker has a cache line of its own. */
-typedef struct worker { jsstr_agent agent; char line[64]; } worker;
+typedef struct worker { jsstr_agent agent; jsstr_builder text; char line[64]; } worker;
 
 static void answer(worker *w, job *j) {
   jsstr_id keys[WORDS];
@@ -82,7 +84,8 @@ static void answer(worker *w, job *j) {
     j->slots[j->count++] = slot.value;
     at += length;
   }
-  jsstr_bytes units = jsstr_read_all(&w->agent, answer_of(&w->agent, keys, j->count), j->answer, sizeof j->answer / 2);
+  build_answer(&w->text, &w->agent, keys, j->count);
+  jsstr_bytes units = jsstr_read_all(&w->agent, string_of(jsstr_built(&w->text, &w->agent)), j->answer, sizeof j->answer / 2);
   CHECK(units.status == JSSTR_DONE);
   j->length = units.size;
 }
@@ -90,11 +93,13 @@ static void answer(worker *w, job *j) {
 static void *work(void *at) {
   worker *w = at;
   for (job *j; (j = take(&todo)) != NULL; put(&done, j)) answer(w, j);
+  jsstr_drop_builder(&w->text);
   return NULL;
 }
 
 /* The host: it adopts the keys, and finds that the answer is made of just these. */
 static jsstr_agent host;
+static jsstr_builder expected;
 static uint32_t counts[SLOTS];
 
 static void check_answer(const job *j) {
@@ -103,7 +108,8 @@ static void check_answer(const job *j) {
     keys[i] = string_of(jsstr_adopt(&host, j->slots[i]));
     counts[j->slots[i]]++;
   }
-  CHECK(jsstr_equals_units(&host, answer_of(&host, keys, j->count), j->answer, j->length).holds);
+  build_answer(&expected, &host, keys, j->count);
+  CHECK(jsstr_equals_units(&host, string_of(jsstr_built(&expected, &host)), j->answer, j->length).holds);
 }
 
 static void fill(job *j, unsigned number) {
@@ -135,7 +141,7 @@ int main(void) {
   static worker workers[WORKERS];
   static job jobs[IN_FLIGHT];
   pthread_t threads[WORKERS];
-  CHECK(jsstr_make((jsstr_size){300000, 300000, SLOTS}, WORKERS + 1, JSSTR_MAX_LENGTH, &host) == JSSTR_DONE);
+  CHECK(jsstr_make((jsstr_size){20000, 100000, SLOTS}, WORKERS + 1, JSSTR_MAX_LENGTH, &host) == JSSTR_DONE);
   for (int i = 0; i < WORKERS; i++) {
     CHECK(jsstr_split(&host, 1, &workers[i].agent) == JSSTR_DONE);
     CHECK(!pthread_create(&threads[i], NULL, work, &workers[i]));
@@ -150,6 +156,7 @@ int main(void) {
     CHECK(jsstr_join(&host, &workers[i].agent) == JSSTR_DONE);
   }
   printf("%u keys\n", jsstr_count_interned(&host).value);
+  jsstr_drop_builder(&expected);
   jsstr_free(&host);
   return 0;
 }

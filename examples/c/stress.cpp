@@ -23,6 +23,7 @@ using Board = std::vector<std::atomic<uint32_t>>;
 
 struct Worker {
   jsstr_agent agent{};
+  jsstr_builder built{};
   Board *board = nullptr;
   jsstr_room seen{};
   uint64_t state = 1;
@@ -102,10 +103,21 @@ struct Worker {
     seen = room;
   }
 
+  // A key by a text of its own: a part, a number and bytes.
+  void build(uint32_t number) {
+    const Text text = key(number);
+    std::string digits = std::to_string(number);
+    CHECK(jsstr_build_units(&built, reinterpret_cast<const uint16_t *>(text.data()), text.size() - digits.size()) == JSSTR_DONE);
+    CHECK(jsstr_build_number(&built, int32_t(number)) == JSSTR_DONE && jsstr_built_length(&built) == text.size());
+    jsstr_answer one = jsstr_built_interned(&built, &agent);
+    if (!is_key(number, one)) jsstr_drop_builder(&built);
+    CHECK(jsstr_built_length(&built) == 0);
+  }
+
   void step() {
     jsstr_id a = ids[chance(uint32_t(ids.size()))], b = ids[chance(uint32_t(ids.size()))];
     const Text left = texts[a], right = texts[b];
-    switch (chance(8)) {
+    switch (chance(9)) {
     case 0: {
       jsstr_answer s = jsstr_concat(&agent, a, b);
       if (left.size() + right.size() > 2000) { CHECK(s.status == JSSTR_TOO_LONG); break; }
@@ -152,6 +164,9 @@ struct Worker {
     case 6:
       look();
       break;
+    case 7:
+      build(chance(KEYS));
+      break;
     default:
       CHECK(jsstr_length(&agent, UINT32_MAX - chance(9)).status == JSSTR_BAD_ARGUMENT);
     }
@@ -178,6 +193,7 @@ int main(int count, char **told) {
         w.made(u"a string to begin with, not a short one");
         w.made(u"\u4E16\u754C");
         while (!w.full && w.calls < 100000 && std::chrono::steady_clock::now() < end) w.step();
+        jsstr_drop_builder(&w.built);
       });
     for (auto &thread : running) thread.join();
     for (uint32_t i = 0; i < threads; i++) {

@@ -1,5 +1,5 @@
-/* Every export that out.c and board.c don't try, in both forms, each refusal and each bad argument, and two threads
-   that intern the same units. Prints "ok". */
+/* Every export that out.c, building.c and board.c don't try, in both forms, each refusal and each bad argument, and
+   two threads that intern the same units. Prints "ok". */
 #include "jsstr.h"
 #include <pthread.h>
 #include <stdio.h>
@@ -336,6 +336,24 @@ static void refuse_joins(void) {
   CHECK(jsstr_share(&a).status == JSSTR_BAD_ARGUMENT);
 }
 
+/* As many agents as there may be, which all get one number for a key; one more is refused to each. */
+static void most_agents(void) {
+  static jsstr_agent agents[64];
+  jsstr_agent more = {0};
+  jsstr_id key = JSSTR_NO_STRING;
+  CHECK(jsstr_make((jsstr_size){200, 200, 11}, 64, 100, &agents[0]) == JSSTR_DONE);
+  for (int i = 1; i < 64; i++) CHECK(jsstr_split(&agents[0], 1, &agents[i]) == JSSTR_DONE);
+  for (int i = 0; i < 64; i++) {
+    CHECK(jsstr_share(&agents[i]).value == 1 && jsstr_split(&agents[i], 1, &more) == JSSTR_BAD_ARGUMENT && !more.at && !more.live);
+    jsstr_answer s = jsstr_intern(&agents[i], made(&agents[i], "a key of all"));
+    CHECK(s.status == JSSTR_DONE && (i == 0 || s.id == key));
+    key = s.id;
+  }
+  for (int i = 63; i > 0; i--) CHECK(jsstr_join(&agents[0], &agents[i]) == JSSTR_DONE);
+  CHECK(jsstr_share(&agents[0]).value == 64 && jsstr_count_interned(&agents[0]).value == 1);
+  CHECK(jsstr_split(&agents[0], 63, &more) == JSSTR_DONE && jsstr_join(&agents[0], &more) == JSSTR_DONE && jsstr_free(&agents[0]) == JSSTR_DONE);
+}
+
 /* The same work by the calls that test nothing, and both forms by turns over one handle. */
 static void unchecked(void) {
   jsstr_agent a = {0}, b = {0};
@@ -596,6 +614,30 @@ static void refuse_copies(void) {
   CHECK(jsstr_length(&a, s).value == 8 && jsstr_free(&a) == JSSTR_DONE && jsstr_free(&b) == JSSTR_DONE);
 }
 
+/* The other heap becomes full on the way, in each of its ways: what was carried over stays, and the rest can go elsewhere. */
+static void copy_until_full(uint32_t way, int interns) {
+  static const jsstr_size sizes[] = {{5, 99, 99}, {99, 5, 99}, {99, 99, 5}};
+  static const jsstr_answer refusals[] = {{JSSTR_NO_IDS, 0, 5, 1, 5}, {JSSTR_NO_WORDS, 0, 5, 1, 5}, {JSSTR_NO_SLOTS, 0, 0, 0, 5}};
+  jsstr_agent a = {0}, b = {0}, c = {0};
+  uint16_t units[] = {'s', 't', 'r', 'i', 'n', 'g', ' ', 0};
+  jsstr_answer went[12];
+  CHECK(jsstr_make((jsstr_size){99, 99, 9}, 1, 100, &a) == JSSTR_DONE && jsstr_make((jsstr_size){12, 12, 12}, 1, 100, &c) == JSSTR_DONE);
+  CHECK(jsstr_make(sizes[way], 1, 100, &b) == JSSTR_DONE);
+  for (uint32_t i = 0; i < 12; i++) {
+    units[7] = (uint16_t)('a' + i);
+    went[i] = (interns ? jsstr_intern_into : jsstr_copy_into)(&a, jsstr_from_units(&a, units, 8).id, &b);
+    CHECK(i < 5 ? is_string(went[i], went[i].id) : !memcmp(&went[i], &refusals[way], sizeof *went));
+    CHECK(i < 5 || is_string((interns ? jsstr_intern_into : jsstr_copy_into)(&a, i, &c), i - 5));
+  }
+  for (uint32_t i = 0; i < 12; i++) {
+    units[7] = (uint16_t)('a' + i);
+    CHECK(has_units(&a, i, units, 8) && (i < 5 ? has_units(&b, went[i].id, units, 8) : has_units(&c, i - 5, units, 8)));
+    if (interns) CHECK(i < 5 ? is_string(jsstr_find_units(&b, units, 8), went[i].id) : is_bare(jsstr_find_units(&b, units, 8), JSSTR_NONE));
+  }
+  CHECK(has_used(&a, 12, 12) && has_used(&c, 7, 7) && jsstr_count_interned(&b).value == (interns ? 5 : 0));
+  CHECK(jsstr_free(&a) == JSSTR_DONE && jsstr_free(&b) == JSSTR_DONE && jsstr_free(&c) == JSSTR_DONE);
+}
+
 /* A rope that can't be settled for lack of words: what needs it settled is refused, and the rope stays. */
 static void refuse_settling(void) {
   jsstr_agent a = {0};
@@ -612,6 +654,7 @@ static void refuse_settling(void) {
 }
 
 int main(void) {
+  CHECK(jsstr_version() == JSSTR_VERSION_NUMBER);
   refuse_empty();
   refuse_strings();
   refuse_parts();
@@ -624,6 +667,9 @@ int main(void) {
   read_all();
   copies();
   refuse_copies();
+  for (uint32_t way = 0; way < 3; way++) copy_until_full(way, 1);
+  for (uint32_t way = 0; way < 2; way++) copy_until_full(way, 0);
+  most_agents();
   unchecked();
   refuse_sizes();
   refuse_calls();

@@ -35,6 +35,9 @@ int main() {
   jsstr::key key = other.intern(u"key"_js);
   agent.join(std::move(other));
   CHECK(!other && agent.length(key) == 3 && agent.share() == 2);
-  CHECK(agent.adopt(agent.slot_of(key)) == key && agent.room().ids == agent.totals().ids);
+  jsstr::builder text;
+  text.append(u"ke"_js);
+  text.append_latin1("y");
+  CHECK(text.interned(agent) == key && agent.adopt(agent.slot_of(key)) == key && agent.room().ids == agent.totals().ids);
   std::printf("%d greetings, then the heap is full\n", greetings(agent));
 }

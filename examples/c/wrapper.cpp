@@ -18,6 +18,14 @@ static_assert(std::is_nothrow_move_constructible_v<jsstr::agent> && std::is_noth
 static_assert(!std::is_convertible_v<jsstr_id, jsstr::string> && !std::is_convertible_v<jsstr::string, jsstr::key>);
 static_assert(std::is_convertible_v<jsstr::key, jsstr::string> && sizeof(jsstr::key) == sizeof(jsstr_id));
 static_assert(u"length"_js.units == u"length");
+static_assert(!std::is_copy_constructible_v<jsstr::builder> && !std::is_copy_assignable_v<jsstr::builder>);
+static_assert(std::is_nothrow_move_constructible_v<jsstr::builder> && std::is_nothrow_move_assignable_v<jsstr::builder>);
+
+// Whether a text takes a value of this type.
+template <class T, class = void> constexpr bool appends = false;
+template <class T> constexpr bool appends<T, std::void_t<decltype(std::declval<jsstr::builder &>().append(std::declval<T>()))>> = true;
+static_assert(appends<std::int32_t> && appends<std::u16string_view> && appends<std::u16string> && appends<const char16_t *>);
+static_assert(!appends<char> && !appends<char16_t> && !appends<bool> && !appends<std::uint32_t> && !appends<std::int64_t> && !appends<const char *>);
 
 static void makes_and_reads(jsstr::agent &agent) {
   jsstr::string hello = agent.from(u"hello"_js).value(), world = agent.from_utf8(" w\xC3\xB6rld \xF0\x9F\x98\x80").value();
@@ -55,6 +63,38 @@ static void reads_out(jsstr::agent &agent) {
   CHECK(agent.equal_latin1(text, "caf\xE9").value() && agent.compare_latin1(text, "caf").value() > 0);
   CHECK(agent.equal_utf8(text, "caf\xC3\xA9").value() && agent.compare_utf8(text, "caf\xC3\xA9").value() == 0);
   CHECK(agent.equal_utf8(text, "\xFF").error().why == status::not_utf8);
+}
+
+static void reads_wtf8(jsstr::agent &agent) {
+  jsstr::string half = agent.from_wtf8("x\xED\xB0\x80").value();
+  CHECK(agent.units(half).value() == std::u16string(u"x\xDC00") && agent.utf8(half, jsstr::unpaired::keep).value() == "x\xED\xB0\x80");
+  jsstr::agent other = jsstr::agent::make({64, 64, 31}).value();
+  CHECK(!other.find_wtf8("\xED\xA0\x80").value());
+  jsstr::key lead = other.intern_wtf8("\xED\xA0\x80").value();
+  CHECK(other.find_wtf8("\xED\xA0\x80").value() == lead && other.find(std::u16string_view(u"\xD800")).value() == lead);
+  CHECK(agent.from_wtf8("\xED\xA0\x80\xED\xB0\x80").error().why == status::not_utf8 && agent.from_wtf8("\xED\xA0\x80\xED\xB0\x80").error().at == 3);
+  CHECK(other.intern_wtf8("\xFF").error().why == status::not_utf8 && other.find_wtf8("a\xC0").error().at == 1);
+}
+
+static void builds(jsstr::agent &agent) {
+  jsstr::agent other = jsstr::agent::make({8, 8, 7}).value(), gone = jsstr::agent::make({1, 1, 1}).value(), none = std::move(gone);
+  jsstr::builder text;
+  CHECK(text.length() == 0 && agent.length(text.string(agent).value()).value() == 0);
+  CHECK(text.append(u"\u4E16 "_js) && text.append_latin1("\xE9") && text.append_utf8(" \xF0\x9F\x98\x80") && text.append_wtf8("\xED\xA0\x80"));
+  CHECK(text.append(agent, agent.from(u" of "_js).value()) && text.append(std::int32_t(-12)) && text.append(std::u16string_view()));
+  CHECK(text.length() == 14);
+  CHECK(text.append_utf8("ab\xFF").error().why == status::not_utf8 && text.append_utf8("ab\xFF").error().at == 2);
+  CHECK(text.append_wtf8("\xFF").error().why == status::not_utf8 && text.append(agent, jsstr::string()).error().why == status::bad_argument);
+  CHECK(text.append(gone, jsstr::string(0)).error().why == status::bad_argument && text.string(gone).error().why == status::bad_argument);
+  CHECK(text.interned(gone).error().why == status::bad_argument && text.string(none).error().why == status::no_words && text.length() == 14);
+  const std::u16string units = std::u16string(u"\u4E16 \u00E9 \U0001F600") + u'\xD800' + u" of -12";
+  jsstr::builder moved = std::move(text);
+  CHECK(text.length() == 0 && moved.length() == 14);
+  jsstr::key key = moved.interned(other).value();
+  CHECK(moved.length() == 0 && other.units(key).value() == units);
+  CHECK(moved.append(u"again"_js) && text.append(u"dropped"_js));
+  text = std::move(moved);
+  CHECK(moved.length() == 0 && agent.units(text.string(agent).value()).value() == u"again");
 }
 
 // What one agent interned the other adopts by its slot; each sees how full the heap is.
@@ -144,6 +184,8 @@ int main() {
   jsstr::agent agent = jsstr::agent::make({4096, 8192, 1031}, 4).value();
   makes_and_reads(agent);
   reads_out(agent);
+  reads_wtf8(agent);
+  builds(agent);
   adopts();
   carries(agent);
   interns(agent);

@@ -22,3 +22,4 @@ mod room;
 mod text_handle;
 mod unchecked;
 mod uses;
+mod version;
