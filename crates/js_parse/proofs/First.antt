@@ -6,7 +6,7 @@ use Rattle.eval_tree.specs.Tree.{Tree}
 use Rattle.parse_syntax.specs.Reader.{is_some}
 use Rattle.parse_syntax.specs.declared.token.GrammarToken.{GrammarToken}
 use Rattle.parse_syntax.specs.Tables.{TokenTables}
-use Rattle.parse_syntax.specs.Terminals.{colon, place}
+use Rattle.parse_syntax.specs.Terminals.{colon}
 use Rattle.js_parse.specs.Names.{Declaring, NameFault, Duplicate, LoopName, ProtoKey}
 use Rattle.js_parse.specs.ProtoKeys.{HasProtoKey, here, later, opens_entry, is_proto}
 use Rattle.js_parse.specs.declared.name_fault.NameFault.{NameFault as Told}
@@ -55,8 +55,8 @@ module _ (tables : TokenTables) where
   key_of b (k ∷ []) f o i = absurd i
   key_of b (k ∷ c ∷ ts) f o i =
       let q = opened (is_some (colon c)) (proto_fault tables k) f i in
-      let p = opened (is_proto tables k) (ProtoKey (place k) ∷ []) f q.1 in
-      (place k, only f (ProtoKey (place k)) p.1, here b k c ts o p.0 q.0)
+      let p = opened (is_proto tables k) (ProtoKey k.at ∷ []) f q.1 in
+      (k.at, only f (ProtoKey k.at) p.1, here b k c ts o p.0 q.0)
 
   key_sound : (ts : List GrammarToken) (f : NameFault) → In f (proto_faults tables ts) → (at : ℕ) × (f ≡ ProtoKey at) × HasProtoKey tables ts at
   key_sound [] f i = absurd i
@@ -65,7 +65,7 @@ module _ (tables : TokenTables) where
       (λ j. let r = key_sound ts f j in (r.0, r.1, later b ts r.0 r.2))
 
   key_complete : (ts : List GrammarToken) (at : ℕ) → HasProtoKey tables ts at → In (ProtoKey at) (proto_faults tables ts)
-  key_complete _ _ (here b k c ts o p q) = in_left (ProtoKey (place k)) (proto_behind tables b (k ∷ c ∷ ts)) (proto_faults tables (k ∷ c ∷ ts)) (rw (o, q, p) (inl refl))
+  key_complete _ _ (here b k c ts o p q) = in_left (ProtoKey k.at) (proto_behind tables b (k ∷ c ∷ ts)) (proto_faults tables (k ∷ c ∷ ts)) (rw (o, q, p) (inl refl))
   key_complete _ _ (later t ts at h) = in_right (ProtoKey at) (proto_behind tables t ts) (proto_faults tables ts) (key_complete ts at h)
 
 module _ (outer : List (List ℕ)) (tables : TokenTables) (tokens : List GrammarToken) (t : Tree) where

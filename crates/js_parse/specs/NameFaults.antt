@@ -8,7 +8,7 @@ use Rattle.eval_tree.specs.Tree.{Tree, StmtTree, BlockTree, block_of, Stmts, Arm
 use Rattle.parse_syntax.specs.Reader.{is_some}
 use Rattle.parse_syntax.specs.declared.token.GrammarToken.{GrammarToken}
 use Rattle.parse_syntax.specs.Tables.{TokenTables}
-use Rattle.parse_syntax.specs.Terminals.{colon, place}
+use Rattle.parse_syntax.specs.Terminals.{colon}
 use Rattle.js_parse.specs.Names.{NameFault, Duplicate, LoopName, ProtoKey}
 use Rattle.js_parse.specs.ProtoKeys.{opens_entry, is_proto}
 use Rattle.js_parse.specs.FirstFault.{fault_rank}
@@ -81,7 +81,7 @@ faults_of outer t = faults_among t.body (all_marked false t.top nobody) (is_in o
 
 -- a key that is __proto__
 abbrev pub proto_fault : TokenTables → GrammarToken → List NameFault
-proto_fault tables k = if is_proto tables k then ProtoKey (place k) ∷ [] else []
+proto_fault tables k = if is_proto tables k then ProtoKey k.at ∷ [] else []
 
 -- that of the first token, where a colon follows it
 abbrev pub key_first : TokenTables → List GrammarToken → List NameFault

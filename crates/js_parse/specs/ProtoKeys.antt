@@ -4,26 +4,26 @@ use Rattle.std.specs.Str.{bytes_eq}
 use Rattle.js_lex.specs.declared.token.Mark.TheVariants as mark
 use Rattle.parse_syntax.specs.Reader.{is_some}
 use Rattle.parse_syntax.specs.declared.token.GrammarToken.{GrammarToken}
-use Rattle.parse_syntax.specs.declared.token.GrammarToken.TheVariants as token
+use Rattle.parse_syntax.specs.declared.token.GrammarKind.TheVariants as kind
 use Rattle.parse_syntax.specs.Tables.{TokenTables}
-use Rattle.parse_syntax.specs.Terminals.{colon, place}
+use Rattle.parse_syntax.specs.Terminals.{colon}
 
 -- { or a comma, behind which there is a key where a colon follows it
 abbrev pub opens_entry : GrammarToken → Bool
-opens_entry (token.Mark at mark.OpenBrace l) = true
-opens_entry (token.Mark at mark.Comma l) = true
-opens_entry _ = false
+opens_entry t = elim t.kind [ kind.Mark mark.OpenBrace ↦ true | kind.Mark mark.Comma ↦ true | _ ↦ false ]
 
 -- whether the key is __proto__; that of a number has digits alone
 abbrev pub is_proto : TokenTables → GrammarToken → Bool
-is_proto tables (token.Text at n k) = bytes_eq (get_or tables.keys n []) (codes "__proto__")
-is_proto tables (token.Name at n p) = bytes_eq (get_or tables.names n []) (codes "__proto__")
-is_proto tables (token.Word at w n) = bytes_eq (get_or tables.names n []) (codes "__proto__")
-is_proto tables _ = false
+is_proto tables t = elim t.kind [
+  | kind.Text n k ↦ bytes_eq (get_or tables.keys n []) (codes "__proto__")
+  | kind.Name n p ↦ bytes_eq (get_or tables.names n []) (codes "__proto__")
+  | kind.Word w n ↦ bytes_eq (get_or tables.names n []) (codes "__proto__")
+  | _ ↦ false
+]
 
 -- among the tokens such a key is at this place
 pub data HasProtoKey (tables : TokenTables) : List GrammarToken → ℕ → Type 0 where
   here : (b k c : GrammarToken) (ts : List GrammarToken) → opens_entry b ≡ true → is_proto tables k ≡ true
-      → is_some (colon c) ≡ true → HasProtoKey tables (b ∷ k ∷ c ∷ ts) (place k)
+      → is_some (colon c) ≡ true → HasProtoKey tables (b ∷ k ∷ c ∷ ts) k.at
   later : (t : GrammarToken) (ts : List GrammarToken) (at : ℕ) → HasProtoKey tables ts at
       → HasProtoKey tables (t ∷ ts) at

@@ -6,7 +6,7 @@ use Rattle.parse_syntax.specs.Reader.{SyntaxFaultKind, Wrong, TooDeep, is_some}
 use Rattle.parse_syntax.specs.Refused.{IsRefused}
 use Rattle.parse_syntax.specs.declared.token.GrammarToken.{GrammarToken}
 use Rattle.parse_syntax.specs.Tables.{TokenTables}
-use Rattle.parse_syntax.specs.Terminals.{is_word_token, place, point, opening}
+use Rattle.parse_syntax.specs.Terminals.{is_word_token, point, opening}
 use Rattle.eval_tree.specs.Tree.{Tree, StmtTree, stmts}
 use Rattle.parse_syntax.specs.Grammar.{Statements, own_names, most}
 use Rattle.js_parse.specs.Names.{NameFault, Duplicate, LoopName, ProtoKey}
@@ -43,7 +43,7 @@ front_of tokens rest = take (length tokens - length rest) tokens
 
 -- of a point and an identifier the place of the identifier
 abbrev pub pointed : List GrammarToken → Option ℕ
-pointed (p ∷ t ∷ []) = if is_some (point p) then (if is_word_token t then Some (place t) else None) else None
+pointed (p ∷ t ∷ []) = if is_some (point p) then (if is_word_token t then Some t.at else None) else None
 pointed _ = None
 
 -- the identifier behind a point that ends the front, where ( follows. Where it is a method, ( is never wrong
@@ -53,14 +53,14 @@ called_word front t = if is_some (opening t) then pointed (drop (length front - 
 -- a token isn't allowed there: an identifier that is called so is at fault in its place
 abbrev pub misplaced_at : Option ℕ → GrammarToken → ParseFault
 misplaced_at (Some at) t = fault.NotInProfile at
-misplaced_at None t = if is_word_token t then fault.NotInProfile (place t) else fault.Unexpected (place t)
+misplaced_at None t = if is_word_token t then fault.NotInProfile t.at else fault.Unexpected t.at
 
 -- the fault at the first token of the rest behind the front, or at the end of the text
 abbrev pub misplaced : SyntaxFaultKind → List GrammarToken → List GrammarToken → ℕ → ParseFault
 misplaced Wrong front [] end = fault.Unexpected end
 misplaced Wrong front (t ∷ rest) end = misplaced_at (called_word front t) t
 misplaced TooDeep front [] end = fault.TooDeep end
-misplaced TooDeep front (t ∷ rest) end = fault.TooDeep (place t)
+misplaced TooDeep front (t ∷ rest) end = fault.TooDeep t.at
 
 -- how a fault of a name or key is reported; a key that is __proto__ isn't in the profile
 abbrev pub misnamed : NameFault → ParseFault

@@ -10,58 +10,28 @@ use crate::fault::ParseFault;
 use js_lex::Mark;
 use parse_look::next;
 use parse_statements::Fault;
-use parse_syntax::GrammarToken;
-
-// The offset of a token.
-pub(crate) fn place(token: &GrammarToken) -> u32
-    ensures { result ≡ terminals.place token.now }
-{
-    match token {
-        GrammarToken::Directive { at } => *at,
-        GrammarToken::Text { at, .. } => *at,
-        GrammarToken::Number { at, .. } => *at,
-        GrammarToken::Name { at, .. } => *at,
-        GrammarToken::Word { at, .. } => *at,
-        GrammarToken::Mark { at, .. } => *at,
-    }
-}
+use parse_syntax::{GrammarKind, GrammarToken};
 
 // Whether a token that isn't allowed at its place is an identifier.
 fn is_word(token: &GrammarToken) -> bool
     ensures { result ≡ terminals.is_word_token token.now }
 {
-    match token {
-        GrammarToken::Name { .. } => true,
-        GrammarToken::Word { .. } => true,
-        GrammarToken::Directive { .. } => false,
-        GrammarToken::Text { .. } => false,
-        GrammarToken::Number { .. } => false,
-        GrammarToken::Mark { .. } => false,
+    match token.kind {
+        GrammarKind::Name(..) | GrammarKind::Word(..) => true,
+        _ => false,
     }
 }
 
 fn is_opening(token: &GrammarToken) -> bool
     ensures { result ≡ is_some (terminals.opening token.now) }
 {
-    matches!(
-        token,
-        GrammarToken::Mark {
-            mark: Mark::OpenParen,
-            ..
-        }
-    )
+    matches!(token.kind, GrammarKind::Mark(Mark::OpenParen))
 }
 
 fn is_point(token: GrammarToken) -> bool
     ensures { result ≡ is_some (terminals.point token) }
 {
-    matches!(
-        token,
-        GrammarToken::Mark {
-            mark: Mark::Point,
-            ..
-        }
-    )
+    matches!(token.kind, GrammarKind::Mark(Mark::Point))
 }
 
 // The tokens before the rest.
@@ -84,11 +54,7 @@ fn pointed(two: &[GrammarToken]) -> Option<u32>
     if !is_point(point) {
         return None;
     }
-    if is_word(&word) {
-        Some(place(&word))
-    } else {
-        None
-    }
+    if is_word(&word) { Some(word.at) } else { None }
 }
 
 // The identifier behind a point that ends the front, where `(` follows.
@@ -105,7 +71,7 @@ fn called(front: &[GrammarToken], token: &GrammarToken) -> Option<u32>
 fn misplaced_at(called: Option<u32>, token: &GrammarToken) -> ParseFault
     ensures { result ≡ definition.misplaced_at called token.now }
 {
-    let at = place(token);
+    let at = token.at;
     match called {
         Some(at) => ParseFault::NotInProfile { at },
         None => {
@@ -134,7 +100,7 @@ fn too_deep(tokens: &[GrammarToken], rest: &[GrammarToken], end: u32) -> ParseFa
 {
     match rest {
         [] => ParseFault::TooDeep { at: end },
-        [first, ..] => ParseFault::TooDeep { at: place(first) },
+        [first, ..] => ParseFault::TooDeep { at: first.at },
     }
 }
 

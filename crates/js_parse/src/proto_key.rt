@@ -7,34 +7,21 @@ ghost use Rattle.js_parse.specs.NameFaults.{offers, proto_behind, proto_faults};
 ghost use Rattle.js_parse.specs.NameWalk.{found_of};
 ghost use Rattle.js_parse.specs.ProtoKeys as definition;
 
-use crate::misplaced::place;
 use crate::name_fault::{NameFault, offer};
 use js_lex::Mark;
 use parse_look::next;
-use parse_syntax::{GrammarToken, Tables};
+use parse_syntax::{GrammarKind, GrammarToken, Tables};
 
 fn opens_entry(token: GrammarToken) -> bool
     ensures { result ≡ definition.opens_entry token }
 {
-    matches!(
-        token,
-        GrammarToken::Mark {
-            mark: Mark::OpenBrace | Mark::Comma,
-            ..
-        }
-    )
+    matches!(token.kind, GrammarKind::Mark(Mark::OpenBrace | Mark::Comma))
 }
 
 fn is_colon(token: GrammarToken) -> bool
     ensures { result ≡ is_some (terminals.colon token) }
 {
-    matches!(
-        token,
-        GrammarToken::Mark {
-            mark: Mark::Colon,
-            ..
-        }
-    )
+    matches!(token.kind, GrammarKind::Mark(Mark::Colon))
 }
 
 fn is_proto_word(tables: &Tables, number: u32) -> bool
@@ -59,13 +46,11 @@ fn is_proto_text(tables: &Tables, number: u32) -> bool
 fn is_proto(tables: &Tables, key: GrammarToken) -> bool
     ensures { result ≡ definition.is_proto (tables_of tables.now) key }
 {
-    match key {
-        GrammarToken::Text { number, .. } => is_proto_text(tables, number),
-        GrammarToken::Name { number, .. } => is_proto_word(tables, number),
-        GrammarToken::Word { number, .. } => is_proto_word(tables, number),
-        GrammarToken::Number { .. } => false,
-        GrammarToken::Directive { .. } => false,
-        GrammarToken::Mark { .. } => false,
+    match key.kind {
+        GrammarKind::Text { number, .. } => is_proto_text(tables, number),
+        GrammarKind::Name(number, _) => is_proto_word(tables, number),
+        GrammarKind::Word(_, number) => is_proto_word(tables, number),
+        GrammarKind::Number(_) | GrammarKind::Directive | GrammarKind::Mark(_) => false,
     }
 }
 
@@ -93,7 +78,7 @@ fn behind(
     if !is_proto(tables, key) {
         return first;
     }
-    offer(first, NameFault::ProtoKey { at: place(&key) })
+    offer(first, NameFault::ProtoKey { at: key.at })
 }
 
 /// The first key of an object literal that is `__proto__`, if there is one.

@@ -3,7 +3,7 @@ use Rattle.std.specs.Prelude.{ℕ, List, [], ◌∷◌, Option, Some, None}
 use Rattle.parse_syntax.specs.Lang.{keep_second}
 use Rattle.parse_syntax.specs.Reader.{TokenReader, and_then, one_of, choose, heads, succeed}
 use Rattle.parse_syntax.specs.declared.token.GrammarToken.{GrammarToken}
-use Rattle.parse_syntax.specs.declared.token.GrammarToken.TheVariants as token
+use Rattle.parse_syntax.specs.declared.token.GrammarKind.TheVariants as kind
 use Rattle.js_lex.specs.declared.token.Mark.TheVariants as mark
 use Rattle.parse_syntax.specs.declared.token.Word.TheVariants as word
 use Rattle.eval_tree.specs.declared.tree.Op.{Op}
@@ -55,17 +55,19 @@ ident at n = record { at = at; number = n }
 
 -- what a primary of several tokens begins with
 abbrev pub opener_of : GrammarToken → Option Opener
-opener_of (token.Mark at mark.OpenParen l) = Some opener.Paren
-opener_of (token.Word at word.String number) = Some opener.Builtin
-opener_of (token.Word at word.Symbol number) = Some opener.Builtin
-opener_of (token.Word at word.Json number) = Some opener.Builtin
-opener_of (token.Word at word.Object number) = Some opener.Builtin
-opener_of (token.Mark at mark.OpenBrace l) = Some opener.Literal
-opener_of (token.Word at word.EncodeUri number) = Some opener.Builtin
-opener_of (token.Word at word.EncodeUriComponent number) = Some opener.Builtin
-opener_of (token.Word at word.DecodeUri number) = Some opener.Builtin
-opener_of (token.Word at word.DecodeUriComponent number) = Some opener.Builtin
-opener_of _ = None
+opener_of t = elim t.kind [
+  | kind.Mark mark.OpenParen ↦ Some opener.Paren
+  | kind.Mark mark.OpenBrace ↦ Some opener.Literal
+  | kind.Word word.String n ↦ Some opener.Builtin
+  | kind.Word word.Symbol n ↦ Some opener.Builtin
+  | kind.Word word.Json n ↦ Some opener.Builtin
+  | kind.Word word.Object n ↦ Some opener.Builtin
+  | kind.Word word.EncodeUri n ↦ Some opener.Builtin
+  | kind.Word word.EncodeUriComponent n ↦ Some opener.Builtin
+  | kind.Word word.DecodeUri n ↦ Some opener.Builtin
+  | kind.Word word.DecodeUriComponent n ↦ Some opener.Builtin
+  | _ ↦ None
+]
 
 abbrev pub openers : List GrammarToken → Option Opener
 openers [] = None

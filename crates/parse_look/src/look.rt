@@ -5,7 +5,8 @@ ghost use Rattle.eval_tree.specs.Tree.{expr_tree, step_tree};
 ghost use Rattle.parse_syntax.specs.Tables.{tables_of};
 ghost use Rattle.parse_syntax.specs.Terminals as terminals;
 ghost use Rattle.parse_syntax.specs.Terminals.{Identifier, when};
-ghost use Rattle.parse_syntax.specs.declared.token.GrammarToken.TheVariants as token;
+ghost use Rattle.parse_syntax.specs.declared.token.GrammarToken.{GrammarToken};
+ghost use Rattle.parse_syntax.specs.declared.token.GrammarKind.TheVariants as kind;
 ghost use Rattle.parse_syntax.specs.Reading.{step_mark, goes_on, read_header};
 ghost use Rattle.parse_look.specs.Look.{terminal, operators, openers, read_string_called, read_symbol_called, read_json_called, read_object_called, read_called, ident};
 ghost use Rattle.parse_look.specs.Gives.{GivesAnswer};
@@ -15,7 +16,7 @@ use crate::object::letters;
 use eval_tree::{Builtin, Expr, Op, PostStep};
 use js_lex::Mark;
 use js_units::NoMemory;
-use parse_syntax::{GrammarToken, Property, Tables, Word};
+use parse_syntax::{GrammarKind, GrammarToken, Property, Tables, Word};
 use std::alloc::Global;
 
 /// An identifier or mark that is nothing but itself.
@@ -66,7 +67,8 @@ pub fn next(tokens: &[GrammarToken]) -> Option<(GrammarToken, &[GrammarToken])>
 }
 
 fn is_mark(fixed: Fixed, mark: Mark, after_line: bool) -> bool
-    ensures { (at : ℕ) → terminal fixed (token.Mark at mark after_line) ≡ when result tt }
+    ensures { (t : GrammarToken) → t.kind ≡ kind.Mark mark → t.after_line ≡ after_line
+        → terminal fixed t ≡ when result tt }
 {
     match (fixed, mark) {
         (Fixed::OpenParen, Mark::OpenParen) => true,
@@ -87,7 +89,8 @@ fn is_mark(fixed: Fixed, mark: Mark, after_line: bool) -> bool
 }
 
 fn is_word(fixed: Fixed, word: Word) -> bool
-    ensures { (at number : ℕ) → terminal fixed (token.Word at word number) ≡ when result tt }
+    ensures { (t : GrammarToken) (number : ℕ) → t.kind ≡ kind.Word word number
+        → terminal fixed t ≡ when result tt }
 {
     match (fixed, word) {
         (Fixed::Let, Word::Let) => true,
@@ -103,16 +106,12 @@ fn is_word(fixed: Fixed, word: Word) -> bool
 fn is(fixed: Fixed, token: GrammarToken) -> bool
     ensures { terminal fixed token ≡ when result tt }
 {
-    match token {
-        GrammarToken::Mark {
-            mark,
-            after_line,
-            ..
-        } => is_mark(fixed, mark, after_line),
-        GrammarToken::Word { word, .. } => is_word(fixed, word),
-        GrammarToken::Number { value, .. } => matches!(fixed, Fixed::Nought) && value == 0,
-        GrammarToken::Directive { .. } => matches!(fixed, Fixed::Directive),
-        GrammarToken::Text { .. } | GrammarToken::Name { .. } => false,
+    match token.kind {
+        GrammarKind::Mark(mark) => is_mark(fixed, mark, token.after_line),
+        GrammarKind::Word(word, _) => is_word(fixed, word),
+        GrammarKind::Number(value) => matches!(fixed, Fixed::Nought) && value == 0,
+        GrammarKind::Directive => matches!(fixed, Fixed::Directive),
+        GrammarKind::Text { .. } | GrammarKind::Name(..) => false,
     }
 }
 
@@ -142,16 +141,13 @@ pub fn behind(tokens: &[GrammarToken], fixed: Fixed) -> Option<&[GrammarToken]>
 pub fn begins_step(tokens: &[GrammarToken]) -> bool
     ensures { result ≡ heads step_mark tokens.now }
 {
-    matches!(
-        next(tokens),
-        Some((
-            GrammarToken::Mark {
-                mark: Mark::Point | Mark::OpenBracket,
-                ..
-            },
-            _
-        ))
-    )
+    match next(tokens) {
+        Some((token, _)) => matches!(
+            token.kind,
+            GrammarKind::Mark(Mark::Point | Mark::OpenBracket)
+        ),
+        None => false,
+    }
 }
 
 /// A sign: its offset, and whether it is a minus.
@@ -159,27 +155,10 @@ pub fn sign(tokens: &[GrammarToken]) -> Option<((u32, bool), &[GrammarToken])>
     ensures { MatchOption result (heads terminals.sign tokens.now ≡ false)
         (λ found. one_of terminals.sign tokens.now ≡ Got (found.0.0, found.0.1) found.1.now) }
 {
-    match next(tokens) {
-        Some(
-            (
-                GrammarToken::Mark {
-                    at,
-                    mark: Mark::Minus,
-                    ..
-                },
-                rest,
-            ),
-        ) => Some(((at, true), rest)),
-        Some(
-            (
-                GrammarToken::Mark {
-                    at,
-                    mark: Mark::Not,
-                    ..
-                },
-                rest,
-            ),
-        ) => Some(((at, false), rest)),
+    let (token, rest) = next(tokens)?;
+    match token.kind {
+        GrammarKind::Mark(Mark::Minus) => Some(((token.at, true), rest)),
+        GrammarKind::Mark(Mark::Not) => Some(((token.at, false), rest)),
         _ => None,
     }
 }
@@ -188,7 +167,8 @@ fn op(level: Level, token: GrammarToken) -> Option<(u32, Op)>
     ensures { MatchOption result (operators level token ≡ None)
         (λ found. operators level token ≡ Some (found.0, found.1)) }
 {
-    let GrammarToken::Mark { at, mark, .. } = token else {
+    let GrammarToken { at, kind, .. } = token;
+    let GrammarKind::Mark(mark) = kind else {
         return None;
     };
     match (level, mark) {
@@ -247,18 +227,18 @@ pub fn simple<'a>(
     let Some((token, rest)) = next(tokens) else {
         return Ok(None);
     };
-    match token {
-        GrammarToken::Text { number, .. } => Ok(Some((Expr::Literal { number }, rest))),
-        GrammarToken::Number { value, .. } => Ok(Some((Expr::Number { value }, rest))),
-        GrammarToken::Name { number, .. } => {
+    match token.kind {
+        GrammarKind::Text { number, .. } => Ok(Some((Expr::Literal { number }, rest))),
+        GrammarKind::Number(value) => Ok(Some((Expr::Number { value }, rest))),
+        GrammarKind::Name(number, _) => {
             let name = letters(alloc, tables, number)?;
             Ok(Some((Expr::Variable { name }, rest)))
         }
-        GrammarToken::Word { word, .. } => match constant(word) {
+        GrammarKind::Word(word, _) => match constant(word) {
             Some(value) => Ok(Some((value, rest))),
             None => Ok(None),
         },
-        GrammarToken::Directive { .. } | GrammarToken::Mark { .. } => Ok(None),
+        GrammarKind::Directive | GrammarKind::Mark(_) => Ok(None),
     }
 }
 
@@ -273,41 +253,21 @@ pub enum Opener {
 pub fn next_opener(tokens: &[GrammarToken]) -> Option<Opener>
     ensures { result ≡ openers tokens.now }
 {
-    match next(tokens) {
-        Some(
-            (
-                GrammarToken::Mark {
-                    mark: Mark::OpenParen,
-                    ..
-                },
-                _,
-            ),
-        ) => Some(Opener::Paren),
-        Some(
-            (
-                GrammarToken::Mark {
-                    mark: Mark::OpenBrace,
-                    ..
-                },
-                _,
-            ),
-        ) => Some(Opener::Literal),
-        Some(
-            (
-                GrammarToken::Word {
-                    word: Word::String
-                    | Word::Symbol
-                    | Word::Json
-                    | Word::Object
-                    | Word::EncodeUri
-                    | Word::EncodeUriComponent
-                    | Word::DecodeUri
-                    | Word::DecodeUriComponent,
-                    ..
-                },
-                _,
-            ),
-        ) => { Some(Opener::Builtin) }
+    let (token, _) = next(tokens)?;
+    match token.kind {
+        GrammarKind::Mark(Mark::OpenParen) => Some(Opener::Paren),
+        GrammarKind::Mark(Mark::OpenBrace) => Some(Opener::Literal),
+        GrammarKind::Word(
+            Word::String
+            | Word::Symbol
+            | Word::Json
+            | Word::Object
+            | Word::EncodeUri
+            | Word::EncodeUriComponent
+            | Word::DecodeUri
+            | Word::DecodeUriComponent,
+            _,
+        ) => Some(Opener::Builtin),
         _ => None,
     }
 }
@@ -317,17 +277,9 @@ pub fn open_bracket(tokens: &[GrammarToken]) -> Option<(u32, &[GrammarToken])>
     ensures { MatchOption result (heads terminals.open_bracket tokens.now ≡ false)
         (λ found. one_of terminals.open_bracket tokens.now ≡ Got found.0 found.1.now) }
 {
-    match next(tokens) {
-        Some(
-            (
-                GrammarToken::Mark {
-                    at,
-                    mark: Mark::OpenBracket,
-                    ..
-                },
-                rest,
-            ),
-        ) => Some((at, rest)),
+    let (token, rest) = next(tokens)?;
+    match token.kind {
+        GrammarKind::Mark(Mark::OpenBracket) => Some((token.at, rest)),
         _ => None,
     }
 }
@@ -337,25 +289,10 @@ pub fn member(tokens: &[GrammarToken]) -> Option<(PostStep, &[GrammarToken])>
     ensures { MatchOption result (heads terminals.member_word tokens.now ≡ false)
         (λ found. one_of terminals.member_word tokens.now ≡ Got (step_tree found.0) found.1.now) }
 {
-    match next(tokens) {
-        Some(
-            (
-                GrammarToken::Name {
-                    property: Property::Length,
-                    ..
-                },
-                rest,
-            ),
-        ) => { Some((PostStep::Length, rest)) }
-        Some(
-            (
-                GrammarToken::Name {
-                    property: Property::Description,
-                    ..
-                },
-                rest,
-            ),
-        ) => { Some((PostStep::Description, rest)) }
+    let (token, rest) = next(tokens)?;
+    match token.kind {
+        GrammarKind::Name(_, Property::Length) => Some((PostStep::Length, rest)),
+        GrammarKind::Name(_, Property::Description) => Some((PostStep::Description, rest)),
         _ => None,
     }
 }
@@ -364,25 +301,12 @@ fn string_function(tokens: &[GrammarToken]) -> Result<(Builtin, &[GrammarToken])
     ensures { GivesAnswer (λ found. found.0) (λ found. found.1.now) result
         (one_of terminals.from_word tokens.now) }
 {
-    match next(tokens) {
-        Some(
-            (
-                GrammarToken::Name {
-                    property: Property::FromCharCode,
-                    ..
-                },
-                rest,
-            ),
-        ) => { Ok((Builtin::FromCharCode, rest)) }
-        Some(
-            (
-                GrammarToken::Name {
-                    property: Property::FromCodePoint,
-                    ..
-                },
-                rest,
-            ),
-        ) => { Ok((Builtin::FromCodePoint, rest)) }
+    let Some((token, rest)) = next(tokens) else {
+        return Err(refused(tokens));
+    };
+    match token.kind {
+        GrammarKind::Name(_, Property::FromCharCode) => Ok((Builtin::FromCharCode, rest)),
+        GrammarKind::Name(_, Property::FromCodePoint) => Ok((Builtin::FromCodePoint, rest)),
         _ => Err(refused(tokens)),
     }
 }
@@ -391,25 +315,12 @@ fn symbol_function(tokens: &[GrammarToken]) -> Result<(Builtin, &[GrammarToken])
     ensures { GivesAnswer (λ found. found.0) (λ found. found.1.now) result
         (one_of terminals.symbol_function tokens.now) }
 {
-    match next(tokens) {
-        Some(
-            (
-                GrammarToken::Word {
-                    word: Word::For,
-                    ..
-                },
-                rest,
-            ),
-        ) => Ok((Builtin::SymbolFor, rest)),
-        Some(
-            (
-                GrammarToken::Name {
-                    property: Property::KeyFor,
-                    ..
-                },
-                rest,
-            ),
-        ) => Ok((Builtin::KeyFor, rest)),
+    let Some((token, rest)) = next(tokens) else {
+        return Err(refused(tokens));
+    };
+    match token.kind {
+        GrammarKind::Word(Word::For, _) => Ok((Builtin::SymbolFor, rest)),
+        GrammarKind::Name(_, Property::KeyFor) => Ok((Builtin::KeyFor, rest)),
         _ => Err(refused(tokens)),
     }
 }
@@ -418,16 +329,11 @@ fn json_function(tokens: &[GrammarToken]) -> Result<(Builtin, &[GrammarToken]), 
     ensures { GivesAnswer (λ found. found.0) (λ found. found.1.now) result
         (one_of terminals.stringify_word tokens.now) }
 {
-    match next(tokens) {
-        Some(
-            (
-                GrammarToken::Name {
-                    property: Property::Stringify,
-                    ..
-                },
-                rest,
-            ),
-        ) => { Ok((Builtin::Stringify, rest)) }
+    let Some((token, rest)) = next(tokens) else {
+        return Err(refused(tokens));
+    };
+    match token.kind {
+        GrammarKind::Name(_, Property::Stringify) => Ok((Builtin::Stringify, rest)),
         _ => Err(refused(tokens)),
     }
 }
@@ -436,16 +342,11 @@ fn object_function(tokens: &[GrammarToken]) -> Result<(Builtin, &[GrammarToken])
     ensures { GivesAnswer (λ found. found.0) (λ found. found.1.now) result
         (one_of terminals.keys_word tokens.now) }
 {
-    match next(tokens) {
-        Some(
-            (
-                GrammarToken::Name {
-                    property: Property::Keys,
-                    ..
-                },
-                rest,
-            ),
-        ) => { Ok((Builtin::Keys, rest)) }
+    let Some((token, rest)) = next(tokens) else {
+        return Err(refused(tokens));
+    };
+    match token.kind {
+        GrammarKind::Name(_, Property::Keys) => Ok((Builtin::Keys, rest)),
         _ => Err(refused(tokens)),
     }
 }
@@ -486,14 +387,19 @@ fn uri_function(tokens: &[GrammarToken]) -> Result<((u32, Builtin), &[GrammarTok
     ensures { GivesAnswer (λ found. (found.0.0, found.0.1)) (λ found. found.1.now) result
         (one_of terminals.uri_function tokens.now) }
 {
-    let Some((GrammarToken::Word { at, word, .. }, rest)) = next(tokens) else {
+    let Some((token, rest)) = next(tokens) else {
         return Err(refused(tokens));
     };
-    match word {
-        Word::EncodeUri => Ok(((at, Builtin::EncodeUri), rest)),
-        Word::EncodeUriComponent => Ok(((at, Builtin::EncodeUriComponent), rest)),
-        Word::DecodeUri => Ok(((at, Builtin::DecodeUri), rest)),
-        Word::DecodeUriComponent => Ok(((at, Builtin::DecodeUriComponent), rest)),
+    let GrammarToken { at, kind, .. } = token;
+    match kind {
+        GrammarKind::Word(Word::EncodeUri, _) => Ok(((at, Builtin::EncodeUri), rest)),
+        GrammarKind::Word(Word::EncodeUriComponent, _) => {
+            Ok(((at, Builtin::EncodeUriComponent), rest))
+        }
+        GrammarKind::Word(Word::DecodeUri, _) => Ok(((at, Builtin::DecodeUri), rest)),
+        GrammarKind::Word(Word::DecodeUriComponent, _) => {
+            Ok(((at, Builtin::DecodeUriComponent), rest))
+        }
         _ => Err(refused(tokens)),
     }
 }
@@ -505,58 +411,25 @@ pub fn called(tokens: &[GrammarToken]) -> Result<((u32, Builtin), &[GrammarToken
     ensures { GivesAnswer (λ found. (found.0.0, found.0.1)) (λ found. found.1.now) result
         (read_called tokens.now) }
 {
-    match next(tokens) {
-        Some(
-            (
-                GrammarToken::Word {
-                    at,
-                    word: Word::String,
-                    ..
-                },
-                rest,
-            ),
-        ) => {
+    let Some((token, rest)) = next(tokens) else {
+        return Err(refused(tokens));
+    };
+    match token.kind {
+        GrammarKind::Word(Word::String, _) => {
             let (which, rest) = string_called(rest)?;
-            Ok(((at, which), rest))
+            Ok(((token.at, which), rest))
         }
-        Some(
-            (
-                GrammarToken::Word {
-                    at,
-                    word: Word::Symbol,
-                    ..
-                },
-                rest,
-            ),
-        ) => {
+        GrammarKind::Word(Word::Symbol, _) => {
             let (which, rest) = symbol_called(rest)?;
-            Ok(((at, which), rest))
+            Ok(((token.at, which), rest))
         }
-        Some(
-            (
-                GrammarToken::Word {
-                    at,
-                    word: Word::Json,
-                    ..
-                },
-                rest,
-            ),
-        ) => {
+        GrammarKind::Word(Word::Json, _) => {
             let (which, rest) = json_called(rest)?;
-            Ok(((at, which), rest))
+            Ok(((token.at, which), rest))
         }
-        Some(
-            (
-                GrammarToken::Word {
-                    at,
-                    word: Word::Object,
-                    ..
-                },
-                rest,
-            ),
-        ) => {
+        GrammarKind::Word(Word::Object, _) => {
             let (which, rest) = object_called(rest)?;
-            Ok(((at, which), rest))
+            Ok(((token.at, which), rest))
         }
         _ => uri_function(tokens),
     }
@@ -574,8 +447,17 @@ pub fn name(tokens: &[GrammarToken]) -> Result<(Ident, &[GrammarToken]), Fault<'
     ensures { GivesAnswer (λ found. ident found.0.at found.0.number) (λ found. found.1.now) result
         (one_of terminals.name tokens.now) }
 {
-    match next(tokens) {
-        Some((GrammarToken::Name { at, number, .. }, rest)) => Ok((Ident { at, number }, rest)),
+    let Some((token, rest)) = next(tokens) else {
+        return Err(refused(tokens));
+    };
+    match token.kind {
+        GrammarKind::Name(number, _) => Ok((
+            Ident {
+                at: token.at,
+                number,
+            },
+            rest,
+        )),
         _ => Err(refused(tokens)),
     }
 }
@@ -584,8 +466,11 @@ fn same_name(tokens: &[GrammarToken], name: Ident) -> Result<&[GrammarToken], Fa
     ensures { GivesAnswer (λ _. tt) (λ rest. rest.now) result
         (one_of (terminals.the_name name.number) tokens.now) }
 {
-    match next(tokens) {
-        Some((GrammarToken::Name { number, .. }, rest)) if number == name.number => Ok(rest),
+    let Some((token, rest)) = next(tokens) else {
+        return Err(refused(tokens));
+    };
+    match token.kind {
+        GrammarKind::Name(number, _) if number == name.number => Ok(rest),
         _ => Err(refused(tokens)),
     }
 }
@@ -594,10 +479,11 @@ fn bound(tokens: &[GrammarToken]) -> Result<(u32, &[GrammarToken]), Fault<'_>>
     ensures { GivesAnswer (λ found. found.0) (λ found. found.1.now) result
         (one_of terminals.bound_number tokens.now) }
 {
-    match next(tokens) {
-        Some((GrammarToken::Number { value, .. }, rest)) if value <= 1_000_000 => {
-            Ok((value as u32, rest))
-        }
+    let Some((token, rest)) = next(tokens) else {
+        return Err(refused(tokens));
+    };
+    match token.kind {
+        GrammarKind::Number(value) if value <= 1_000_000 => Ok((value as u32, rest)),
         _ => Err(refused(tokens)),
     }
 }
@@ -630,26 +516,12 @@ pub fn assign_op(tokens: &[GrammarToken]) -> Result<(Option<u32>, &[GrammarToken
     ensures { GivesAnswer (λ found. found.0) (λ found. found.1.now) result
         (one_of terminals.assign_op tokens.now) }
 {
-    match next(tokens) {
-        Some(
-            (
-                GrammarToken::Mark {
-                    mark: Mark::Assign,
-                    ..
-                },
-                rest,
-            ),
-        ) => Ok((None, rest)),
-        Some(
-            (
-                GrammarToken::Mark {
-                    at,
-                    mark: Mark::AddAssign,
-                    ..
-                },
-                rest,
-            ),
-        ) => Ok((Some(at), rest)),
+    let Some((token, rest)) = next(tokens) else {
+        return Err(refused(tokens));
+    };
+    match token.kind {
+        GrammarKind::Mark(Mark::Assign) => Ok((None, rest)),
+        GrammarKind::Mark(Mark::AddAssign) => Ok((Some(token.at), rest)),
         _ => Err(refused(tokens)),
     }
 }
@@ -658,16 +530,10 @@ pub fn assign_op(tokens: &[GrammarToken]) -> Result<(Option<u32>, &[GrammarToken
 pub fn goes_on(tokens: &[GrammarToken]) -> bool
     ensures { result ≡ goes_on tokens.now }
 {
-    !matches!(
-        next(tokens),
-        None | Some((
-            GrammarToken::Mark {
-                mark: Mark::CloseBrace,
-                ..
-            },
-            _
-        ))
-    )
+    match next(tokens) {
+        Some((token, _)) => !matches!(token.kind, GrammarKind::Mark(Mark::CloseBrace)),
+        None => false,
+    }
 }
 
 /// The rest behind an `else` that an `if` follows.
@@ -676,20 +542,7 @@ pub fn else_if(tokens: &[GrammarToken]) -> Option<&[GrammarToken]>
         (λ rest. (one_of terminals.else_word tokens.now ≡ Got tt rest.now)
         × (heads_two terminals.else_word terminals.if_word tokens.now ≡ true)) }
 {
-    let Some(
-        (
-            GrammarToken::Word {
-                word: Word::Else,
-                ..
-            },
-            rest,
-        ),
-    ) = next(tokens)
-    else {
-        return None;
-    };
-    match next(rest) {
-        Some((GrammarToken::Word { word: Word::If, .. }, _)) => Some(rest),
-        _ => None,
-    }
+    let rest = behind(tokens, Fixed::Else)?;
+    let _ = behind(rest, Fixed::If)?;
+    Some(rest)
 }

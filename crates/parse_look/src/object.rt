@@ -12,7 +12,7 @@ use eval_tree::{Method, Name, PostStep};
 use itoa::Buffer;
 use js_lex::Mark;
 use js_units::{NoMemory, Units};
-use parse_syntax::{GrammarToken, Property, Tables};
+use parse_syntax::{GrammarKind, GrammarToken, Property, Tables};
 use std::alloc::Global;
 
 /// The letters of a name by its number.
@@ -76,19 +76,13 @@ pub fn key<'a>(
     let Some((token, rest)) = next(tokens) else {
         return Err(refused(tokens));
     };
-    match token {
-        GrammarToken::Text { number, .. } => Ok((key_text(alloc, tables, number)?, rest)),
-        GrammarToken::Number { value, .. } => Ok((decimal_text(alloc, value)?, rest)),
-        GrammarToken::Name { number, .. } => Ok((
-            units_of(alloc, letters_of(tables, number))?,
-            rest,
-        )),
-        GrammarToken::Word { number, .. } => Ok((
-            units_of(alloc, letters_of(tables, number))?,
-            rest,
-        )),
-        GrammarToken::Directive { .. } => Err(refused(tokens)),
-        GrammarToken::Mark { .. } => Err(refused(tokens)),
+    match token.kind {
+        GrammarKind::Text { number, .. } => Ok((key_text(alloc, tables, number)?, rest)),
+        GrammarKind::Number(value) => Ok((decimal_text(alloc, value)?, rest)),
+        GrammarKind::Name(number, _) => Ok((units_of(alloc, letters_of(tables, number))?, rest)),
+        GrammarKind::Word(_, number) => Ok((units_of(alloc, letters_of(tables, number))?, rest)),
+        GrammarKind::Directive => Err(refused(tokens)),
+        GrammarKind::Mark(_) => Err(refused(tokens)),
     }
 }
 
@@ -117,23 +111,22 @@ pub fn property_word<'a>(
     let Some((token, rest)) = next(tokens) else {
         return Ok(None);
     };
-    match token {
-        GrammarToken::Name {
-            property: Property::Length | Property::Description | Property::Method(_),
-            ..
-        } => Ok(None),
-        GrammarToken::Name { at, number, .. } => {
-            let step = property(alloc, at, letters_of(tables, number))?;
+    match token.kind {
+        GrammarKind::Name(_, Property::Length | Property::Description | Property::Method(_)) => {
+            Ok(None)
+        }
+        GrammarKind::Name(number, _) => {
+            let step = property(alloc, token.at, letters_of(tables, number))?;
             Ok(Some((step, rest)))
         }
-        GrammarToken::Word { at, number, .. } => {
-            let step = property(alloc, at, letters_of(tables, number))?;
+        GrammarKind::Word(_, number) => {
+            let step = property(alloc, token.at, letters_of(tables, number))?;
             Ok(Some((step, rest)))
         }
-        GrammarToken::Directive { .. } => Ok(None),
-        GrammarToken::Text { .. } => Ok(None),
-        GrammarToken::Number { .. } => Ok(None),
-        GrammarToken::Mark { .. } => Ok(None),
+        GrammarKind::Directive => Ok(None),
+        GrammarKind::Text { .. } => Ok(None),
+        GrammarKind::Number(_) => Ok(None),
+        GrammarKind::Mark(_) => Ok(None),
     }
 }
 
@@ -146,19 +139,11 @@ pub fn method<'t, 'a>(
         (λ found. one_of (terminals.method (tables_of tables.now)) tokens.now
         ≡ Got ((found.0.0, found.0.1), found.0.2.now) found.1.now) }
 {
-    match next(tokens) {
-        Some(
-            (
-                GrammarToken::Name {
-                    at,
-                    number,
-                    property: Property::Method(method),
-                },
-                rest,
-            ),
-        ) => {
+    let (token, rest) = next(tokens)?;
+    match token.kind {
+        GrammarKind::Name(number, Property::Method(method)) => {
             let letters = letters_of(tables, number);
-            Some(((at, method, letters), rest))
+            Some(((token.at, method, letters), rest))
         }
         _ => None,
     }
@@ -169,17 +154,9 @@ pub fn open_literal(tokens: &[GrammarToken]) -> Option<(u32, &[GrammarToken])>
     ensures { MatchOption result (heads terminals.open_literal tokens.now ≡ false)
         (λ found. one_of terminals.open_literal tokens.now ≡ Got found.0 found.1.now) }
 {
-    match next(tokens) {
-        Some(
-            (
-                GrammarToken::Mark {
-                    at,
-                    mark: Mark::OpenBrace,
-                    ..
-                },
-                rest,
-            ),
-        ) => Some((at, rest)),
+    let (token, rest) = next(tokens)?;
+    match token.kind {
+        GrammarKind::Mark(Mark::OpenBrace) => Some((token.at, rest)),
         _ => None,
     }
 }

@@ -5,12 +5,15 @@ use Rattle.parse_syntax.specs.Lang.{keep_first, keep_second}
 use Rattle.parse_syntax.specs.Reader.{Answer, Got, Bad, TokenReader, ◌>>=◌, wrong, too_deep, and_then, map_by, one_of, all_of, heads, at_end, read_whole}
 use Rattle.parse_syntax.specs.declared.token.GrammarToken.{GrammarToken}
 use Rattle.parse_syntax.specs.Tables.{TokenTables}
-use Rattle.parse_syntax.specs.declared.token.GrammarToken.TheVariants as token
+use Rattle.parse_syntax.specs.declared.token.GrammarKind.{GrammarKind}
+use Rattle.parse_syntax.specs.declared.token.GrammarKind.TheVariants as kind
 use Rattle.parse_syntax.specs.declared.token.Word.TheVariants as word
 use Rattle.parse_syntax.specs.declared.token.Property.{Property}
+use Rattle.parse_syntax.proofs.Stops.{with_kind}
 use Rattle.eval_tree.specs.Tree.{StmtTree, ArmTree, block}
 use Rattle.parse_syntax.specs.Terminals.{Identifier, directive, name, semicolon, assign_mark, assign_op, let_word, const_word, print_word, open_brace, close_brace, else_word, if_word}
-use Rattle.parse_syntax.specs.Grammar.{pair_of, arm_of, more_of, if_of, inside_of, no_inside, print_of, let_of, const_of, assign_of, for_of}
+use Rattle.parse_syntax.specs.Grammar.{pair_of, arm_of, if_of, inside_of, let_of, const_of, assign_of, for_of}
+use Rattle.parse_syntax.specs.Reading.{no_inside, print_of}
 use Rattle.parse_syntax.specs.Reading.{goes_on, read_at, read_header, read_strict, read_statements}
 use Rattle.parse_statements.specs.At.{inner_statement, expression_at, args_at, parens_at, init_at, let_at, const_at, assign_at, print_at, statement_at, statements_at, block_at, arm_at, others_at, rest_at, if_at, for_at}
 use Rattle.parse_statements.proofs.Rooms.{room_for, no_room_for, bind_got, bind_bind, word_then, head_of, less_one}
@@ -82,11 +85,11 @@ module _ (tables : TokenTables) where
     unfolding if_at arm_at others_at rest_at
     if_is n s = flat (arm_at tables prints n s)
       where
-        inside : (a : ArmTree) (os : Answer GrammarToken (List ArmTree)) → ((os >>= λ os r'. rest_at tables prints n r' >>= λ l r''. Got (more_of os l) r'') >>= λ p r. Got (if_of a p) r) ≡ (os >>= λ os r'. rest_at tables prints n r' >>= λ l r''. Got (if_of a (os, l)) r'')
+        inside : (a : ArmTree) (os : Answer GrammarToken (List ArmTree)) → ((os >>= λ os r'. rest_at tables prints n r' >>= λ l r''. Got (pair_of os l) r'') >>= λ p r. Got (if_of a p) r) ≡ (os >>= λ os r'. rest_at tables prints n r' >>= λ l r''. Got (if_of a (os, l)) r'')
         inside a (Bad k r) = refl
-        inside a (Got os r) = bind_bind (rest_at tables prints n r) (λ l r''. Got (more_of os l) r'') (λ p r. Got (if_of a p) r)
+        inside a (Got os r) = bind_bind (rest_at tables prints n r) (λ l r''. Got (pair_of os l) r'') (λ p r. Got (if_of a p) r)
 
-        flat : (a : Answer GrammarToken ArmTree) → (a >>= λ a r. (others_at tables prints n r >>= λ os r'. rest_at tables prints n r' >>= λ l r''. Got (more_of os l) r'') >>= λ p r. Got (if_of a p) r) ≡ (a >>= λ a r. others_at tables prints n r >>= λ os r'. rest_at tables prints n r' >>= λ l r''. Got (if_of a (os, l)) r'')
+        flat : (a : Answer GrammarToken ArmTree) → (a >>= λ a r. (others_at tables prints n r >>= λ os r'. rest_at tables prints n r' >>= λ l r''. Got (pair_of os l) r'') >>= λ p r. Got (if_of a p) r) ≡ (a >>= λ a r. others_at tables prints n r >>= λ os r'. rest_at tables prints n r' >>= λ l r''. Got (if_of a (os, l)) r'')
         flat (Bad k r) = refl
         flat (Got a r) = inside a (others_at tables prints n r)
 
@@ -104,53 +107,53 @@ module _ (tables : TokenTables) where
 
     -- a statement, by its first token
 
-    pub block_here : (n at : ℕ) (l : Bool) (r : List GrammarToken) → 0 < n → statement_at tables prints n (token.Mark at mark.OpenBrace l ∷ r) ≡ (block_at tables prints n (token.Mark at mark.OpenBrace l ∷ r) >>= λ b r'. Got (block b) r')
+    pub block_here : (n : ℕ) (t : GrammarToken) (r : List GrammarToken) → t.kind ≡ kind.Mark mark.OpenBrace → 0 < n → statement_at tables prints n (t ∷ r) ≡ (block_at tables prints n (t ∷ r) >>= λ b r'. Got (block b) r')
     unfolding statement_at block_at
-    block_here n at l r h = rw (room_for n h) refl
+    block_here n t r e h = rw (e, room_for n h) refl
 
-    pub let_here : (n at number : ℕ) (r : List GrammarToken) → statement_at tables prints n (token.Word at word.Let number ∷ r) ≡ let_at tables n (token.Word at word.Let number ∷ r)
+    pub let_here : (n : ℕ) (number : ℕ) (t : GrammarToken) (r : List GrammarToken) → t.kind ≡ kind.Word word.Let number → statement_at tables prints n (t ∷ r) ≡ let_at tables n (t ∷ r)
     unfolding statement_at let_at
-    let_here n at number r = refl
+    let_here n number t r e = rw e refl
 
-    pub const_here : (n at number : ℕ) (r : List GrammarToken) → statement_at tables prints n (token.Word at word.Const number ∷ r) ≡ const_at tables n (token.Word at word.Const number ∷ r)
+    pub const_here : (n : ℕ) (number : ℕ) (t : GrammarToken) (r : List GrammarToken) → t.kind ≡ kind.Word word.Const number → statement_at tables prints n (t ∷ r) ≡ const_at tables n (t ∷ r)
     unfolding statement_at const_at
-    const_here n at number r = refl
+    const_here n number t r e = rw e refl
 
-    pub name_here : (n at m : ℕ) (p : Property) (r : List GrammarToken) → statement_at tables prints n (token.Name at m p ∷ r) ≡ assign_at tables n (token.Name at m p ∷ r)
+    pub name_here : (n : ℕ) (m : ℕ) (p : Property) (t : GrammarToken) (r : List GrammarToken) → t.kind ≡ kind.Name m p → statement_at tables prints n (t ∷ r) ≡ assign_at tables n (t ∷ r)
     unfolding statement_at assign_at
-    name_here n at m p r = refl
+    name_here n m p t r e = rw e refl
 
-    pub print_here : (n at number : ℕ) (r : List GrammarToken) → 0 < n → prints ≡ true → statement_at tables prints n (token.Word at word.Print number ∷ r) ≡ print_at tables n (token.Word at word.Print number ∷ r)
+    pub print_here : (n : ℕ) (number : ℕ) (t : GrammarToken) (r : List GrammarToken) → t.kind ≡ kind.Word word.Print number → 0 < n → prints ≡ true → statement_at tables prints n (t ∷ r) ≡ print_at tables n (t ∷ r)
     unfolding statement_at print_at
-    print_here n at number r h e = rw (e, room_for n h) refl
+    print_here n number t r e h b = rw (e, b, room_for n h) refl
 
-    pub print_refused : (n at number : ℕ) (r : List GrammarToken) → prints ≡ false → statement_at tables prints n (token.Word at word.Print number ∷ r) ≡ wrong (token.Word at word.Print number ∷ r)
+    pub print_refused : (n : ℕ) (number : ℕ) (t : GrammarToken) (r : List GrammarToken) → t.kind ≡ kind.Word word.Print number → prints ≡ false → statement_at tables prints n (t ∷ r) ≡ wrong (t ∷ r)
     unfolding statement_at
-    print_refused n at number r e = rw e refl
+    print_refused n number t r e b = rw (e, b) refl
 
-    pub if_here : (n at number : ℕ) (r : List GrammarToken) → 0 < n → statement_at tables prints n (token.Word at word.If number ∷ r) ≡ if_at tables prints n (token.Word at word.If number ∷ r)
+    pub if_here : (n : ℕ) (number : ℕ) (t : GrammarToken) (r : List GrammarToken) → t.kind ≡ kind.Word word.If number → 0 < n → statement_at tables prints n (t ∷ r) ≡ if_at tables prints n (t ∷ r)
     unfolding statement_at if_at
-    if_here n at number r h = rw (room_for n h) refl
+    if_here n number t r e h = rw (e, room_for n h) refl
 
-    pub for_here : (n at number : ℕ) (r : List GrammarToken) → 0 < n → statement_at tables prints n (token.Word at word.For number ∷ r) ≡ for_at tables prints n (token.Word at word.For number ∷ r)
+    pub for_here : (n : ℕ) (number : ℕ) (t : GrammarToken) (r : List GrammarToken) → t.kind ≡ kind.Word word.For number → 0 < n → statement_at tables prints n (t ∷ r) ≡ for_at tables prints n (t ∷ r)
     unfolding statement_at for_at
-    for_here n at number r h = rw (room_for n h) refl
+    for_here n number t r e h = rw (e, room_for n h) refl
 
-    pub block_deep : (n at : ℕ) (l : Bool) (r : List GrammarToken) → n ≡ 0 → statement_at tables prints n (token.Mark at mark.OpenBrace l ∷ r) ≡ too_deep (token.Mark at mark.OpenBrace l ∷ r)
+    pub block_deep : (n : ℕ) (t : GrammarToken) (r : List GrammarToken) → t.kind ≡ kind.Mark mark.OpenBrace → n ≡ 0 → statement_at tables prints n (t ∷ r) ≡ too_deep (t ∷ r)
     unfolding statement_at
-    block_deep n at l r h = rw (no_room_for n h) refl
+    block_deep n t r e h = rw (e, no_room_for n h) refl
 
-    pub print_deep : (n at number : ℕ) (r : List GrammarToken) → n ≡ 0 → prints ≡ true → statement_at tables prints n (token.Word at word.Print number ∷ r) ≡ too_deep (token.Word at word.Print number ∷ r)
+    pub print_deep : (n : ℕ) (number : ℕ) (t : GrammarToken) (r : List GrammarToken) → t.kind ≡ kind.Word word.Print number → n ≡ 0 → prints ≡ true → statement_at tables prints n (t ∷ r) ≡ too_deep (t ∷ r)
     unfolding statement_at
-    print_deep n at number r h e = rw (e, no_room_for n h) refl
+    print_deep n number t r e h b = rw (e, b, no_room_for n h) refl
 
-    pub if_deep : (n at number : ℕ) (r : List GrammarToken) → n ≡ 0 → statement_at tables prints n (token.Word at word.If number ∷ r) ≡ too_deep (token.Word at word.If number ∷ r)
+    pub if_deep : (n : ℕ) (number : ℕ) (t : GrammarToken) (r : List GrammarToken) → t.kind ≡ kind.Word word.If number → n ≡ 0 → statement_at tables prints n (t ∷ r) ≡ too_deep (t ∷ r)
     unfolding statement_at
-    if_deep n at number r h = rw (no_room_for n h) refl
+    if_deep n number t r e h = rw (e, no_room_for n h) refl
 
-    pub for_deep : (n at number : ℕ) (r : List GrammarToken) → n ≡ 0 → statement_at tables prints n (token.Word at word.For number ∷ r) ≡ too_deep (token.Word at word.For number ∷ r)
+    pub for_deep : (n : ℕ) (number : ℕ) (t : GrammarToken) (r : List GrammarToken) → t.kind ≡ kind.Word word.For number → n ≡ 0 → statement_at tables prints n (t ∷ r) ≡ too_deep (t ∷ r)
     unfolding statement_at
-    for_deep n at number r h = rw (no_room_for n h) refl
+    for_deep n number t r e h = rw (e, no_room_for n h) refl
 
     pub nothing_here : (n : ℕ) → statement_at tables prints n [] ≡ wrong []
     unfolding statement_at
@@ -164,26 +167,31 @@ module _ (tables : TokenTables) where
 
 -- no statement begins with the token
 abbrev pub begins_none : GrammarToken → Bool
-begins_none (token.Mark at mark.OpenBrace l) = false
-begins_none (token.Word at word.Let number) = false
-begins_none (token.Word at word.Const number) = false
-begins_none (token.Name at n p) = false
-begins_none (token.Word at word.Print number) = false
-begins_none (token.Word at word.If number) = false
-begins_none (token.Word at word.For number) = false
-begins_none _ = true
+begins_none t = elim t.kind [
+  | kind.Mark mark.OpenBrace ↦ false
+  | kind.Name n p ↦ false
+  | kind.Word word.Let n ↦ false
+  | kind.Word word.Const n ↦ false
+  | kind.Word word.Print n ↦ false
+  | kind.Word word.If n ↦ false
+  | kind.Word word.For n ↦ false
+  | _ ↦ true
+]
 
 pub other_here : (tables : TokenTables) (prints : Bool) (n : ℕ) (t : GrammarToken) (r : List GrammarToken) → begins_none t ≡ true → statement_at tables prints n (t ∷ r) ≡ wrong (t ∷ r)
 unfolding statement_at
-other_here tables prints n (token.Mark at mark.OpenBrace l) r e = let z : ⊥ = cc in absurd z
-other_here tables prints n (token.Word at word.Let number) r e = let z : ⊥ = cc in absurd z
-other_here tables prints n (token.Word at word.Const number) r e = let z : ⊥ = cc in absurd z
-other_here tables prints n (token.Name at m p) r e = let z : ⊥ = cc in absurd z
-other_here tables prints n (token.Word at word.Print number) r e = let z : ⊥ = cc in absurd z
-other_here tables prints n (token.Word at word.If number) r e = let z : ⊥ = cc in absurd z
-other_here tables prints n (token.Word at word.For number) r e = let z : ⊥ = cc in absurd z
-other_here tables prints zero _ r e = refl
-other_here tables prints (suc n) _ r e = refl
+other_here tables prints n t r e = go n t t.kind e
+  where
+    go : (n : ℕ) (t : GrammarToken) (k : GrammarKind) → begins_none (with_kind t k) ≡ true → statement_at tables prints n (with_kind t k ∷ r) ≡ wrong (with_kind t k ∷ r)
+    go n t (kind.Mark mark.OpenBrace) e = let z : ⊥ = cc in absurd z
+    go n t (kind.Word word.Let number) e = let z : ⊥ = cc in absurd z
+    go n t (kind.Word word.Const number) e = let z : ⊥ = cc in absurd z
+    go n t (kind.Name m p) e = let z : ⊥ = cc in absurd z
+    go n t (kind.Word word.Print number) e = let z : ⊥ = cc in absurd z
+    go n t (kind.Word word.If number) e = let z : ⊥ = cc in absurd z
+    go n t (kind.Word word.For number) e = let z : ⊥ = cc in absurd z
+    go zero t _ e = refl
+    go (suc n) t _ e = refl
 
 -- scripts
 

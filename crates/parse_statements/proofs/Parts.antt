@@ -7,7 +7,8 @@ use Rattle.eval_tree.specs.declared.tree.Method.{Method}
 use Rattle.eval_tree.specs.Tree as tree
 use Rattle.eval_tree.specs.Tree.{ExprTree, StepTree}
 use Rattle.parse_syntax.specs.Terminals.{member_word, property_word, method, opening, open_bracket, close_bracket, sign, question, colon}
-use Rattle.parse_syntax.specs.Grammar.{method_step, index_read, unary_of}
+use Rattle.parse_syntax.specs.Grammar.{method_step}
+use Rattle.parse_syntax.specs.Reading.{index_read, unary_of}
 use Rattle.parse_look.specs.declared.fault.Fault.{Fault}
 use Rattle.parse_look.specs.Gives.{FailsWith}
 use Rattle.parse_statements.specs.At.{args_at, member_at, step_at, unary_at, branches_at, expression_at}

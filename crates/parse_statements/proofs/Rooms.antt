@@ -4,9 +4,11 @@ use Rattle.js_lex.specs.declared.token.Mark.TheVariants as mark
 use Rattle.parse_syntax.specs.Lang.{keep_first, keep_second}
 use Rattle.parse_syntax.specs.Reader.{Answer, Got, Bad, Wrong, TokenReader, ◌>>=◌, wrong, too_deep, and_then, map_by, take_or, one_of, choose, opens, heads, is_some}
 use Rattle.parse_syntax.proofs.Part.{then_strict}
+use Rattle.parse_syntax.proofs.Stops.{with_kind}
 use Rattle.parse_syntax.specs.declared.token.GrammarToken.{GrammarToken}
 use Rattle.parse_syntax.specs.Tables.{TokenTables}
-use Rattle.parse_syntax.specs.declared.token.GrammarToken.TheVariants as token
+use Rattle.parse_syntax.specs.declared.token.GrammarKind.{GrammarKind}
+use Rattle.parse_syntax.specs.declared.token.GrammarKind.TheVariants as kind
 use Rattle.parse_syntax.specs.declared.token.Word.TheVariants as word
 use Rattle.parse_syntax.specs.declared.token.Property.TheVariants as property
 use Rattle.eval_tree.specs.declared.tree.Method.{Method}
@@ -15,12 +17,13 @@ use Rattle.eval_tree.specs.declared.tree.Builtin.TheVariants as builtin
 use Rattle.eval_tree.specs.Tree as tree
 use Rattle.eval_tree.specs.Tree.{ExprTree, StepTree}
 use Rattle.parse_syntax.specs.Terminals.{member_word, property_word, method, key, opening, closing, open_bracket, close_bracket, open_literal, point, question, colon, sign, simple, string_word, symbol_word, json_word, object_word, uri_function, from_word, symbol_function, stringify_word, keys_word}
-use Rattle.parse_syntax.specs.Grammar.{Whole, Operand, pair_of, single_of, plain_string, builtin_of, uri_of, object_of, method_step, index_read, unary_of, branches_of, cond_of}
+use Rattle.parse_syntax.specs.Grammar.{Whole, Operand, pair_of, builtin_of, method_step, cond_of}
+use Rattle.parse_syntax.specs.Reading.{single_of, plain_string, uri_of, object_of, index_read, unary_of, branches_of}
 use Rattle.parse_syntax.specs.Reading.{read_within, read_parens, read_args, read_index, read_members, read_literal, read_method_args, read_word}
 use Rattle.parse_look.specs.declared.look.Level.TheVariants as level
 use Rattle.parse_look.specs.declared.look.Opener.{Opener}
 use Rattle.parse_look.specs.declared.look.Opener.TheVariants as opener
-use Rattle.parse_look.specs.Look.{openers, read_string_called, read_called}
+use Rattle.parse_look.specs.Look.{opener_of, openers, read_string_called, read_called}
 use Rattle.parse_statements.specs.At.{has_room, inner, parens_at, args_at, given_at, builtin_at, entry_at, members_at, literal_at, primary_at, member_at, step_at, post_at, unary_at, chain_at, branches_at, expression_at}
 
 -- answers
@@ -65,67 +68,98 @@ less_one n = omega arith
 
 -- none of these begins a primary
 
+-- what opens nothing isn't of a kind that does
+none_opens : {A : Type 0} (v : GrammarToken → Option A) → ((t : GrammarToken) (k : GrammarKind) → opener_of (with_kind t k) ≡ None → is_some (v (with_kind t k)) ≡ false) → (s : List GrammarToken) → openers s ≡ None → heads v s ≡ false
+none_opens v h [] o = refl
+none_opens v h (t ∷ s) o = h t t.kind o
+
 no_opening : (s : List GrammarToken) → openers s ≡ None → heads opening s ≡ false
-no_opening [] o = refl
-no_opening (token.Mark at mark.OpenParen l ∷ s) o = cc
-no_opening (_ ∷ s) o = refl
+no_opening = none_opens opening go
+  where
+    go : (t : GrammarToken) (k : GrammarKind) → opener_of (with_kind t k) ≡ None → is_some (opening (with_kind t k)) ≡ false
+    go t (kind.Mark mark.OpenParen) o = cc
+    go t _ o = refl
 
 no_string : (s : List GrammarToken) → openers s ≡ None → heads string_word s ≡ false
-no_string [] o = refl
-no_string (token.Word at word.String number ∷ s) o = cc
-no_string (_ ∷ s) o = refl
+no_string = none_opens string_word go
+  where
+    go : (t : GrammarToken) (k : GrammarKind) → opener_of (with_kind t k) ≡ None → is_some (string_word (with_kind t k)) ≡ false
+    go t (kind.Word word.String number) o = cc
+    go t _ o = refl
 
 no_symbol : (s : List GrammarToken) → openers s ≡ None → heads symbol_word s ≡ false
-no_symbol [] o = refl
-no_symbol (token.Word at word.Symbol number ∷ s) o = cc
-no_symbol (_ ∷ s) o = refl
+no_symbol = none_opens symbol_word go
+  where
+    go : (t : GrammarToken) (k : GrammarKind) → opener_of (with_kind t k) ≡ None → is_some (symbol_word (with_kind t k)) ≡ false
+    go t (kind.Word word.Symbol number) o = cc
+    go t _ o = refl
 
 no_json : (s : List GrammarToken) → openers s ≡ None → heads json_word s ≡ false
-no_json [] o = refl
-no_json (token.Word at word.Json number ∷ s) o = cc
-no_json (_ ∷ s) o = refl
+no_json = none_opens json_word go
+  where
+    go : (t : GrammarToken) (k : GrammarKind) → opener_of (with_kind t k) ≡ None → is_some (json_word (with_kind t k)) ≡ false
+    go t (kind.Word word.Json number) o = cc
+    go t _ o = refl
 
 no_uri : (s : List GrammarToken) → openers s ≡ None → heads uri_function s ≡ false
-no_uri [] o = refl
-no_uri (token.Word at word.EncodeUri number ∷ s) o = cc
-no_uri (token.Word at word.EncodeUriComponent number ∷ s) o = cc
-no_uri (token.Word at word.DecodeUri number ∷ s) o = cc
-no_uri (token.Word at word.DecodeUriComponent number ∷ s) o = cc
-no_uri (_ ∷ s) o = refl
+no_uri = none_opens uri_function go
+  where
+    go : (t : GrammarToken) (k : GrammarKind) → opener_of (with_kind t k) ≡ None → is_some (uri_function (with_kind t k)) ≡ false
+    go t (kind.Word word.EncodeUri number) o = cc
+    go t (kind.Word word.EncodeUriComponent number) o = cc
+    go t (kind.Word word.DecodeUri number) o = cc
+    go t (kind.Word word.DecodeUriComponent number) o = cc
+    go t _ o = refl
 
 no_object : (s : List GrammarToken) → openers s ≡ None → heads object_word s ≡ false
-no_object [] o = refl
-no_object (token.Word at word.Object number ∷ s) o = cc
-no_object (_ ∷ s) o = refl
+no_object = none_opens object_word go
+  where
+    go : (t : GrammarToken) (k : GrammarKind) → opener_of (with_kind t k) ≡ None → is_some (object_word (with_kind t k)) ≡ false
+    go t (kind.Word word.Object number) o = cc
+    go t _ o = refl
 
 no_literal : (s : List GrammarToken) → openers s ≡ None → heads open_literal s ≡ false
-no_literal [] o = refl
-no_literal (token.Mark at mark.OpenBrace l ∷ s) o = cc
-no_literal (_ ∷ s) o = refl
+no_literal = none_opens open_literal go
+  where
+    go : (t : GrammarToken) (k : GrammarKind) → opener_of (with_kind t k) ≡ None → is_some (open_literal (with_kind t k)) ≡ false
+    go t (kind.Mark mark.OpenBrace) o = cc
+    go t _ o = refl
 
 -- the functions of String, Symbol and Object have any number of arguments
 
 from_plain : (s r : List GrammarToken) (w : Builtin) → one_of from_word s ≡ Got w r → w ≡ builtin.Stringify → ⊥
 from_plain [] r w e = cc
-from_plain (token.Name at n property.FromCharCode ∷ s) r w e = λ h. let q : builtin.FromCharCode ≡ w = cc in let z : builtin.FromCharCode ≡ builtin.Stringify = q ∙ h in cc
-from_plain (token.Name at n property.FromCodePoint ∷ s) r w e = λ h. let q : builtin.FromCodePoint ≡ w = cc in let z : builtin.FromCodePoint ≡ builtin.Stringify = q ∙ h in cc
-from_plain (_ ∷ s) r w e = cc
+from_plain (t ∷ s) r w e = go t t.kind e
+  where
+    go : (t : GrammarToken) (k : GrammarKind) → take_or (from_word (with_kind t k)) t s ≡ Got w r → w ≡ builtin.Stringify → ⊥
+    go t (kind.Name n property.FromCharCode) e = λ h. let q : builtin.FromCharCode ≡ w = cc in let z : builtin.FromCharCode ≡ builtin.Stringify = q ∙ h in cc
+    go t (kind.Name n property.FromCodePoint) e = λ h. let q : builtin.FromCodePoint ≡ w = cc in let z : builtin.FromCodePoint ≡ builtin.Stringify = q ∙ h in cc
+    go t _ e = cc
 
 symbol_plain : (s r : List GrammarToken) (w : Builtin) → one_of symbol_function s ≡ Got w r → w ≡ builtin.Stringify → ⊥
 symbol_plain [] r w e = cc
-symbol_plain (token.Word at word.For number ∷ s) r w e = λ h. let q : builtin.SymbolFor ≡ w = cc in let z : builtin.SymbolFor ≡ builtin.Stringify = q ∙ h in cc
-symbol_plain (token.Name at n property.KeyFor ∷ s) r w e = λ h. let q : builtin.KeyFor ≡ w = cc in let z : builtin.KeyFor ≡ builtin.Stringify = q ∙ h in cc
-symbol_plain (_ ∷ s) r w e = cc
+symbol_plain (t ∷ s) r w e = go t t.kind e
+  where
+    go : (t : GrammarToken) (k : GrammarKind) → take_or (symbol_function (with_kind t k)) t s ≡ Got w r → w ≡ builtin.Stringify → ⊥
+    go t (kind.Word word.For number) e = λ h. let q : builtin.SymbolFor ≡ w = cc in let z : builtin.SymbolFor ≡ builtin.Stringify = q ∙ h in cc
+    go t (kind.Name n property.KeyFor) e = λ h. let q : builtin.KeyFor ≡ w = cc in let z : builtin.KeyFor ≡ builtin.Stringify = q ∙ h in cc
+    go t _ e = cc
 
 keys_plain : (s r : List GrammarToken) (w : Builtin) → one_of keys_word s ≡ Got w r → w ≡ builtin.Stringify → ⊥
 keys_plain [] r w e = cc
-keys_plain (token.Name at n property.Keys ∷ s) r w e = λ h. let q : builtin.Keys ≡ w = cc in let z : builtin.Keys ≡ builtin.Stringify = q ∙ h in cc
-keys_plain (_ ∷ s) r w e = cc
+keys_plain (t ∷ s) r w e = go t t.kind e
+  where
+    go : (t : GrammarToken) (k : GrammarKind) → take_or (keys_word (with_kind t k)) t s ≡ Got w r → w ≡ builtin.Stringify → ⊥
+    go t (kind.Name n property.Keys) e = λ h. let q : builtin.Keys ≡ w = cc in let z : builtin.Keys ≡ builtin.Stringify = q ∙ h in cc
+    go t _ e = cc
 
 json_one : (s r : List GrammarToken) (w : Builtin) → one_of stringify_word s ≡ Got w r → w ≡ builtin.Stringify
 json_one [] r w e = cc
-json_one (token.Name at n property.Stringify ∷ s) r w e = let q : builtin.Stringify ≡ w = cc in sym q
-json_one (_ ∷ s) r w e = cc
+json_one (t ∷ s) r w e = go t t.kind e
+  where
+    go : (t : GrammarToken) (k : GrammarKind) → take_or (stringify_word (with_kind t k)) t s ≡ Got w r → w ≡ builtin.Stringify
+    go t (kind.Name n property.Stringify) e = let q : builtin.Stringify ≡ w = cc in sym q
+    go t _ e = cc
 
 module _ (tables : TokenTables) where
   whole_is : (n : ℕ) → read_within tables n Whole ≡ expression_at tables n
@@ -211,27 +245,30 @@ module _ (tables : TokenTables) where
   pub builtin_is : (n : ℕ) (s : List GrammarToken) → builtin_at tables n s ≡ (read_called s >>= λ c r. given_at tables n c.1 r >>= λ ts r'. Got (builtin_of c.0 (c.1, ts)) r')
   unfolding builtin_at
   builtin_is n [] = refl
-  builtin_is n (token.Word at word.String number ∷ s) = string_call n at s ∙ sym (paired at (read_string_called s) (λ c r. calling n c.0 c.1 r))
-  builtin_is n (token.Word at word.Symbol number ∷ s) =
-      behind s (and_then pair_of (one_of symbol_function) (read_args (inner tables n Whole))) (λ p r. Got (builtin_of at p) r)
-      ∙ ap (λ f. one_of point s >>= f) (λ i _ r. function_call n at symbol_function (read_args (inner tables n Whole)) r (λ w r' e. given_plain n w r' (symbol_plain r r' w e)) i)
-      ∙ sym (behind s (one_of symbol_function) (λ w r. calling n at w r))
-      ∙ sym (paired at (and_then keep_second (one_of point) (one_of symbol_function) s) (λ c r. calling n c.0 c.1 r))
-  builtin_is n (token.Word at word.Json number ∷ s) =
-      behind s (and_then pair_of (one_of stringify_word) (map_by single_of (read_parens (inner tables n Whole)))) (λ p r. Got (builtin_of at p) r)
-      ∙ ap (λ f. one_of point s >>= f) (λ i _ r. function_call n at stringify_word (map_by single_of (read_parens (inner tables n Whole))) r (λ w r' e. given_single n w r' (json_one r r' w e)) i)
-      ∙ sym (behind s (one_of stringify_word) (λ w r. calling n at w r))
-      ∙ sym (paired at (and_then keep_second (one_of point) (one_of stringify_word) s) (λ c r. calling n c.0 c.1 r))
-  builtin_is n (token.Word at word.Object number ∷ s) =
-      behind s (and_then pair_of (one_of keys_word) (read_args (inner tables n Whole))) (λ p r. Got (builtin_of at p) r)
-      ∙ ap (λ f. one_of point s >>= f) (λ i _ r. function_call n at keys_word (read_args (inner tables n Whole)) r (λ w r' e. given_plain n w r' (keys_plain r r' w e)) i)
-      ∙ sym (behind s (one_of keys_word) (λ w r. calling n at w r))
-      ∙ sym (paired at (and_then keep_second (one_of point) (one_of keys_word) s) (λ c r. calling n c.0 c.1 r))
-  builtin_is n (token.Word at word.EncodeUri number ∷ s) = uri_call n at builtin.EncodeUri s (λ h. cc)
-  builtin_is n (token.Word at word.EncodeUriComponent number ∷ s) = uri_call n at builtin.EncodeUriComponent s (λ h. cc)
-  builtin_is n (token.Word at word.DecodeUri number ∷ s) = uri_call n at builtin.DecodeUri s (λ h. cc)
-  builtin_is n (token.Word at word.DecodeUriComponent number ∷ s) = uri_call n at builtin.DecodeUriComponent s (λ h. cc)
-  builtin_is n (_ ∷ s) = refl
+  builtin_is n (t ∷ s) = go t t.kind
+    where
+      go : (t : GrammarToken) (k : GrammarKind) → builtin_at tables n (with_kind t k ∷ s) ≡ (read_called (with_kind t k ∷ s) >>= λ c r. given_at tables n c.1 r >>= λ ts r'. Got (builtin_of c.0 (c.1, ts)) r')
+      go t (kind.Word word.String number) = string_call n t.at s ∙ sym (paired t.at (read_string_called s) (λ c r. calling n c.0 c.1 r))
+      go t (kind.Word word.Symbol number) =
+          behind s (and_then pair_of (one_of symbol_function) (read_args (inner tables n Whole))) (λ p r. Got (builtin_of t.at p) r)
+          ∙ ap (λ f. one_of point s >>= f) (λ i _ r. function_call n t.at symbol_function (read_args (inner tables n Whole)) r (λ w r' e. given_plain n w r' (symbol_plain r r' w e)) i)
+          ∙ sym (behind s (one_of symbol_function) (λ w r. calling n t.at w r))
+          ∙ sym (paired t.at (and_then keep_second (one_of point) (one_of symbol_function) s) (λ c r. calling n c.0 c.1 r))
+      go t (kind.Word word.Json number) =
+          behind s (and_then pair_of (one_of stringify_word) (map_by single_of (read_parens (inner tables n Whole)))) (λ p r. Got (builtin_of t.at p) r)
+          ∙ ap (λ f. one_of point s >>= f) (λ i _ r. function_call n t.at stringify_word (map_by single_of (read_parens (inner tables n Whole))) r (λ w r' e. given_single n w r' (json_one r r' w e)) i)
+          ∙ sym (behind s (one_of stringify_word) (λ w r. calling n t.at w r))
+          ∙ sym (paired t.at (and_then keep_second (one_of point) (one_of stringify_word) s) (λ c r. calling n c.0 c.1 r))
+      go t (kind.Word word.Object number) =
+          behind s (and_then pair_of (one_of keys_word) (read_args (inner tables n Whole))) (λ p r. Got (builtin_of t.at p) r)
+          ∙ ap (λ f. one_of point s >>= f) (λ i _ r. function_call n t.at keys_word (read_args (inner tables n Whole)) r (λ w r' e. given_plain n w r' (keys_plain r r' w e)) i)
+          ∙ sym (behind s (one_of keys_word) (λ w r. calling n t.at w r))
+          ∙ sym (paired t.at (and_then keep_second (one_of point) (one_of keys_word) s) (λ c r. calling n c.0 c.1 r))
+      go t (kind.Word word.EncodeUri number) = uri_call n t.at builtin.EncodeUri s (λ h. cc)
+      go t (kind.Word word.EncodeUriComponent number) = uri_call n t.at builtin.EncodeUriComponent s (λ h. cc)
+      go t (kind.Word word.DecodeUri number) = uri_call n t.at builtin.DecodeUri s (λ h. cc)
+      go t (kind.Word word.DecodeUriComponent number) = uri_call n t.at builtin.DecodeUriComponent s (λ h. cc)
+      go t _ = refl
 
   -- primaries
 
@@ -250,62 +287,74 @@ module _ (tables : TokenTables) where
   pub primary_deep : (n : ℕ) (s : List GrammarToken) (o : Opener) → openers s ≡ Some o → n ≡ 0 → primary_at tables n s ≡ too_deep s
   unfolding primary_at
   primary_deep n [] o e h = absurd cc
-  primary_deep n (token.Mark at mark.OpenParen l ∷ s) o e h = rw (no_room_for n h) refl
-  primary_deep n (token.Mark at mark.OpenBrace l ∷ s) o e h = rw (no_room_for n h) refl
-  primary_deep n (token.Word at word.Object number ∷ s) o e h = rw (no_room_for n h) refl
-  primary_deep n (token.Word at word.String number ∷ s) o e h = rw (no_room_for n h) refl
-  primary_deep n (token.Word at word.Symbol number ∷ s) o e h = rw (no_room_for n h) refl
-  primary_deep n (token.Word at word.Json number ∷ s) o e h = rw (no_room_for n h) refl
-  primary_deep n (token.Word at word.EncodeUri number ∷ s) o e h = rw (no_room_for n h) refl
-  primary_deep n (token.Word at word.EncodeUriComponent number ∷ s) o e h = rw (no_room_for n h) refl
-  primary_deep n (token.Word at word.DecodeUri number ∷ s) o e h = rw (no_room_for n h) refl
-  primary_deep n (token.Word at word.DecodeUriComponent number ∷ s) o e h = rw (no_room_for n h) refl
-  primary_deep n (_ ∷ s) o e h = absurd cc
+  primary_deep n (t ∷ s) o e h = go t t.kind e
+    where
+      go : (t : GrammarToken) (k : GrammarKind) → opener_of (with_kind t k) ≡ Some o → primary_at tables n (with_kind t k ∷ s) ≡ too_deep (with_kind t k ∷ s)
+      go t (kind.Mark mark.OpenParen) e = rw (no_room_for n h) refl
+      go t (kind.Mark mark.OpenBrace) e = rw (no_room_for n h) refl
+      go t (kind.Word word.String number) e = rw (no_room_for n h) refl
+      go t (kind.Word word.Symbol number) e = rw (no_room_for n h) refl
+      go t (kind.Word word.Json number) e = rw (no_room_for n h) refl
+      go t (kind.Word word.Object number) e = rw (no_room_for n h) refl
+      go t (kind.Word word.EncodeUri number) e = rw (no_room_for n h) refl
+      go t (kind.Word word.EncodeUriComponent number) e = rw (no_room_for n h) refl
+      go t (kind.Word word.DecodeUri number) e = rw (no_room_for n h) refl
+      go t (kind.Word word.DecodeUriComponent number) e = rw (no_room_for n h) refl
+      go t _ e = absurd cc
 
   pub primary_paren : (n : ℕ) (s : List GrammarToken) → openers s ≡ Some opener.Paren → 0 < n → primary_at tables n s ≡ parens_at tables n s
   unfolding primary_at parens_at
   primary_paren n [] e h = absurd cc
-  primary_paren n (token.Mark at mark.OpenParen l ∷ s) e h = rw (room_for n h) refl
-  primary_paren n (token.Mark at mark.OpenBrace l ∷ s) e h = absurd cc
-  primary_paren n (token.Word at word.Object number ∷ s) e h = absurd cc
-  primary_paren n (token.Word at word.String number ∷ s) e h = absurd cc
-  primary_paren n (token.Word at word.Symbol number ∷ s) e h = absurd cc
-  primary_paren n (token.Word at word.Json number ∷ s) e h = absurd cc
-  primary_paren n (token.Word at word.EncodeUri number ∷ s) e h = absurd cc
-  primary_paren n (token.Word at word.EncodeUriComponent number ∷ s) e h = absurd cc
-  primary_paren n (token.Word at word.DecodeUri number ∷ s) e h = absurd cc
-  primary_paren n (token.Word at word.DecodeUriComponent number ∷ s) e h = absurd cc
-  primary_paren n (_ ∷ s) e h = absurd cc
+  primary_paren n (t ∷ s) e h = go t t.kind e
+    where
+      go : (t : GrammarToken) (k : GrammarKind) → opener_of (with_kind t k) ≡ Some opener.Paren → primary_at tables n (with_kind t k ∷ s) ≡ parens_at tables n (with_kind t k ∷ s)
+      go t (kind.Mark mark.OpenParen) e = rw (room_for n h) refl
+      go t (kind.Mark mark.OpenBrace) e = absurd cc
+      go t (kind.Word word.String number) e = absurd cc
+      go t (kind.Word word.Symbol number) e = absurd cc
+      go t (kind.Word word.Json number) e = absurd cc
+      go t (kind.Word word.Object number) e = absurd cc
+      go t (kind.Word word.EncodeUri number) e = absurd cc
+      go t (kind.Word word.EncodeUriComponent number) e = absurd cc
+      go t (kind.Word word.DecodeUri number) e = absurd cc
+      go t (kind.Word word.DecodeUriComponent number) e = absurd cc
+      go t _ e = absurd cc
 
   pub primary_builtin : (n : ℕ) (s : List GrammarToken) → openers s ≡ Some opener.Builtin → 0 < n → primary_at tables n s ≡ builtin_at tables n s
   unfolding primary_at builtin_at
   primary_builtin n [] e h = absurd cc
-  primary_builtin n (token.Word at word.String number ∷ s) e h = rw (room_for n h) refl
-  primary_builtin n (token.Word at word.Symbol number ∷ s) e h = rw (room_for n h) refl
-  primary_builtin n (token.Word at word.Json number ∷ s) e h = rw (room_for n h) refl
-  primary_builtin n (token.Word at word.EncodeUri number ∷ s) e h = rw (room_for n h) refl
-  primary_builtin n (token.Word at word.EncodeUriComponent number ∷ s) e h = rw (room_for n h) refl
-  primary_builtin n (token.Word at word.DecodeUri number ∷ s) e h = rw (room_for n h) refl
-  primary_builtin n (token.Word at word.DecodeUriComponent number ∷ s) e h = rw (room_for n h) refl
-  primary_builtin n (token.Word at word.Object number ∷ s) e h = rw (room_for n h) refl
-  primary_builtin n (token.Mark at mark.OpenBrace l ∷ s) e h = absurd cc
-  primary_builtin n (token.Mark at mark.OpenParen l ∷ s) e h = absurd cc
-  primary_builtin n (_ ∷ s) e h = absurd cc
+  primary_builtin n (t ∷ s) e h = go t t.kind e
+    where
+      go : (t : GrammarToken) (k : GrammarKind) → opener_of (with_kind t k) ≡ Some opener.Builtin → primary_at tables n (with_kind t k ∷ s) ≡ builtin_at tables n (with_kind t k ∷ s)
+      go t (kind.Word word.String number) e = rw (room_for n h) refl
+      go t (kind.Word word.Symbol number) e = rw (room_for n h) refl
+      go t (kind.Word word.Json number) e = rw (room_for n h) refl
+      go t (kind.Word word.Object number) e = rw (room_for n h) refl
+      go t (kind.Word word.EncodeUri number) e = rw (room_for n h) refl
+      go t (kind.Word word.EncodeUriComponent number) e = rw (room_for n h) refl
+      go t (kind.Word word.DecodeUri number) e = rw (room_for n h) refl
+      go t (kind.Word word.DecodeUriComponent number) e = rw (room_for n h) refl
+      go t (kind.Mark mark.OpenParen) e = absurd cc
+      go t (kind.Mark mark.OpenBrace) e = absurd cc
+      go t _ e = absurd cc
 
   pub primary_literal : (n : ℕ) (s : List GrammarToken) → openers s ≡ Some opener.Literal → 0 < n → primary_at tables n s ≡ literal_at tables n s
   unfolding primary_at literal_at
   primary_literal n [] e h = absurd cc
-  primary_literal n (token.Mark at mark.OpenBrace l ∷ s) e h = rw (room_for n h) refl
-  primary_literal n (token.Mark at mark.OpenParen l ∷ s) e h = absurd cc
-  primary_literal n (token.Word at word.String number ∷ s) e h = absurd cc
-  primary_literal n (token.Word at word.Symbol number ∷ s) e h = absurd cc
-  primary_literal n (token.Word at word.Json number ∷ s) e h = absurd cc
-  primary_literal n (token.Word at word.Object number ∷ s) e h = absurd cc
-  primary_literal n (token.Word at word.EncodeUri number ∷ s) e h = absurd cc
-  primary_literal n (token.Word at word.EncodeUriComponent number ∷ s) e h = absurd cc
-  primary_literal n (token.Word at word.DecodeUri number ∷ s) e h = absurd cc
-  primary_literal n (token.Word at word.DecodeUriComponent number ∷ s) e h = absurd cc
-  primary_literal n (_ ∷ s) e h = absurd cc
+  primary_literal n (t ∷ s) e h = go t t.kind e
+    where
+      go : (t : GrammarToken) (k : GrammarKind) → opener_of (with_kind t k) ≡ Some opener.Literal → primary_at tables n (with_kind t k ∷ s) ≡ literal_at tables n (with_kind t k ∷ s)
+      go t (kind.Mark mark.OpenBrace) e = rw (room_for n h) refl
+      go t (kind.Mark mark.OpenParen) e = absurd cc
+      go t (kind.Word word.String number) e = absurd cc
+      go t (kind.Word word.Symbol number) e = absurd cc
+      go t (kind.Word word.Json number) e = absurd cc
+      go t (kind.Word word.Object number) e = absurd cc
+      go t (kind.Word word.EncodeUri number) e = absurd cc
+      go t (kind.Word word.EncodeUriComponent number) e = absurd cc
+      go t (kind.Word word.DecodeUri number) e = absurd cc
+      go t (kind.Word word.DecodeUriComponent number) e = absurd cc
+      go t _ e = absurd cc
 
   -- object literals
 
@@ -382,8 +431,11 @@ module _ (tables : TokenTables) where
     where
       none : (s : List GrammarToken) → heads point s ≡ false → one_of point s ≡ Bad Wrong s
       none [] p = refl
-      none (token.Mark at mark.Point l ∷ s) p = cc
-      none (_ ∷ s) p = refl
+      none (t ∷ s) p = by (point t) p
+        where
+          by : (o : Option (Unit {0})) → is_some o ≡ false → take_or o t s ≡ Bad Wrong (t ∷ s)
+          by None p = refl
+          by (Some x) p = cc
 
       go : (b : Bool) → heads point s ≡ b → step_at tables n s ≡ (one_of point s >>= λ _ r. member_at tables n r)
       go true p = rw p (word_then point (read_word tables (has_room n) (inner tables n Whole)) s)
@@ -391,8 +443,11 @@ module _ (tables : TokenTables) where
 
   bracket_no_point : (s r : List GrammarToken) (at : ℕ) → one_of open_bracket s ≡ Got at r → heads point s ≡ false
   bracket_no_point [] r at e = refl
-  bracket_no_point (token.Mark a mark.Point l ∷ s) r at e = cc
-  bracket_no_point (_ ∷ s) r at e = refl
+  bracket_no_point (t ∷ s) r at e = go t t.kind e
+    where
+      go : (t : GrammarToken) (k : GrammarKind) → take_or (open_bracket (with_kind t k)) t s ≡ Got at r → is_some (point (with_kind t k)) ≡ false
+      go t (kind.Mark mark.Point) e = cc
+      go t _ e = refl
 
   pub step_deep : (n : ℕ) (s : List GrammarToken) (at : ℕ) (r : List GrammarToken) → one_of open_bracket s ≡ Got at r → n ≡ 0 → step_at tables n s ≡ too_deep s
   unfolding step_at

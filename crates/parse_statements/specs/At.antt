@@ -9,7 +9,8 @@ use Rattle.eval_tree.specs.declared.tree.Builtin.{Builtin}
 use Rattle.eval_tree.specs.declared.tree.Builtin.TheVariants as builtin
 use Rattle.eval_tree.specs.Tree.{ExprTree, StepTree, StmtTree, BlockTree, ArmTree}
 use Rattle.parse_syntax.specs.Terminals.{else_word, if_word, string_word, symbol_word, json_word, uri_function, question}
-use Rattle.parse_syntax.specs.Grammar.{Which, Whole, Operand, single_of, cond_of}
+use Rattle.parse_syntax.specs.Grammar.{Which, Whole, Operand, cond_of}
+use Rattle.parse_syntax.specs.Reading.{single_of}
 use Rattle.parse_syntax.specs.Reading.{read_within, read_parens, read_args, read_string, read_symbol, read_json, read_uri, read_object_call, read_entry, read_members, read_literal, read_primary, read_word, read_branches, read_step, read_post, read_unary, read_sum, read_comparison, read_equality, read_conjunction, read_disjunction, read_conditional, goes_on, read_block, read_init, read_let, read_const, read_assign, read_print, read_arm, read_rest, read_if, read_for, read_statement, read_at}
 use Rattle.parse_look.specs.declared.look.Level.{Level}
 use Rattle.parse_look.specs.declared.look.Level.TheVariants as level

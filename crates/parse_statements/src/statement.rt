@@ -19,7 +19,7 @@ use js_lex::Mark;
 use parse_look::{
     Fault, Fixed, assign_op, behind, else_if, goes_on, header, name, next, refused, take, too_deep,
 };
-use parse_syntax::{GrammarToken, Tables, Word};
+use parse_syntax::{GrammarKind, GrammarToken, Tables, Word};
 use std::alloc::Global;
 
 // [ = Expr ]
@@ -259,78 +259,25 @@ fn statement<'a>(
     ensures { GivesAnswer (λ found. stmt_tree found.0) (λ found. found.1.now) result
         (statement_at (tables_of tables.now) prints room tokens.now) }
 {
-    match next(tokens) {
-        Some(
-            (
-                GrammarToken::Word {
-                    word: Word::Let,
-                    ..
-                },
-                _,
-            ),
-        ) => declaration(alloc, tables, tokens, room),
-        Some(
-            (
-                GrammarToken::Word {
-                    word: Word::Const,
-                    ..
-                },
-                _,
-            ),
-        ) => constant(alloc, tables, tokens, room),
-        Some((GrammarToken::Name { .. }, _)) => assign(alloc, tables, tokens, room),
-        Some(
-            (
-                GrammarToken::Mark {
-                    mark: Mark::OpenBrace,
-                    ..
-                },
-                _,
-            ),
-        ) => {
-            if room == 0 {
-                return Err(too_deep(tokens));
-            }
+    let Some((token, _)) = next(tokens) else {
+        return Err(refused(tokens));
+    };
+    match token.kind {
+        GrammarKind::Word(Word::Let, _) => declaration(alloc, tables, tokens, room),
+        GrammarKind::Word(Word::Const, _) => constant(alloc, tables, tokens, room),
+        GrammarKind::Name(..) => assign(alloc, tables, tokens, room),
+        GrammarKind::Word(Word::Print, _) if !prints => Err(refused(tokens)),
+        GrammarKind::Mark(Mark::OpenBrace) if room == 0 => Err(too_deep(tokens)),
+        GrammarKind::Word(Word::Print, _) if room == 0 => Err(too_deep(tokens)),
+        GrammarKind::Word(Word::If, _) if room == 0 => Err(too_deep(tokens)),
+        GrammarKind::Word(Word::For, _) if room == 0 => Err(too_deep(tokens)),
+        GrammarKind::Mark(Mark::OpenBrace) => {
             let (inner, rest) = inside(alloc, tables, tokens, prints, room)?;
             Ok((block_line(inner), rest))
         }
-        Some(
-            (
-                GrammarToken::Word {
-                    word: Word::Print,
-                    ..
-                },
-                _,
-            ),
-        ) => {
-            if !prints {
-                return Err(refused(tokens));
-            }
-            if room == 0 {
-                return Err(too_deep(tokens));
-            }
-            print_line(alloc, tables, tokens, room)
-        }
-        Some((GrammarToken::Word { word: Word::If, .. }, _)) => {
-            if room == 0 {
-                return Err(too_deep(tokens));
-            }
-            if_statement(alloc, tables, tokens, prints, room)
-        }
-        Some(
-            (
-                GrammarToken::Word {
-                    word: Word::For,
-                    ..
-                },
-                _,
-            ),
-        ) => {
-            if room == 0 {
-                return Err(too_deep(tokens));
-            }
-            for_statement(alloc, tables, tokens, prints, room)
-        }
+        GrammarKind::Word(Word::Print, _) => print_line(alloc, tables, tokens, room),
+        GrammarKind::Word(Word::If, _) => if_statement(alloc, tables, tokens, prints, room),
+        GrammarKind::Word(Word::For, _) => for_statement(alloc, tables, tokens, prints, room),
         _ => Err(refused(tokens)),
     }
 }

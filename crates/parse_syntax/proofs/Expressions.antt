@@ -3,13 +3,14 @@ use Rattle.std.proofs.Common.{◌≡◌, ℕ, ◌≤◌, List, [], ◌∷◌, �
 use Rattle.std.specs.Prelude.{decimal}
 use Rattle.js_lex.specs.declared.token.Mark.TheVariants as mark
 use Rattle.parse_syntax.specs.Lang.{Lang, One, one, Then, both, Mapped, mapped, Nothing, nothing, Either, left, right, Many, end, more, if_room, keep_first, keep_second, ◌▸◌, ◌◂◌}
-use Rattle.parse_syntax.specs.Reader.{TokenReader, SyntaxFaultKind, map_by, and_then, one_of, choose, heads}
+use Rattle.parse_syntax.specs.Reader.{TokenReader, SyntaxFaultKind, map_by, and_then, one_of, choose, is_some, heads}
 use Rattle.parse_syntax.proofs.Laws.{Holds}
 use Rattle.parse_syntax.proofs.Wider.{Begins, Starts, one_starts, then_starts, either_starts, head_gives, some_of}
 use Rattle.parse_syntax.proofs.Part.{anything, Branch, Part, both_hold, one_part, then_part, next_part, map_part, branch, sooner, part_of, choose_branch, nothing_branch, heads_test, Rooms, then_strict, map_strict, open_branch, many_part}
 use Rattle.parse_syntax.proofs.Heads.{one_heads, then_heads, mapped_heads, then_some, begins_length, either_lacks, room_of, in_room, deeper, over, one_lacks, then_lacks, lacks, one_over, first_over, lower}
 use Rattle.parse_syntax.specs.declared.token.GrammarToken.{GrammarToken}
-use Rattle.parse_syntax.specs.declared.token.GrammarToken.TheVariants as token
+use Rattle.parse_syntax.specs.declared.token.GrammarKind.{GrammarKind}
+use Rattle.parse_syntax.specs.declared.token.GrammarKind.TheVariants as kind
 use Rattle.parse_syntax.specs.declared.token.Word.TheVariants as word
 use Rattle.parse_syntax.specs.declared.token.Property.TheVariants as property
 use Rattle.eval_tree.specs.declared.tree.Op.{Op}
@@ -20,9 +21,10 @@ use Rattle.eval_tree.specs.Tree.{ExprTree, LinkTree, StepTree}
 use Rattle.parse_syntax.specs.Tables.{TokenTables}
 use Rattle.parse_syntax.specs.Terminals.{string_word, symbol_word, json_word, object_word, uri_function, member_word, property_word, method, key, from_word, symbol_function, stringify_word, keys_word, opening, closing, open_bracket, close_bracket, open_literal, close_brace, comma, point, question, colon, sign, or_op, and_op, equal_op, compare_op, sum_op, simple}
 use Rattle.parse_syntax.specs.Grammar
-use Rattle.parse_syntax.specs.Grammar.{list_of, none_of, single_of, pair_of, index_read, method_step, object_of, builtin_of, uri_of, plain_string, post_of, unary_of, link_of, chain_of, branches_of, cond_of}
+use Rattle.parse_syntax.specs.Grammar.{list_of, none_of, pair_of, method_step, builtin_of, post_of, link_of, chain_of, cond_of}
+use Rattle.parse_syntax.specs.Reading.{single_of, index_read, object_of, uri_of, plain_string, unary_of, branches_of}
 use Rattle.parse_syntax.specs.Reading.{read_parens, read_items, read_args, read_string, read_symbol, read_json, read_uri, read_object_call, read_entry, read_entries, read_members, read_literal, read_primary, read_method_args, read_word, read_member, read_index, read_step, step_mark, read_post, read_unary, read_chain, read_sum, read_comparison, read_equality, read_conjunction, read_disjunction, read_branches, read_conditional}
-use Rattle.parse_syntax.proofs.Stops.{stops, stops_more, HasLevel, question_level, or_level, and_level, equal_level, compare_level, sum_level, step_level, opening_level, colon_level, closing_level, close_bracket_level, close_brace_level, comma_level, none_of_level, class, simple_of, opening_of, string_of, symbol_of, json_of, uri_function_of, literal_of, sign_of, begins_unary, sign_begins, primary_begins, no_closing, part, point_of, bracket_of, paren_of, member_of, property_of, is_step, point_step, bracket_step, step_no_args, entry_class, key_of, close_brace_of}
+use Rattle.parse_syntax.proofs.Stops.{sample, with_kind, stops, stops_more, HasLevel, question_level, or_level, and_level, equal_level, compare_level, sum_level, step_level, opening_level, colon_level, closing_level, close_bracket_level, close_brace_level, comma_level, none_of_level, class, simple_of, opening_of, string_of, symbol_of, json_of, uri_function_of, literal_of, sign_of, begins_unary, sign_begins, primary_begins, no_closing, part, point_of, bracket_of, paren_of, member_of, property_of, is_step, point_step, bracket_step, step_no_args, entry_class, key_of, close_brace_of}
 use Rattle.parse_syntax.proofs.Stops.{object_of as object_word_of, method_of as method_word_of}
 
 -- a token of a lower level ends what is above it
@@ -50,37 +52,37 @@ pub record Inner (P : SyntaxFaultKind → Type 0) (room : Bool) (E U F G : Lang 
 
 module _ (P : SyntaxFaultKind → Type 0) where
   pub opening_part : Part P (One opening) (One opening) anything (one_of opening) (one_of opening)
-  opening_part = one_part P opening (token.Mark 0 mark.OpenParen false) tt refl
+  opening_part = one_part P opening (sample (kind.Mark mark.OpenParen)) tt refl
 
   pub closing_part : Part P (One closing) (One closing) anything (one_of closing) (one_of closing)
-  closing_part = one_part P closing (token.Mark 0 mark.CloseParen false) tt refl
+  closing_part = one_part P closing (sample (kind.Mark mark.CloseParen)) tt refl
 
   point_part : Part P (One point) (One point) anything (one_of point) (one_of point)
-  point_part = one_part P point (token.Mark 0 mark.Point false) tt refl
+  point_part = one_part P point (sample (kind.Mark mark.Point)) tt refl
 
   close_bracket_part : Part P (One close_bracket) (One close_bracket) anything (one_of close_bracket) (one_of close_bracket)
-  close_bracket_part = one_part P close_bracket (token.Mark 0 mark.CloseBracket false) tt refl
+  close_bracket_part = one_part P close_bracket (sample (kind.Mark mark.CloseBracket)) tt refl
 
   colon_part : Part P (One colon) (One colon) anything (one_of colon) (one_of colon)
-  colon_part = one_part P colon (token.Mark 0 mark.Colon false) tt refl
+  colon_part = one_part P colon (sample (kind.Mark mark.Colon)) tt refl
 
   from_part : Part P (One from_word) (One from_word) anything (one_of from_word) (one_of from_word)
-  from_part = one_part P from_word (token.Name 0 0 property.FromCharCode) _ refl
+  from_part = one_part P from_word (sample (kind.Name 0 property.FromCharCode)) _ refl
 
   function_part : Part P (One symbol_function) (One symbol_function) anything (one_of symbol_function) (one_of symbol_function)
-  function_part = one_part P symbol_function (token.Word 0 word.For 0) _ refl
+  function_part = one_part P symbol_function (sample (kind.Word word.For 0)) _ refl
 
   stringify_part : Part P (One stringify_word) (One stringify_word) anything (one_of stringify_word) (one_of stringify_word)
-  stringify_part = one_part P stringify_word (token.Name 0 0 property.Stringify) _ refl
+  stringify_part = one_part P stringify_word (sample (kind.Name 0 property.Stringify)) _ refl
 
   comma_part : Part P (One comma) (One comma) anything (one_of comma) (one_of comma)
-  comma_part = one_part P comma (token.Mark 0 mark.Comma false) tt refl
+  comma_part = one_part P comma (sample (kind.Mark mark.Comma)) tt refl
 
   close_brace_part : Part P (One close_brace) (One close_brace) anything (one_of close_brace) (one_of close_brace)
-  close_brace_part = one_part P close_brace (token.Mark 0 mark.CloseBrace false) tt refl
+  close_brace_part = one_part P close_brace (sample (kind.Mark mark.CloseBrace)) tt refl
 
   keys_part : Part P (One keys_word) (One keys_word) anything (one_of keys_word) (one_of keys_word)
-  keys_part = one_part P keys_word (token.Name 0 0 property.Keys) _ refl
+  keys_part = one_part P keys_word (sample (kind.Name 0 property.Keys)) _ refl
 
   module _ {E F : Lang GrammarToken ExprTree} {e e' : TokenReader GrammarToken ExprTree} (p : Part P E F (stops 1) e e') where
     pub parens_part : Part P (Grammar.parens E) (Grammar.parens F) anything (read_parens e) (read_parens e')
@@ -97,13 +99,13 @@ module _ (P : SyntaxFaultKind → Type 0) where
       over = heads_stop closing 0 1 closing_level refl;
     })) follows
       where
-        no_comma : (t : GrammarToken) (x : Unit {0}) → closing t ≡ Some x → heads comma (t ∷ []) ≡ false
-        no_comma (token.Mark a mark.CloseParen l) x h = refl
-        no_comma _ x h = cc
+        no_comma : (t : GrammarToken) (k : GrammarKind) (x : Unit {0}) → closing (with_kind t k) ≡ Some x → is_some (comma (with_kind t k)) ≡ false
+        no_comma t (kind.Mark mark.CloseParen) x h = refl
+        no_comma t _ x h = cc
 
         closes_commas : (s : List GrammarToken) → heads closing s ≡ true → heads comma s ≡ false
         closes_commas [] h = refl
-        closes_commas (t ∷ s) h = let y = some_of (closing t) h in no_comma t y.0 y.1
+        closes_commas (t ∷ s) h = let y = some_of (closing t) h in no_comma t t.kind y.0 y.1
 
         follows : (b : List GrammarToken) (y : List ExprTree) (rest : List GrammarToken) → Many (One comma ▸ E) b y → heads closing rest ≡ true → stops 1 (b ++ rest) ≡ true
         follows _ _ rest end s = heads_stop closing 0 1 closing_level refl rest s
@@ -119,7 +121,7 @@ module _ (P : SyntaxFaultKind → Type 0) where
         (record { tokens = closing_part.some.tokens; value = []; spells = left closing_part.some.tokens [] (mapped closing_part.some.tokens tt closing_part.some.spells) }))
 
     string_part : Starts E begins_unary → Part P (Grammar.string_primary E) (Grammar.string_primary F) anything (read_string e) (read_string e')
-    string_part st = next_part builtin_of (one_part P string_word (token.Word 0 word.String 0) 0 refl) (part_of
+    string_part st = next_part builtin_of (one_part P string_word (sample (kind.Word word.String 0)) 0 refl) (part_of
         (choose_branch (heads point) (heads_test point)
         (branch (next_part keep_second point_part (next_part pair_of from_part (args_part st))) (λ ts x h. left ts x h))
         (branch (map_part plain_string (args_part st)) (λ ts x h. right ts x h))
@@ -133,24 +135,24 @@ module _ (P : SyntaxFaultKind → Type 0) where
         plain_no_point : (ts : List GrammarToken) (x : Builtin × List ExprTree) (rest : List GrammarToken) → Mapped plain_string (Grammar.args E) ts x → heads point (ts ++ rest) ≡ false
         plain_no_point _ _ rest (mapped a x h) = then_lacks part point_of paren_of (λ q. omega arith) a x rest h
 
-    symbol_part : Starts E begins_unary → Part P (Grammar.symbol_call E) (Grammar.symbol_call F) anything (read_symbol e) (read_symbol e')
-    symbol_part st = next_part builtin_of (one_part P symbol_word (token.Word 0 word.Symbol 0) 0 refl) (next_part keep_second point_part (next_part pair_of function_part (args_part st)))
+    symbol_part : Starts E begins_unary → Part P (Grammar.static_call symbol_word symbol_function E) (Grammar.static_call symbol_word symbol_function F) anything (read_symbol e) (read_symbol e')
+    symbol_part st = next_part builtin_of (one_part P symbol_word (sample (kind.Word word.Symbol 0)) 0 refl) (next_part keep_second point_part (next_part pair_of function_part (args_part st)))
 
     json_part : Part P (Grammar.json_call E) (Grammar.json_call F) anything (read_json e) (read_json e')
-    json_part = next_part builtin_of (one_part P json_word (token.Word 0 word.Json 0) 0 refl) (next_part keep_second point_part (next_part pair_of stringify_part (map_part single_of parens_part)))
+    json_part = next_part builtin_of (one_part P json_word (sample (kind.Word word.Json 0)) 0 refl) (next_part keep_second point_part (next_part pair_of stringify_part (map_part single_of parens_part)))
 
     uri_part : Starts E begins_unary → Part P (Grammar.uri_primary E) (Grammar.uri_primary F) anything (read_uri e) (read_uri e')
-    uri_part st = next_part uri_of (one_part P uri_function (token.Word 0 word.EncodeUri 0) _ refl) (args_part st)
+    uri_part st = next_part uri_of (one_part P uri_function (sample (kind.Word word.EncodeUri 0)) _ refl) (args_part st)
 
-    object_call_part : Starts E begins_unary → Part P (Grammar.object_call E) (Grammar.object_call F) anything (read_object_call e) (read_object_call e')
-    object_call_part st = next_part builtin_of (one_part P object_word (token.Word 0 word.Object 0) 0 refl) (next_part keep_second point_part (next_part pair_of keys_part (args_part st)))
+    object_call_part : Starts E begins_unary → Part P (Grammar.static_call object_word keys_word E) (Grammar.static_call object_word keys_word F) anything (read_object_call e) (read_object_call e')
+    object_call_part st = next_part builtin_of (one_part P object_word (sample (kind.Word word.Object 0)) 0 refl) (next_part keep_second point_part (next_part pair_of keys_part (args_part st)))
 
     -- object literals
     module _ (tables : TokenTables) where
       entry_part : Part P (Grammar.entry tables E) (Grammar.entry tables F) (stops 1) (read_entry tables e) (read_entry tables e')
-      entry_part = next_part pair_of (one_part P (key tables) (token.Number 0 0) (decimal 0) refl) (next_part keep_second colon_part p)
+      entry_part = next_part pair_of (one_part P (key tables) (sample (kind.Number 0)) (decimal 0) refl) (next_part keep_second colon_part p)
 
-      entries_part : Part P (Grammar.property_definitions tables E) (Grammar.property_definitions tables F) (heads close_brace) (read_entries tables e) (read_entries tables e')
+      entries_part : Part P (Grammar.items (Grammar.entry tables E)) (Grammar.items (Grammar.entry tables F)) (heads close_brace) (read_entries tables e) (read_entries tables e')
       entries_part = then_part list_of entry_part (many_part (heads comma) (heads close_brace) (next_part keep_second comma_part entry_part) (record {
         test = heads_test comma;
         none = refl;
@@ -161,23 +163,23 @@ module _ (P : SyntaxFaultKind → Type 0) where
         over = heads_stop close_brace 0 1 close_brace_level refl;
       })) follows
         where
-          no_comma : (t : GrammarToken) (x : Unit {0}) → close_brace t ≡ Some x → heads comma (t ∷ []) ≡ false
-          no_comma (token.Mark a mark.CloseBrace l) x h = refl
-          no_comma _ x h = cc
+          no_comma : (t : GrammarToken) (k : GrammarKind) (x : Unit {0}) → close_brace (with_kind t k) ≡ Some x → is_some (comma (with_kind t k)) ≡ false
+          no_comma t (kind.Mark mark.CloseBrace) x h = refl
+          no_comma t _ x h = cc
 
           closes_commas : (s : List GrammarToken) → heads close_brace s ≡ true → heads comma s ≡ false
           closes_commas [] h = refl
-          closes_commas (t ∷ s) h = let y = some_of (close_brace t) h in no_comma t y.0 y.1
+          closes_commas (t ∷ s) h = let y = some_of (close_brace t) h in no_comma t t.kind y.0 y.1
 
           follows : (b : List GrammarToken) (y : List (List ℕ × ExprTree)) (rest : List GrammarToken) → Many (One comma ▸ Grammar.entry tables E) b y → heads close_brace rest ≡ true → stops 1 (b ++ rest) ≡ true
           follows _ _ rest end s = heads_stop close_brace 0 1 close_brace_level refl rest s
           follows _ _ rest (more a b x xs ha hb) s = rw (append_assoc a b rest) (then_stops comma 0 1 comma_level refl a x (b ++ rest) ha)
 
-      entries_start : Starts (Grammar.property_definitions tables E ◂ One close_brace) (over entry_class 0)
-      entries_start = then_starts keep_first (Grammar.property_definitions tables E) (One close_brace) (over entry_class 0) (then_starts list_of (Grammar.entry tables E) (Many (One comma ▸ Grammar.entry tables E)) (over entry_class 0) (first_over entry_class (key tables) 1 0 (key_of tables) refl))
+      entries_start : Starts (Grammar.items (Grammar.entry tables E) ◂ One close_brace) (over entry_class 0)
+      entries_start = then_starts keep_first (Grammar.items (Grammar.entry tables E)) (One close_brace) (over entry_class 0) (then_starts list_of (Grammar.entry tables E) (Many (One comma ▸ Grammar.entry tables E)) (over entry_class 0) (first_over entry_class (key tables) 1 0 (key_of tables) refl))
 
       literal_part : Part P (Grammar.object_literal tables E) (Grammar.object_literal tables F) anything (read_literal tables e) (read_literal tables e')
-      literal_part = next_part object_of (one_part P open_literal (token.Mark 0 mark.OpenBrace false) 0 refl) (part_of
+      literal_part = next_part object_of (one_part P open_literal (sample (kind.Mark mark.OpenBrace)) 0 refl) (part_of
           (choose_branch (heads close_brace) (heads_test close_brace)
           (branch (map_part none_of close_brace_part) (λ ts x h. left ts x h))
           (branch (then_part keep_first entries_part close_brace_part (λ b y rest h s. one_heads close_brace b y rest h)) (λ ts x h. right ts x h))
@@ -186,10 +188,10 @@ module _ (P : SyntaxFaultKind → Type 0) where
           (record { tokens = close_brace_part.some.tokens; value = []; spells = left close_brace_part.some.tokens [] (mapped close_brace_part.some.tokens tt close_brace_part.some.spells) }))
 
     index_part : Part P (Grammar.index E) (Grammar.index F) anything (read_index e) (read_index e')
-    index_part = next_part index_read (one_part P open_bracket (token.Mark 0 mark.OpenBracket false) 0 refl) (then_part keep_first p close_bracket_part (λ b y rest h s. one_stops close_bracket 0 1 close_bracket_level refl b y rest h))
+    index_part = next_part index_read (one_part P open_bracket (sample (kind.Mark mark.OpenBracket)) 0 refl) (then_part keep_first p close_bracket_part (λ b y rest h s. one_stops close_bracket 0 1 close_bracket_level refl b y rest h))
 
     branches_part : Part P (Grammar.branches E) (Grammar.branches F) (stops 1) (read_branches e) (read_branches e')
-    branches_part = next_part keep_second (one_part P question (token.Mark 0 mark.Question false) tt refl) (then_part branches_of p (next_part keep_second colon_part p) (λ b y rest h s. then_stops colon 0 1 colon_level refl b y rest h))
+    branches_part = next_part keep_second (one_part P question (sample (kind.Mark mark.Question)) tt refl) (then_part branches_of p (next_part keep_second colon_part p) (λ b y rest h s. then_stops colon 0 1 colon_level refl b y rest h))
 
   -- () is a list of arguments at each level
   pub no_args : (L : Lang GrammarToken ExprTree) → Holds (Grammar.args L)
@@ -215,7 +217,7 @@ module _ (P : SyntaxFaultKind → Type 0) where
   held_object_call L = both_hold keep_second point_part.some (both_hold pair_of keys_part.some (no_args L))
 
   -- { } is an object literal at each level
-  held_literal : (tables : TokenTables) (L : Lang GrammarToken ExprTree) → Holds (Either (Mapped none_of (One close_brace)) (Grammar.property_definitions tables L ◂ One close_brace))
+  held_literal : (tables : TokenTables) (L : Lang GrammarToken ExprTree) → Holds (Either (Mapped none_of (One close_brace)) (Grammar.items (Grammar.entry tables L) ◂ One close_brace))
   held_literal tables L = record { tokens = close_brace_part.some.tokens; value = []; spells = left close_brace_part.some.tokens [] (mapped close_brace_part.some.tokens tt close_brace_part.some.spells) }
 
   -- ( begins a method's arguments at each level
@@ -231,7 +233,7 @@ module _ (P : SyntaxFaultKind → Type 0) where
     From_literal = if_room room (Grammar.object_literal tables E)
 
     abbrev From_object : Lang GrammarToken ExprTree
-    From_object = Either (if_room room (Grammar.object_call E)) From_literal
+    From_object = Either (if_room room (Grammar.static_call object_word keys_word E)) From_literal
 
     abbrev From_uri : Lang GrammarToken ExprTree
     From_uri = Either (if_room room (Grammar.uri_primary E)) From_object
@@ -240,7 +242,7 @@ module _ (P : SyntaxFaultKind → Type 0) where
     From_json = Either (if_room room (Grammar.json_call E)) From_uri
 
     abbrev From_symbol : Lang GrammarToken ExprTree
-    From_symbol = Either (if_room room (Grammar.symbol_call E)) From_json
+    From_symbol = Either (if_room room (Grammar.static_call symbol_word symbol_function E)) From_json
 
     abbrev From_string : Lang GrammarToken ExprTree
     From_string = Either (if_room room (Grammar.string_primary E)) From_symbol
@@ -252,7 +254,7 @@ module _ (P : SyntaxFaultKind → Type 0) where
     literal_starts = room_starts room (over class 7) (first_over class open_literal 8 7 literal_of refl)
 
     object_starts : Starts From_object (over class 6)
-    object_starts = either_starts (if_room room (Grammar.object_call E)) From_literal (over class 6) (room_starts room (over class 6) (first_over class object_word 7 6 object_word_of refl)) (lower class 7 6 refl literal_starts)
+    object_starts = either_starts (if_room room (Grammar.static_call object_word keys_word E)) From_literal (over class 6) (room_starts room (over class 6) (first_over class object_word 7 6 object_word_of refl)) (lower class 7 6 refl literal_starts)
 
     uri_starts : Starts From_uri (over class 5)
     uri_starts = either_starts (if_room room (Grammar.uri_primary E)) From_object (over class 5) (room_starts room (over class 5) (first_over class uri_function 6 5 uri_function_of refl)) (lower class 6 5 refl object_starts)
@@ -261,7 +263,7 @@ module _ (P : SyntaxFaultKind → Type 0) where
     json_starts = either_starts (if_room room (Grammar.json_call E)) From_uri (over class 4) (room_starts room (over class 4) (first_over class json_word 5 4 json_of refl)) (lower class 5 4 refl uri_starts)
 
     symbol_starts : Starts From_symbol (over class 3)
-    symbol_starts = either_starts (if_room room (Grammar.symbol_call E)) From_json (over class 3) (room_starts room (over class 3) (first_over class symbol_word 4 3 symbol_of refl)) (lower class 4 3 refl json_starts)
+    symbol_starts = either_starts (if_room room (Grammar.static_call symbol_word symbol_function E)) From_json (over class 3) (room_starts room (over class 3) (first_over class symbol_word 4 3 symbol_of refl)) (lower class 4 3 refl json_starts)
 
     string_starts : Starts From_string (over class 2)
     string_starts = either_starts (if_room room (Grammar.string_primary E)) From_symbol (over class 2) (room_starts room (over class 2) (first_over class string_word 3 2 string_of refl)) (lower class 3 2 refl symbol_starts)
@@ -273,16 +275,16 @@ module _ (P : SyntaxFaultKind → Type 0) where
     primary_starts = either_starts (One (simple tables)) From_parens (over class 0) (one_over class (simple tables) 1 0 (simple_of tables) refl) (lower class 1 0 refl parens_starts)
 
     some_primary : Holds (Grammar.primary tables room E)
-    some_primary = record { tokens = token.Number 0 0 ∷ []; value = tree.number 0; spells = left (token.Number 0 0 ∷ []) (tree.number 0) (one (token.Number 0 0) (tree.number 0) refl) }
+    some_primary = record { tokens = sample (kind.Number 0) ∷ []; value = tree.number 0; spells = left (sample (kind.Number 0) ∷ []) (tree.number 0) (one (sample (kind.Number 0)) (tree.number 0) refl) }
 
     primary_part : Part P (Grammar.primary tables room E) (Grammar.primary tables true F) anything (read_primary tables room e) (read_primary tables room' e')
     primary_part =
         let literals = open_branch room room' rs open_literal (λ r. branch (literal_part (i.whole r) tables) (λ ts x h. right ts x (right ts x (right ts x (right ts x (right ts x (right ts x (right ts x (in_room room (Grammar.object_literal tables E) r ts x h)))))))))
         some_primary (deeper object_of open_literal (held_literal tables F)) (then_strict object_of open_literal (read_members tables e')) in
         let objects = choose_branch (heads object_word) (heads_test object_word)
-        (open_branch room room' rs object_word (λ r. branch (object_call_part (i.whole r) (i.first_whole r)) (λ ts x h. right ts x (right ts x (right ts x (right ts x (right ts x (right ts x (left ts x (in_room room (Grammar.object_call E) r ts x h)))))))))
+        (open_branch room room' rs object_word (λ r. branch (object_call_part (i.whole r) (i.first_whole r)) (λ ts x h. right ts x (right ts x (right ts x (right ts x (right ts x (right ts x (left ts x (in_room room (Grammar.static_call object_word keys_word E) r ts x h)))))))))
         some_primary (deeper builtin_of object_word (held_object_call F)) (then_strict builtin_of object_word (and_then keep_second (one_of point) (and_then pair_of (one_of keys_word) (read_args e')))))
-        literals (λ ts x rest h. then_heads object_word ts x rest (room_of room (Grammar.object_call E) ts x h)) (λ ts x rest h s. lacks class object_word 7 7 object_word_of (omega arith) literal_starts ts x rest h) in
+        literals (λ ts x rest h. then_heads object_word ts x rest (room_of room (Grammar.static_call object_word keys_word E) ts x h)) (λ ts x rest h s. lacks class object_word 7 7 object_word_of (omega arith) literal_starts ts x rest h) in
         let uris = choose_branch (heads uri_function) (heads_test uri_function)
         (open_branch room room' rs uri_function (λ r. branch (uri_part (i.whole r) (i.first_whole r)) (λ ts x h. right ts x (right ts x (right ts x (right ts x (right ts x (left ts x (in_room room (Grammar.uri_primary E) r ts x h))))))))
         some_primary (deeper uri_of uri_function (no_args F)) (then_strict uri_of uri_function (read_args e')))
@@ -292,9 +294,9 @@ module _ (P : SyntaxFaultKind → Type 0) where
         some_primary (deeper builtin_of json_word (held_json i.held_whole)) (then_strict builtin_of json_word (and_then keep_second (one_of point) (and_then pair_of (one_of stringify_word) (map_by single_of (read_parens e'))))))
         uris (λ ts x rest h. then_heads json_word ts x rest (room_of room (Grammar.json_call E) ts x h)) (λ ts x rest h s. lacks class json_word 5 5 json_of (omega arith) uri_starts ts x rest h) in
         let symbols = choose_branch (heads symbol_word) (heads_test symbol_word)
-        (open_branch room room' rs symbol_word (λ r. branch (symbol_part (i.whole r) (i.first_whole r)) (λ ts x h. right ts x (right ts x (right ts x (left ts x (in_room room (Grammar.symbol_call E) r ts x h))))))
+        (open_branch room room' rs symbol_word (λ r. branch (symbol_part (i.whole r) (i.first_whole r)) (λ ts x h. right ts x (right ts x (right ts x (left ts x (in_room room (Grammar.static_call symbol_word symbol_function E) r ts x h))))))
         some_primary (deeper builtin_of symbol_word (held_symbol F)) (then_strict builtin_of symbol_word (and_then keep_second (one_of point) (and_then pair_of (one_of symbol_function) (read_args e')))))
-        json (λ ts x rest h. then_heads symbol_word ts x rest (room_of room (Grammar.symbol_call E) ts x h)) (λ ts x rest h s. lacks class symbol_word 4 4 symbol_of (omega arith) json_starts ts x rest h) in
+        json (λ ts x rest h. then_heads symbol_word ts x rest (room_of room (Grammar.static_call symbol_word symbol_function E) ts x h)) (λ ts x rest h s. lacks class symbol_word 4 4 symbol_of (omega arith) json_starts ts x rest h) in
         let strings = choose_branch (heads string_word) (heads_test string_word)
         (open_branch room room' rs string_word (λ r. branch (string_part (i.whole r) (i.first_whole r)) (λ ts x h. right ts x (right ts x (left ts x (in_room room (Grammar.string_primary E) r ts x h)))))
         some_primary (deeper builtin_of string_word (held_string F)) (then_strict builtin_of string_word (choose (heads point) (and_then keep_second (one_of point) (and_then pair_of (one_of from_word) (read_args e'))) (map_by plain_string (read_args e')))))
@@ -303,7 +305,7 @@ module _ (P : SyntaxFaultKind → Type 0) where
         (open_branch room room' rs opening (λ r. branch (parens_part (i.whole r)) (λ ts x h. right ts x (left ts x (in_room room (Grammar.parens E) r ts x h))))
         some_primary (deeper keep_second opening (both_hold keep_first i.held_whole closing_part.some)) (then_strict keep_second opening (and_then keep_first e' (one_of closing))))
         strings (λ ts x rest h. then_heads opening ts x rest (room_of room (Grammar.parens E) ts x h)) (λ ts x rest h s. lacks class opening 2 2 opening_of (omega arith) string_starts ts x rest h) in
-        part_of (choose_branch (heads (simple tables)) (heads_test (simple tables)) (branch (one_part P (simple tables) (token.Number 0 0) (tree.number 0) refl) (λ ts x h. left ts x h)) opened
+        part_of (choose_branch (heads (simple tables)) (heads_test (simple tables)) (branch (one_part P (simple tables) (sample (kind.Number 0)) (tree.number 0) refl) (λ ts x h. left ts x h)) opened
         (one_heads (simple tables)) (λ ts x rest h s. lacks class (simple tables) 1 1 (simple_of tables) (omega arith) parens_starts ts x rest h)) some_primary
 
     -- what stands behind a method's word
@@ -335,7 +337,7 @@ module _ (P : SyntaxFaultKind → Type 0) where
     Word = Either (One member_word) (Either (One (property_word tables)) (Then method_step (One (method tables)) (Grammar.method_args room E)))
 
     some_word : Holds Word
-    some_word = record { tokens = token.Name 0 0 property.Length ∷ []; value = tree.of_length; spells = left (token.Name 0 0 property.Length ∷ []) tree.of_length (one (token.Name 0 0 property.Length) tree.of_length refl) }
+    some_word = record { tokens = sample (kind.Name 0 property.Length) ∷ []; value = tree.of_length; spells = left (sample (kind.Name 0 property.Length) ∷ []) tree.of_length (one (sample (kind.Name 0 property.Length)) tree.of_length refl) }
 
     no_member : (ts : List GrammarToken) (x : StepTree) (rest : List GrammarToken) → Either (One (property_word tables)) (Then method_step (One (method tables)) (Grammar.method_args room E)) ts x → heads member_word (ts ++ rest) ≡ false
     no_member = either_lacks member_word
@@ -343,18 +345,18 @@ module _ (P : SyntaxFaultKind → Type 0) where
         (then_lacks part member_of (method_word_of tables) (λ q. omega arith))
 
     methods_branch : Branch P Word (Then method_step (One (method tables)) (Grammar.method_args room E)) (Then method_step (One (method tables)) (Grammar.method_args true F)) (stops 8) (and_then method_step (one_of (method tables)) (read_method_args room e)) (and_then method_step (one_of (method tables)) (read_method_args room' e'))
-    methods_branch = branch (next_part method_step (one_part P (method tables) (token.Name 0 0 (property.Method methods.At)) _ refl) method_args_part) (λ ts x h. right ts x (right ts x h))
+    methods_branch = branch (next_part method_step (one_part P (method tables) (sample (kind.Name 0 (property.Method methods.At))) _ refl) method_args_part) (λ ts x h. right ts x (right ts x h))
 
     word_part : Part P Word (Either (One member_word) (Either (One (property_word tables)) (Then method_step (One (method tables)) (Grammar.method_args true F)))) (stops 8) (read_word tables room e) (read_word tables room' e')
     word_part =
         let properties = choose_branch (heads (property_word tables)) (heads_test (property_word tables))
-        (sooner (λ q h. refl) (branch (one_part P (property_word tables) (token.Name 0 0 property.Nothing) _ refl) (λ ts x h. right ts x (left ts x h))))
+        (sooner (λ q h. refl) (branch (one_part P (property_word tables) (sample (kind.Name 0 property.Nothing)) _ refl) (λ ts x h. right ts x (left ts x h))))
         methods_branch
         (one_heads (property_word tables))
         (λ ts x rest h s. then_lacks part (property_of tables) (method_word_of tables) (λ q. omega arith) ts x rest h) in
         part_of
         (choose_branch (heads member_word) (heads_test member_word)
-        (sooner (λ q h. refl) (branch (one_part P member_word (token.Name 0 0 property.Length) tree.of_length refl) (λ ts x h. left ts x h)))
+        (sooner (λ q h. refl) (branch (one_part P member_word (sample (kind.Name 0 property.Length)) tree.of_length refl) (λ ts x h. left ts x h)))
         properties
         (one_heads member_word)
         (λ ts x rest h s. no_member ts x rest h))
@@ -403,7 +405,7 @@ module _ (P : SyntaxFaultKind → Type 0) where
     pub unary_part : Part P (Grammar.unary tables room E U) (Grammar.unary tables true F G) (stops 7) (read_unary tables room e u) (read_unary tables room' e' u')
     unary_part = part_of
         (choose_branch (heads sign) (heads_test sign)
-        (open_branch room room' rs sign (λ r. branch (next_part unary_of (one_part P sign (token.Mark 0 mark.Minus false) _ refl) (i.operand r)) (λ ts x h. left ts x (in_room room (Then unary_of (One sign) U) r ts x h)))
+        (open_branch room room' rs sign (λ r. branch (next_part unary_of (one_part P sign (sample (kind.Mark mark.Minus)) _ refl) (i.operand r)) (λ ts x h. left ts x (in_room room (Then unary_of (One sign) U) r ts x h)))
         some_unary (deeper unary_of sign i.held_operand) (then_strict unary_of sign u'))
         (branch post_part (λ ts x h. right ts x h))
         (λ ts x rest h. then_heads sign ts x rest (room_of room (Then unary_of (One sign) U) ts x h))
@@ -437,19 +439,19 @@ module _ (P : SyntaxFaultKind → Type 0) where
 
   module _ (tables : TokenTables) (room room' : Bool) (rs : Rooms P room room') (E U F G : Lang GrammarToken ExprTree) (e u e' u' : TokenReader GrammarToken ExprTree) (i : Inner P room E U F G e u e' u') where
     pub sum_part : Part P (Grammar.additive tables room E U) (Grammar.additive tables true F G) (stops 6) (read_sum tables room e u) (read_sum tables room' e' u')
-    sum_part = chain_part sum_op 6 7 sum_level refl (omega arith) (token.Mark 0 mark.Plus false) _ refl (unary_part tables room room' rs E U F G e u e' u' i)
+    sum_part = chain_part sum_op 6 7 sum_level refl (omega arith) (sample (kind.Mark mark.Plus)) _ refl (unary_part tables room room' rs E U F G e u e' u' i)
 
     pub comparison_part : Part P (Grammar.comparison tables room E U) (Grammar.comparison tables true F G) (stops 5) (read_comparison tables room e u) (read_comparison tables room' e' u')
-    comparison_part = chain_part compare_op 5 6 compare_level refl (omega arith) (token.Mark 0 mark.Less false) _ refl sum_part
+    comparison_part = chain_part compare_op 5 6 compare_level refl (omega arith) (sample (kind.Mark mark.Less)) _ refl sum_part
 
     pub equality_part : Part P (Grammar.equality tables room E U) (Grammar.equality tables true F G) (stops 4) (read_equality tables room e u) (read_equality tables room' e' u')
-    equality_part = chain_part equal_op 4 5 equal_level refl (omega arith) (token.Mark 0 mark.StrictEqual false) _ refl comparison_part
+    equality_part = chain_part equal_op 4 5 equal_level refl (omega arith) (sample (kind.Mark mark.StrictEqual)) _ refl comparison_part
 
     pub conjunction_part : Part P (Grammar.conjunction tables room E U) (Grammar.conjunction tables true F G) (stops 3) (read_conjunction tables room e u) (read_conjunction tables room' e' u')
-    conjunction_part = chain_part and_op 3 4 and_level refl (omega arith) (token.Mark 0 mark.And false) _ refl equality_part
+    conjunction_part = chain_part and_op 3 4 and_level refl (omega arith) (sample (kind.Mark mark.And)) _ refl equality_part
 
     pub disjunction_part : Part P (Grammar.disjunction tables room E U) (Grammar.disjunction tables true F G) (stops 2) (read_disjunction tables room e u) (read_disjunction tables room' e' u')
-    disjunction_part = chain_part or_op 2 3 or_level refl (omega arith) (token.Mark 0 mark.Or false) _ refl conjunction_part
+    disjunction_part = chain_part or_op 2 3 or_level refl (omega arith) (sample (kind.Mark mark.Or)) _ refl conjunction_part
 
     pub whole_part : Part P (Grammar.conditional tables room E U) (Grammar.conditional tables true F G) (stops 1) (read_conditional tables room e u) (read_conditional tables room' e' u')
     whole_part = then_part cond_of disjunction_part (part_of

@@ -10,14 +10,15 @@ use Rattle.parse_syntax.proofs.Heads.{over, none_over}
 use Rattle.parse_syntax.proofs.Whole as whole
 use Rattle.parse_syntax.proofs.Whole.{Shallow, Family}
 use Rattle.parse_syntax.specs.declared.token.GrammarToken.{GrammarToken}
-use Rattle.parse_syntax.specs.declared.token.GrammarToken.TheVariants as token
+use Rattle.parse_syntax.specs.declared.token.GrammarKind.{GrammarKind}
+use Rattle.parse_syntax.specs.declared.token.GrammarKind.TheVariants as kind
 use Rattle.eval_tree.specs.Tree as tree
 use Rattle.eval_tree.specs.Tree.{ExprTree, StmtTree}
 use Rattle.parse_syntax.specs.Tables.{TokenTables}
 use Rattle.parse_syntax.specs.Terminals.{else_word, directive}
 use Rattle.parse_syntax.specs.Grammar.{Whole, Operand, within_room, Expression, Statement, Statements}
 use Rattle.parse_syntax.specs.Reading.{goes_on, read_within, read_at, read_statements}
-use Rattle.parse_syntax.proofs.Stops.{stops, begins_unary}
+use Rattle.parse_syntax.proofs.Stops.{sample, with_kind, stops, begins_unary}
 use Rattle.parse_syntax.proofs.Expressions as expressions
 use Rattle.parse_syntax.proofs.Expressions.{whole_part, unary_part, whole_starts}
 use Rattle.parse_syntax.proofs.Statements as statements
@@ -26,21 +27,21 @@ use Rattle.parse_syntax.proofs.Statements.{first, directive_first, no_more, list
 module _ (tables : TokenTables) where
   -- every level of expressions
 
-  an_operand : within_room tables 0 Operand (token.Number 0 0 ∷ []) (tree.number 0)
-  an_operand = right (token.Number 0 0 ∷ []) (tree.number 0) (both (token.Number 0 0 ∷ []) [] (tree.number 0) [] (left (token.Number 0 0 ∷ []) (tree.number 0) (one (token.Number 0 0) (tree.number 0) refl)) end)
+  an_operand : within_room tables 0 Operand (sample (kind.Number 0) ∷ []) (tree.number 0)
+  an_operand = right (sample (kind.Number 0) ∷ []) (tree.number 0) (both (sample (kind.Number 0) ∷ []) [] (tree.number 0) [] (left (sample (kind.Number 0) ∷ []) (tree.number 0) (one (sample (kind.Number 0)) (tree.number 0) refl)) end)
 
-  a_number : Expression tables 0 (token.Number 0 0 ∷ []) (tree.number 0)
+  a_number : Expression tables 0 (sample (kind.Number 0) ∷ []) (tree.number 0)
   a_number =
-      let sum = both (token.Number 0 0 ∷ []) [] (tree.number 0) [] an_operand end in
-      let comparison = both (token.Number 0 0 ∷ []) [] (tree.number 0) [] sum end in
-      let equality = both (token.Number 0 0 ∷ []) [] (tree.number 0) [] comparison end in
-      let conjunction = both (token.Number 0 0 ∷ []) [] (tree.number 0) [] equality end in
-      let disjunction = both (token.Number 0 0 ∷ []) [] (tree.number 0) [] conjunction end in
-      both (token.Number 0 0 ∷ []) [] (tree.number 0) None disjunction (right [] None (nothing None refl))
+      let sum = both (sample (kind.Number 0) ∷ []) [] (tree.number 0) [] an_operand end in
+      let comparison = both (sample (kind.Number 0) ∷ []) [] (tree.number 0) [] sum end in
+      let equality = both (sample (kind.Number 0) ∷ []) [] (tree.number 0) [] comparison end in
+      let conjunction = both (sample (kind.Number 0) ∷ []) [] (tree.number 0) [] equality end in
+      let disjunction = both (sample (kind.Number 0) ∷ []) [] (tree.number 0) [] conjunction end in
+      both (sample (kind.Number 0) ∷ []) [] (tree.number 0) None disjunction (right [] None (nothing None refl))
 
   -- an expression with nothing open holds a number
   pub held_lowest : Holds (Expression tables 0)
-  held_lowest = record { tokens = token.Number 0 0 ∷ []; value = tree.number 0; spells = a_number }
+  held_lowest = record { tokens = sample (kind.Number 0) ∷ []; value = tree.number 0; spells = a_number }
 
   pub record Levels (P : SyntaxFaultKind → Type 0) (n m : ℕ) : Type 0 where
     pub whole : Part P (Expression tables n) (Expression tables (suc n)) (stops 1) (read_within tables n Whole) (read_within tables m Whole)
@@ -54,7 +55,7 @@ module _ (tables : TokenTables) where
       operand = λ h. let q : false ≡ true = h in cc;
       first_whole = λ h. let q : false ≡ true = h in cc;
       held_whole = held_lowest;
-      held_operand = record { tokens = token.Number 0 0 ∷ []; value = tree.number 0; spells = an_operand };
+      held_operand = record { tokens = sample (kind.Number 0) ∷ []; value = tree.number 0; spells = an_operand };
     }
 
     end_levels : Levels P 0 0
@@ -140,8 +141,11 @@ module _ (tables : TokenTables) where
         where
           at_end : (rest : List GrammarToken) → no_more rest ≡ true → no_such directive rest ≡ true
           at_end [] e = refl
-          at_end (token.Directive at ∷ s) e = cc
-          at_end (_ ∷ s) e = refl
+          at_end (t ∷ s) e = go t t.kind e
+            where
+              go : (t : GrammarToken) (k : GrammarKind) → no_more (with_kind t k ∷ []) ≡ true → no_such directive (with_kind t k ∷ []) ≡ true
+              go t kind.Directive e = cc
+              go t _ e = refl
       no_directive n _ _ rest (more a b x xs ha hb) s =
           rw (append_assoc a b rest) (head_gives (over first 0) (no_such directive) true (λ t s q. ap (λ b. cond b false true) (none_over first directive 0 0 directive_first (omega arith) t s q)) a (b ++ rest) ((starts_at n).by a x ha))
 

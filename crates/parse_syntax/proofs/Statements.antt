@@ -10,98 +10,103 @@ use Rattle.parse_syntax.proofs.Wider.{Starts, then_starts, mapped_starts, either
 use Rattle.parse_syntax.proofs.Part.{anything, Branch, Part, both_hold, one_part, then_part, next_part, map_part, bind_part, branch, sooner, part_of, choose_branch, nothing_branch, never_branch, heads_test, Rooms, then_strict, first_strict, map_strict, open_branch, IsItem, many_part, no_such, series_part}
 use Rattle.parse_syntax.proofs.Heads.{one_heads, then_heads, begins_length, room_of, in_room, deeper, IsOf, over, none_over, then_lacks, lacks, first_over, lower}
 use Rattle.parse_syntax.specs.declared.token.GrammarToken.{GrammarToken}
-use Rattle.parse_syntax.specs.declared.token.GrammarToken.TheVariants as token
+use Rattle.parse_syntax.specs.declared.token.GrammarKind.{GrammarKind}
+use Rattle.parse_syntax.specs.declared.token.GrammarKind.TheVariants as kind
 use Rattle.parse_syntax.specs.declared.token.Word.TheVariants as word
 use Rattle.parse_syntax.specs.declared.token.Property.TheVariants as property
 use Rattle.eval_tree.specs.Tree.{ExprTree, StmtTree, BlockTree, block}
 use Rattle.parse_syntax.specs.Tables.{TokenTables}
 use Rattle.parse_syntax.specs.Terminals.{Identifier, when, directive, let_word, const_word, print_word, if_word, else_word, for_word, name, the_name, opening, open_brace, close_brace, semicolon, less, assign_mark, assign_op, increment, nought, bound_number}
 use Rattle.parse_syntax.specs.Grammar
-use Rattle.parse_syntax.specs.Grammar.{pair_of, inside_of, no_inside, print_of, arm_of, more_of, if_of, header_of, let_of, const_of, assign_of, for_of}
+use Rattle.parse_syntax.specs.Grammar.{pair_of, inside_of, arm_of, if_of, let_of, const_of, assign_of, for_of}
+use Rattle.parse_syntax.specs.Reading.{no_inside, print_of}
 use Rattle.parse_syntax.specs.Reading.{goes_on, read_args, read_parens, read_block, read_init, read_let, read_const, read_assign, read_print, read_arm, read_rest, read_if, read_turns, read_header, read_for, read_statement, read_strict}
-use Rattle.parse_syntax.proofs.Stops.{stops, level_of, HasLevel, begins_unary}
+use Rattle.parse_syntax.proofs.Stops.{sample, with_kind, stops, level_of, HasLevel, begins_unary}
 use Rattle.parse_syntax.proofs.Expressions.{one_stops, heads_stop, parens_part, args_part, no_args, held_parens, opening_part, closing_part}
 
 -- which statement begins with the token
+abbrev kind_first : GrammarKind → ℕ
+kind_first (kind.Mark mark.OpenBrace) = 1
+kind_first (kind.Word word.Let number) = 2
+kind_first (kind.Word word.Const number) = 3
+kind_first (kind.Name n p) = 4
+kind_first (kind.Word word.Print number) = 5
+kind_first (kind.Word word.If number) = 6
+kind_first (kind.Word word.For number) = 7
+kind_first _ = 0
+
 abbrev pub first : GrammarToken → ℕ
-first (token.Mark at mark.OpenBrace l) = 1
-first (token.Word at word.Let number) = 2
-first (token.Word at word.Const number) = 3
-first (token.Name at n p) = 4
-first (token.Word at word.Print number) = 5
-first (token.Word at word.If number) = 6
-first (token.Word at word.For number) = 7
-first _ = 0
+first t = kind_first t.kind
 
 open_brace_of : IsOf first open_brace 1
-open_brace_of = record { is = go }
+open_brace_of = record { is = λ t x e. go t t.kind x e }
   where
-    go : (t : GrammarToken) (x : _) → open_brace t ≡ Some x → first t ≡ 1
-    go (token.Mark at mark.OpenBrace l) x e = refl
-    go _ x e = cc
+    go : (t : GrammarToken) (k : GrammarKind) (x : _) → open_brace (with_kind t k) ≡ Some x → first (with_kind t k) ≡ 1
+    go t (kind.Mark mark.OpenBrace) x e = refl
+    go t _ x e = cc
 
 let_first : IsOf first let_word 2
-let_first = record { is = go }
+let_first = record { is = λ t x e. go t t.kind x e }
   where
-    go : (t : GrammarToken) (x : _) → let_word t ≡ Some x → first t ≡ 2
-    go (token.Word at word.Let number) x e = refl
-    go _ x e = cc
+    go : (t : GrammarToken) (k : GrammarKind) (x : _) → let_word (with_kind t k) ≡ Some x → first (with_kind t k) ≡ 2
+    go t (kind.Word word.Let number) x e = refl
+    go t _ x e = cc
 
 const_first : IsOf first const_word 3
-const_first = record { is = go }
+const_first = record { is = λ t x e. go t t.kind x e }
   where
-    go : (t : GrammarToken) (x : _) → const_word t ≡ Some x → first t ≡ 3
-    go (token.Word at word.Const number) x e = refl
-    go _ x e = cc
+    go : (t : GrammarToken) (k : GrammarKind) (x : _) → const_word (with_kind t k) ≡ Some x → first (with_kind t k) ≡ 3
+    go t (kind.Word word.Const number) x e = refl
+    go t _ x e = cc
 
 name_first : IsOf first name 4
-name_first = record { is = go }
+name_first = record { is = λ t x e. go t t.kind x e }
   where
-    go : (t : GrammarToken) (x : Identifier) → name t ≡ Some x → first t ≡ 4
-    go (token.Name at n p) x e = refl
-    go _ x e = cc
+    go : (t : GrammarToken) (k : GrammarKind) (x : Identifier) → name (with_kind t k) ≡ Some x → first (with_kind t k) ≡ 4
+    go t (kind.Name n p) x e = refl
+    go t _ x e = cc
 
 print_first : IsOf first print_word 5
-print_first = record { is = go }
+print_first = record { is = λ t x e. go t t.kind x e }
   where
-    go : (t : GrammarToken) (x : _) → print_word t ≡ Some x → first t ≡ 5
-    go (token.Word at word.Print number) x e = refl
-    go _ x e = cc
+    go : (t : GrammarToken) (k : GrammarKind) (x : _) → print_word (with_kind t k) ≡ Some x → first (with_kind t k) ≡ 5
+    go t (kind.Word word.Print number) x e = refl
+    go t _ x e = cc
 
 if_first : IsOf first if_word 6
-if_first = record { is = go }
+if_first = record { is = λ t x e. go t t.kind x e }
   where
-    go : (t : GrammarToken) (x : _) → if_word t ≡ Some x → first t ≡ 6
-    go (token.Word at word.If number) x e = refl
-    go _ x e = cc
+    go : (t : GrammarToken) (k : GrammarKind) (x : _) → if_word (with_kind t k) ≡ Some x → first (with_kind t k) ≡ 6
+    go t (kind.Word word.If number) x e = refl
+    go t _ x e = cc
 
 for_first : IsOf first for_word 7
-for_first = record { is = go }
+for_first = record { is = λ t x e. go t t.kind x e }
   where
-    go : (t : GrammarToken) (x : _) → for_word t ≡ Some x → first t ≡ 7
-    go (token.Word at word.For number) x e = refl
-    go _ x e = cc
+    go : (t : GrammarToken) (k : GrammarKind) (x : _) → for_word (with_kind t k) ≡ Some x → first (with_kind t k) ≡ 7
+    go t (kind.Word word.For number) x e = refl
+    go t _ x e = cc
 
 else_first : IsOf first else_word 0
-else_first = record { is = go }
+else_first = record { is = λ t x e. go t t.kind x e }
   where
-    go : (t : GrammarToken) (x : _) → else_word t ≡ Some x → first t ≡ 0
-    go (token.Word at word.Else number) x e = refl
-    go _ x e = cc
+    go : (t : GrammarToken) (k : GrammarKind) (x : _) → else_word (with_kind t k) ≡ Some x → first (with_kind t k) ≡ 0
+    go t (kind.Word word.Else number) x e = refl
+    go t _ x e = cc
 
 close_brace_first : IsOf first close_brace 0
-close_brace_first = record { is = go }
+close_brace_first = record { is = λ t x e. go t t.kind x e }
   where
-    go : (t : GrammarToken) (x : _) → close_brace t ≡ Some x → first t ≡ 0
-    go (token.Mark at mark.CloseBrace l) x e = refl
-    go _ x e = cc
+    go : (t : GrammarToken) (k : GrammarKind) (x : _) → close_brace (with_kind t k) ≡ Some x → first (with_kind t k) ≡ 0
+    go t (kind.Mark mark.CloseBrace) x e = refl
+    go t _ x e = cc
 
 pub directive_first : IsOf first directive 0
-directive_first = record { is = go }
+directive_first = record { is = λ t x e. go t t.kind x e }
   where
-    go : (t : GrammarToken) (x : _) → directive t ≡ Some x → first t ≡ 0
-    go (token.Directive at) x e = refl
-    go _ x e = cc
+    go : (t : GrammarToken) (k : GrammarKind) (x : _) → directive (with_kind t k) ≡ Some x → first (with_kind t k) ≡ 0
+    go t kind.Directive x e = refl
+    go t _ x e = cc
 
 -- statements go on with any token that isn't the end of a block
 
@@ -137,9 +142,11 @@ list_item S st = record {
 
     at_end : (rest : List GrammarToken) → no_more rest ≡ true → no_such else_word rest ≡ true
     at_end [] e = refl
-    at_end (token.Mark at mark.CloseBrace l ∷ s) e = refl
-    at_end (token.Word at word.Else number ∷ s) e = cc
-    at_end (_ ∷ s) e = refl
+    at_end (t ∷ s) e = go t t.kind e
+      where
+        go : (t : GrammarToken) (k : GrammarKind) → no_more (with_kind t k ∷ []) ≡ true → no_such else_word (with_kind t k ∷ []) ≡ true
+        go t (kind.Mark mark.CloseBrace) e = refl
+        go t _ e = cc
 
 -- what is known of an expression at this level, and of an expression and a statement where one more is open
 pub record Inner (P : SyntaxFaultKind → Type 0) (room : Bool) (E H I J : Lang GrammarToken ExprTree) (S F : Lang GrammarToken StmtTree) (e e' i i' : TokenReader GrammarToken ExprTree) (s s' : TokenReader GrammarToken StmtTree) : Type 0 where
@@ -152,16 +159,19 @@ pub record Inner (P : SyntaxFaultKind → Type 0) (room : Bool) (E H I J : Lang 
 
 -- a semicolon ends an expression
 semicolon_level : HasLevel semicolon 0
-semicolon_level = record { is = go }
+semicolon_level = record { is = λ t x e. go t t.kind x e }
   where
-    go : (t : GrammarToken) (x : _) → semicolon t ≡ Some x → level_of t ≡ 0
-    go (token.Mark at mark.Semicolon l) x e = refl
-    go _ x e = cc
+    go : (t : GrammarToken) (k : GrammarKind) (x : _) → semicolon (with_kind t k) ≡ Some x → level_of (with_kind t k) ≡ 0
+    go t (kind.Mark mark.Semicolon) x e = refl
+    go t _ x e = cc
 
 at_semicolon_no_assign : (s : List GrammarToken) → heads semicolon s ≡ true → heads assign_mark s ≡ false
 at_semicolon_no_assign [] h = refl
-at_semicolon_no_assign (token.Mark at mark.Assign l ∷ s) h = cc
-at_semicolon_no_assign (_ ∷ s) h = refl
+at_semicolon_no_assign (t ∷ s) h = go t t.kind h
+  where
+    go : (t : GrammarToken) (k : GrammarKind) → is_some (semicolon (with_kind t k)) ≡ true → is_some (assign_mark (with_kind t k)) ≡ false
+    go t (kind.Mark mark.Assign) h = cc
+    go t _ h = refl
 
 -- what a statement begins with
 
@@ -186,7 +196,7 @@ module _ (tables : TokenTables) (prints room : Bool) (E I : Lang GrammarToken Ex
 
   if_starts : Starts From_if (over first 5)
   if_starts = either_starts (if_room room (Grammar.if_statement I S)) (if_room room (Grammar.for_statement tables S)) (over first 5)
-      (record { by = λ ts x h. (then_starts if_of (Grammar.if_arm I S) (Then more_of (Many (One else_word ▸ Grammar.if_arm I S)) (Either (One else_word ▸ Grammar.block_part S) (Nothing no_inside))) (over first 5) (first_over first if_word 6 5 if_first refl)).by ts x (room_of room (Grammar.if_statement I S) ts x h) })
+      (record { by = λ ts x h. (then_starts if_of (Grammar.if_arm I S) (Then pair_of (Many (One else_word ▸ Grammar.if_arm I S)) (Either (One else_word ▸ Grammar.block_part S) (Nothing no_inside))) (over first 5) (first_over first if_word 6 5 if_first refl)).by ts x (room_of room (Grammar.if_statement I S) ts x h) })
       (for_starts 5 refl)
 
   print_starts : Starts From_print (over first 4)
@@ -222,45 +232,45 @@ module _ (tables : TokenTables) (prints room : Bool) (E I : Lang GrammarToken Ex
 
 module _ (P : SyntaxFaultKind → Type 0) where
   name_part : Part P (One name) (One name) anything (one_of name) (one_of name)
-  name_part = one_part P name (token.Name 0 0 property.Nothing) (record { at = 0; number = 0 }) refl
+  name_part = one_part P name (sample (kind.Name 0 property.Nothing)) (record { at = 0; number = 0 }) refl
 
   semicolon_part : Part P (One semicolon) (One semicolon) anything (one_of semicolon) (one_of semicolon)
-  semicolon_part = one_part P semicolon (token.Mark 0 mark.Semicolon false) tt refl
+  semicolon_part = one_part P semicolon (sample (kind.Mark mark.Semicolon)) tt refl
 
   assign_part : Part P (One assign_mark) (One assign_mark) anything (one_of assign_mark) (one_of assign_mark)
-  assign_part = one_part P assign_mark (token.Mark 0 mark.Assign false) tt refl
+  assign_part = one_part P assign_mark (sample (kind.Mark mark.Assign)) tt refl
 
   open_brace_part : Part P (One open_brace) (One open_brace) anything (one_of open_brace) (one_of open_brace)
-  open_brace_part = one_part P open_brace (token.Mark 0 mark.OpenBrace false) tt refl
+  open_brace_part = one_part P open_brace (sample (kind.Mark mark.OpenBrace)) tt refl
 
   close_brace_part : Part P (One close_brace) (One close_brace) anything (one_of close_brace) (one_of close_brace)
-  close_brace_part = one_part P close_brace (token.Mark 0 mark.CloseBrace false) tt refl
+  close_brace_part = one_part P close_brace (sample (kind.Mark mark.CloseBrace)) tt refl
 
   let_part : Part P (One let_word) (One let_word) anything (one_of let_word) (one_of let_word)
-  let_part = one_part P let_word (token.Word 0 word.Let 0) tt refl
+  let_part = one_part P let_word (sample (kind.Word word.Let 0)) tt refl
 
   pub else_part : Part P (One else_word) (One else_word) anything (one_of else_word) (one_of else_word)
-  else_part = one_part P else_word (token.Word 0 word.Else 0) tt refl
+  else_part = one_part P else_word (sample (kind.Word word.Else 0)) tt refl
 
   if_part : Part P (One if_word) (One if_word) anything (one_of if_word) (one_of if_word)
-  if_part = one_part P if_word (token.Word 0 word.If 0) tt refl
+  if_part = one_part P if_word (sample (kind.Word word.If 0)) tt refl
 
   same_name : (x : ℕ) → nat_eq x x ≡ true
   same_name x = grind (arith, nat_tests)
 
   the_name_part : (x : ℕ) → Part P (One (the_name x)) (One (the_name x)) anything (one_of (the_name x)) (one_of (the_name x))
-  the_name_part x = one_part P (the_name x) (token.Name 0 x property.Nothing) tt (ap (λ b. when b tt) (same_name x))
+  the_name_part x = one_part P (the_name x) (sample (kind.Name x property.Nothing)) tt (ap (λ b. when b tt) (same_name x))
 
   turns_part : (x : Identifier) → Part P (Grammar.loop_head x) (Grammar.loop_head x) anything (read_turns x) (read_turns x)
   turns_part x =
-      let last = next_part keep_second semicolon_part (next_part keep_second (the_name_part x.number) (next_part keep_second (one_part P increment (token.Mark 0 mark.Increment false) tt refl) (closing_part P))) in
-      next_part keep_second assign_part (next_part keep_second (one_part P nought (token.Number 0 0) tt refl) (next_part keep_second semicolon_part (next_part keep_second (the_name_part x.number) (next_part keep_second (one_part P less (token.Mark 0 mark.Less false) tt refl) (next_part keep_first (one_part P bound_number (token.Number 0 0) 0 refl) last)))))
+      let last = next_part keep_second semicolon_part (next_part keep_second (the_name_part x.number) (next_part keep_second (one_part P increment (sample (kind.Mark mark.Increment)) tt refl) (closing_part P))) in
+      next_part keep_second assign_part (next_part keep_second (one_part P nought (sample (kind.Number 0)) tt refl) (next_part keep_second semicolon_part (next_part keep_second (the_name_part x.number) (next_part keep_second (one_part P less (sample (kind.Mark mark.Less)) tt refl) (next_part keep_first (one_part P bound_number (sample (kind.Number 0)) 0 refl) last)))))
 
-  from_opening : Part P (One opening ▸ One let_word ▸ Bind header_of (One name) Grammar.loop_head) (One opening ▸ One let_word ▸ Bind header_of (One name) Grammar.loop_head) anything (and_then keep_second (one_of opening) (and_then keep_second (one_of let_word) (and_bind header_of (one_of name) read_turns))) (and_then keep_second (one_of opening) (and_then keep_second (one_of let_word) (and_bind header_of (one_of name) read_turns)))
-  from_opening = next_part keep_second (opening_part P) (next_part keep_second let_part (bind_part header_of name_part (λ a x h. turns_part x) (λ x. (turns_part x).local)))
+  from_opening : Part P (One opening ▸ One let_word ▸ Bind pair_of (One name) Grammar.loop_head) (One opening ▸ One let_word ▸ Bind pair_of (One name) Grammar.loop_head) anything (and_then keep_second (one_of opening) (and_then keep_second (one_of let_word) (and_bind pair_of (one_of name) read_turns))) (and_then keep_second (one_of opening) (and_then keep_second (one_of let_word) (and_bind pair_of (one_of name) read_turns)))
+  from_opening = next_part keep_second (opening_part P) (next_part keep_second let_part (bind_part pair_of name_part (λ a x h. turns_part x) (λ x. (turns_part x).local)))
 
   header_part : Part P Grammar.for_header Grammar.for_header anything read_header read_header
-  header_part = next_part keep_second (one_part P for_word (token.Word 0 word.For 0) tt refl) from_opening
+  header_part = next_part keep_second (one_part P for_word (sample (kind.Word word.For 0)) tt refl) from_opening
 
   module _ (tables : TokenTables) {E H : Lang GrammarToken ExprTree} {e e' : TokenReader GrammarToken ExprTree} (p : Part P E H (stops 1) e e') where
     ended_part : Part P (E ◂ One semicolon) (H ◂ One semicolon) anything (and_then keep_first e (one_of semicolon)) (and_then keep_first e' (one_of semicolon))
@@ -284,10 +294,10 @@ module _ (P : SyntaxFaultKind → Type 0) where
     let_line_part = next_part keep_second let_part (then_part keep_first (next_part (let_of tables) name_part init_part) semicolon_part (λ b y rest h s. one_heads semicolon b y rest h))
 
     const_line_part : Part P (Grammar.const_line tables E) (Grammar.const_line tables H) anything (read_const tables e) (read_const tables e')
-    const_line_part = next_part keep_second (one_part P const_word (token.Word 0 word.Const 0) tt refl) (next_part (const_of tables) name_part (next_part keep_second assign_part ended_part))
+    const_line_part = next_part keep_second (one_part P const_word (sample (kind.Word word.Const 0)) tt refl) (next_part (const_of tables) name_part (next_part keep_second assign_part ended_part))
 
     assign_line_part : Part P (Grammar.assign_line tables E) (Grammar.assign_line tables H) anything (read_assign tables e) (read_assign tables e')
-    assign_line_part = next_part (assign_of tables) name_part (next_part pair_of (one_part P assign_op (token.Mark 0 mark.Assign false) None refl) ended_part)
+    assign_line_part = next_part (assign_of tables) name_part (next_part pair_of (one_part P assign_op (sample (kind.Mark mark.Assign)) None refl) ended_part)
 
   module _ (tables : TokenTables) {I J : Lang GrammarToken ExprTree} {i i' : TokenReader GrammarToken ExprTree} {S F : Lang GrammarToken StmtTree} {s s' : TokenReader GrammarToken StmtTree} (q : Part P I J (stops 1) i i') (p : Part P S F (no_such else_word) s s') (st : Starts S (over first 0)) where
     pub block_part : Part P (Grammar.block_part S) (Grammar.block_part F) anything (read_block s) (read_block s')
@@ -303,7 +313,7 @@ module _ (P : SyntaxFaultKind → Type 0) where
     block_no_if ts x rest h = then_lacks first if_first open_brace_of (λ q. omega arith) ts x rest h
 
     if_statement_part : Part P (Grammar.if_statement I S) (Grammar.if_statement J F) (no_such else_word) (read_if i s) (read_if i' s')
-    if_statement_part = next_part if_of arm_part (series_part more_of else_word if_word no_inside block_no_if else_part if_part (next_part arm_of (parens_part P q) block_part) block_part)
+    if_statement_part = next_part if_of arm_part (series_part pair_of else_word if_word no_inside block_no_if else_part if_part (next_part arm_of (parens_part P q) block_part) block_part)
 
     for_statement_part : Part P (Grammar.for_statement tables S) (Grammar.for_statement tables F) anything (read_for tables s) (read_for tables s')
     for_statement_part = next_part (for_of tables) header_part block_part
@@ -346,7 +356,7 @@ module _ (P : SyntaxFaultKind → Type 0) where
 
     print_branch : Branch P (Grammar.statement tables prints room E I S) (if_room prints (if_room room (Grammar.print_statement I))) (if_room prints (Grammar.print_statement J)) (no_such else_word) (allowed prints (opens room (heads print_word) (read_print i))) (allowed prints (opens room' (heads print_word) (read_print i')))
     print_branch = never_branch prints some_statement (λ a. open_branch room room' rs print_word
-        (λ r. sooner (λ q h. refl) (branch (next_part keep_second (one_part P print_word (token.Word 0 word.Print 0) tt refl) (map_part print_of (next_part keep_first (args_part P (k.test r) (k.first_test r)) semicolon_part)))
+        (λ r. sooner (λ q h. refl) (branch (next_part keep_second (one_part P print_word (sample (kind.Word word.Print 0)) tt refl) (map_part print_of (next_part keep_first (args_part P (k.test r) (k.first_test r)) semicolon_part)))
         (λ ts x h. right ts x (right ts x (right ts x (right ts x (left ts x (in_room prints (if_room room (Grammar.print_statement I)) a ts x (in_room room (Grammar.print_statement I) r ts x h)))))))))
         some_statement
         (deeper keep_second print_word printed)
@@ -362,14 +372,14 @@ module _ (P : SyntaxFaultKind → Type 0) where
         (λ r. branch (if_statement_part tables (k.test r) (k.law r) (k.starts r)) (λ ts x h. right ts x (right ts x (right ts x (right ts x (right ts x (left ts x (in_room room (Grammar.if_statement I S) r ts x h))))))))
         some_statement
         (if_rest F k.held_test)
-        (first_strict if_of if_word (read_arm i' s') (and_then more_of (all_of (heads_two else_word if_word) (and_then keep_second (one_of else_word) (read_arm i' s'))) (read_rest s')) (then_strict keep_second if_word (and_then arm_of (read_parens i') (read_block s'))))
+        (first_strict if_of if_word (read_arm i' s') (and_then pair_of (all_of (heads_two else_word if_word) (and_then keep_second (one_of else_word) (read_arm i' s'))) (read_rest s')) (then_strict keep_second if_word (and_then arm_of (read_parens i') (read_block s'))))
 
     for_branch : Branch P (Grammar.statement tables prints room E I S) (if_room room (Grammar.for_statement tables S)) (Grammar.for_statement tables F) (no_such else_word) (opens room (heads for_word) (read_for tables s)) (opens room' (heads for_word) (read_for tables s'))
     for_branch = open_branch room room' rs for_word
         (λ r. sooner (λ q h. refl) (branch (for_statement_part tables (k.test r) (k.law r) (k.starts r)) (λ ts x h. right ts x (right ts x (right ts x (right ts x (right ts x (right ts x (in_room room (Grammar.for_statement tables S) r ts x h)))))))))
         some_statement
         (for_rest tables F)
-        (first_strict (for_of tables) for_word read_header (read_block s') (then_strict keep_second for_word (and_then keep_second (one_of opening) (and_then keep_second (one_of let_word) (and_bind header_of (one_of name) read_turns)))))
+        (first_strict (for_of tables) for_word read_header (read_block s') (then_strict keep_second for_word (and_then keep_second (one_of opening) (and_then keep_second (one_of let_word) (and_bind pair_of (one_of name) read_turns)))))
 
     -- the statements at this level
     pub statement_part : Part P (Grammar.statement tables prints room E I S) (Grammar.statement tables prints true H J F) (no_such else_word) (read_statement tables prints room e i s) (read_statement tables prints room' e' i' s')
@@ -385,7 +395,7 @@ module _ (P : SyntaxFaultKind → Type 0) where
   pub strict_part : Part P Grammar.strict Grammar.strict (no_such directive) read_strict read_strict
   strict_part = part_of
       (choose_branch (heads directive) (heads_test directive)
-      (sooner (λ q h. refl) (branch (next_part keep_second (one_part P directive (token.Directive 0) tt refl) semicolon_part) (λ ts x h. left ts x h)))
+      (sooner (λ q h. refl) (branch (next_part keep_second (one_part P directive (sample kind.Directive) tt refl) semicolon_part) (λ ts x h. left ts x h)))
       (nothing_branch P tt)
       (λ ts x rest h. then_heads directive ts x rest h)
       none_there)

@@ -21,47 +21,23 @@ list_of x xs = x ∷ xs
 abbrev pub none_of : {A B : Type 0} → A → List B
 none_of x = []
 
--- a value as a list of one
-abbrev pub single_of : {A : Type 0} → A → List A
-single_of x = x ∷ []
-
 -- two values as a pair
 abbrev pub pair_of : {A B : Type 0} → A → B → A × B
 pair_of x y = (x, y)
-
--- the step [ t ], with the offset of its bracket
-abbrev pub index_read : ℕ → ExprTree → StepTree
-index_read at t = tree.of_index at t
 
 -- a method and its letters, with arguments or without, where it is the read of a property of that name
 abbrev pub method_step : (ℕ × Method) × List ℕ → Option (List ExprTree) → StepTree
 method_step m None = tree.of_property m.0.0 m.1
 method_step m (Some ts) = tree.of_call m.0.0 m.0.1 (exprs ts)
 
--- an object literal, at an offset, with its members
-abbrev pub object_of : ℕ → List (List ℕ × ExprTree) → ExprTree
-object_of at ms = tree.object at (tree.entries ms)
-
 -- a built-in function, at an offset, with its arguments
 abbrev pub builtin_of : ℕ → Builtin × List ExprTree → ExprTree
 builtin_of at c = tree.builtin at c.0 (exprs c.1)
-
--- a URI handling function with its arguments
-abbrev pub uri_of : ℕ × Builtin → List ExprTree → ExprTree
-uri_of f ts = tree.builtin f.0 f.1 (exprs ts)
-
--- the function String itself
-abbrev pub plain_string : List ExprTree → Builtin × List ExprTree
-plain_string ts = (builtin.String, ts)
 
 -- without a step it is what it is of
 abbrev pub post_of : ExprTree → List StepTree → ExprTree
 post_of t [] = t
 post_of t (s ∷ ss) = tree.post t (steps (s ∷ ss))
-
--- a sign, with its offset and whether it is a minus, before an operand
-abbrev pub unary_of : ℕ × Bool → ExprTree → ExprTree
-unary_of s t = tree.unary s.0 s.1 t
 
 -- an operator, with its offset, and the operand on its right
 abbrev pub link_of : ℕ × Op → ExprTree → LinkTree
@@ -71,10 +47,6 @@ link_of o t = record { at = o.0; op = o.1; right = t }
 abbrev pub chain_of : ExprTree → List LinkTree → ExprTree
 chain_of t [] = t
 chain_of t (l ∷ ls) = tree.chain t (links (l ∷ ls))
-
--- the two branches of a conditional expression
-abbrev pub branches_of : ExprTree → ExprTree → Option (ExprTree × ExprTree)
-branches_of y n = Some (y, n)
 
 -- without branches it is the test
 abbrev pub cond_of : ExprTree → Option (ExprTree × ExprTree) → ExprTree
@@ -98,29 +70,13 @@ own_names (s ∷ ss) = own_name s ++ own_names ss
 abbrev pub inside_of : List StmtTree → BlockTree
 inside_of ss = block_of (own_names ss) (stmts ss)
 
--- no block
-abbrev pub no_inside : BlockTree
-no_inside = block_of [] tree.no_stmts
-
--- a call of print with these arguments
-abbrev pub print_of : List ExprTree → StmtTree
-print_of ts = tree.print (exprs ts)
-
 -- a condition, and the block that it guards
 abbrev pub arm_of : ExprTree → BlockTree → ArmTree
 arm_of e b = record { test = e; body = b }
 
--- the arms of each else if, and the block of the last else
-abbrev pub more_of : List ArmTree → BlockTree → List ArmTree × BlockTree
-more_of others rest = (others, rest)
-
 -- an if statement: its first arm, and the other arms with the last block
 abbrev pub if_of : ArmTree → List ArmTree × BlockTree → StmtTree
 if_of a p = tree.if_line (arms (a ∷ p.0)) p.1
-
--- the name of a loop and its bound
-abbrev pub header_of : Identifier → ℕ → Identifier × ℕ
-header_of x bound = (x, bound)
 
 module _ (tables : TokenTables) where
   -- the letters of a name
@@ -135,14 +91,12 @@ module _ (tables : TokenTables) where
   abbrev pub const_of : Identifier → ExprTree → StmtTree
   const_of x init = tree.const_line x.at (letters x) init
 
-  -- an assignment to this name; where += is at an offset, an append of the value
-  abbrev pub assignment_of : Identifier → Option ℕ → ExprTree → StmtTree
-  assignment_of x None e = tree.assign x.at (letters x) e
-  assignment_of x (Some at) e = tree.append at x.at (letters x) e
-
-  -- an assignment to this name: the offset of +=, or none for =, and the value
+  -- an assignment to this name: the offset of +=, which appends, or none for =, and the value
   abbrev pub assign_of : Identifier → Option ℕ × ExprTree → StmtTree
-  assign_of x p = assignment_of x p.0 p.1
+  assign_of x p = elim p.0 [
+    | None ↦ tree.assign x.at (letters x) p.1
+    | Some at ↦ tree.append at x.at (letters x) p.1
+  ]
 
   -- a loop over a body, from its name and its bound
   abbrev pub for_of : Identifier × ℕ → BlockTree → StmtTree
@@ -154,8 +108,8 @@ module _ (tables : TokenTables) where
 abbrev pub parens : Lang GrammarToken ExprTree → Lang GrammarToken ExprTree
 parens E = One opening ▸ E ◂ One closing
 
--- E { , E }
-abbrev pub items : Lang GrammarToken ExprTree → Lang GrammarToken (List ExprTree)
+-- E { , E }, of expressions or of members
+abbrev pub items : {A : Type 0} → Lang GrammarToken A → Lang GrammarToken (List A)
 items E = Then list_of E (Many (One comma ▸ E))
 
 -- ( [ E { , E } ] )
@@ -165,38 +119,32 @@ args E = One opening ▸ Either (Mapped none_of (One closing)) (items E ◂ One 
 -- String Args | String . fromCharCode Args | String . fromCodePoint Args
 abbrev pub string_primary : Lang GrammarToken ExprTree → Lang GrammarToken ExprTree
 string_primary E = Then builtin_of (One string_word)
-    (Either (One point ▸ Then pair_of (One from_word) (args E)) (Mapped plain_string (args E)))
+    (Either (One point ▸ Then pair_of (One from_word) (args E))
+    (Mapped (λ ts. (builtin.String, ts)) (args E)))
 
--- Symbol . for Args | Symbol . keyFor Args
-abbrev pub symbol_call : Lang GrammarToken ExprTree → Lang GrammarToken ExprTree
-symbol_call E = Then builtin_of (One symbol_word) (One point ▸ Then pair_of (One symbol_function) (args E))
+-- an identifier, a point and a function of it, which is called: Symbol . for Args | Symbol . keyFor Args
+-- | Object . keys Args
+abbrev pub static_call : (GrammarToken → Option ℕ) → (GrammarToken → Option Builtin)
+    → Lang GrammarToken ExprTree → Lang GrammarToken ExprTree
+static_call w f E = Then builtin_of (One w) (One point ▸ Then pair_of (One f) (args E))
 
 -- JSON . stringify ( E )
 abbrev pub json_call : Lang GrammarToken ExprTree → Lang GrammarToken ExprTree
 json_call E = Then builtin_of (One json_word)
-    (One point ▸ Then pair_of (One stringify_word) (Mapped single_of (parens E)))
+    (One point ▸ Then pair_of (One stringify_word) (Mapped (λ e. e ∷ []) (parens E)))
 
 -- encodeURI Args | encodeURIComponent Args | decodeURI Args | decodeURIComponent Args
 abbrev pub uri_primary : Lang GrammarToken ExprTree → Lang GrammarToken ExprTree
-uri_primary E = Then uri_of (One uri_function) (args E)
-
--- Object . keys Args
-abbrev pub object_call : Lang GrammarToken ExprTree → Lang GrammarToken ExprTree
-object_call E = Then builtin_of (One object_word) (One point ▸ Then pair_of (One keys_word) (args E))
+uri_primary E = Then (λ f ts. tree.builtin f.0 f.1 (exprs ts)) (One uri_function) (args E)
 
 -- Key : E
 abbrev pub entry : TokenTables → Lang GrammarToken ExprTree → Lang GrammarToken (List ℕ × ExprTree)
 entry tables E = Then pair_of (One (key tables)) (One colon ▸ E)
 
--- Key : E { , Key : E }
-abbrev pub property_definitions : TokenTables → Lang GrammarToken ExprTree
-    → Lang GrammarToken (List (List ℕ × ExprTree))
-property_definitions tables E = Then list_of (entry tables E) (Many (One comma ▸ entry tables E))
-
 -- { [ Key : E { , Key : E } ] }
 abbrev pub object_literal : TokenTables → Lang GrammarToken ExprTree → Lang GrammarToken ExprTree
-object_literal tables E = Then object_of (One open_literal)
-    (Either (Mapped none_of (One close_brace)) (property_definitions tables E ◂ One close_brace))
+object_literal tables E = Then (λ at ms. tree.object at (tree.entries ms)) (One open_literal)
+    (Either (Mapped none_of (One close_brace)) (items (entry tables E) ◂ One close_brace))
 
 -- Simple | ( E ) | a call of a built-in function | an object literal ("PrimaryExpression", "CallExpression")
 abbrev pub primary : TokenTables → Bool → Lang GrammarToken ExprTree → Lang GrammarToken ExprTree
@@ -204,10 +152,10 @@ primary tables room E =
     Either (One (simple tables))
     (Either (if_room room (parens E))
     (Either (if_room room (string_primary E))
-    (Either (if_room room (symbol_call E))
+    (Either (if_room room (static_call symbol_word symbol_function E))
     (Either (if_room room (json_call E))
     (Either (if_room room (uri_primary E))
-    (Either (if_room room (object_call E))
+    (Either (if_room room (static_call object_word keys_word E))
     (if_room room (object_literal tables E))))))))
 
 -- [ Args ]
@@ -221,7 +169,7 @@ member tables room E = One point ▸ Either (One member_word)
 
 -- [ E ]
 abbrev pub index : Lang GrammarToken ExprTree → Lang GrammarToken StepTree
-index E = Then index_read (One open_bracket) (E ◂ One close_bracket)
+index E = Then tree.of_index (One open_bracket) (E ◂ One close_bracket)
 
 -- Member | [ E ], a step behind an expression
 abbrev pub step : TokenTables → Bool → Lang GrammarToken ExprTree → Lang GrammarToken StepTree
@@ -231,49 +179,42 @@ step tables room E = Either (member tables room E) (if_room room (index E))
 abbrev pub post : TokenTables → Bool → Lang GrammarToken ExprTree → Lang GrammarToken ExprTree
 post tables room E = Then post_of (primary tables room E) (Many (step tables room E))
 
--- ( - | ! ) U | Post
-abbrev pub unary : TokenTables → Bool → Lang GrammarToken ExprTree → Lang GrammarToken ExprTree
-    → Lang GrammarToken ExprTree
-unary tables room E U = Either (if_room room (Then unary_of (One sign) U)) (post tables room E)
+-- ? E : E
+abbrev pub branches : Lang GrammarToken ExprTree → Lang GrammarToken (Option (ExprTree × ExprTree))
+branches E = One question ▸ Then (λ y n. Some (y, n)) E (One colon ▸ E)
 
 -- L { o L }
 abbrev pub chain : (GrammarToken → Option (ℕ × Op)) → Lang GrammarToken ExprTree → Lang GrammarToken ExprTree
 chain o L = Then chain_of L (Many (Then link_of (One o) L))
 
--- Unary { ( + | - ) Unary } ("AdditiveExpression")
-abbrev pub additive : TokenTables → Bool → Lang GrammarToken ExprTree → Lang GrammarToken ExprTree
-    → Lang GrammarToken ExprTree
-additive tables room E U = chain sum_op (unary tables room E U)
+module _ (tables : TokenTables) (room : Bool) (E U : Lang GrammarToken ExprTree) where
+  -- ( - | ! ) U | Post
+  abbrev pub unary : Lang GrammarToken ExprTree
+  unary = Either (if_room room (Then (λ s e. tree.unary s.0 s.1 e) (One sign) U)) (post tables room E)
 
--- Sum { ( < | > | <= | >= ) Sum } ("RelationalExpression")
-abbrev pub comparison : TokenTables → Bool → Lang GrammarToken ExprTree → Lang GrammarToken ExprTree
-    → Lang GrammarToken ExprTree
-comparison tables room E U = chain compare_op (additive tables room E U)
+  -- Unary { ( + | - ) Unary } ("AdditiveExpression")
+  abbrev pub additive : Lang GrammarToken ExprTree
+  additive = chain sum_op unary
 
--- Comparison { ( === | !== ) Comparison } ("EqualityExpression")
-abbrev pub equality : TokenTables → Bool → Lang GrammarToken ExprTree → Lang GrammarToken ExprTree
-    → Lang GrammarToken ExprTree
-equality tables room E U = chain equal_op (comparison tables room E U)
+  -- Sum { ( < | > | <= | >= ) Sum } ("RelationalExpression")
+  abbrev pub comparison : Lang GrammarToken ExprTree
+  comparison = chain compare_op additive
 
--- Equality { && Equality } ("LogicalANDExpression")
-abbrev pub conjunction : TokenTables → Bool → Lang GrammarToken ExprTree → Lang GrammarToken ExprTree
-    → Lang GrammarToken ExprTree
-conjunction tables room E U = chain and_op (equality tables room E U)
+  -- Comparison { ( === | !== ) Comparison } ("EqualityExpression")
+  abbrev pub equality : Lang GrammarToken ExprTree
+  equality = chain equal_op comparison
 
--- Conjunction { || Conjunction } ("LogicalORExpression")
-abbrev pub disjunction : TokenTables → Bool → Lang GrammarToken ExprTree → Lang GrammarToken ExprTree
-    → Lang GrammarToken ExprTree
-disjunction tables room E U = chain or_op (conjunction tables room E U)
+  -- Equality { && Equality } ("LogicalANDExpression")
+  abbrev pub conjunction : Lang GrammarToken ExprTree
+  conjunction = chain and_op equality
 
--- ? E : E
-abbrev pub branches : Lang GrammarToken ExprTree → Lang GrammarToken (Option (ExprTree × ExprTree))
-branches E = One question ▸ Then branches_of E (One colon ▸ E)
+  -- Conjunction { || Conjunction } ("LogicalORExpression")
+  abbrev pub disjunction : Lang GrammarToken ExprTree
+  disjunction = chain or_op conjunction
 
--- Or [ ? E : E ]
-abbrev pub conditional : TokenTables → Bool → Lang GrammarToken ExprTree → Lang GrammarToken ExprTree
-    → Lang GrammarToken ExprTree
-conditional tables room E U =
-    Then cond_of (disjunction tables room E U) (Either (if_room room (branches E)) (Nothing None))
+  -- Or [ ? E : E ]
+  abbrev pub conditional : Lang GrammarToken ExprTree
+  conditional = Then cond_of disjunction (Either (if_room room (branches E)) (Nothing None))
 
 -- an expression, and the operand of a sign
 pub data Which : Type 0 where
@@ -316,7 +257,7 @@ assign_line tables E = Then (assign_of tables) (One name) (Then pair_of (One ass
 
 -- print Args ; which prints a line
 abbrev pub print_statement : Lang GrammarToken ExprTree → Lang GrammarToken StmtTree
-print_statement I = One print_word ▸ Mapped print_of (args I ◂ One semicolon)
+print_statement I = One print_word ▸ Mapped (λ ts. tree.print (exprs ts)) (args I ◂ One semicolon)
 
 -- if ( I ) B
 abbrev pub if_arm : Lang GrammarToken ExprTree → Lang GrammarToken StmtTree → Lang GrammarToken ArmTree
@@ -324,8 +265,8 @@ if_arm I S = One if_word ▸ Then arm_of (parens I) (block_part S)
 
 -- if ( I ) B { else if ( I ) B } [ else B ]
 abbrev pub if_statement : Lang GrammarToken ExprTree → Lang GrammarToken StmtTree → Lang GrammarToken StmtTree
-if_statement I S = Then if_of (if_arm I S) (Then more_of (Many (One else_word ▸ if_arm I S))
-    (Either (One else_word ▸ block_part S) (Nothing no_inside)))
+if_statement I S = Then if_of (if_arm I S) (Then pair_of (Many (One else_word ▸ if_arm I S))
+    (Either (One else_word ▸ block_part S) (Nothing (block_of [] tree.no_stmts))))
 
 -- = 0 ; x < Bound ; x ++ ), where x is the name before it
 abbrev pub loop_head : Identifier → Lang GrammarToken ℕ
@@ -335,7 +276,7 @@ loop_head x = One assign_mark ▸ One nought ▸ One semicolon ▸ One (the_name
 
 -- for ( let x = 0 ; x < Bound ; x ++ )
 abbrev pub for_header : Lang GrammarToken (Identifier × ℕ)
-for_header = One for_word ▸ One opening ▸ One let_word ▸ Bind header_of (One name) loop_head
+for_header = One for_word ▸ One opening ▸ One let_word ▸ Bind pair_of (One name) loop_head
 
 -- for ( let x = 0 ; x < Bound ; x ++ ) B ("ForStatement")
 abbrev pub for_statement : TokenTables → Lang GrammarToken StmtTree → Lang GrammarToken StmtTree

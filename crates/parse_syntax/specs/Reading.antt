@@ -4,12 +4,53 @@ use Rattle.js_lex.specs.declared.token.Mark.TheVariants as mark
 use Rattle.parse_syntax.specs.Lang.{keep_first, keep_second}
 use Rattle.parse_syntax.specs.Reader.{TokenReader, wrong, map_by, and_then, and_bind, one_of, choose, all_of, succeed, opens, is_some, heads, heads_two, allowed}
 use Rattle.parse_syntax.specs.declared.token.GrammarToken.{GrammarToken}
-use Rattle.parse_syntax.specs.declared.token.GrammarToken.TheVariants as token
+use Rattle.parse_syntax.specs.declared.token.GrammarKind.TheVariants as kind
 use Rattle.eval_tree.specs.declared.tree.Op.{Op}
-use Rattle.eval_tree.specs.Tree.{ExprTree, StepTree, StmtTree, BlockTree, ArmTree, block}
+use Rattle.eval_tree.specs.declared.tree.Builtin.{Builtin}
+use Rattle.eval_tree.specs.declared.tree.Builtin.TheVariants as builtin
+use Rattle.eval_tree.specs.Tree as tree
+use Rattle.eval_tree.specs.Tree.{ExprTree, StepTree, StmtTree, BlockTree, block_of, ArmTree, exprs, block}
 use Rattle.parse_syntax.specs.Tables.{TokenTables}
 use Rattle.parse_syntax.specs.Terminals.{Identifier, directive, let_word, const_word, print_word, if_word, else_word, for_word, string_word, symbol_word, json_word, object_word, uri_function, name, the_name, member_word, property_word, method, key, from_word, symbol_function, stringify_word, keys_word, opening, closing, open_bracket, close_bracket, open_brace, open_literal, close_brace, comma, point, semicolon, question, colon, less, assign_mark, assign_op, increment, sign, or_op, and_op, equal_op, compare_op, sum_op, nought, bound_number, simple}
-use Rattle.parse_syntax.specs.Grammar.{list_of, none_of, single_of, pair_of, index_read, method_step, object_of, builtin_of, uri_of, plain_string, post_of, unary_of, link_of, chain_of, branches_of, cond_of, inside_of, no_inside, print_of, arm_of, more_of, if_of, header_of, let_of, const_of, assign_of, for_of, Which, Whole, Operand}
+use Rattle.parse_syntax.specs.Grammar.{list_of, none_of, pair_of, method_step, builtin_of, post_of, link_of, chain_of, cond_of, inside_of, arm_of, if_of, let_of, const_of, assign_of, for_of, Which, Whole, Operand}
+
+-- names for what the grammar makes of values
+
+-- a value as a list of one
+abbrev pub single_of : {A : Type 0} → A → List A
+single_of x = x ∷ []
+
+-- the step [ t ], with the offset of its bracket
+abbrev pub index_read : ℕ → ExprTree → StepTree
+index_read at t = tree.of_index at t
+
+-- an object literal, at an offset, with its members
+abbrev pub object_of : ℕ → List (List ℕ × ExprTree) → ExprTree
+object_of at ms = tree.object at (tree.entries ms)
+
+-- a URI handling function with its arguments
+abbrev pub uri_of : ℕ × Builtin → List ExprTree → ExprTree
+uri_of f ts = tree.builtin f.0 f.1 (exprs ts)
+
+-- the function String itself
+abbrev pub plain_string : List ExprTree → Builtin × List ExprTree
+plain_string ts = (builtin.String, ts)
+
+-- a sign, with its offset and whether it is a minus, before an operand
+abbrev pub unary_of : ℕ × Bool → ExprTree → ExprTree
+unary_of s t = tree.unary s.0 s.1 t
+
+-- the two branches of a conditional expression
+abbrev pub branches_of : ExprTree → ExprTree → Option (ExprTree × ExprTree)
+branches_of y n = Some (y, n)
+
+-- no block
+abbrev pub no_inside : BlockTree
+no_inside = block_of [] tree.no_stmts
+
+-- a call of print with these arguments
+abbrev pub print_of : List ExprTree → StmtTree
+print_of ts = tree.print (exprs ts)
 
 -- expressions
 
@@ -102,9 +143,7 @@ read_step tables room e =
 
 -- what begins a step
 abbrev pub step_mark : GrammarToken → Option (Unit {0})
-step_mark (token.Mark at mark.Point l) = Some tt
-step_mark (token.Mark at mark.OpenBracket l) = Some tt
-step_mark _ = None
+step_mark t = elim t.kind [ kind.Mark mark.Point ↦ Some tt | kind.Mark mark.OpenBracket ↦ Some tt | _ ↦ None ]
 
 abbrev pub read_post : TokenTables → Bool → TokenReader GrammarToken ExprTree
     → TokenReader GrammarToken ExprTree
@@ -208,7 +247,7 @@ read_rest s =
 abbrev pub read_if : TokenReader GrammarToken ExprTree → TokenReader GrammarToken StmtTree
     → TokenReader GrammarToken StmtTree
 read_if e s = and_then if_of (read_arm e s)
-    (and_then more_of
+    (and_then pair_of
     (all_of (heads_two else_word if_word) (and_then keep_second (one_of else_word) (read_arm e s)))
     (read_rest s))
 
@@ -226,7 +265,7 @@ read_turns x = and_then keep_second (one_of assign_mark)
 
 abbrev pub read_header : TokenReader GrammarToken (Identifier × ℕ)
 read_header = and_then keep_second (one_of for_word) (and_then keep_second (one_of opening)
-    (and_then keep_second (one_of let_word) (and_bind header_of (one_of name) read_turns)))
+    (and_then keep_second (one_of let_word) (and_bind pair_of (one_of name) read_turns)))
 
 abbrev pub read_for : TokenTables → TokenReader GrammarToken StmtTree → TokenReader GrammarToken StmtTree
 read_for tables s = and_then (for_of tables) read_header (read_block s)

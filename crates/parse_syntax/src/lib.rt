@@ -7,4 +7,4 @@
 
 mod token;
 
-pub use token::{GrammarToken, Property, Tables, Word};
+pub use token::{GrammarKind, GrammarToken, Property, Tables, Word};

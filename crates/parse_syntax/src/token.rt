@@ -51,42 +51,30 @@ pub enum Property {
     Nothing,
 }
 
-/// A token with the offset of its first byte.
-///
-/// Two identifiers have the same `number` exactly if their letters are the same. `after_line` says whether a
-/// line end is between the token and the one before it.
+/// A token.
 #[derive(Clone, Copy, Debug, PartialEq, Eq)]
-pub enum GrammarToken {
+pub struct GrammarToken {
+    /// The offset of its first byte.
+    pub at: u32,
+    /// Whether a line end is before it, behind the token before it.
+    pub after_line: bool,
+    pub kind: GrammarKind,
+}
+
+/// What a token is. Two identifiers have the same number exactly if their letters are the same.
+#[derive(Clone, Copy, Debug, PartialEq, Eq)]
+pub enum GrammarKind {
     /// The first token of the text where it is a string that is spelled as the directive.
-    Directive {
-        at: u32,
-    },
+    Directive,
     /// A string, by its number among the script's literals, or among those that are keys of members where
     /// it `is_key`: it follows a `{` or `,` and precedes a `:`.
-    Text {
-        at: u32,
-        number: u32,
-        is_key: bool,
-    },
-    Number {
-        at: u32,
-        value: u64,
-    },
-    Name {
-        at: u32,
-        number: u32,
-        property: Property,
-    },
-    Word {
-        at: u32,
-        word: Word,
-        number: u32,
-    },
-    Mark {
-        at: u32,
-        mark: Mark,
-        after_line: bool,
-    },
+    Text { number: u32, is_key: bool },
+    Number(u64),
+    /// An identifier that is a name, by its number.
+    Name(u32, Property),
+    /// An identifier that is no name, with its number.
+    Word(Word, u32),
+    Mark(Mark),
 }
 
 /// What the numbers of a script's tokens denote: the letters of identifiers, and the units of the strings that are

@@ -1,6 +1,6 @@
 -- The loop over the tokens of a text.
 use Rattle.std.proofs.Common.{◌≡◌, ℕ, ◌+◌, ◌≤◌, Bool, true, false, List, [], ◌∷◌, ◌++◌, length, length-append, append_assoc, refl, sym, subst, arith, ◌⊎◌, inl, inr, Ok, Err}
-use Rattle.std.specs.Prelude.{IsUtf8, Result, IfErr, OnOk, is_err, nat_lt}
+use Rattle.std.specs.Prelude.{IsUtf8, Result, IfErr, OnOk, is_err, nat_lt, if◌then◌else◌}
 use Rattle.js_lex.specs.Tokens.{FailsFrom, LexFaultOf, in_text}
 use Rattle.js_lex.specs.Next.{GoesOn}
 use Rattle.js_lex.specs.declared.token.Token.{Token as Lexed}
@@ -9,7 +9,7 @@ use Rattle.js_lex.specs.declared.token.TokenKind.TheVariants as kinds
 use Rattle.js_lex.specs.declared.token.LexFault.{LexFault}
 use Rattle.js_lex.specs.declared.token.LexFault.TheVariants as faults
 use Rattle.parse_syntax.specs.declared.token.GrammarToken.{GrammarToken}
-use Rattle.parse_tokens.specs.Tokens.{Before, opens_member, grammar_token, before_next, tokens_from, after_all, literals_after, keys_after, table_after, texts_after, texts_with, keys_with, with_name, place_in, is_use_strict}
+use Rattle.parse_tokens.specs.Tokens.{Before, opens_member, grammar_token, before_next, tokens_from, after_all, literals_after, keys_after, table_after, texts_with, with_name, place_in, is_use_strict}
 use Rattle.parse_tokens.specs.Steps.{Goes, Whole, TellsKey, before_at, is_empty}
 
 pub goes_start : (text : List ℕ) (tokens : List GrammarToken) (texts names keys : List (List ℕ)) → tokens ≡ [] → texts ≡ [] → names ≡ [] → keys ≡ [] → Goes text 0 tokens false (before_at tokens texts names keys 0)
@@ -40,7 +40,7 @@ goes_on text at t opened key opens tokens tokens' texts texts' names names' keys
 few : (xs : List (List ℕ)) (x : List ℕ) → length (xs ++ x ∷ []) ≤ length xs + 1
 few xs x = simp length-append (omega arith)
 
-few_texts_after : (first strict : Bool) (texts : List (List ℕ)) (source units : List ℕ) → is_use_strict source ≡ strict → length (texts_after first texts source units) ≤ length texts + 1
+few_texts_after : (first strict : Bool) (texts : List (List ℕ)) (source units : List ℕ) → is_use_strict source ≡ strict → length (texts_with false first texts source units) ≤ length texts + 1
 few_texts_after true true texts source units e = rw e (omega arith)
 few_texts_after true false texts source units e = rw e (few texts units)
 few_texts_after false strict texts source units e = few texts units
@@ -55,7 +55,7 @@ few_texts key before source (kinds.Text units) = few_strings key before source u
 few_texts key before source (kinds.Number value) = omega arith
 few_texts key before source (kinds.Mark mark) = omega arith
 
-few_key : (key : Bool) (before : Before) (units : List ℕ) → length (keys_with key before.keys units) ≤ length before.keys + 1
+few_key : (key : Bool) (before : Before) (units : List ℕ) → length (if key then before.keys ++ units ∷ [] else before.keys) ≤ length before.keys + 1
 few_key true before units = few before.keys units
 few_key false before units = omega arith
 

@@ -10,7 +10,8 @@ use Rattle.js_lex.specs.Elements.{is_line_end}
 use Rattle.js_lex.specs.Spans.{slice}
 use Rattle.js_lex.specs.Tokens.{TokensOf}
 use Rattle.parse_syntax.specs.declared.token.GrammarToken.{GrammarToken}
-use Rattle.parse_syntax.specs.declared.token.GrammarToken.TheVariants as token
+use Rattle.parse_syntax.specs.declared.token.GrammarKind.{GrammarKind}
+use Rattle.parse_syntax.specs.declared.token.GrammarKind.TheVariants as kind
 use Rattle.parse_syntax.specs.declared.token.Word.{Word}
 use Rattle.parse_tokens.specs.Words.{word_meant, word_property, is_in}
 
@@ -55,14 +56,11 @@ is_use_strict source = is_in source (codes "'use strict'" ∷ codes "\"use stric
 
 -- the token is { or a comma
 abbrev pub opens_member : TokenKind → Bool
-opens_member (kinds.Mark mark.OpenBrace) = true
-opens_member (kinds.Mark mark.Comma) = true
-opens_member _ = false
+opens_member k = elim k [ kinds.Mark mark.OpenBrace ↦ true | kinds.Mark mark.Comma ↦ true | _ ↦ false ]
 
 -- the token is a colon
 abbrev pub is_colon : TokenKind → Bool
-is_colon (kinds.Mark mark.Colon) = true
-is_colon _ = false
+is_colon k = elim k [ kinds.Mark mark.Colon ↦ true | _ ↦ false ]
 
 -- the first of the tokens is a colon
 abbrev pub begins_colon : List Lexed → Bool
@@ -72,70 +70,55 @@ begins_colon (t ∷ ts) = is_colon t.kind
 -- whether the token is a string that is a key, where { or a comma precedes it or not, and these tokens
 -- behind it
 abbrev pub is_key : Bool → TokenKind → List Lexed → Bool
-is_key opened (kinds.Text units) ts = if opened then begins_colon ts else false
-is_key opened _ ts = false
+is_key opened k ts = elim k [ kinds.Text units ↦ (if opened then begins_colon ts else false) | _ ↦ false ]
 
--- a string that is no key, after so many literals
-abbrev pub text_token : Bool → List (List ℕ) → List ℕ → ℕ → GrammarToken
-text_token first texts source at = if first then (if is_use_strict source then token.Directive at
-    else token.Text at (length texts) false) else token.Text at (length texts) false
+-- what a string is, after so many literals and keys: a key, the directive, or a literal
+abbrev pub string_kind : Bool → Bool → List (List ℕ) → List (List ℕ) → List ℕ → GrammarKind
+string_kind key first texts keys source = if key then kind.Text (length keys) true
+    else if first then (if is_use_strict source then kind.Directive else kind.Text (length texts) false)
+    else kind.Text (length texts) false
 
--- the literals behind a string that is no key: its units come last, but the directive is left out
-abbrev pub texts_after : Bool → List (List ℕ) → List ℕ → List ℕ → List (List ℕ)
-texts_after first texts source units =
-    if first then (if is_use_strict source then texts else texts ++ units ∷ []) else texts ++ units ∷ []
-
--- a string, which is a key or not, after so many literals and keys
-abbrev pub string_token : Bool → Bool → List (List ℕ) → List (List ℕ) → List ℕ → ℕ → GrammarToken
-string_token key first texts keys source at = if key then token.Text at (length keys) true
-    else text_token first texts source at
-
--- the literals behind a string, which is a key or not
+-- the literals behind a string: its units come last, but a key and the directive are left out
 abbrev pub texts_with : Bool → Bool → List (List ℕ) → List ℕ → List ℕ → List (List ℕ)
-texts_with key first texts source units = if key then texts else texts_after first texts source units
+texts_with key first texts source units = if key then texts
+    else if first then (if is_use_strict source then texts else texts ++ units ∷ []) else texts ++ units ∷ []
 
--- the keys behind a string: its units come last where it is a key
-abbrev pub keys_with : Bool → List (List ℕ) → List ℕ → List (List ℕ)
-keys_with key keys units = if key then keys ++ units ∷ [] else keys
+-- an identifier: one that is no name, or a name with what it means behind a point
+abbrev pub word_kind : Option Word → List (List ℕ) → List ℕ → GrammarKind
+word_kind (Some w) names letters = kind.Word w (place_in names letters)
+word_kind None names letters = kind.Name (place_in names letters) (word_property letters)
 
--- an identifier at an offset: one that is no name, or a name with what it means behind a point
-abbrev pub word_token : Option Word → List (List ℕ) → List ℕ → ℕ → GrammarToken
-word_token (Some w) names letters at = token.Word at w (place_in names letters)
-word_token None names letters at = token.Name at (place_in names letters) (word_property letters)
-
--- a token of this source text and kind, at an offset, which is a key or not
-abbrev pub token_of : Before → List ℕ → ℕ → Bool → Bool → TokenKind → GrammarToken
-token_of before source at after_line key kinds.Word = word_token (word_meant source) before.names source at
-token_of before source at after_line key (kinds.Text units) =
-    string_token key before.first before.texts before.keys source at
-token_of before source at after_line key (kinds.Number value) = token.Number at value
-token_of before source at after_line key (kinds.Mark mark) = token.Mark at mark after_line
+-- what a token of this source text and kind is to the grammar, where it is a key or not
+abbrev pub kind_of : Before → List ℕ → Bool → TokenKind → GrammarKind
+kind_of before source key kinds.Word = word_kind (word_meant source) before.names source
+kind_of before source key (kinds.Text units) =
+    string_kind key before.first before.texts before.keys source
+kind_of before source key (kinds.Number value) = kind.Number value
+kind_of before source key (kinds.Mark mark) = kind.Mark mark
 
 -- the table of names behind a token: an identifier is in it
 abbrev pub table_after : Before → List ℕ → TokenKind → List (List ℕ)
-table_after before source kinds.Word = with_name before.names source
-table_after before source (kinds.Text units) = before.names
-table_after before source (kinds.Number value) = before.names
-table_after before source (kinds.Mark mark) = before.names
+table_after before source k = elim k [ kinds.Word ↦ with_name before.names source | _ ↦ before.names ]
 
 -- the literals behind a token, which is a key or not
 abbrev pub literals_after : Bool → Before → List ℕ → TokenKind → List (List ℕ)
-literals_after key before source kinds.Word = before.texts
-literals_after key before source (kinds.Text units) = texts_with key before.first before.texts source units
-literals_after key before source (kinds.Number value) = before.texts
-literals_after key before source (kinds.Mark mark) = before.texts
+literals_after key before source k =
+    elim k [ kinds.Text units ↦ texts_with key before.first before.texts source units | _ ↦ before.texts ]
 
--- the keys behind a token, which is a key or not
+-- the keys behind a token: the units of a string that is one come last
 abbrev pub keys_after : Bool → Before → TokenKind → List (List ℕ)
-keys_after key before kinds.Word = before.keys
-keys_after key before (kinds.Text units) = keys_with key before.keys units
-keys_after key before (kinds.Number value) = before.keys
-keys_after key before (kinds.Mark mark) = before.keys
+keys_after key before k = elim k [
+  | kinds.Text units ↦ (if key then before.keys ++ units ∷ [] else before.keys)
+  | _ ↦ before.keys
+]
 
 -- the grammar's token for a token of the text, which is a key or not, where this precedes it
 abbrev pub grammar_token : List ℕ → Before → Bool → Lexed → GrammarToken
-grammar_token bytes before key t =
-    token_of before (slice bytes t.from t.to) t.from (has_line_end (slice bytes before.end t.from)) key t.kind
+grammar_token bytes before key t = record {
+  at = t.from;
+  after_line = has_line_end (slice bytes before.end t.from);
+  kind = kind_of before (slice bytes t.from t.to) key t.kind;
+}
 
 -- what precedes the token that follows this one
 abbrev pub before_next : List ℕ → Before → Bool → Lexed → Before

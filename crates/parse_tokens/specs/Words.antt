@@ -1,7 +1,6 @@
 -- Identifiers (ECMA-262, "Keywords and Reserved Words"), and the names that mean something behind a point.
 use Rattle.std.specs.Prelude.{ℕ, List, [], ◌∷◌, codes, Bool, true, false, Option, Some, None, if◌then◌else◌}
 use Rattle.std.specs.Str.{bytes_eq}
-use Rattle.eval_tree.specs.declared.tree.Method.{Method}
 use Rattle.eval_tree.specs.Methods.{first_there, method_of}
 use Rattle.parse_syntax.specs.declared.token.Word.{Word}
 use Rattle.parse_syntax.specs.declared.token.Word.TheVariants as word
@@ -80,20 +79,13 @@ operand_word letters =
     else if bytes_eq letters (codes "decodeURIComponent") then Some word.DecodeUriComponent
     else None
 
--- an identifier with a meaning of its own
-abbrev pub keyword_of : List ℕ → Option Word
-keyword_of letters = first_there (statement_word letters) (operand_word letters)
-
--- one that has a meaning, one that has none, or a name
-abbrev pub word_or : Option Word → Bool → Option Word
-word_or (Some w) reserved = Some w
-word_or None true = Some word.Reserved
-word_or None false = None
-
 -- what an identifier is where it can't be a name: the identifier itself if it has a meaning here, else
 -- Reserved; None for a name
 abbrev pub word_meant : List ℕ → Option Word
-word_meant letters = word_or (keyword_of letters) (is_reserved letters)
+word_meant letters = elim (first_there (statement_word letters) (operand_word letters)) [
+  | Some w ↦ Some w
+  | None ↦ (if is_reserved letters then Some word.Reserved else None)
+]
 
 -- a name behind a point that is no method
 abbrev pub other_property : List ℕ → Option Property
@@ -108,11 +100,8 @@ other_property letters =
     else None
 
 -- what a name means behind a point: a property, else a method, else nothing of its own
-abbrev property_or : Option Property → Option Method → Property
-property_or (Some p) m = p
-property_or None (Some m) = property.Method m
-property_or None None = property.Nothing
-
--- what a name means behind a point
 abbrev pub word_property : List ℕ → Property
-word_property letters = property_or (other_property letters) (method_of letters)
+word_property letters = elim (other_property letters) [
+  | Some p ↦ p
+  | None ↦ elim (method_of letters) [ Some m ↦ property.Method m | None ↦ property.Nothing ]
+]

@@ -1,5 +1,5 @@
 // From bytes to the tokens of the grammar.
-ghost use Rattle.std.specs.Prelude.{◌≡◌, ◌≤◌, ◌<◌, ◌⊎◌, ◌∷◌, ◌++◌, [], List, ℕ, length, IfOk, IfErr, OnOk};
+ghost use Rattle.std.specs.Prelude.{◌≡◌, ◌≤◌, ◌<◌, ◌⊎◌, ◌∷◌, ◌++◌, [], List, ℕ, length, IfOk, IfErr, OnOk, false, if◌then◌else◌};
 ghost use Rattle.std.specs.List.{list_any};
 ghost use Rattle.std.specs.Str.{IsCharBoundary, chars};
 ghost use Rattle.js_lex.specs.Elements.{is_line_end};
@@ -19,7 +19,7 @@ use crate::word::{property_named, word_named};
 use eval_tree::Name;
 use js_lex::{LexFault, Mark, TokenKind};
 use js_units::{NoMemory, Units, split_char};
-use parse_syntax::GrammarToken;
+use parse_syntax::{GrammarKind, GrammarToken};
 use std::alloc::Global;
 
 /// The tokens of a script's bytes; the units of its string literals that are no keys of members, in order,
@@ -77,33 +77,25 @@ fn number_of(
     }
 }
 
-// The token of an identifier.
-fn word_token(
+// What an identifier is.
+fn word_kind(
     alloc: Global,
     numbers: &mut Numbers,
     names: &mut Vec<Name>,
     letters: &[u8],
-    at: u32,
-) -> Result<GrammarToken, NoMemory>
+) -> Result<GrammarKind, NoMemory>
     requires few { length names.old.items ≤ 1_048_576 }
     requires agrees { Agrees numbers.old names.old.items }
-    ensures token { IfOk result (λ token. token
-        ≡ definition.word_token (words.word_meant letters.now) names.old.items letters.now at) }
+    ensures kind { IfOk result (λ kind. kind
+        ≡ definition.word_kind (words.word_meant letters.now) names.old.items letters.now) }
     ensures names { OnOk result (names.new.items
         ≡ with_name names.old.items letters.now) }
     ensures agrees { OnOk result (Agrees numbers.new names.new.items) }
 {
     let number = number_of(alloc, numbers, names, letters)?;
     match word_named(letters) {
-        Some(word) => Ok(GrammarToken::Word { at, word, number }),
-        None => {
-            let property = property_named(letters);
-            Ok(GrammarToken::Name {
-                at,
-                number,
-                property,
-            })
-        }
+        Some(word) => Ok(GrammarKind::Word(word, number)),
+        None => Ok(GrammarKind::Name(number, property_named(letters))),
     }
 }
 
@@ -120,117 +112,97 @@ fn is_use_strict(source: &[u8]) -> bool
     }
 }
 
-// The token of a literal that is no key, whose units are put behind the others where it isn't the directive.
-fn text_token(
+// What a string is that is no key. Its units are put behind the others where it isn't the directive.
+fn text_kind(
     first: bool,
     literals: &mut Vec<Units>,
     source: &[u8],
-    at: u32,
     units: Units,
-) -> Result<GrammarToken, NoMemory>
+) -> Result<GrammarKind, NoMemory>
     requires few { length literals.old.items ≤ 1_048_576 }
-    ensures token { IfOk result (λ token. token
-        ≡ definition.text_token first literals.old.items source.now at) }
+    ensures kind { IfOk result (λ kind. kind
+        ≡ definition.string_kind false first literals.old.items [] source.now) }
     ensures literals { OnOk result (literals.new.items
-        ≡ definition.texts_after first literals.old.items source.now units) }
+        ≡ definition.texts_with false first literals.old.items source.now units) }
 {
     if first {
         if is_use_strict(source) {
-            return Ok(GrammarToken::Directive { at });
+            return Ok(GrammarKind::Directive);
         }
     }
     let number = literals.len() as u32;
     literals.push(units)?;
-    Ok(GrammarToken::Text {
-        at,
+    Ok(GrammarKind::Text {
         number,
         is_key: false,
     })
 }
 
-// The token of a string literal, whose units are put behind those of the other keys where it is one.
-fn string_token(
+// What a string is. Its units are put behind those of the other keys where it is one.
+fn string_kind(
     key: bool,
     first: bool,
     literals: &mut Vec<Units>,
     keys: &mut Vec<Units>,
     source: &[u8],
-    at: u32,
     units: Units,
-) -> Result<GrammarToken, NoMemory>
+) -> Result<GrammarKind, NoMemory>
     requires few { length literals.old.items ≤ 1_048_576 }
     requires few_keys { length keys.old.items ≤ 1_048_576 }
-    ensures token { IfOk result (λ token. token
-        ≡ definition.string_token key first literals.old.items keys.old.items source.now at) }
+    ensures kind { IfOk result (λ kind. kind
+        ≡ definition.string_kind key first literals.old.items keys.old.items source.now) }
     ensures literals { OnOk result (literals.new.items
         ≡ definition.texts_with key first literals.old.items source.now units) }
-    ensures keys { OnOk result (keys.new.items ≡ definition.keys_with key keys.old.items units) }
+    ensures keys { OnOk result (keys.new.items
+        ≡ (if key then keys.old.items ++ units ∷ [] else keys.old.items)) }
 {
     if key {
         let number = keys.len() as u32;
         keys.push(units)?;
-        return Ok(GrammarToken::Text {
-            at,
+        return Ok(GrammarKind::Text {
             number,
             is_key: true,
         });
     }
-    text_token(first, literals, source, at, units)
+    text_kind(first, literals, source, units)
 }
 
-// The token of the grammar behind those that were read, the last of which ended at a place.
-fn next(
+// What the token of this source behind those that were read is.
+fn next_kind(
     alloc: Global,
     script: &mut ScriptTokens,
     numbers: &mut Numbers,
-    text: &str,
-    end: u32,
-    token: js_lex::Token,
+    source: &[u8],
+    kind: TokenKind,
     key: bool,
-) -> Result<GrammarToken, NoMemory>
+) -> Result<GrammarKind, NoMemory>
     requires texts { length script.old.literals.items ≤ 1_048_576 }
     requires names { length script.old.names.items ≤ 1_048_576 }
     requires keys { length script.old.keys.items ≤ 1_048_576 }
     requires agrees { Agrees numbers.old script.old.names.items }
-    requires behind { end ≤ token.from }
-    requires forward { token.from < token.to }
-    requires within { token.to ≤ length text.now }
-    requires last { IsCharBoundary text.now end }
-    requires start { IsCharBoundary text.now token.from }
     ensures tokens { OnOk result (script.new.tokens ≡ script.old.tokens) }
-    ensures token { IfOk result (λ found. found
-        ≡ grammar_token text.now (before_of script.old end) key token) }
+    ensures kind { IfOk result (λ found. found
+        ≡ definition.kind_of (before_of script.old 0) source.now key kind) }
     ensures literals { OnOk result (script.new.literals.items
-        ≡ definition.literals_after key (before_of script.old end)
-        (slice text.now token.from token.to) token.kind) }
+        ≡ definition.literals_after key (before_of script.old 0) source.now kind) }
     ensures keys { OnOk result (script.new.keys.items
-        ≡ definition.keys_after key (before_of script.old end) token.kind) }
+        ≡ definition.keys_after key (before_of script.old 0) kind) }
     ensures names { OnOk result (script.new.names.items
-        ≡ definition.table_after (before_of script.old end) (slice text.now token.from token.to) token.kind) }
+        ≡ definition.table_after (before_of script.old 0) source.now kind) }
     ensures agrees { OnOk result (Agrees numbers.new script.new.names.items) }
 {
-    let js_lex::Token { kind, from, to } = token;
-    let letters = &text.as_bytes()[from as usize..to as usize];
     match kind {
-        TokenKind::Word => word_token(alloc, numbers, &mut script.names, letters, from),
-        TokenKind::Text(units) => string_token(
+        TokenKind::Word => word_kind(alloc, numbers, &mut script.names, source),
+        TokenKind::Text(units) => string_kind(
             key,
             script.tokens.is_empty(),
             &mut script.literals,
             &mut script.keys,
-            letters,
-            from,
+            source,
             units,
         ),
-        TokenKind::Number(value) => Ok(GrammarToken::Number { at: from, value }),
-        TokenKind::Mark(mark) => {
-            let after_line = any_line_end(&text[end as usize..from as usize]);
-            Ok(GrammarToken::Mark {
-                at: from,
-                mark,
-                after_line,
-            })
-        }
+        TokenKind::Number(value) => Ok(GrammarKind::Number(value)),
+        TokenKind::Mark(mark) => Ok(GrammarKind::Mark(mark)),
     }
 }
 
@@ -263,8 +235,15 @@ fn add(
         ≡ (before_next text.now (before_of script.old end) key token).keys) }
     ensures agrees { OnOk result (Agrees numbers.new script.new.names.items) }
 {
-    let token = next(alloc, script, numbers, text, end, token, key)?;
-    script.tokens.push(token)?;
+    let js_lex::Token { kind, from, to } = token;
+    let source = &text.as_bytes()[from as usize..to as usize];
+    let after_line = any_line_end(&text[end as usize..from as usize]);
+    let kind = next_kind(alloc, script, numbers, source, kind, key)?;
+    script.tokens.push(GrammarToken {
+        at: from,
+        after_line,
+        kind,
+    })?;
     Ok(())
 }
 

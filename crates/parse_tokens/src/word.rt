@@ -1,5 +1,6 @@
 // What an identifier is.
 ghost use Rattle.std.specs.Prelude.{◌≡◌};
+ghost use Rattle.eval_tree.specs.Methods.{first_there};
 ghost use Rattle.parse_tokens.specs.Words as words;
 
 use crate::reserved::is_reserved;
@@ -65,7 +66,7 @@ fn operand_word(letters: &[u8]) -> Option<Word>
 }
 
 fn keyword(letters: &[u8]) -> Option<Word>
-    ensures { result ≡ words.keyword_of letters.now }
+    ensures { result ≡ first_there (words.statement_word letters.now) (words.operand_word letters.now) }
 {
     if let Some(word) = statement_word(letters) {
         return Some(word);

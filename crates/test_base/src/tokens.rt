@@ -16,7 +16,8 @@ fn listed(alloc: Global, text: &str) -> Result<String, LexFault> {
         return Err(LexFault::Memory);
     }
     for token in &source.tokens {
-        if write!(list, " {token:?}").is_err() {
+        let kind = &token.kind;
+        if write!(list, " {} {} {kind:?}", token.at, token.after_line).is_err() {
             return Err(LexFault::Memory);
         }
     }
@@ -25,31 +26,31 @@ fn listed(alloc: Global, text: &str) -> Result<String, LexFault> {
 
 // Identifiers have numbers, a line end is in a comment before the `++`, only the first token is a directive,
 // a string between `{` or `,` and `:` is a key, and a lexical fault comes first.
-const TOKENS: &str = "i.at(n, i /*\r*/ ++) -> 3 0 Name { at: 0, number: 0, property: Nothing } \
-Mark { at: 1, mark: Point, after_line: false } \
-Name { at: 2, number: 1, property: Method(At) } \
-Mark { at: 4, mark: OpenParen, after_line: false } \
-Name { at: 5, number: 2, property: Nothing } \
-Mark { at: 6, mark: Comma, after_line: false } \
-Name { at: 8, number: 0, property: Nothing } \
-Mark { at: 16, mark: Increment, after_line: true } \
-Mark { at: 18, mark: CloseParen, after_line: false }\n\
-'use strict'; 'use strict' 'use\\x20strict' -> 0 2 Directive { at: 0 } \
-Mark { at: 12, mark: Semicolon, after_line: false } \
-Text { at: 14, number: 0, is_key: false } Text { at: 27, number: 1, is_key: false }\n\
-'use\\x20strict' -> 0 1 Text { at: 0, number: 0, is_key: false }\n\
-Let of async get breaks -> 5 0 Name { at: 0, number: 0, property: Nothing } \
-Name { at: 4, number: 1, property: Nothing } Name { at: 7, number: 2, property: Nothing } \
-Name { at: 13, number: 3, property: Nothing } Name { at: 17, number: 4, property: Nothing }\n\
-new undefined for new -> 3 0 Word { at: 0, word: Reserved, number: 0 } \
-Word { at: 4, word: Undefined, number: 1 } Word { at: 14, word: For, number: 2 } \
-Word { at: 18, word: Reserved, number: 0 }\n\
-{'a':'b','c' d ? 'e':'f' -> 1 4 Mark { at: 0, mark: OpenBrace, after_line: false } \
-Text { at: 1, number: 0, is_key: true } Mark { at: 4, mark: Colon, after_line: false } \
-Text { at: 5, number: 0, is_key: false } Mark { at: 8, mark: Comma, after_line: false } \
-Text { at: 9, number: 1, is_key: false } Name { at: 13, number: 0, property: Nothing } \
-Mark { at: 15, mark: Question, after_line: false } Text { at: 17, number: 2, is_key: false } \
-Mark { at: 20, mark: Colon, after_line: false } Text { at: 21, number: 3, is_key: false }\n\
+const TOKENS: &str = "i.at(n, i /*\r*/ ++) -> 3 0 0 false Name(0, Nothing) \
+1 false Mark(Point) \
+2 false Name(1, Method(At)) \
+4 false Mark(OpenParen) \
+5 false Name(2, Nothing) \
+6 false Mark(Comma) \
+8 false Name(0, Nothing) \
+16 true Mark(Increment) \
+18 false Mark(CloseParen)\n\
+'use strict'; 'use strict' 'use\\x20strict' -> 0 2 0 false Directive \
+12 false Mark(Semicolon) \
+14 false Text { number: 0, is_key: false } 27 false Text { number: 1, is_key: false }\n\
+'use\\x20strict' -> 0 1 0 false Text { number: 0, is_key: false }\n\
+Let of async get breaks -> 5 0 0 false Name(0, Nothing) \
+4 false Name(1, Nothing) 7 false Name(2, Nothing) \
+13 false Name(3, Nothing) 17 false Name(4, Nothing)\n\
+new undefined for new -> 3 0 0 false Word(Reserved, 0) \
+4 false Word(Undefined, 1) 14 false Word(For, 2) \
+18 false Word(Reserved, 0)\n\
+{'a':'b','c' d ? 'e':'f' -> 1 4 0 false Mark(OpenBrace) \
+1 false Text { number: 0, is_key: true } 4 false Mark(Colon) \
+5 false Text { number: 0, is_key: false } 8 false Mark(Comma) \
+9 false Text { number: 1, is_key: false } 13 false Name(0, Nothing) \
+15 false Mark(Question) 17 false Text { number: 2, is_key: false } \
+20 false Mark(Colon) 21 false Text { number: 3, is_key: false }\n\
 var a = 1.5; -> Number(Fraction { at: 8 })";
 
 struct Tokens;
