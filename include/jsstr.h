@@ -280,15 +280,16 @@ jsstr_answer jsstr_copy_into(jsstr_agent *from, jsstr_id s, jsstr_agent *to);
 jsstr_answer jsstr_intern_into(jsstr_agent *from, jsstr_id s, jsstr_agent *to);
 
 /* Each appends to a text: units; bytes, by the rules of jsstr_from_latin1 and its kin; the units of s, which is
-   settled first; the decimal digits of a number, with - before those of one below 0. Answers DONE; or, and then the
-   text is what it was, NO_MEMORY, NOT_UTF8, TOO_LONG past JSSTR_MAX_LENGTH units or three times as many bytes of
-   UTF-8 or WTF-8, and of a string NO_WORDS or BAD_ARGUMENT. */
+   settled first; the decimal digits of a number, with - before those of one below 0, as ToString has it of whole
+   numbers below 2^53. Answers DONE; or, and then the text is what it was, NO_MEMORY, NOT_UTF8, TOO_LONG past
+   JSSTR_MAX_LENGTH units or three times as many bytes of UTF-8 or WTF-8, and of a string NO_WORDS or
+   BAD_ARGUMENT. */
 uint32_t jsstr_build_units(jsstr_builder *text, const uint16_t *units, size_t len);
 uint32_t jsstr_build_latin1(jsstr_builder *text, const uint8_t *bytes, size_t len);
 jsstr_answer jsstr_build_utf8(jsstr_builder *text, const uint8_t *bytes, size_t len);
 jsstr_answer jsstr_build_wtf8(jsstr_builder *text, const uint8_t *bytes, size_t len);
 uint32_t jsstr_build_string(jsstr_builder *text, jsstr_agent *agent, jsstr_id s);
-uint32_t jsstr_build_number(jsstr_builder *text, int32_t number);
+uint32_t jsstr_build_number(jsstr_builder *text, int64_t number);
 
 /* How many units a text has. */
 uint32_t jsstr_built_length(const jsstr_builder *text);

@@ -497,8 +497,9 @@ public:
   /// The units of a string of this agent.
   answer<nothing> append(agent &of, jsstr::string s) { return agent::given(agent::done(jsstr_build_string(&text, of.handle(), s.id()))); }
 
-  /// The decimal digits of a number. Its type is this one alone, so that no character is taken for a number.
-  template <class T, class = std::enable_if_t<std::is_same_v<T, std::int32_t>>> answer<nothing> append(T number) {
+  /// The decimal digits of a number. Its type is one of these two, so that no character is taken for a number.
+  template <class T, class = std::enable_if_t<std::is_same_v<T, std::int32_t> || std::is_same_v<T, std::int64_t>>>
+  answer<nothing> append(T number) {
     return agent::given(agent::done(jsstr_build_number(&text, number)));
   }
 

@@ -1,6 +1,7 @@
 /* Reading WTF-8, and texts that are built up: each call in both forms, bytes that are no WTF-8, refusals, two heaps.
    Prints "ok". */
 #include "jsstr.h"
+#include <inttypes.h>
 #include <stdio.h>
 #include <stdlib.h>
 #include <string.h>
@@ -261,14 +262,16 @@ static void too_long(void) {
 static void numbers(void) {
   jsstr_agent a = {0};
   jsstr_builder text = {0};
-  char digits[16];
+  char digits[24];
   CHECK(jsstr_make((jsstr_size){500, 1000, 11}, 1, 100, &a) == JSSTR_DONE);
-  const int32_t ends[] = {0, 1, -1, 9, 10, -10, 2147483647, 2147483646, -2147483647, -2147483647 - 1};
-  for (size_t i = 0; i < 10 + 9 * 6; i++) {
-    int32_t number = i < 10 ? ends[i] : 1;
-    for (size_t power = 1; i >= 10 && power <= (i - 10) / 6; power++) number *= 10;
-    if (i >= 10) number = (number + (int32_t)(i % 3) - 1) * (i % 2 ? -1 : 1);
-    int size = snprintf(digits, sizeof digits, "%ld", (long)number);
+  const int64_t ends[] = {0, 1, -1, 9, 10, -10, INT32_MAX, INT32_MIN, INT32_MAX + 1LL, INT32_MIN - 1LL,
+                          9007199254740991, -9007199254740991, INT64_MAX, INT64_MIN};
+  const size_t some = sizeof ends / sizeof *ends;
+  for (size_t i = 0; i < some + 18 * 6; i++) {
+    int64_t number = i < some ? ends[i] : 1;
+    for (size_t power = 1; i >= some && power <= (i - some) / 6; power++) number *= 10;
+    if (i >= some) number = (number + (int64_t)(i % 3) - 1) * (i % 2 ? -1 : 1);
+    int size = snprintf(digits, sizeof digits, "%" PRId64, number);
     CHECK(jsstr_build_number(&text, number) == JSSTR_DONE && jsstr_built_length(&text) == (uint32_t)size);
     jsstr_answer s = jsstr_built(&text, &a);
     CHECK(s.status == JSSTR_DONE && jsstr_equals_latin1(&a, s.id, (const uint8_t *)digits, (size_t)size).holds);

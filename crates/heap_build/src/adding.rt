@@ -91,8 +91,9 @@ impl Builder {
         }
     }
 
-    /// Adds the decimal digits of a number, with a sign where it is negative (ECMA-262, "Number::toString").
-    pub fn push_number(&mut self, number: i32) -> Result<(), BuildFault>
+    /// Adds the decimal digits of a number, with a sign where it is negative (ECMA-262, "Number::toString", of whole
+    /// numbers below 2^53).
+    pub fn push_number(&mut self, number: i64) -> Result<(), BuildFault>
         ensures added { Adds self.old self.new (text_of (Int number)) result }
         ensures room { room_in self.old ≤ room_in self.new }
     {

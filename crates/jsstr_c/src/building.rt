@@ -45,7 +45,7 @@ pub extern "C" fn jsstr_build_latin1(alloc: Global, text: &mut JsBuilder, bytes:
 
 /// Adds the decimal digits of a number, with a sign where it is negative (ECMA-262, "Number::toString").
 #[unsafe(no_mangle)]
-pub extern "C" fn jsstr_build_number(alloc: Global, text: &mut JsBuilder, number: i32) -> u32
+pub extern "C" fn jsstr_build_number(alloc: Global, text: &mut JsBuilder, number: i64) -> u32
     requires { IsBuilder text.old }
     ensures handle { IsBuilder text.new }
     ensures builds { Builds text.old.at.value text.new.at.value (text_of (Int number)) result }
