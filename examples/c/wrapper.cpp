@@ -24,8 +24,8 @@ static_assert(std::is_nothrow_move_constructible_v<jsstr::builder> && std::is_no
 // Whether a text takes a value of this type.
 template <class T, class = void> constexpr bool appends = false;
 template <class T> constexpr bool appends<T, std::void_t<decltype(std::declval<jsstr::builder &>().append(std::declval<T>()))>> = true;
-static_assert(appends<std::int32_t> && appends<std::u16string_view> && appends<std::u16string> && appends<const char16_t *>);
-static_assert(!appends<char> && !appends<char16_t> && !appends<bool> && !appends<std::uint32_t> && !appends<std::int64_t> && !appends<const char *>);
+static_assert(appends<std::int64_t> && appends<std::int32_t> && appends<std::u16string_view> && appends<std::u16string> && appends<const char16_t *>);
+static_assert(!appends<char> && !appends<char16_t> && !appends<bool> && !appends<std::uint32_t> && !appends<std::uint64_t> && !appends<const char *>);
 
 static void makes_and_reads(jsstr::agent &agent) {
   jsstr::string hello = agent.from(u"hello"_js).value(), world = agent.from_utf8(" w\xC3\xB6rld \xF0\x9F\x98\x80").value();
