@@ -123,7 +123,7 @@ typedef struct jsstr_room {
 uint32_t jsstr_make(jsstr_size size, uint32_t agents, uint32_t limit, jsstr_agent *out);
 
 /* Frees an agent, and with the last one the heap (tested, not proved); *agent is zero afterwards. Its share
-   doesn't return to the others: none ever has the whole again, as jsstr_share tells, which jsstr_totals and
+   doesn't return to the others: none ever has the whole again, as jsstr_share shows, which jsstr_totals and
    jsstr_count_interned need. Where the heap goes on, join the agent instead. */
 uint32_t jsstr_free(jsstr_agent *agent);
 
