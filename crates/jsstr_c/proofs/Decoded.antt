@@ -1,7 +1,10 @@
 -- Why bytes gave no units, where they are no more than a string may have.
-use Rattle.std.proofs.Common.{◌≡◌, ⊎_elim, inl, inr, refl, sym, ap, subst, arith, ℕ, ◌*◌, ◌<◌, ◌≤◌, List, [], length, take, Ok, Err, Option}
+use Rattle.std.proofs.Common.{◌≡◌, ⊎_elim, inl, inr, refl, sym, ap, ap₂, ◌∙◌, subst, arith, ℕ, suc, ◌∷◌, ◌++◌, ◌*◌, ◌<◌, ◌≤◌, List, [], length, take, Ok, Err, Option}
+use Rattle.std.proofs.lemmas.Bool.{cond-true, lt-ltb}
 use Rattle.std.proofs.lemmas.List.{take_all}
-use Rattle.std.specs.Str.{IsUtf8, IsValidUpTo, chars}
+use Rattle.std.proofs.lemmas.Str.{IsUtf8-from_ascii, chars-IsAscii}
+use Rattle.std.specs.Prelude.{nat_lt}
+use Rattle.std.specs.Str.{IsAscii, IsUtf8, IsValidUpTo, chars}
 use Rattle.heap_rule.specs.Layout.{MAX}
 use Rattle.heap_build.specs.declared.builder.Builder.{Builder}
 use Rattle.heap_build.specs.declared.faults.BuildFault.TheVariants.{NoMemory, TooLong}
@@ -60,3 +63,14 @@ module _ (task : Task) (o p : Option Held) (bytes : List ℕ) (r : JsAnswer) whe
   pub malformed_does : (e : Encoding) (n : ℕ) → IsSpelledUpTo e bytes n → r ≡ not_utf8 n → p ≡ o → DoesSpelled e task o p bytes r
   malformed_does Utf8 n up is same = let s = spelling_up_to Utf8 bytes n up in inl ((not_all bytes n s, (n, is, valid_up_to bytes n s)), same)
   malformed_does Wtf8 n up is same = inl ((n, is, spelling_up_to Wtf8 bytes n up), same)
+
+-- ASCII is its own units
+ascii_units : (bytes : List ℕ) → IsAscii bytes → utf16 bytes ≡ bytes
+ascii_units [] a = refl
+ascii_units (b ∷ bs) a = let small = a 0 in ap₂ (λ (xs ys : List ℕ). xs ++ ys) (cond-true (nat_lt b 0x10000) _ _ (lt-ltb b 0x10000 (omega (arith, small)))) (ascii_units bs (λ i. a (suc i)))
+
+pub ascii_does : (task : Task) (o p : Option Held) (bytes : List ℕ) (r : JsAnswer) → IsAscii bytes → Does task o p bytes r → DoesSpelled Utf8 task o p bytes r
+ascii_does task o p bytes r a does = inr (
+  IsUtf8-from_ascii bytes a,
+  subst (λ (us : List ℕ). Does task o p us r) (sym (ap utf16 (chars-IsAscii bytes a) ∙ ascii_units bytes a)) does,
+)
