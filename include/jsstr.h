@@ -7,7 +7,7 @@
    TWO FORMS. jsstr_x tests its condition, and where it fails answers JSSTR_BAD_ARGUMENT and has done
    nothing. jsstr_x_unchecked, at the end, leaves the condition to the caller; where it is broken, anything
    may happen, as with a wrong index in C. Both serve one handle. A call on a text alone has no condition, and
-   one form.
+   one form; one that compares with bytes is tested alone.
 
    WHAT C STILL OWES to both forms:
    - A handle, of an agent or a text, is zero, or was written by this library, and by nothing else. Never copy
