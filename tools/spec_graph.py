@@ -32,6 +32,10 @@ class Item:
     def key(self):
         return (self.path, self.line)
 
+    def size(self):
+        """How many lines it has. Comments count nowhere, and blank lines neither."""
+        return sum(not re.match(r" *(//|--|$)", line) for _, line in self.text)
+
     def __repr__(self):
         return f"{self.path}:{self.line} {self.name}"
 
