@@ -15,7 +15,7 @@ ghost use Rattle.heap_core_births.specs.Moving.{Join, HasJoin};
 use crate::parts::{has_part, is_narrow, is_parent, shown_part};
 use heap_core_views::learning::units_from;
 use heap_rule::{MAX, View};
-use js_header::Form;
+use js_header::{FIELD_END, Form};
 use js_units::{NoMemory, Units, lane, lanes, words_for};
 use std::alloc::Global;
 
@@ -168,7 +168,7 @@ fn fits_flat(view: &View, id: u32, n: u32, wide: bool, start: u32, fixed: bool) 
     requires { n ≤ MAX }
     ensures { IsTrue result ↔ FormFits view.now id n (form.Flat wide start fixed) }
 {
-    if 536870912 <= start {
+    if FIELD_END <= start {
         return false;
     }
     let count = words_for(n, wide);

@@ -15,7 +15,7 @@ use crate::births::{has_own, has_span, has_zeros, run_of};
 use heap_core_views::load::Load;
 use heap_core_views::slots::has_units;
 use heap_rule::View;
-use js_header::Form;
+use js_header::{FIELD_END, Form};
 use js_units::{lanes, words_for};
 
 // Whether the view has this form of the string.
@@ -57,7 +57,7 @@ fn spells(view: &View, us: &[u16], wide: bool, start: u32) -> bool
     requires { length us.now ≤ MAX }
     ensures { IsTrue result ↔ Spells view.now us.now wide start }
 {
-    if 536870912 <= start {
+    if FIELD_END <= start {
         return false;
     }
     let n = us.len() as u32;

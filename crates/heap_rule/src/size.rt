@@ -2,6 +2,8 @@
 ghost use Rattle.std.specs.Prelude.{◌≡◌, ◌<◌, ◌↔◌, IsTrue};
 ghost use Rattle.heap_rule.specs.Layout.{IsLawfulSize, counter_value, with_count, counter_at, end_of, word_count, form_at, length_at, slot_at, content_at};
 
+use js_header::FIELD_END;
+
 /// The greatest length of a string, 2^29 - 24 (V8's `String::kMaxLength` on 64-bit machines).
 pub const MAX: u32 = 536870888;
 
@@ -35,10 +37,10 @@ impl HeapSize {
         let ids = self.ids;
         let words = self.words;
         let slots = self.slots;
-        (1 <= ids && ids < 536870912)
-            && (1 <= words && words < 536870912)
-            && (1 <= slots && slots < 536870912)
-            && u64::from(ids) + u64::from(words) + u64::from(slots) <= 536870912
+        (1 <= ids && ids < FIELD_END)
+            && (1 <= words && words < FIELD_END)
+            && (1 <= slots && slots < FIELD_END)
+            && u64::from(ids) + u64::from(words) + u64::from(slots) <= u64::from(FIELD_END)
     }
 
     /// Where a counter ends.

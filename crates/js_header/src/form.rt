@@ -3,6 +3,11 @@ ghost use Rattle.std.specs.Prelude.{◌≡◌, ◌≢◌, ◌<◌, ◌^◌, ◌�
 ghost use Rattle.js_header.specs.declared.form.Form as form;
 ghost use Rattle.js_header.specs.Form.{IsInRange, word_of, form_of, packed, form_by_tag};
 
+/// One more than the greatest number in a field of a form word: 2^29.
+pub const FIELD_END: u32 = 536870912;
+// What one of the second field counts for in a form word: 2^34.
+const SECOND_UNIT: u64 = 17179869184;
+
 /// The representation of a string. Each number in it is below 2^29: a content word, an id of a
 /// string, or a number of code units.
 ///
@@ -71,7 +76,7 @@ pub fn decode(word: u64) -> Option<Form>
     ensures none { IsNone result ↔ ((f : form.Form) → IsInRange f → word_of f ≢ word) }
 {
     // a Flat uses each bit below 34, so that its fields need no second look
-    if word % 8 == 1 && word < 17179869184 {
+    if word % 8 == 1 && word < SECOND_UNIT {
         return Some(fields(word));
     }
     decode_any(word)
@@ -99,7 +104,7 @@ fn pack(tag: u64, wide: bool, fixed: bool, first: u32, second: u32) -> u64
     tag + 8 * u64::from(wide)
         + 16 * u64::from(fixed)
         + 32 * u64::from(first)
-        + 17179869184 * u64::from(second)
+        + SECOND_UNIT * u64::from(second)
 }
 
 // The form that a tag names, with what the word has in that form's fields.
@@ -109,8 +114,8 @@ fn fields(word: u64) -> Form
 {
     let wide = word / 8 % 2 == 1;
     let fixed = word / 16 % 2 == 1;
-    let first = (word / 32 % 536870912) as u32;
-    let second = (word / 17179869184 % 536870912) as u32;
+    let first = (word / 32 % u64::from(FIELD_END)) as u32;
+    let second = (word / SECOND_UNIT % u64::from(FIELD_END)) as u32;
     match word % 8 {
         1 => Form::Flat {
             wide,

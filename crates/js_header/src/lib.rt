@@ -8,4 +8,4 @@
 
 mod form;
 
-pub use form::{Form, decode, encode};
+pub use form::{FIELD_END, Form, decode, encode};
