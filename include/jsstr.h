@@ -7,7 +7,7 @@
    TWO FORMS. jsstr_x tests its condition, and where it fails answers JSSTR_BAD_ARGUMENT and has done
    nothing. jsstr_x_unchecked, at the end, leaves the condition to the caller; where it is broken, anything
    may happen, as with a wrong index in C. Both serve one handle. A call on a text alone has no condition, and
-   one form; one that compares with bytes is tested alone.
+   one form.
 
    WHAT C STILL OWES to both forms:
    - A handle, of an agent or a text, is zero, or was written by this library, and by nothing else. Never copy
@@ -30,8 +30,8 @@
    JSSTR_NO_WORDS.
 
    MEMORY. jsstr_make and jsstr_split allocate; a call that appends to a text may; and for its own duration one that
-   compares with bytes, or copies into another heap. These alone may answer JSSTR_NO_MEMORY. That no other call
-   allocates is tested, not proved.
+   copies into another heap. These alone may answer JSSTR_NO_MEMORY. That no other call allocates is tested, not
+   proved.
 
    Link -ljsstr: there is one archive, libjsstr.a, and no shared object. malloc, realloc and free are the C
    library's, and malloc aligns to 16. */
@@ -225,7 +225,8 @@ jsstr_truth jsstr_equal(jsstr_agent *agent, jsstr_id a, jsstr_id b);
 jsstr_order jsstr_compare_units(jsstr_agent *agent, jsstr_id s, const uint16_t *units, size_t len);
 jsstr_truth jsstr_equals_units(jsstr_agent *agent, jsstr_id s, const uint16_t *units, size_t len);
 
-/* The same of bytes, by the rules of jsstr_from_latin1 and jsstr_from_utf8. They have no form that tests nothing. */
+/* The same of bytes, by the rules of jsstr_from_latin1 and jsstr_from_utf8. Where they are no UTF-8, nothing is
+   settled. */
 jsstr_order jsstr_compare_latin1(jsstr_agent *agent, jsstr_id s, const uint8_t *bytes, size_t len);
 jsstr_order jsstr_compare_utf8(jsstr_agent *agent, jsstr_id s, const uint8_t *bytes, size_t len);
 jsstr_truth jsstr_equals_latin1(jsstr_agent *agent, jsstr_id s, const uint8_t *bytes, size_t len);
@@ -350,6 +351,10 @@ int32_t jsstr_compare_unchecked(jsstr_agent *, jsstr_id, jsstr_id);
 bool jsstr_equal_unchecked(jsstr_agent *, jsstr_id, jsstr_id);
 int32_t jsstr_compare_units_unchecked(jsstr_agent *, jsstr_id, const uint16_t *, size_t);
 bool jsstr_equals_units_unchecked(jsstr_agent *, jsstr_id, const uint16_t *, size_t);
+int32_t jsstr_compare_latin1_unchecked(jsstr_agent *, jsstr_id, const uint8_t *, size_t);
+jsstr_order jsstr_compare_utf8_unchecked(jsstr_agent *, jsstr_id, const uint8_t *, size_t);
+bool jsstr_equals_latin1_unchecked(jsstr_agent *, jsstr_id, const uint8_t *, size_t);
+jsstr_truth jsstr_equals_utf8_unchecked(jsstr_agent *, jsstr_id, const uint8_t *, size_t);
 bool jsstr_starts_with_unchecked(jsstr_agent *, jsstr_id, jsstr_id, uint32_t);
 jsstr_place jsstr_index_of_unchecked(jsstr_agent *, jsstr_id, jsstr_id, uint32_t);
 jsstr_place jsstr_last_index_of_unchecked(jsstr_agent *, jsstr_id, jsstr_id, uint32_t);

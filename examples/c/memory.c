@@ -12,7 +12,7 @@
 #define CHECK(c) do { if (!(c)) { printf("line %d: %s\n", __LINE__, #c); exit(1); } } while (0)
 
 /* What a call does for its answer: it allocates nothing; or it does; or it does, and has settled a rope before that.
-   What makes, interns or finds a string of bytes is as BYTES says. */
+   What makes, interns or finds a string of bytes, or compares one with them, is as BYTES says. */
 enum takes { NOTHING, MEMORY, MEMORY_SETTLED, BYTES = NOTHING };
 
 /* Two heaps. `one` and `other` are agents of the first, where `plain`, `rope` and `key` are; `text` has units. */
@@ -57,10 +57,14 @@ static const uint8_t latin1[] = "Latin-1 \xE9", utf8[] = "UTF-8 \xC3\xA9 \xF0\x9
   ROW(find_utf8_unchecked, BYTES, jsstr_find_utf8_unchecked(&w->one, KEY)) \
   ROW(find_wtf8, BYTES, jsstr_find_wtf8(&w->one, KEY)) \
   ROW(find_wtf8_unchecked, BYTES, jsstr_find_wtf8_unchecked(&w->one, KEY)) \
-  ROW(compare_latin1, MEMORY, order(jsstr_compare_latin1(&w->one, w->plain, LATIN1))) \
-  ROW(compare_utf8, MEMORY, order(jsstr_compare_utf8(&w->one, w->plain, UTF8))) \
-  ROW(equals_latin1, MEMORY, truth(jsstr_equals_latin1(&w->one, w->rope, LATIN1))) \
-  ROW(equals_utf8, MEMORY, truth(jsstr_equals_utf8(&w->one, w->rope, UTF8))) \
+  ROW(compare_latin1, BYTES, order(jsstr_compare_latin1(&w->one, w->rope, LATIN1))) \
+  ROW(compare_latin1_unchecked, BYTES, order((jsstr_order){JSSTR_DONE, jsstr_compare_latin1_unchecked(&w->one, w->plain, LATIN1)})) \
+  ROW(compare_utf8, BYTES, order(jsstr_compare_utf8(&w->one, w->rope, UTF8))) \
+  ROW(compare_utf8_unchecked, BYTES, order(jsstr_compare_utf8_unchecked(&w->one, w->plain, UTF8))) \
+  ROW(equals_latin1, BYTES, truth(jsstr_equals_latin1(&w->one, w->rope, LATIN1))) \
+  ROW(equals_latin1_unchecked, BYTES, truth((jsstr_truth){JSSTR_DONE, jsstr_equals_latin1_unchecked(&w->one, w->plain, LATIN1)})) \
+  ROW(equals_utf8, BYTES, truth(jsstr_equals_utf8(&w->one, w->rope, UTF8))) \
+  ROW(equals_utf8_unchecked, BYTES, truth(jsstr_equals_utf8_unchecked(&w->one, w->plain, UTF8))) \
   ROW(copy_into, MEMORY, jsstr_copy_into(&w->one, w->plain, &w->far)) \
   ROW(copy_into_unchecked, MEMORY, jsstr_copy_into_unchecked(&w->one, w->plain, &w->far)) \
   ROW(copy_rope_into, MEMORY_SETTLED, jsstr_copy_into(&w->one, w->rope, &w->far)) \

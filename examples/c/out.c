@@ -118,6 +118,58 @@ static void compare_all(jsstr_agent *agent) {
   }
 }
 
+/* How a string compares with bytes, by both forms of both calls, as Latin-1 and as UTF-8. */
+static void compare_as(jsstr_agent *agent, jsstr_id s, const uint8_t *bytes, size_t len, int utf8, int order) {
+  jsstr_order told = (utf8 ? jsstr_compare_utf8 : jsstr_compare_latin1)(agent, s, bytes, len);
+  CHECK(told.status == JSSTR_DONE && told.order == order);
+  jsstr_truth same = (utf8 ? jsstr_equals_utf8 : jsstr_equals_latin1)(agent, s, bytes, len);
+  CHECK(same.status == JSSTR_DONE && same.holds == (order == 0));
+  if (utf8) {
+    told = jsstr_compare_utf8_unchecked(agent, s, bytes, len);
+    same = jsstr_equals_utf8_unchecked(agent, s, bytes, len);
+    CHECK(told.status == JSSTR_DONE && told.order == order && same.status == JSSTR_DONE && same.holds == (order == 0));
+  } else {
+    CHECK(jsstr_compare_latin1_unchecked(agent, s, bytes, len) == order && jsstr_equals_latin1_unchecked(agent, s, bytes, len) == (order == 0));
+  }
+}
+
+/* Bytes that are read in several pieces: each front of them, and a unit changed at each place. */
+static void compare_bytes(jsstr_agent *agent) {
+  enum { LEN = 200, OF = 4 };
+  static const char *const letters[OF] = {"\xC3\xA9", "\xE4\xB8\x96", "\xF0\x9F\x98\x80", "a"};
+  static const int turned[OF] = {1, -1, -1, 1}; /* where the last bit of a letter is turned */
+  uint8_t bytes[LEN + 1], text[OF * LEN];
+  for (size_t i = 0; i <= LEN; i++) bytes[i] = (uint8_t)(2 * (i % 50) + 1);
+  jsstr_id s = jsstr_from_latin1(agent, bytes, LEN).id, empty = jsstr_from_latin1(agent, bytes, 0).id;
+  for (int utf8 = 0; utf8 < 2; utf8++) {
+    compare_as(agent, s, bytes, LEN + 1, utf8, -1);
+    compare_as(agent, empty, bytes, 0, utf8, 0);
+    for (size_t n = 0; n <= LEN; n++) {
+      compare_as(agent, s, bytes, n, utf8, n < LEN);
+      if (n == LEN) continue;
+      bytes[n]++;
+      compare_as(agent, s, bytes, n % 2 ? LEN : n + 1, utf8, -1);
+      bytes[n] -= 2;
+      compare_as(agent, s, bytes, n % 2 ? LEN : n + 1, utf8, 1);
+      bytes[n]++;
+    }
+  }
+  size_t all = 0, at = 0;
+  for (size_t i = 0; i < LEN; i++) memcpy(text + all, letters[i % OF], strlen(letters[i % OF])), all += strlen(letters[i % OF]);
+  s = jsstr_from_utf8(agent, text, all).id;
+  for (size_t i = 0; i < LEN; i++) {
+    compare_as(agent, s, text, at, 1, 1);
+    at += strlen(letters[i % OF]);
+    text[at - 1] ^= 1;
+    compare_as(agent, s, text, i % 2 ? all : at, 1, turned[i % OF]);
+    text[at - 1] ^= 1;
+  }
+  compare_as(agent, s, text, all, 1, 0);
+  compare_as(agent, s, text, 0, 0, 1);
+  text[all - 2] = 0xFF;
+  CHECK(jsstr_compare_utf8_unchecked(agent, s, text, all).status == JSSTR_NOT_UTF8 && jsstr_equals_utf8_unchecked(agent, s, text, all).status == JSSTR_NOT_UTF8);
+}
+
 static void write_latin1(jsstr_agent *agent) {
   text of = {{0}, 17};
   for (size_t i = 0; i < of.len; i++) of.units[i] = (uint16_t)(i * 15);
@@ -168,6 +220,8 @@ static void settle_on_the_way(void) {
   CHECK(jsstr_to_latin1(&agent, other, out, sizeof out).status == JSSTR_NO_WORDS);
   CHECK(jsstr_unit_at(&agent, other, 0).status == JSSTR_NO_WORDS && jsstr_hash(&agent, other).status == JSSTR_NO_WORDS);
   CHECK(jsstr_equals_units(&agent, other, &unit, 0).status == JSSTR_NO_WORDS && jsstr_compare_units(&agent, other, &unit, 0).status == JSSTR_NO_WORDS);
+  CHECK(jsstr_equals_latin1(&agent, other, out, 0).status == JSSTR_NO_WORDS && jsstr_compare_latin1(&agent, other, out, 0).status == JSSTR_NO_WORDS);
+  CHECK(jsstr_equals_utf8(&agent, other, out, 0).status == JSSTR_NO_WORDS && jsstr_compare_utf8(&agent, other, out, 0).status == JSSTR_NO_WORDS);
   jsstr_free(&agent);
   CHECK(jsstr_make((jsstr_size){9, 40, 1}, 1, 100, &agent) == JSSTR_DONE);
   half = jsstr_from_latin1(&agent, (const uint8_t *)"0123456789abcdef", 16).id;
@@ -207,6 +261,7 @@ int main(void) {
     try_row(&agent, &rows[i], cut(&agent, &rows[i].of));
   }
   compare_all(&agent);
+  compare_bytes(&agent);
   write_latin1(&agent);
   hash_some(&agent);
   refuse(&agent, made(&agent, &rows[1].of), 3999);

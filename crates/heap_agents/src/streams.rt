@@ -1,19 +1,22 @@
-// Units that bytes spell: strings made of them, interning them, and looking for them in the string table. No
-// call requests memory but the heap's.
-ghost use Rattle.std.specs.Prelude.{◌≤◌, length, IfOk, IfErr};
+// Units that bytes spell: strings made of them, interning them, looking for them in the string table, and strings
+// compared with them. No call requests memory but the heap's.
+ghost use Rattle.std.specs.Prelude.{◌≡◌, ◌↔◌, ◌≤◌, ℕ, List, length, IfOk, IfErr, IsTrue};
+ghost use Rattle.js_search.specs.Order.{units_cmp};
 ghost use Rattle.js_units.specs.Lanes.{is_wide, words_over};
 ghost use Rattle.heap_rule.specs.Layout.{MAX};
-ghost use Rattle.heap_rule.specs.Maps.{Has};
+ghost use Rattle.heap_rule.specs.Maps.{Has, HasKey};
 ghost use Rattle.heap_rule.specs.Views.{IsSeenSettled};
+ghost use Rattle.heap_read.specs.Reads.{OnlyLoads};
 ghost use Rattle.heap_bytes.specs.Spellings.{IsReadable, units_of};
 ghost use Rattle.heap_text.specs.Texts.{IsSpared, KeepsOwn, Told, UsesExactly};
-ghost use Rattle.heap_agents.specs.Held.{IsHeld, Leaves, MarksMade, held_size, view_by};
+ghost use Rattle.heap_agents.specs.Held.{IsHeld, Leaves, MarksMade, MarksNothing, held_size, view_by};
 ghost use Rattle.heap_agents.specs.Keys.{FoundUnits, InternedUnits};
 
 use crate::held::Held;
 use heap_bytes::Spelling;
 use heap_intern::TableFull;
 use heap_text::{JsStr, TextFull};
+use std::cmp::Ordering;
 
 impl Held {
     /// A new string with the units that bytes spell, settled.
@@ -79,6 +82,43 @@ impl Held {
                 Some(id)
             }
             None => None,
+        }
+    }
+
+    /// The order of a settled string and the units that bytes spell, where a proper prefix comes first, by loads
+    /// alone.
+    pub fn compare_spelled(&mut self, s: JsStr, source: &Spelling) -> Ordering
+        requires held { IsHeld self.old }
+        requires known { HasKey (view_by self.old).units s.id }
+        requires settled { IsSeenSettled (view_by self.old) s.id }
+        requires read { IsReadable source.now }
+        ensures leaves { Leaves self.old self.new }
+        ensures reads { OnlyLoads (view_by self.old) (view_by self.new) }
+        ensures marked { MarksNothing self.old self.new }
+        ensures order { (us : List ℕ) → Has (view_by self.old).units s.id us
+            → result ≡ units_cmp us (units_of source.now) }
+    {
+        match &mut self.text {
+            Some(text) => heap_export::compare_spelled(text, s, source),
+            None => unreachable!(),
+        }
+    }
+
+    /// Whether a settled string has just the units that bytes spell, by loads alone.
+    pub fn has_spelled(&mut self, s: JsStr, source: &Spelling) -> bool
+        requires held { IsHeld self.old }
+        requires known { HasKey (view_by self.old).units s.id }
+        requires settled { IsSeenSettled (view_by self.old) s.id }
+        requires read { IsReadable source.now }
+        ensures leaves { Leaves self.old self.new }
+        ensures reads { OnlyLoads (view_by self.old) (view_by self.new) }
+        ensures marked { MarksNothing self.old self.new }
+        ensures same { (us : List ℕ) → Has (view_by self.old).units s.id us
+            → IsTrue result ↔ (us ≡ units_of source.now) }
+    {
+        match &mut self.text {
+            Some(text) => heap_export::has_spelled(text, s, source),
+            None => unreachable!(),
         }
     }
 }

@@ -15,10 +15,10 @@ use Rattle.heap_bytes.specs.Reading.{FollowsNone, HasRead}
 use Rattle.heap_bytes.proofs.Rows.{begins, chars_point, may_small, spelled_less, spelled_more, spelled_nil}
 
 -- units are no more than the bytes that spell them
-most_one : (c : ℕ) → length (utf16_of c) ≤ len_utf8 c
+pub most_one : (c : ℕ) → length (utf16_of c) ≤ len_utf8 c
 most_one c = grind (arith, nat_tests)
 
-most_all : (cs : List ℕ) → length (utf16 cs) ≤ length (encode_utf8_all cs)
+pub most_all : (cs : List ℕ) → length (utf16 cs) ≤ length (encode_utf8_all cs)
 most_all [] = omega arith
 most_all (c ∷ cs) = omega (arith, length-append (utf16_of c) (utf16 cs), length-append (encode_utf8 c) (encode_utf8_all cs), length-encode c, most_one c, most_all cs)
 

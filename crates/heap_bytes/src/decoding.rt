@@ -1,6 +1,7 @@
 // The code points that bytes spell.
-ghost use Rattle.std.specs.Prelude.{◌≡◌, ◌++◌, ◌-◌, ◌*◌, ◌<◌, ◌≤◌, length, slice_index, true, false, MatchOption};
+ghost use Rattle.std.specs.Prelude.{◌≡◌, ◌++◌, ◌-◌, ◌*◌, ◌<◌, ◌≤◌, ◌&&◌, nat_eq, length, slice_index, take, true, false, MatchOption};
 ghost use Rattle.std.specs.Char.{encode_utf8};
+ghost use Rattle.std.specs.Str.{IsAscii};
 ghost use Rattle.js_units.specs.Text as text;
 ghost use Rattle.heap_rule.specs.Layout.{MAX};
 ghost use Rattle.heap_bytes.specs.Points.{BeginsNone, IsMeasured};
@@ -93,7 +94,8 @@ fn continues(byte: u8) -> bool
     (0x80..0xC0).contains(&byte)
 }
 
-/// How many units bytes spell; or the length of the longest front that spells some.
+/// How many units bytes spell; or the length of the longest front that spells some. Runs of ASCII are counted
+/// without being decoded.
 pub fn measure(encoding: Encoding, bytes: &[u8]) -> Result<usize, usize>
     requires { length bytes.now ≤ 3 * MAX }
     ensures { IsMeasured encoding bytes.now result }
@@ -102,16 +104,41 @@ pub fn measure(encoding: Encoding, bytes: &[u8]) -> Result<usize, usize>
     let mut lead = false;
     let mut count = 0;
     while !rest.is_empty() {
-        match next_point(encoding, lead, rest) {
+        let run = ascii_run(rest);
+        let behind = &rest[run..];
+        count += run;
+        if behind.is_empty() {
+            return Ok(count);
+        }
+        match next_point(encoding, leads(lead, run), behind) {
             Some((point, after)) => {
                 count += units_for(point);
                 lead = begins_pair(point);
                 rest = after;
             }
-            None => return Err(bytes.len() - rest.len()),
+            None => return Err(bytes.len() - behind.len()),
         }
     }
     Ok(count)
+}
+
+// How many bytes off the front are ASCII.
+fn ascii_run(bytes: &[u8]) -> usize
+    ensures within { result ≤ length bytes.now }
+    ensures ascii { IsAscii (take result bytes.now) }
+{
+    let mut run = 0;
+    while run < bytes.len() && bytes[run] < 0x80 {
+        run += 1;
+    }
+    run
+}
+
+// Whether what is behind a run of ASCII follows a leading surrogate, where what is in front of the run is one.
+fn leads(lead: bool, run: usize) -> bool
+    ensures { result ≡ (lead && nat_eq run 0) }
+{
+    if run == 0 { lead } else { false }
 }
 
 // A code point off the front that may follow one that is a leading surrogate, or isn't.

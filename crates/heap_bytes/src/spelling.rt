@@ -1,7 +1,7 @@
 // The units that bytes spell, read front to back.
 ghost use Rattle.std.specs.Prelude.{◌≡◌, [], ℕ, ◌+◌, ◌-◌, ◌*◌, ◌<◌, ◌≤◌, ◌++◌, length, take, nat_lt, IfOk, MatchOption};
 ghost use Rattle.std.specs.List.{list_any};
-ghost use Rattle.std.specs.Str.{chars};
+ghost use Rattle.std.specs.Str.{IsAscii, chars};
 ghost use Rattle.js_units.specs.Lanes.{hash_of, is_wide};
 ghost use Rattle.js_units.specs.Text.{utf16_of};
 ghost use Rattle.heap_rule.specs.Layout.{MAX};
@@ -26,17 +26,23 @@ pub enum Spelling<'b> {
 }
 
 impl<'b> Spelling<'b> {
-    /// What bytes of UTF-8 or WTF-8 spell; or the length of the longest front that spells some.
+    /// What bytes of UTF-8 or WTF-8 spell; or the length of the longest front that spells some. Bytes of ASCII
+    /// are read as Latin-1.
     pub fn read(encoding: Encoding, bytes: &'b [u8]) -> Result<Spelling<'b>, usize>
         requires { length bytes.now ≤ 3 * MAX }
         ensures read { IsReadAs encoding bytes.now result }
         ensures most { IfOk result (λ s. length (units_of s) ≤ length bytes.now) }
     {
         match measure(encoding, bytes) {
-            Ok(count) => Ok(Spelling::Points {
-                bytes,
-                len: count as u32,
-            }),
+            Ok(count) => {
+                if count == bytes.len() {
+                    return Ok(Spelling::Latin1(bytes));
+                }
+                Ok(Spelling::Points {
+                    bytes,
+                    len: count as u32,
+                })
+            }
             Err(at) => Err(at),
         }
     }
@@ -160,15 +166,38 @@ fn put_points<'b>(room: &mut [u16], at: usize, bytes: &'b [u8]) -> (usize, &'b [
     let mut rest = bytes;
     let mut count = at;
     while room.len() - count >= 2 {
-        match split_point(rest) {
+        let run = put_ascii(room, count, rest);
+        let behind = &rest[run..];
+        count += run;
+        if room.len() - count < 2 {
+            return (count, behind);
+        }
+        match split_point(behind) {
             Some((point, after)) => {
                 count = put_point(room, count, point);
                 rest = after;
             }
-            None => return (count, rest),
+            None => return (count, behind),
         }
     }
     (count, rest)
+}
+
+// Puts bytes of ASCII off the front into the room, from place `at` on, while there is room for two units; how
+// many they are.
+fn put_ascii(room: &mut [u16], at: usize, bytes: &[u8]) -> usize
+    requires { at ≤ length room.old }
+    ensures within { (result ≤ length bytes.now) × (at + result ≤ length room.new) }
+    ensures ascii { IsAscii (take result bytes.now) }
+    ensures units { take (at + result) room.new ≡ take at room.old ++ take result bytes.now }
+{
+    let most = bytes.len().min((room.len() - at).saturating_sub(1));
+    let mut run = 0;
+    while run < most && bytes[run] < 0x80 {
+        room[at + run] = u16::from(bytes[run]);
+        run += 1;
+    }
+    run
 }
 
 // Puts the units of a code point into the room, from place `at` on; the place behind them.

@@ -20,7 +20,7 @@ pub next_same : (us vs : List ℕ) (i : ℕ) (all : Ordering) → i < length us 
     → units_cmp (drop i us) (drop i vs) ≡ all → units_cmp (drop (i + 1) us) (drop (i + 1) vs) ≡ all
 next_same us vs i all l m e h = sym (ap (λ o. ordering_then o (units_cmp (drop (i + 1) us) (drop (i + 1) vs))) e) ∙ (sym (first_then us vs i l m) ∙ h)
 
-decided : (o p q : Ordering) → o ≢ Equal → ordering_then o p ≡ ordering_then o q
+pub decided : (o p q : Ordering) → o ≢ Equal → ordering_then o p ≡ ordering_then o q
 decided Less p q n = refl
 decided Equal p q n = absurd (n refl)
 decided Greater p q n = refl
@@ -71,7 +71,7 @@ pub whole_same : (us vs : List ℕ) (i : ℕ) → length us ≤ i → length vs 
 whole_same us vs i l m h = sym (take_all i us l) ∙ (h ∙ take_all i vs m)
 
 -- the order of two lists of n units is that of their first n
-then_equal : (o : Ordering) → ordering_then o Equal ≡ o
+pub then_equal : (o : Ordering) → ordering_then o Equal ≡ o
 then_equal Less = refl
 then_equal Equal = refl
 then_equal Greater = refl

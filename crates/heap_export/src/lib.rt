@@ -1,5 +1,5 @@
-//! Strings of a heap that threads share: written as bytes or units, compared with lists of units, hashed, and
-//! read as array indexes. All calls are loads, and allocate nothing; each but [`is_settled`] requires a
+//! Strings of a heap that threads share: written as bytes or units, compared with units and with bytes,
+//! hashed, and read as array indexes. All calls are loads, and allocate nothing; each but [`is_settled`] requires a
 //! settled string.
 #![tactic(auto)]
 
@@ -9,6 +9,7 @@ mod index;
 mod latin1;
 mod looking;
 mod points;
+mod spelled;
 mod units;
 mod utf8;
 
@@ -17,5 +18,6 @@ pub use faults::{Unpaired, WriteFault};
 pub use index::array_index;
 pub use latin1::write_latin1;
 pub use looking::{hash, is_settled};
+pub use spelled::{compare_spelled, has_spelled};
 pub use units::write_units;
 pub use utf8::write_utf8;

@@ -35,6 +35,10 @@ module _ (o m : Option Held) (s : ℕ) (r : JsAnswer) (first : SettlesFirst o m 
     done = λ nb nw. absurd (nw (e ∙ (first.refused (λ (x : r.status ≡ 9). nb (e ∙ x)) ne).words));
   }
 
+  -- and memory is not why
+  pub not_memory : (status : ℕ) → status ≡ r.status → r.status ≢ 0 → status ≢ 1
+  not_memory status e ne one = let m : r.status ≡ 1 = sym e ∙ one in let w = (first.refused (λ (x : r.status ≡ 9). absurd (omega (arith, x, m))) ne).words in omega (arith, w, m)
+
   -- it was settled, and read
   pub goes_on : (p : Option Held) (status : ℕ) (nothing : Type 0) (tells : List ℕ → Type 0) → r.status ≡ 0 → OnlyLooks m p → status ≢ 9 → status ≢ 4
       → ((us : List ℕ) → Has (handle_view m).units s us → tells us) → ReadsSettled o p s status nothing tells

@@ -1,5 +1,5 @@
 -- Why bytes give no units.
-use Rattle.std.specs.Prelude.{◌≡◌, ◌⊎◌, ℕ, List}
+use Rattle.std.specs.Prelude.{◌≡◌, ℕ, List}
 use Rattle.std.specs.Str.{IsUtf8, IsValidUpTo}
 use Rattle.heap_build.specs.declared.faults.BuildFault.TheVariants.{NoMemory, TooLong}
 use Rattle.heap_build.specs.declared.faults.DecodeFault.{DecodeFault}
@@ -15,11 +15,6 @@ IsNoUtf8 bytes r = (IsUtf8 bytes → ⊥) × ((n : ℕ) × (r ≡ not_utf8 n) ×
 -- the same of WTF-8
 abbrev pub IsNoWtf8 : List ℕ → JsAnswer → Type 0
 IsNoWtf8 bytes r = (n : ℕ) × (r ≡ not_utf8 n) × IsSpellingUpTo SpellsWtf8 bytes n
-
--- Why bytes gave no list of units: they are no UTF-8, which is reported wherever it is so; or memory
--- runs out.
-abbrev pub IsUndecoded : List ℕ → JsAnswer → Type 0
-IsUndecoded bytes r = IsNoUtf8 bytes r ⊎ (IsUtf8 bytes × (r ≡ no_memory))
 
 -- why no units were decoded; where bytes spell none, how many of them do
 abbrev pub fault_answer : DecodeFault → JsAnswer

@@ -24,7 +24,7 @@ pub(crate) const TOO_LONG: u32 = 6;
 
 const NONE: u32 = 7;
 
-const NOT_UTF8: u32 = 8;
+pub(crate) const NOT_UTF8: u32 = 8;
 
 pub(crate) const BAD_ARGUMENT: u32 = 9;
 

@@ -4,13 +4,13 @@ ghost use Rattle.heap_agents.specs.Ready.{IsReady};
 ghost use Rattle.heap_build.specs.declared.builder.Builder as builder;
 ghost use Rattle.heap_build.specs.Built.{units_in};
 ghost use Rattle.jsstr_c.specs.Building.{IsBuilder, IsOpened, Spends, build_status, built, decoded_answer};
+ghost use Rattle.jsstr_c.specs.Decoded.{fault_answer};
 ghost use Rattle.jsstr_c.specs.Handles.{IsHandle};
 ghost use Rattle.jsstr_c.specs.Reports as reports;
 ghost use Rattle.jsstr_c.specs.Sources.{Does, Leaves};
 
 use crate::agent::JsAgent;
-use crate::answer::{DONE, JsAnswer, NO_MEMORY, TOO_LONG, refusal};
-use crate::decoding::undecoded;
+use crate::answer::{DONE, JsAnswer, NO_MEMORY, TOO_LONG, no_memory, not_utf8, refusal};
 use crate::given::{Task, on_units};
 use crate::text_handle::BoxedText;
 use heap_build::{BuildFault, Builder, DecodeFault};
@@ -129,6 +129,17 @@ pub(crate) fn of_decoded(answer: Result<(), DecodeFault>) -> JsAnswer
     match answer {
         Ok(()) => refusal(DONE, 0, 0, 0),
         Err(fault) => undecoded(fault),
+    }
+}
+
+// What is answered where no units were decoded.
+fn undecoded(fault: DecodeFault) -> JsAnswer
+    ensures { result ≡ fault_answer fault }
+{
+    match fault {
+        DecodeFault::Malformed { at } => not_utf8(at),
+        DecodeFault::NotAdded(BuildFault::NoMemory) => no_memory(),
+        DecodeFault::NotAdded(BuildFault::TooLong) => refusal(TOO_LONG, 0, 0, 0),
     }
 }
 

@@ -5,8 +5,6 @@ ghost use Rattle.heap_rule.specs.Maps.{Has, HasKey};
 ghost use Rattle.heap_rule.specs.Views.{IsSeenSettled};
 ghost use Rattle.heap_agents.specs.Ready.{IsReady, handle_view};
 ghost use Rattle.jsstr_c.specs.Checked.{OnlyLooks};
-ghost use Rattle.std.specs.Str.{IsAscii};
-ghost use Rattle.heap_bytes.specs.declared.encoding.Encoding.TheVariants.{Utf8};
 ghost use Rattle.heap_bytes.specs.Spellings.{IsReadable, units_of};
 ghost use Rattle.jsstr_c.specs.Given.{IsFinding, IsInterning, Makes, OrNoMemory};
 ghost use Rattle.jsstr_c.specs.Handles.{IsHandle};
@@ -74,7 +72,7 @@ pub(crate) fn on_units(alloc: Global, agent: &mut JsAgent, task: Task, units: &[
 }
 
 // A refusal that leaves the agent as it was.
-fn left(alloc: Global, agent: &mut JsAgent, refusal: JsAnswer) -> JsAnswer
+pub(crate) fn left(alloc: Global, agent: &mut JsAgent, refusal: JsAnswer) -> JsAnswer
     requires { IsReady agent.old.at.value }
     ensures handle { IsHandle agent.new }
     ensures same { agent.new.at.value ≡ agent.old.at.value }
@@ -168,34 +166,6 @@ fn on_bytes(
     }
 }
 
-// Whether all bytes are ASCII.
-fn is_ascii(bytes: &[u8]) -> bool
-    ensures { result ≡ true → IsAscii bytes.now }
-{
-    for byte in bytes {
-        if *byte > 0x7F {
-            return false;
-        }
-    }
-    true
-}
-
-// A task on the units that bytes of UTF-8 spell, if they spell any. Those of ASCII are read as Latin-1, which
-// takes a third of the time.
-fn on_utf8(alloc: Global, agent: &mut JsAgent, task: Task, bytes: &[u8]) -> JsAnswer
-    requires ready { IsReady agent.old.at.value }
-    requires short { length bytes.now ≤ MAX }
-    ensures handle { IsHandle agent.new }
-    ensures told { result.status ≢ reports.BAD_ARGUMENT }
-    ensures does { DoesSpelled Utf8 task agent.old.at.value agent.new.at.value bytes.now result }
-    ensures leaves { Leaves task agent.old.at.value agent.new.at.value }
-{
-    if is_ascii(bytes) {
-        return on_spelling(alloc, agent, task, &Spelling::Latin1(bytes));
-    }
-    on_bytes(alloc, agent, task, Encoding::Utf8, bytes)
-}
-
 /// A task on the units of a source.
 pub(crate) fn on_source(alloc: Global, agent: &mut JsAgent, task: Task, source: Source) -> JsAnswer
     requires ready { IsReady agent.old.at.value }
@@ -208,7 +178,7 @@ pub(crate) fn on_source(alloc: Global, agent: &mut JsAgent, task: Task, source: 
     match source {
         Source::Units(units) => on_units(alloc, agent, task, units),
         Source::Latin1(bytes) => on_spelling(alloc, agent, task, &Spelling::Latin1(bytes)),
-        Source::Utf8(bytes) => on_utf8(alloc, agent, task, bytes),
+        Source::Utf8(bytes) => on_bytes(alloc, agent, task, Encoding::Utf8, bytes),
         Source::Wtf8(bytes) => on_bytes(alloc, agent, task, Encoding::Wtf8, bytes),
     }
 }

@@ -14,7 +14,6 @@ mod builder;
 mod building;
 mod bytes;
 mod checked;
-mod decoding;
 mod given;
 mod handle;
 mod parts;

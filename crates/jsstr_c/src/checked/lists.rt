@@ -1,19 +1,20 @@
-// Strings compared with lists of units, and with bytes. The string is settled first.
-ghost use Rattle.std.specs.Prelude.{◌≡◌, ◌≢◌, ◌↔◌, ◌⊎◌, ◌≤◌, length};
-ghost use Rattle.std.specs.Str.{IsUtf8};
+// Strings compared with units, and with bytes. The string is settled first.
+ghost use Rattle.std.specs.Prelude.{◌≡◌, ◌≢◌, ◌↔◌, ◌≤◌, length};
 ghost use Rattle.heap_rule.specs.Layout.{MAX};
+ghost use Rattle.heap_bytes.specs.Spellings.{IsReadable, units_of};
 ghost use Rattle.heap_agents.specs.Ready.{HandleKnows};
-ghost use Rattle.heap_build.specs.Spelled.{utf8_decoded};
 ghost use Rattle.jsstr_c.specs.Handles.{IsHandle};
-ghost use Rattle.jsstr_c.specs.Lists.{IsUnread, OrdersUnits, ComparesUnits};
+ghost use Rattle.jsstr_c.specs.Lists.{ComparesUnits, OnSpelled, OrdersUnits};
 ghost use Rattle.jsstr_c.specs.Reports.{no_order, no_truth};
 ghost use Rattle.jsstr_c.specs.Reports as reports;
 
 use crate::agent::JsAgent;
-use crate::answer::{BAD_ARGUMENT, DONE, JsOrder, JsTruth, without_order, without_truth};
+use crate::answer::{BAD_ARGUMENT, DONE, JsOrder, JsTruth, NOT_UTF8, without_order, without_truth};
 use crate::checked::settling::settle_known;
-use crate::decoding::{latin1_units, utf8_units};
-use crate::unchecked::lists::{jsstr_compare_units_unchecked, jsstr_equals_units_unchecked};
+use crate::unchecked::lists::{
+    compare_spelled, has_spelled, jsstr_compare_units_unchecked, jsstr_equals_units_unchecked,
+};
+use heap_bytes::{Encoding, Spelling};
 use heap_rule::MAX;
 use std::alloc::Global;
 
@@ -41,7 +42,27 @@ pub extern "C" fn jsstr_equals_units(
     }
 }
 
-/// Whether a string has just these one-byte units, as Latin-1 is. It allocates for the duration of the call.
+// Whether a string has just the units that bytes spell.
+fn equals_spelled(alloc: Global, agent: &mut JsAgent, s: u32, source: &Spelling) -> JsTruth
+    requires handle { IsHandle agent.old }
+    requires read { IsReadable source.now }
+    ensures handle { IsHandle agent.new }
+    ensures bad { result.status ≡ reports.BAD_ARGUMENT ↔ ¬ (HandleKnows agent.old.at.value s) }
+    ensures memory { result.status ≢ reports.NO_MEMORY }
+    ensures compares { ComparesUnits agent.old.at.value agent.new.at.value s (units_of source.now) result }
+{
+    let settled = settle_known(alloc, agent, s);
+    if settled.status != DONE {
+        return without_truth(settled.status);
+    }
+    let holds = has_spelled(alloc, agent, s, source);
+    JsTruth {
+        status: DONE,
+        holds,
+    }
+}
+
+/// Whether a string has just these one-byte units, as Latin-1 is.
 #[unsafe(no_mangle)]
 pub extern "C" fn jsstr_equals_latin1(
     alloc: Global,
@@ -52,20 +73,14 @@ pub extern "C" fn jsstr_equals_latin1(
     requires { IsHandle agent.old }
     ensures handle { IsHandle agent.new }
     ensures bad { result.status ≡ reports.BAD_ARGUMENT ↔ ¬ (HandleKnows agent.old.at.value s) }
-    ensures compares { ((result ≡ no_truth reports.NO_MEMORY) × (agent.new.at.value ≡ agent.old.at.value))
-        ⊎ ComparesUnits agent.old.at.value agent.new.at.value s bytes.now result }
+    ensures memory { result.status ≢ reports.NO_MEMORY }
+    ensures compares { ComparesUnits agent.old.at.value agent.new.at.value s bytes.now result }
 {
-    if !agent.knows(alloc, s) {
-        return without_truth(BAD_ARGUMENT);
-    }
-    match latin1_units(alloc, bytes) {
-        Ok(units) => jsstr_equals_units(alloc, agent, s, units.as_slice()),
-        Err(refusal) => without_truth(refusal.status),
-    }
+    equals_spelled(alloc, agent, s, &Spelling::Latin1(bytes))
 }
 
-/// Whether a string has just the units of the text whose UTF-8 these bytes are. It allocates for the
-/// duration of the call.
+/// Whether a string has just the units of the text whose UTF-8 these bytes are. Other bytes are refused before
+/// anything is done.
 #[unsafe(no_mangle)]
 pub extern "C" fn jsstr_equals_utf8(
     alloc: Global,
@@ -79,18 +94,18 @@ pub extern "C" fn jsstr_equals_utf8(
         ↔ ¬ (HandleKnows agent.old.at.value s × (length bytes.now ≤ MAX)) }
     ensures unchanged { result.status ≡ reports.BAD_ARGUMENT
         → (result ≡ no_truth result.status) × (agent.new.at.value ≡ agent.old.at.value) }
+    ensures memory { result.status ≢ reports.NO_MEMORY }
     ensures compares { result.status ≢ reports.BAD_ARGUMENT
-        → ((result ≡ no_truth result.status) × IsUnread bytes.now result.status
-        × (agent.new.at.value ≡ agent.old.at.value))
-        ⊎ (IsUtf8 bytes.now
-        × ComparesUnits agent.old.at.value agent.new.at.value s (utf8_decoded bytes.now) result) }
+        → OnSpelled agent.old.at.value agent.new.at.value bytes.now result.status
+        (result ≡ no_truth result.status)
+        (λ vs. ComparesUnits agent.old.at.value agent.new.at.value s vs result) }
 {
     if bytes.len() > MAX as usize || !agent.knows(alloc, s) {
         return without_truth(BAD_ARGUMENT);
     }
-    match utf8_units(alloc, bytes) {
-        Ok(units) => jsstr_equals_units(alloc, agent, s, units.as_slice()),
-        Err(refusal) => without_truth(refusal.status),
+    match Spelling::read(Encoding::Utf8, bytes) {
+        Ok(spelled) => equals_spelled(alloc, agent, s, &spelled),
+        Err(_) => without_truth(NOT_UTF8),
     }
 }
 
@@ -119,7 +134,27 @@ pub extern "C" fn jsstr_compare_units(
     }
 }
 
-/// The order of a string and one-byte units, as Latin-1 is. It allocates for the duration of the call.
+// The order of a string and the units that bytes spell.
+fn order_spelled(alloc: Global, agent: &mut JsAgent, s: u32, source: &Spelling) -> JsOrder
+    requires handle { IsHandle agent.old }
+    requires read { IsReadable source.now }
+    ensures handle { IsHandle agent.new }
+    ensures bad { result.status ≡ reports.BAD_ARGUMENT ↔ ¬ (HandleKnows agent.old.at.value s) }
+    ensures memory { result.status ≢ reports.NO_MEMORY }
+    ensures compares { OrdersUnits agent.old.at.value agent.new.at.value s (units_of source.now) result }
+{
+    let settled = settle_known(alloc, agent, s);
+    if settled.status != DONE {
+        return without_order(settled.status);
+    }
+    let order = compare_spelled(alloc, agent, s, source);
+    JsOrder {
+        status: DONE,
+        order,
+    }
+}
+
+/// The order of a string and one-byte units, as Latin-1 is.
 #[unsafe(no_mangle)]
 pub extern "C" fn jsstr_compare_latin1(
     alloc: Global,
@@ -130,20 +165,14 @@ pub extern "C" fn jsstr_compare_latin1(
     requires { IsHandle agent.old }
     ensures handle { IsHandle agent.new }
     ensures bad { result.status ≡ reports.BAD_ARGUMENT ↔ ¬ (HandleKnows agent.old.at.value s) }
-    ensures compares { ((result ≡ no_order reports.NO_MEMORY) × (agent.new.at.value ≡ agent.old.at.value))
-        ⊎ OrdersUnits agent.old.at.value agent.new.at.value s bytes.now result }
+    ensures memory { result.status ≢ reports.NO_MEMORY }
+    ensures compares { OrdersUnits agent.old.at.value agent.new.at.value s bytes.now result }
 {
-    if !agent.knows(alloc, s) {
-        return without_order(BAD_ARGUMENT);
-    }
-    match latin1_units(alloc, bytes) {
-        Ok(units) => jsstr_compare_units(alloc, agent, s, units.as_slice()),
-        Err(refusal) => without_order(refusal.status),
-    }
+    order_spelled(alloc, agent, s, &Spelling::Latin1(bytes))
 }
 
-/// The order of a string and the units of the text whose UTF-8 these bytes are. It allocates for the
-/// duration of the call.
+/// The order of a string and the units of the text whose UTF-8 these bytes are. Other bytes are refused before
+/// anything is done.
 #[unsafe(no_mangle)]
 pub extern "C" fn jsstr_compare_utf8(
     alloc: Global,
@@ -157,17 +186,17 @@ pub extern "C" fn jsstr_compare_utf8(
         ↔ ¬ (HandleKnows agent.old.at.value s × (length bytes.now ≤ MAX)) }
     ensures unchanged { result.status ≡ reports.BAD_ARGUMENT
         → (result ≡ no_order result.status) × (agent.new.at.value ≡ agent.old.at.value) }
+    ensures memory { result.status ≢ reports.NO_MEMORY }
     ensures compares { result.status ≢ reports.BAD_ARGUMENT
-        → ((result ≡ no_order result.status) × IsUnread bytes.now result.status
-        × (agent.new.at.value ≡ agent.old.at.value))
-        ⊎ (IsUtf8 bytes.now
-        × OrdersUnits agent.old.at.value agent.new.at.value s (utf8_decoded bytes.now) result) }
+        → OnSpelled agent.old.at.value agent.new.at.value bytes.now result.status
+        (result ≡ no_order result.status)
+        (λ vs. OrdersUnits agent.old.at.value agent.new.at.value s vs result) }
 {
     if bytes.len() > MAX as usize || !agent.knows(alloc, s) {
         return without_order(BAD_ARGUMENT);
     }
-    match utf8_units(alloc, bytes) {
-        Ok(units) => jsstr_compare_units(alloc, agent, s, units.as_slice()),
-        Err(refusal) => without_order(refusal.status),
+    match Spelling::read(Encoding::Utf8, bytes) {
+        Ok(spelled) => order_spelled(alloc, agent, s, &spelled),
+        Err(_) => without_order(NOT_UTF8),
     }
 }

@@ -1,15 +1,21 @@
-// Settled strings compared with lists of units.
-ghost use Rattle.std.specs.Prelude.{◌≡◌, ◌↔◌, ℕ, List, IsTrue};
+// Settled strings compared with units, and with bytes.
+ghost use Rattle.std.specs.Prelude.{◌≡◌, ◌≢◌, ◌↔◌, ◌≤◌, ℕ, List, length, IsTrue};
 ghost use Rattle.js_search.specs.Order.{units_cmp};
+ghost use Rattle.heap_rule.specs.Layout.{MAX};
 ghost use Rattle.heap_rule.specs.Maps.{Has, HasKey};
 ghost use Rattle.heap_rule.specs.Views.{IsSeenSettled};
+ghost use Rattle.heap_bytes.specs.Spellings.{IsReadable, units_of};
 ghost use Rattle.heap_agents.specs.Ready.{IsReady, handle_view};
 ghost use Rattle.jsstr_c.specs.Checked.{OnlyLooks};
 ghost use Rattle.jsstr_c.specs.Handles.{IsHandle};
-ghost use Rattle.jsstr_c.specs.Reports.{order_number};
+ghost use Rattle.jsstr_c.specs.Lists.{OnSpelled, SaysOrder, SaysSame};
+ghost use Rattle.jsstr_c.specs.Reports.{no_order, no_truth, order_number};
+ghost use Rattle.jsstr_c.specs.Reports as reports;
 
 use crate::agent::JsAgent;
-use crate::answer::of_order;
+use crate::answer::{DONE, JsOrder, JsTruth, not_utf8, of_order, without_order, without_truth};
+use crate::given::left;
+use heap_bytes::{Encoding, Spelling};
 use heap_text::JsStr;
 use std::alloc::Global;
 
@@ -56,4 +62,138 @@ pub extern "C" fn jsstr_compare_units_unchecked(
     let answer = held.compare_units(JsStr { id: s }, units);
     agent.put(held);
     of_order(answer)
+}
+
+// Whether a settled string has just the units that bytes spell.
+pub(crate) fn has_spelled(alloc: Global, agent: &mut JsAgent, s: u32, source: &Spelling) -> bool
+    requires ready { IsReady agent.old.at.value }
+    requires known { HasKey (handle_view agent.old.at.value).units s }
+    requires settled { IsSeenSettled (handle_view agent.old.at.value) s }
+    requires read { IsReadable source.now }
+    ensures handle { IsHandle agent.new }
+    ensures looks { OnlyLooks agent.old.at.value agent.new.at.value }
+    ensures same { (us : List ℕ) → Has (handle_view agent.old.at.value).units s us
+        → IsTrue result ↔ (us ≡ units_of source.now) }
+{
+    let mut held = agent.take(alloc);
+    let answer = held.has_spelled(JsStr { id: s }, source);
+    agent.put(held);
+    answer
+}
+
+// The order of a settled string and the units that bytes spell.
+pub(crate) fn compare_spelled(alloc: Global, agent: &mut JsAgent, s: u32, source: &Spelling) -> i32
+    requires ready { IsReady agent.old.at.value }
+    requires known { HasKey (handle_view agent.old.at.value).units s }
+    requires settled { IsSeenSettled (handle_view agent.old.at.value) s }
+    requires read { IsReadable source.now }
+    ensures handle { IsHandle agent.new }
+    ensures looks { OnlyLooks agent.old.at.value agent.new.at.value }
+    ensures order { (us : List ℕ) → Has (handle_view agent.old.at.value).units s us
+        → result ≡ order_number (units_cmp us (units_of source.now)) }
+{
+    let mut held = agent.take(alloc);
+    let answer = held.compare_spelled(JsStr { id: s }, source);
+    agent.put(held);
+    of_order(answer)
+}
+
+/// Whether a settled string has just these one-byte units, as Latin-1 is.
+#[unsafe(no_mangle)]
+pub extern "C" fn jsstr_equals_latin1_unchecked(
+    alloc: Global,
+    agent: &mut JsAgent,
+    s: u32,
+    bytes: &[u8],
+) -> bool
+    requires ready { IsReady agent.old.at.value }
+    requires known { HasKey (handle_view agent.old.at.value).units s }
+    requires settled { IsSeenSettled (handle_view agent.old.at.value) s }
+    ensures handle { IsHandle agent.new }
+    ensures looks { OnlyLooks agent.old.at.value agent.new.at.value }
+    ensures same { (us : List ℕ) → Has (handle_view agent.old.at.value).units s us
+        → IsTrue result ↔ (us ≡ bytes.now) }
+{
+    has_spelled(alloc, agent, s, &Spelling::Latin1(bytes))
+}
+
+/// Whether a settled string has just the units of the text whose UTF-8 these bytes are. Other bytes are
+/// refused before anything is done.
+#[unsafe(no_mangle)]
+pub extern "C" fn jsstr_equals_utf8_unchecked(
+    alloc: Global,
+    agent: &mut JsAgent,
+    s: u32,
+    bytes: &[u8],
+) -> JsTruth
+    requires ready { IsReady agent.old.at.value }
+    requires known { HasKey (handle_view agent.old.at.value).units s }
+    requires settled { IsSeenSettled (handle_view agent.old.at.value) s }
+    requires short { length bytes.now ≤ MAX }
+    ensures handle { IsHandle agent.new }
+    ensures memory { result.status ≢ reports.NO_MEMORY }
+    ensures says { OnSpelled agent.old.at.value agent.new.at.value bytes.now result.status
+        (result ≡ no_truth result.status)
+        (λ vs. SaysSame agent.old.at.value agent.new.at.value s vs result) }
+{
+    match Spelling::read(Encoding::Utf8, bytes) {
+        Ok(spelled) => {
+            let holds = has_spelled(alloc, agent, s, &spelled);
+            JsTruth {
+                status: DONE,
+                holds,
+            }
+        }
+        Err(at) => without_truth(left(alloc, agent, not_utf8(at as u32)).status),
+    }
+}
+
+/// The order of a settled string and one-byte units, as Latin-1 is.
+#[unsafe(no_mangle)]
+pub extern "C" fn jsstr_compare_latin1_unchecked(
+    alloc: Global,
+    agent: &mut JsAgent,
+    s: u32,
+    bytes: &[u8],
+) -> i32
+    requires ready { IsReady agent.old.at.value }
+    requires known { HasKey (handle_view agent.old.at.value).units s }
+    requires settled { IsSeenSettled (handle_view agent.old.at.value) s }
+    ensures handle { IsHandle agent.new }
+    ensures looks { OnlyLooks agent.old.at.value agent.new.at.value }
+    ensures order { (us : List ℕ) → Has (handle_view agent.old.at.value).units s us
+        → result ≡ order_number (units_cmp us bytes.now) }
+{
+    compare_spelled(alloc, agent, s, &Spelling::Latin1(bytes))
+}
+
+/// The order of a settled string and the units of the text whose UTF-8 these bytes are. Other bytes are
+/// refused before anything is done.
+#[unsafe(no_mangle)]
+pub extern "C" fn jsstr_compare_utf8_unchecked(
+    alloc: Global,
+    agent: &mut JsAgent,
+    s: u32,
+    bytes: &[u8],
+) -> JsOrder
+    requires ready { IsReady agent.old.at.value }
+    requires known { HasKey (handle_view agent.old.at.value).units s }
+    requires settled { IsSeenSettled (handle_view agent.old.at.value) s }
+    requires short { length bytes.now ≤ MAX }
+    ensures handle { IsHandle agent.new }
+    ensures memory { result.status ≢ reports.NO_MEMORY }
+    ensures says { OnSpelled agent.old.at.value agent.new.at.value bytes.now result.status
+        (result ≡ no_order result.status)
+        (λ vs. SaysOrder agent.old.at.value agent.new.at.value s vs result) }
+{
+    match Spelling::read(Encoding::Utf8, bytes) {
+        Ok(spelled) => {
+            let order = compare_spelled(alloc, agent, s, &spelled);
+            JsOrder {
+                status: DONE,
+                order,
+            }
+        }
+        Err(at) => without_order(left(alloc, agent, not_utf8(at as u32)).status),
+    }
 }
