@@ -70,4 +70,5 @@ KeepsBelow start v w = (c x : ℕ) → c < start → Has v.own_words c x → Has
 
 -- the own content words beside the n from `start` on are still what they were
 abbrev pub KeepsBeside : ℕ → ℕ → View → View → Type 0
-KeepsBeside start n v w = (c x : ℕ) → (c < start) ⊎ (start + n ≤ c) → Has v.own_words c x → Has w.own_words c x
+KeepsBeside start n v w = (c x : ℕ) → (c < start) ⊎ (start + n ≤ c) → Has v.own_words c x
+    → Has w.own_words c x

@@ -59,7 +59,7 @@ abbrev pub IsShortCut : Reserve → ℕ → ℕ → List ℕ → Type 0
 IsShortCut r from to us = ((0 < from) ⊎ (to < length us)) × (to - from < MIN_CONS)
     × HasEnough r (words_of (part from (to - from) us))
 
--- a part that is not the whole is a Sliced, and the first id of the reserve is greater than that of the string
+-- a part that is not the whole is a Sliced, and the first id of the reserve is greater than the string's
 abbrev pub IsLongCut : Reserve → JsStr → ℕ → ℕ → List ℕ → Type 0
 IsLongCut r p from to us = ((0 < from) ⊎ (to < length us)) × (MIN_CONS ≤ to - from) × HasAbove r p.id
 
@@ -67,9 +67,11 @@ module _ (v w : View) (z : HeapSize) (r s : Reserve) where
   -- Joining the strings a with the units us and b with the units vs, where a result has at most `most` units.
   -- A new string takes what it needs from the reserve, where that has it; else the reserve stays, and the
   -- answer is that of a `Text`.
-  pub record IsJoinedBy (most : ℕ) (a b : JsStr) (us vs : List ℕ) (answer : Result JsStr JoinFault) : Type 0 where
+  pub record IsJoinedBy (most : ℕ) (a b : JsStr) (us vs : List ℕ)
+      (answer : Result JsStr JoinFault) : Type 0 where
     pub short : IsShortJoin r most us vs → (t : JsStr) × (answer ≡ Ok t) × IsFlatTaken v w r s t (us ++ vs)
-    pub long : IsLongJoin r most a b us vs → (t : JsStr) × (answer ≡ Ok t) × IsRopeTaken v w r s a b t (us ++ vs)
+    pub long : IsLongJoin r most a b us vs
+        → (t : JsStr) × (answer ≡ Ok t) × IsRopeTaken v w r s a b t (us ++ vs)
     pub claimed : (IsShortJoin r most us vs → ⊥) → (IsLongJoin r most a b us vs → ⊥)
         → (s ≡ r) × KeepsOwn v w × IsJoined v w z most a b us vs answer
 
@@ -107,7 +109,8 @@ module _ (v w : View) (r s : Reserve) where
 
   -- a part is made with the reserve, or none is
   pub record TriesCut (p : JsStr) (from to : ℕ) (us : List ℕ) (o : Option JsStr) : Type 0 where
-    pub short : IsShortCut r from to us → (t : JsStr) × (o ≡ Some t) × IsFlatTaken v w r s t (part from (to - from) us)
+    pub short : IsShortCut r from to us
+        → (t : JsStr) × (o ≡ Some t) × IsFlatTaken v w r s t (part from (to - from) us)
     pub long : IsLongCut r p from to us
         → (t : JsStr) × (o ≡ Some t) × IsPartTaken v w r s p from t (part from (to - from) us)
     pub left : (IsShortCut r from to us → ⊥) → (IsLongCut r p from to us → ⊥) → IsLeft o

@@ -29,8 +29,8 @@ impl Reserve {
         ensures continues { Continues (view_of text.old.reader.agent) (view_of text.new.reader.agent) }
         ensures reserve { IsReserve (view_of text.new.reader.agent) self.new }
         ensures units { IfOk result (λ s. Has (view_of text.new.reader.agent).units s.id units.now) }
-        ensures made { IsMade (view_of text.old.reader.agent) (view_of text.new.reader.agent) self.old self.new
-            (size_of (H.reached text.old.reader.heap)) units.now result }
+        ensures made { IsMade (view_of text.old.reader.agent) (view_of text.new.reader.agent) self.old
+            self.new (size_of (H.reached text.old.reader.heap)) units.now result }
     {
         let source = UnitSource::Units(units);
         match self.copy(&mut text.reader, &source, units.len() as u32) {

@@ -41,11 +41,11 @@ abbrev pub IsWideIn : View → Form → Bool → Type 0
 IsWideIn v (Thin target) b = (start : ℕ) × Has v.forms target (Flat b start true)
 IsWideIn v f b = b ≡ wide_bit f
 
--- The string i is a Cons of the strings a and b. It is wide exactly where one of the forms that were loaded of
--- its sides is; the view has these forms.
+-- The string i is a Cons of the strings a and b. It is wide exactly where one of the forms that were loaded
+-- of its sides is; the view has these forms.
 abbrev pub HasRope : View → JsStr → JsStr → ℕ → Type 0
-HasRope w a b i = (f : Form) × (g : Form) × (left : Bool) × (right : Bool) × Has w.forms a.id f × Has w.forms b.id g
-    × IsWideIn w f left × IsWideIn w g right
+HasRope w a b i = (f : Form) × (g : Form) × (left : Bool) × (right : Bool)
+    × Has w.forms a.id f × Has w.forms b.id g × IsWideIn w f left × IsWideIn w g right
     × Has w.forms i (Cons (left || right) a.id b.id)
 
 -- a new Cons of the strings a and b, with these units: one id and no content word
