@@ -9,6 +9,10 @@ use Rattle.heap_reserve.specs.declared.reserve.Reserve.{Reserve}
 abbrev pub kept_ids : Reserve → List ℕ
 kept_ids r = r.ids.items
 
+-- how many content words it has
+abbrev pub kept_words : Reserve → ℕ
+kept_words r = r.end - r.start
+
 -- each number is greater than those before it
 abbrev pub IsAscending : List ℕ → Type 0
 IsAscending [] = Unit {0}
@@ -35,7 +39,7 @@ pub record IsClaimed (v w : View) (r s : Reserve) (ids words : ℕ) : Type 0 whe
 
 -- it has an id, and n content words
 abbrev pub HasEnough : Reserve → ℕ → Type 0
-HasEnough r n = (0 < length (kept_ids r)) × (n ≤ r.end - r.start)
+HasEnough r n = (0 < length (kept_ids r)) × (n ≤ kept_words r)
 
 -- it has an id, and the first one is greater than i
 abbrev pub HasAbove : Reserve → ℕ → Type 0

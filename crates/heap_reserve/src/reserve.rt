@@ -1,7 +1,7 @@
 // What is kept in advance, and taking from it.
-ghost use Rattle.std.specs.Prelude.{◌≡◌, ◌↔◌, ◌+◌, ◌-◌, ◌<◌, ◌≤◌, [], ◌∷◌, IsTrue, length};
+ghost use Rattle.std.specs.Prelude.{◌≡◌, ◌↔◌, ◌+◌, ◌<◌, ◌≤◌, [], ◌∷◌, IsTrue, length};
 ghost use Rattle.heap_rule.specs.declared.view.View as view;
-ghost use Rattle.heap_reserve.specs.Reserves.{HasAbove, HasEnough, IsReserve, kept_ids};
+ghost use Rattle.heap_reserve.specs.Reserves.{HasAbove, HasEnough, IsReserve, kept_ids, kept_words};
 
 use std::alloc::Global;
 use std::collections::VecDeque;
@@ -38,18 +38,16 @@ impl Reserve {
 
     /// How many content words it has.
     pub fn words_left(&self) -> u32
-        requires { self.now.start ≤ self.now.end }
-        ensures { result ≡ self.now.end - self.now.start }
+        ensures { result ≡ kept_words self.now }
     {
-        self.end - self.start
+        self.end.saturating_sub(self.start)
     }
 
     // Whether it has an id, and so many content words.
     pub(crate) fn has(&self, words: u32) -> bool
-        requires { self.now.start ≤ self.now.end }
         ensures { IsTrue result ↔ HasEnough self.now words }
     {
-        !self.ids.is_empty() && words <= self.end - self.start
+        !self.ids.is_empty() && words <= self.words_left()
     }
 
     // Whether it has an id, and the first one is greater than this one.

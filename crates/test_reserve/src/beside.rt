@@ -1,4 +1,4 @@
-// A heap of which one agent keeps all that another one wants.
+// A heap of which one agent keeps all that another one requests.
 use heap_reserve::{Reserve, ReserveFault};
 use heap_rule::{HeapSize, MAX};
 use heap_table::{CounterFull, Heap};
