@@ -1,5 +1,5 @@
 -- What a call leaves of what an agent knows and has.
-use Rattle.std.specs.Prelude.{◌≡◌, ℕ, ◌<◌, ◌≤◌}
+use Rattle.std.specs.Prelude.{◌≡◌, ℕ, ◌+◌, ◌<◌, ◌≤◌, ◌⊎◌}
 use Rattle.js_header.specs.declared.form.Form.{Form}
 use Rattle.heap_rule.specs.declared.view.View.{View}
 use Rattle.heap_rule.specs.Maps.{Has, HasKey}
@@ -67,3 +67,8 @@ pub record Writes (v w : View) : Type 0 where
 -- the own content words before `start` are still what they were
 abbrev pub KeepsBelow : ℕ → View → View → Type 0
 KeepsBelow start v w = (c x : ℕ) → c < start → Has v.own_words c x → Has w.own_words c x
+
+-- the own content words beside the n from `start` on are still what they were
+abbrev pub KeepsBeside : ℕ → ℕ → View → View → Type 0
+KeepsBeside start n v w = (c x : ℕ) → (c < start) ⊎ (start + n ≤ c) → Has v.own_words c x
+    → Has w.own_words c x

@@ -7,10 +7,10 @@ ghost use Rattle.heap_rule.specs.Maps.{Has, HasKey};
 ghost use Rattle.heap_table.specs.Agents.{size_of};
 ghost use Rattle.heap_table.specs.Full.{IsFull};
 ghost use Rattle.heap_read.specs.Readers.{Moves, view_in};
-ghost use Rattle.heap_read.specs.Reads.{Continues, KeepsForms, OnlyLoads};
+ghost use Rattle.heap_read.specs.Reads.{Continues, KeepsBeside, KeepsForms, OnlyLoads, Writes};
 ghost use Rattle.heap_read.specs.Sources.{ShowsSource, listed_in};
 ghost use Rattle.heap_read.specs.Windows.{IsWindow};
-ghost use Rattle.heap_read.specs.Written.{IsWritten};
+ghost use Rattle.heap_read.specs.Written.{AreWords, IsWritten};
 
 use crate::heap_ref::HeapRef;
 use crate::packing::{has_wide, pack};
@@ -119,10 +119,27 @@ impl<H: HeapRef> Reader<H> {
             return Ok(0);
         }
         let start = self.agent.claim_words(self.heap.heap(), want)?;
+        self.write_at(source, n, wide, start);
+        Ok(start)
+    }
+
+    /// The units of a source into own content words, from `start` on; the lanes past the last unit are 0.
+    pub fn write_at(&mut self, source: &UnitSource, n: u32, wide: bool, start: u32)
+        requires shows { ShowsSource (view_in self.old) source.now }
+        requires count { length (listed_in self.old source.now) ≡ n }
+        requires wide { wide ≡ is_wide (listed_in self.old source.now) }
+        requires short { n ≤ MAX }
+        requires own { (q : ℕ) → q < words_over wide n → HasKey (view_in self.old).own_words (start + q) }
+        ensures writes { Moves Writes self.old self.new }
+        ensures forms { KeepsForms (view_in self.old) (view_in self.new) }
+        ensures written { AreWords (view_in self.new) wide start (listed_in self.old source.now)
+            (words_over wide n) }
+        ensures others { KeepsBeside start (words_over wide n) (view_in self.old) (view_in self.new) }
+    {
+        let want = words_for(n, wide);
         for at in 0..want {
             let word = self.pack(source, n, wide, at);
             self.agent.store_word(self.heap.heap(), start + at, word);
         }
-        Ok(start)
     }
 }

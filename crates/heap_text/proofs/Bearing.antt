@@ -53,8 +53,11 @@ module _ (v : View) (wide : Bool) (start : ℕ) (us : List ℕ) (h : IsWritten v
     h.empty,
   )
 
--- what is written stays so while an id is claimed and its length stored
-pub written_still : (v : View) (id n : ℕ) (wide : Bool) (start : ℕ) (us : List ℕ) → IsWritten v wide start us → IsWritten (stored_length (won_claim v Ids id 1) id n) wide start us
+-- what is written stays so while an id is claimed, and while the length of one is stored
+pub written_claimed : (v : View) (id : ℕ) (wide : Bool) (start : ℕ) (us : List ℕ) → IsWritten v wide start us → IsWritten (won_claim v Ids id 1) wide start us
+written_claimed v id wide start us h = record { small = h.small; words = record { each = h.words.each }; empty = h.empty }
+
+pub written_still : (v : View) (id n : ℕ) (wide : Bool) (start : ℕ) (us : List ℕ) → IsWritten v wide start us → IsWritten (stored_length v id n) wide start us
 written_still v id n wide start us h = record { small = h.small; words = record { each = h.words.each }; empty = h.empty }
 
 pub born_units : (v : View) (i n : ℕ) (wide : Bool) (start : ℕ) (us : List ℕ) → IsWritten v wide start us → Has v.own_ids i n → n ≡ length us → Has (born v i (Flat wide start false)).units i us

@@ -9,25 +9,22 @@ use Rattle.std.specs.FinMap.{contains_key-keys, get, keys}
 use Rattle.js_header.specs.Form.{IsInRange}
 use Rattle.js_header.specs.declared.form.Form.{Form}
 use Rattle.js_header.specs.declared.form.Form.TheVariants.{Unborn, Flat, Cons, Sliced, Thin}
-use Rattle.heap_rule.specs.declared.size.Counter.TheVariants.{Ids}
 use Rattle.heap_rule.specs.declared.size.HeapSize.{HeapSize}
 use Rattle.heap_rule.specs.declared.view.View.{View}
 use Rattle.heap_rule.specs.Births.{IsParent, MayBear, born, part, part_by, part_within, shown_part, stored_length, units_for}
-use Rattle.heap_rule.specs.Claims.{won_claim}
 use Rattle.heap_rule.specs.Contents.{units_of}
 use Rattle.heap_rule.specs.Forms.{IsCons, IsNarrow}
 use Rattle.heap_rule.specs.Layout.{length_word}
-use Rattle.heap_rule.specs.Maps.{Has, HasKey, first_in, first_some}
+use Rattle.heap_rule.specs.Maps.{Has, first_in, first_some}
 use Rattle.heap_rule.specs.Sound.{IsPossible, StandsIn}
-use Rattle.heap_rule.specs.Views.{MayUse}
 use Rattle.heap_rule.proofs.MapLemmas.{insert_other, insert_same, key_of}
 use Rattle.heap_rule.proofs.Parts.{shown_part_right}
 use Rattle.heap_table.specs.Known.{KeepsKnown}
 use Rattle.heap_text.specs.declared.faults.TextFull.{TextFull}
 use Rattle.heap_read.specs.declared.string.JsStr.{JsStr}
 use Rattle.heap_text.specs.Joins.{IsNoId, IsPart, IsPartCut, offset_of, parent_of}
-use Rattle.heap_read.specs.Sides.{KnowsSide}
 use Rattle.heap_read.specs.Reads.{Continues, OnlyLoads}
+use Rattle.heap_read.proofs.Leading.{possible_parent}
 use Rattle.heap_text.proofs.Pieces.{part_part, spared_after, uses_after}
 use Rattle.heap_text.proofs.Sides.{first_at, first_two}
 
@@ -78,7 +75,7 @@ module _ (v : View) (s from n : ℕ) (us : List ℕ) (units : Has v.units s us) 
   told_part p (Sliced wide parent offset) h = told_led p wide parent offset h
   told_part p (Thin target) h = told_own p
 
--- what a slice stands on may be a parent, and is known
+-- what a slice stands on may be a parent
 pub cut_parent : (v : View) (s : ℕ) (f : Form) → Has v.forms s f → (IsCons f → ⊥) → IsParent v (parent_of s f)
 cut_parent v s Unborn h n = inl (Unborn, h, n, λ x. x)
 cut_parent v s (Flat wide start fixed) h n = inl (Flat wide start fixed, h, n, λ x. x)
@@ -86,12 +83,13 @@ cut_parent v s (Cons wide left right) h n = absurd (n tt)
 cut_parent v s (Sliced wide parent offset) h n = inr (s, wide, offset, h)
 cut_parent v s (Thin target) h n = inl (Thin target, h, n, λ x. x)
 
-pub parent_known : (v : View) (s : ℕ) (f : Form) → KnowsSide v f → HasKey v.units s → MayUse v (parent_of s f)
-parent_known v s Unborn side h = inl h
-parent_known v s (Flat wide start fixed) side h = inl h
-parent_known v s (Cons wide left right) side h = inl h
-parent_known v s (Sliced wide parent offset) side h = side
-parent_known v s (Thin target) side h = inl h
+-- a parent is no greater than what is cut
+pub parent_below : (v : View) → IsPossible v → (s : ℕ) (f : Form) (id : ℕ) → Has v.forms s f → s < id → parent_of s f < id
+parent_below v p s Unborn id h l = l
+parent_below v p s (Flat wide start fixed) id h l = l
+parent_below v p s (Cons wide left right) id h l = l
+parent_below v p s (Sliced wide parent offset) id h l = let less = possible_parent v p s wide parent offset h in omega arith
+parent_below v p s (Thin target) id h l = l
 
 -- the part of a narrow string is narrow
 pub narrow_part : (wide : Bool) (from n : ℕ) (us : List ℕ) → IsNarrow wide us → IsNarrow wide (part from n us)
@@ -118,20 +116,20 @@ offset_small (Cons wide left right) h = omega arith
 offset_small (Sliced wide parent offset) h = h.1
 offset_small (Thin target) h = omega arith
 
--- a Sliced may be born of an id that was just claimed, whose length was stored
-module _ (u y : View) (id s from n parent offset : ℕ) (wide : Bool) (f : Form) (us : List ℕ) (is : y ≡ stored_length (won_claim u Ids id 1) id n) (on : parent ≡ parent_of s f) (at : offset ≡ offset_of f + from)
+-- a Sliced may be born of an own id whose length was stored
+module _ (u y : View) (id s from n parent offset : ℕ) (wide : Bool) (f : Form) (us : List ℕ) (is : y ≡ stored_length u id n) (on : parent ≡ parent_of s f) (at : offset ≡ offset_of f + from)
     (told : shown_part u (parent_of s f) (offset_of f + from) n ≡ Some us) where
   here : shown_part u parent offset n ≡ Some us
   here = (λ i. shown_part u (on i) (at i) n) ∙ told
 
-  own : Has (stored_length (won_claim u Ids id 1) id n).own_ids id n
-  own = insert_same (won_claim u Ids id 1).own_ids id n
+  own : Has (stored_length u id n).own_ids id n
+  own = insert_same u.own_ids id n
 
   pub may_part : parent < id → 13 ≤ n → IsParent u (parent_of s f) → IsNarrow wide us → MayBear y id (Sliced wide parent offset)
   may_part less long stands narrow = subst (λ (w : View). MayBear w id (Sliced wide parent offset)) (sym is) (n, own, (less, long, subst (IsParent u) (sym on) stands, (us, here, narrow)))
 
   pub part_units : Has (born y id (Sliced wide parent offset)).units id us
-  part_units = subst (λ (w : View). Has (born w id (Sliced wide parent offset)).units id us) (sym is) (born_part (stored_length (won_claim u Ids id 1) id n) id n wide parent offset us own here)
+  part_units = subst (λ (w : View). Has (born w id (Sliced wide parent offset)).units id us) (sym is) (born_part (stored_length u id n) id n wide parent offset us own here)
 
 -- what was answered after loads, from before them
 module _ (v u w : View) (z : HeapSize) (read : OnlyLoads v u) where

@@ -41,14 +41,16 @@ abbrev pub IsWideIn : View → Form → Bool → Type 0
 IsWideIn v (Thin target) b = (start : ℕ) × Has v.forms target (Flat b start true)
 IsWideIn v f b = b ≡ wide_bit f
 
--- A new Cons of the strings a and b, with these units: one id and no content word. It is wide exactly where
--- one of the forms that were loaded of its sides is; the view has these forms.
+-- The string i is a Cons of the strings a and b. It is wide exactly where one of the forms that were loaded
+-- of its sides is; the view has these forms.
+abbrev pub HasRope : View → JsStr → JsStr → ℕ → Type 0
+HasRope w a b i = (f : Form) × (g : Form) × (left : Bool) × (right : Bool)
+    × Has w.forms a.id f × Has w.forms b.id g × IsWideIn w f left × IsWideIn w g right
+    × Has w.forms i (Cons (left || right) a.id b.id)
+
+-- a new Cons of the strings a and b, with these units: one id and no content word
 abbrev pub IsRope : View → View → JsStr → JsStr → JsStr → List ℕ → Type 0
-IsRope v w a b s us = Has w.units s.id us
-    × ((f : Form) × (g : Form) × (left : Bool) × (right : Bool) × Has w.forms a.id f × Has w.forms b.id g
-    × IsWideIn w f left × IsWideIn w g right
-    × Has w.forms s.id (Cons (left || right) a.id b.id))
-    × UsesExactly v w 1 0
+IsRope v w a b s us = Has w.units s.id us × HasRope w a b s.id × UsesExactly v w 1 0
 
 -- the string from which a Sliced is cut, by the form of the string s that is cut: the parent of a Sliced,
 -- else s; and where the units of s begin there
@@ -60,14 +62,15 @@ abbrev pub offset_of : Form → ℕ
 offset_of (Sliced wide parent offset) = offset
 offset_of _ = 0
 
--- A new Sliced t of the units of the string s from `from` on: one id and no content word. Its parent is no
--- Sliced: s itself, or the parent of s. It is wide exactly where the form that was loaded of s is;
--- the view has that form.
+-- The string i is a Sliced of the units of the string s from `from` on. Its parent is no Sliced: s itself, or
+-- the parent of s. It is wide exactly where the form that was loaded of s is; the view has that form.
+abbrev pub HasPart : View → JsStr → ℕ → ℕ → Type 0
+HasPart w s from i = (f : Form) × (wide : Bool) × Has w.forms s.id f × IsWideIn w f wide
+    × Has w.forms i (Sliced wide (parent_of s.id f) (offset_of f + from))
+
+-- a new Sliced t of the units of the string s from `from` on: one id and no content word
 abbrev pub IsPart : View → View → JsStr → ℕ → JsStr → List ℕ → Type 0
-IsPart v w s from t us = Has w.units t.id us
-    × ((f : Form) × (wide : Bool) × Has w.forms s.id f × IsWideIn w f wide
-    × Has w.forms t.id (Sliced wide (parent_of s.id f) (offset_of f + from)))
-    × UsesExactly v w 1 0
+IsPart v w s from t us = Has w.units t.id us × HasPart w s from t.id × UsesExactly v w 1 0
 
 -- a call that was refused for lack of an id, and used nothing
 abbrev pub IsNoId : View → View → HeapSize → TextFull → Type 0

@@ -1,9 +1,10 @@
 -- What a call on a `Text` uses, and what a refusal reports.
-use Rattle.std.specs.Prelude.{◌≡◌, ℕ, ◌+◌, ◌<◌, ◌≤◌}
+use Rattle.std.specs.Prelude.{◌≡◌, ◌≢◌, ℕ, ◌+◌, ◌<◌, ◌≤◌}
 use Rattle.heap_rule.specs.declared.view.View.{View}
 use Rattle.heap_rule.specs.declared.size.HeapSize.{HeapSize}
 use Rattle.heap_rule.specs.Maps.{Has, HasKey}
 use Rattle.heap_table.specs.Full.{IsFull}
+use Rattle.heap_read.specs.Reads.{KeepsBeside}
 use Rattle.heap_text.specs.declared.faults.TextFull.{TextFull}
 use Rattle.heap_text.specs.declared.faults.TextFull.TheVariants.{Ids, Words}
 
@@ -39,3 +40,8 @@ pub record IsSpared (v w : View) (words : ℕ) (f : TextFull) : Type 0 where
 pub record KeepsOwn (v w : View) : Type 0 where
   pub ids : (i n : ℕ) → Has v.own_ids i n → Has w.own_ids i n
   pub words : (c x : ℕ) → Has v.own_words c x → Has w.own_words c x
+
+-- the same, but of one id, and of n content words from `start` on
+pub record KeepsOwnBut (v w : View) (id start n : ℕ) : Type 0 where
+  pub ids : (i k : ℕ) → i ≢ id → Has v.own_ids i k → Has w.own_ids i k
+  pub words : KeepsBeside start n v w

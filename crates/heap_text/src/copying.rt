@@ -1,15 +1,16 @@
 // Making a flat string with the units of a source.
-ghost use Rattle.std.specs.Prelude.{◌≡◌, ◌≤◌, ℕ, IfOk, IfErr, false, length};
+ghost use Rattle.std.specs.Prelude.{◌≡◌, ◌≤◌, ℕ, List, IfOk, IfErr, false, length};
 ghost use Rattle.js_units.specs.Lanes.{is_wide, words_over};
 ghost use Rattle.js_header.specs.declared.form.Form.TheVariants.{Flat};
 ghost use Rattle.heap_rule.specs.Layout.{MAX};
-ghost use Rattle.heap_rule.specs.Maps.{Has};
+ghost use Rattle.heap_rule.specs.Maps.{Has, HasKey};
 ghost use Rattle.heap_table.specs.Agents.{size_of};
 ghost use Rattle.heap_read.specs.Readers.{Moves, view_in};
 ghost use Rattle.heap_read.specs.Reads.{Continues};
 ghost use Rattle.heap_read.specs.Sources.{ShowsSource, listed_in};
+ghost use Rattle.heap_read.specs.Written.{IsWritten};
 ghost use Rattle.heap_bytes.specs.Spellings.{IsReadable, units_of};
-ghost use Rattle.heap_text.specs.Texts.{IsSpared, KeepsOwn, Told, UsesExactly};
+ghost use Rattle.heap_text.specs.Texts.{IsSpared, KeepsOwn, KeepsOwnBut, Told, UsesExactly};
 
 use crate::faults::TextFull;
 use heap_bytes::{Spelling, write_spelled};
@@ -53,6 +54,22 @@ pub(crate) fn copy<H: HeapRef>(
         Ok(id) => id,
         Err(full) => return Err(TextFull::Ids(full)),
     };
+    bear_flat(reader, id, n, wide, start);
+    Ok(JsStr { id })
+}
+
+/// An own id is born as a Flat over own content words that hold its `n` units.
+pub fn bear_flat<H: HeapRef>(reader: &mut Reader<H>, id: u32, n: u32, wide: bool, start: u32)
+    requires own { HasKey (view_in reader.old).own_ids id }
+    requires written { (us : List ℕ) × IsWritten (view_in reader.old) wide start us × (length us ≡ n) }
+    requires short { n ≤ MAX }
+    ensures continues { Moves Continues reader.old reader.new }
+    ensures used { (view_in reader.new).used ≡ (view_in reader.old).used }
+    ensures own { KeepsOwnBut (view_in reader.old) (view_in reader.new) id start (words_over wide n) }
+    ensures units { (us : List ℕ) → IsWritten (view_in reader.old) wide start us → length us ≡ n
+        → Has (view_in reader.new).units id us }
+    ensures form { Has (view_in reader.new).forms id (Flat wide start false) }
+{
     reader.agent.store_length(reader.heap.heap(), id, n);
     let form = Form::Flat {
         wide,
@@ -60,7 +77,6 @@ pub(crate) fn copy<H: HeapRef>(
         fixed: false,
     };
     reader.agent.birth(reader.heap.heap(), id, form);
-    Ok(JsStr { id })
 }
 
 // A new flat string with the units that bytes spell, made in the same order.
@@ -96,12 +112,6 @@ pub(crate) fn copy_spelled<H: HeapRef>(
         Ok(id) => id,
         Err(full) => return Err(TextFull::Ids(full)),
     };
-    reader.agent.store_length(reader.heap.heap(), id, n);
-    let form = Form::Flat {
-        wide,
-        start,
-        fixed: false,
-    };
-    reader.agent.birth(reader.heap.heap(), id, form);
+    bear_flat(reader, id, n, wide, start);
     Ok(JsStr { id })
 }

@@ -18,6 +18,8 @@ mod settling;
 mod sharing;
 mod text;
 
+pub use copying::bear_flat;
 pub use faults::{JoinFault, TextFull};
 pub use heap_read::{JsStr, Steps, Window};
+pub use making::{MIN_CONS, both_pieces, link_part_to, link_to, part_piece};
 pub use text::Text;

@@ -11,8 +11,9 @@ ghost use Rattle.heap_bytes.specs.Spellings.{IsReadable, units_of};
 ghost use Rattle.heap_read.specs.Readers.{Moves, view_in};
 ghost use Rattle.heap_read.specs.Reads.{Continues, HoldsForms, OnlyLoads};
 ghost use Rattle.heap_read.specs.Sides.{KnowsSide};
-ghost use Rattle.heap_text.specs.Texts.{IsSpared, KeepsOwn, Told, UsesExactly};
-ghost use Rattle.heap_text.specs.Joins.{AreJoinable, IsCopied, IsCut, IsJoined, IsLinked, IsPartCut, IsWideIn, MIN_CONS, wide_bit};
+ghost use Rattle.heap_read.specs.Sources.{ShowsPiece, piece_units};
+ghost use Rattle.heap_text.specs.Texts.{IsSpared, KeepsOwn, KeepsOwnBut, Told, UsesExactly};
+ghost use Rattle.heap_text.specs.Joins.{AreJoinable, HasPart, HasRope, IsCopied, IsCut, IsJoined, IsLinked, IsPartCut, IsWideIn, MIN_CONS, wide_bit};
 ghost use Rattle.heap_text.specs.Joins as joins;
 ghost use Rattle.heap_text.specs.Keeping.{KeepsText};
 
@@ -23,8 +24,8 @@ use heap_bytes::Spelling;
 use heap_read::{HeapRef, JsStr, Piece, Reader, UnitSource, Window};
 use js_header::Form;
 
-// The fewest units of a Cons, and of a Sliced.
-const MIN_CONS: u32 = 13;
+/// The fewest units of a Cons, and of a Sliced.
+pub const MIN_CONS: u32 = 13;
 
 impl<H: HeapRef> Text<H> {
     /// A new string with these units: flat, and wide exactly where a unit is over 255. It uses
@@ -160,10 +161,24 @@ fn copy_both<H: HeapRef>(
         → IsCopied (view_in reader.old) (view_in reader.new) (size_of (H.reached reader.old.heap))
         (us ++ vs) result }
 {
+    let (front, back) = both_pieces(reader, a, b, n);
+    copy(reader, &UnitSource::Pieces(front, back), n)
+}
+
+/// All units of two strings that are too short for a Cons, as the source of a new string.
+pub fn both_pieces<H: HeapRef>(reader: &mut Reader<H>, a: JsStr, b: JsStr, n: u32) -> (Piece, Piece)
+    requires known { AreJoinable (view_in reader.old) a b n }
+    requires short { n < MIN_CONS }
+    ensures reads { Moves OnlyLoads reader.old reader.new }
+    ensures shows { ShowsPiece (view_in reader.new) result.0 × ShowsPiece (view_in reader.new) result.1 }
+    ensures units { (us vs : List ℕ) → Has (view_in reader.old).units a.id us
+        → Has (view_in reader.old).units b.id vs
+        → piece_units (view_in reader.new) result.0 ++ piece_units (view_in reader.new) result.1 ≡ us ++ vs }
+{
     let (left, right) = side_forms(reader, a, b);
     let front = reader.solid_window(a, left);
     let back = reader.solid_window(b, right);
-    let source = UnitSource::Pieces(
+    (
         Piece {
             of: a,
             from: 0,
@@ -174,8 +189,7 @@ fn copy_both<H: HeapRef>(
             from: 0,
             window: back,
         },
-    );
-    copy(reader, &source, n)
+    )
 }
 
 // The forms of two strings, by one load where they are one string.
@@ -221,14 +235,31 @@ fn link<H: HeapRef>(reader: &mut Reader<H>, a: JsStr, b: JsStr, n: u32) -> Resul
         → IsLinked (view_in reader.old) (view_in reader.new) (size_of (H.reached reader.old.heap)) a b
         (us ++ vs) result }
 {
-    let (front, back) = side_forms(reader, a, b);
-    let left = is_wide_side(reader, a.id, front);
-    let right = is_wide_side(reader, b.id, back);
-    let wide = is_either(left, right);
     let id = match reader.agent.claim_id(reader.heap.heap()) {
         Ok(id) => id,
         Err(full) => return Err(TextFull::Ids(full)),
     };
+    link_to(reader, a, b, n, id);
+    Ok(JsStr { id })
+}
+
+/// An own id, which is greater than those of two strings, is born as a Cons of them, of `n` units.
+pub fn link_to<H: HeapRef>(reader: &mut Reader<H>, a: JsStr, b: JsStr, n: u32, id: u32)
+    requires own { HasKey (view_in reader.old).own_ids id }
+    requires above { (a.id < id) × (b.id < id) }
+    requires known { AreJoinable (view_in reader.old) a b n }
+    requires long { (MIN_CONS ≤ n) × (n ≤ MAX) }
+    ensures continues { Moves Continues reader.old reader.new }
+    ensures used { (view_in reader.new).used ≡ (view_in reader.old).used }
+    ensures own { KeepsOwnBut (view_in reader.old) (view_in reader.new) id 0 0 }
+    ensures units { (us vs : List ℕ) → Has (view_in reader.old).units a.id us
+        → Has (view_in reader.old).units b.id vs → Has (view_in reader.new).units id (us ++ vs) }
+    ensures rope { HasRope (view_in reader.new) a b id }
+{
+    let (front, back) = side_forms(reader, a, b);
+    let left = is_wide_side(reader, a.id, front);
+    let right = is_wide_side(reader, b.id, back);
+    let wide = is_either(left, right);
     reader.agent.store_length(reader.heap.heap(), id, n);
     let form = Form::Cons {
         wide,
@@ -236,7 +267,6 @@ fn link<H: HeapRef>(reader: &mut Reader<H>, a: JsStr, b: JsStr, n: u32) -> Resul
         right: b.id,
     };
     reader.agent.birth(reader.heap.heap(), id, form);
-    Ok(JsStr { id })
 }
 
 // Two strings that are not empty, joined.
@@ -276,6 +306,20 @@ fn copy_part<H: HeapRef>(
         → IsCopied (view_in reader.old) (view_in reader.new) (size_of (H.reached reader.old.heap))
         (part from n us) result }
 {
+    let piece = part_piece(reader, s, from, n);
+    copy(reader, &UnitSource::Piece(piece), n)
+}
+
+/// The `n` units of a settled string from `from` on, as the source of a new string.
+pub fn part_piece<H: HeapRef>(reader: &mut Reader<H>, s: JsStr, from: u32, n: u32) -> Piece
+    requires settled { IsSeenSettled (view_in reader.old) s.id }
+    requires within { (us : List ℕ) × Has (view_in reader.old).units s.id us
+        × (from + n ≤ length us) }
+    ensures reads { Moves OnlyLoads reader.old reader.new }
+    ensures shows { ShowsPiece (view_in reader.new) result }
+    ensures units { (us : List ℕ) → Has (view_in reader.old).units s.id us
+        → piece_units (view_in reader.new) result ≡ part from n us }
+{
     let window = reader.window_on(s);
     let part = Window {
         wide: window.wide,
@@ -283,12 +327,11 @@ fn copy_part<H: HeapRef>(
         offset: window.offset + from,
         len: n,
     };
-    let source = UnitSource::Piece(Piece {
+    Piece {
         of: s,
         from,
         window: part,
-    });
-    copy(reader, &source, n)
+    }
 }
 
 // A Sliced of the `n` units of a settled string from `from` on.
@@ -308,14 +351,34 @@ fn link_part<H: HeapRef>(
         → IsPartCut (view_in reader.old) (view_in reader.new) (size_of (H.reached reader.old.heap)) s from
         (part from n us) result }
 {
-    let whole = reader.form_now(s.id);
-    let wide = is_wide_side(reader, s.id, whole);
-    let parent = parent_of(s.id, whole);
-    let offset = offset_of(whole) + from;
     let id = match reader.agent.claim_id(reader.heap.heap()) {
         Ok(id) => id,
         Err(full) => return Err(TextFull::Ids(full)),
     };
+    link_part_to(reader, s, from, n, id);
+    Ok(JsStr { id })
+}
+
+/// An own id, which is greater than that of a settled string, is born as a Sliced of the `n` units of
+/// that string from `from` on.
+pub fn link_part_to<H: HeapRef>(reader: &mut Reader<H>, s: JsStr, from: u32, n: u32, id: u32)
+    requires own { HasKey (view_in reader.old).own_ids id }
+    requires above { s.id < id }
+    requires settled { IsSeenSettled (view_in reader.old) s.id }
+    requires within { (us : List ℕ) × Has (view_in reader.old).units s.id us
+        × (from + n ≤ length us) }
+    requires long { MIN_CONS ≤ n }
+    ensures continues { Moves Continues reader.old reader.new }
+    ensures used { (view_in reader.new).used ≡ (view_in reader.old).used }
+    ensures own { KeepsOwnBut (view_in reader.old) (view_in reader.new) id 0 0 }
+    ensures units { (us : List ℕ) → Has (view_in reader.old).units s.id us
+        → Has (view_in reader.new).units id (part from n us) }
+    ensures part { HasPart (view_in reader.new) s from id }
+{
+    let whole = reader.form_now(s.id);
+    let wide = is_wide_side(reader, s.id, whole);
+    let parent = parent_of(s.id, whole);
+    let offset = offset_of(whole) + from;
     reader.agent.store_length(reader.heap.heap(), id, n);
     let form = Form::Sliced {
         wide,
@@ -323,7 +386,6 @@ fn link_part<H: HeapRef>(
         offset,
     };
     reader.agent.birth(reader.heap.heap(), id, form);
-    Ok(JsStr { id })
 }
 
 // A part that is not the whole.

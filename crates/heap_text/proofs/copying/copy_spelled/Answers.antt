@@ -1,22 +1,19 @@
-use Rattle.std.proofs.Common.{◌≡◌, ◌+◌, ◌<◌, ◌∙◌, ℕ, Bool, false, List, length, ap, subst, sym, arith}
+use Rattle.std.proofs.Common.{◌≡◌, ◌+◌, ◌<◌, ◌∙◌, ℕ, Bool, false, List, length, ap, subst, sym}
 use Rattle.js_header.specs.declared.form.Form.TheVariants.{Flat}
 use Rattle.heap_rule.specs.declared.view.View.{View}
 use Rattle.heap_rule.specs.declared.size.Counter.TheVariants.{Ids}
+use Rattle.heap_rule.specs.declared.size.Counters.{Counters}
 use Rattle.heap_rule.specs.Maps.{Has, HasKey}
-use Rattle.heap_rule.specs.Births.{born, stored_length}
-use Rattle.heap_rule.specs.Claims.{won_claim}
 use Rattle.heap_rule.proofs.MapLemmas.{insert_same, key_of}
-use Rattle.heap_table.specs.Known.{KeepsKnown}
 use Rattle.heap_bytes.specs.Spellings.{units_of}
 use Rattle.heap_text.specs.declared.faults.TextFull.TheVariants as fault
-use Rattle.heap_read.specs.Reads.{Continues}
-use Rattle.heap_text.specs.Texts.{IsSpared, KeepsOwn}
+use Rattle.heap_text.specs.Texts.{IsSpared, UsesExactly}
 use Rattle.js_units.specs.Lanes.{is_wide, words_over}
 use Rattle.heap_text.proofs.Pieces.{spared_ids, spared_words}
 use Rattle.heap_read.specs.Written.{IsWritten}
-use Rattle.heap_text.proofs.Owned.{own_flat, own_full, own_written}
-use Rattle.heap_text.proofs.Bearing.{born_form, born_units, continues_born, written_fits, written_still}
-use Rattle.heap_read.proofs.Going.{continues_full_ids, continues_ids, continues_length, continues_trans}
+use Rattle.heap_text.proofs.Owned.{own_born, own_full, own_written}
+use Rattle.heap_text.proofs.Bearing.{written_claimed}
+use Rattle.heap_read.proofs.Going.{continues_full_ids, continues_ids, continues_trans}
 use Rattle.heap_read.proofs.Loaded.{reads_refl}
 use Rattle.heap_text.proofs.copying.copy_spelled.Goals as goal
 
@@ -24,43 +21,38 @@ pub returns-in-Err-claim_id-clause-continues : goal.returns-in-Err-claim_id-clau
 returns-in-Err-claim_id-clause-continues g c = let v : View = c.args.reader.now.agent.seat.me.0 in let w : View = c.write_spelled.new.reader.agent.seat.me.0 in let x : View = c.claim_id.new.self.seat.me.0 in
     record { heap = c.write_spelled.ensures.continues.heap; view = continues_trans v w x c.write_spelled.ensures.continues.view (continues_full_ids w x c.in-Err-claim_id.full.at c.in-Err-claim_id.ensures.refused.0 c.claim_id.ensures.low) }
 
-pub store_length-requires-clause-may : goal.store_length-requires-clause-may
-store_length-requires-clause-may g c = let w : View = c.write_spelled.new.reader.agent.seat.me.0 in let id = c.in-Ok-claim_id.id in
-    (subst (λ (y : View). HasKey y.own_ids id) (sym c.in-Ok-claim_id.ensures.view) (key_of _ id 0 (insert_same w.own_ids id 0)), omega (arith, c.len-n.ensures, c.requires.short))
+pub bear_flat-requires-clause-own : goal.bear_flat-requires-clause-own
+bear_flat-requires-clause-own g c = let w : View = c.write_spelled.new.reader.agent.seat.me.0 in let id = c.in-Ok-claim_id.id in
+    subst (λ (y : View). HasKey y.own_ids id) (sym c.in-Ok-claim_id.ensures.view) (key_of _ id 0 (insert_same w.own_ids id 0))
 
-pub birth-requires-clause-fits : goal.birth-requires-clause-fits
-birth-requires-clause-fits g c = let w : View = c.write_spelled.new.reader.agent.seat.me.0 in let x : View = c.claim_id.new.self.seat.me.0 in let y : View = c.store_length.new.self.seat.me.0 in
-    let id = c.in-Ok-claim_id.id in let n = c.len-n.result in let wide = c.is_wide-wide.result in let start = c.in-Ok.start in let us : List ℕ = units_of c.args.source.now in
-    let is : y ≡ stored_length (won_claim w Ids id 1) id n = c.store_length.ensures.view ∙ ap (λ (a : View). stored_length a id n) c.in-Ok-claim_id.ensures.view in
-    let there : IsWritten y wide start us = subst (λ (a : View). IsWritten a wide start us) (sym is) (written_still w id n wide start us c.in-Ok.ensures.ok.0) in
-    let own : Has y.own_ids id n = subst (λ (a : View). Has a.own_ids id n) (sym c.store_length.ensures.view) (insert_same x.own_ids id n) in
-    (length us, subst (Has y.own_ids id) c.len-n.ensures own, written_fits y wide start us there id)
+pub bear_flat-requires-clause-written : goal.bear_flat-requires-clause-written
+bear_flat-requires-clause-written g c = let w : View = c.write_spelled.new.reader.agent.seat.me.0 in let id = c.in-Ok-claim_id.id in let wide = c.is_wide-wide.result in let start = c.in-Ok.start in let us : List ℕ = units_of c.args.source.now in
+    (us, subst (λ (a : View). IsWritten a wide start us) (sym c.in-Ok-claim_id.ensures.view) (written_claimed w id wide start us c.in-Ok.ensures.ok.0), sym c.len-n.ensures)
 
 pub returns-clause-continues : goal.returns-clause-continues
-returns-clause-continues g c = let v : View = c.args.reader.now.agent.seat.me.0 in let w : View = c.write_spelled.new.reader.agent.seat.me.0 in let x : View = c.claim_id.new.self.seat.me.0 in
-    let y : View = c.store_length.new.self.seat.me.0 in let z : View = c.birth.new.self.seat.me.0 in let id = c.in-Ok-claim_id.id in let n = c.len-n.result in
+returns-clause-continues g c = let v : View = c.args.reader.now.agent.seat.me.0 in let w : View = c.write_spelled.new.reader.agent.seat.me.0 in let x : View = c.claim_id.new.self.seat.me.0 in let z : View = c.bear_flat.new.reader.agent.seat.me.0 in
     record {
-      heap = c.write_spelled.ensures.continues.heap;
+      heap = c.bear_flat.ensures.continues.heap ∙ c.write_spelled.ensures.continues.heap;
       view = continues_trans v w z c.write_spelled.ensures.continues.view
-          (continues_trans w x z (continues_ids w x id 1 c.in-Ok-claim_id.ensures.view c.claim_id.ensures.low)
-          (continues_trans x y z (subst (Continues x) (sym c.store_length.ensures.view) (continues_length x id n))
-          (subst (Continues y) (sym c.birth.ensures.view) (continues_born y id c.is_wide-wide.result c.in-Ok.start (subst (KeepsKnown y) c.birth.ensures.view c.birth.ensures.known)))));
+          (continues_trans w x z (continues_ids w x c.in-Ok-claim_id.id 1 c.in-Ok-claim_id.ensures.view c.claim_id.ensures.low) c.bear_flat.ensures.continues.view);
     }
 
 pub returns-clause-units : goal.returns-clause-units
-returns-clause-units g c = let w : View = c.write_spelled.new.reader.agent.seat.me.0 in let x : View = c.claim_id.new.self.seat.me.0 in let y : View = c.store_length.new.self.seat.me.0 in
-    let id = c.in-Ok-claim_id.id in let n = c.len-n.result in let wide = c.is_wide-wide.result in let start = c.in-Ok.start in let us : List ℕ = units_of c.args.source.now in
-    let is : y ≡ stored_length (won_claim w Ids id 1) id n = c.store_length.ensures.view ∙ ap (λ (a : View). stored_length a id n) c.in-Ok-claim_id.ensures.view in
-    let there : IsWritten y wide start us = subst (λ (a : View). IsWritten a wide start us) (sym is) (written_still w id n wide start us c.in-Ok.ensures.ok.0) in
-    let own : Has y.own_ids id n = subst (λ (a : View). Has a.own_ids id n) (sym c.store_length.ensures.view) (insert_same x.own_ids id n) in
-    subst (λ (a : View). Has a.units id us) (sym c.birth.ensures.view) (born_units y id n wide start us there own c.len-n.ensures)
+returns-clause-units g c = let w : View = c.write_spelled.new.reader.agent.seat.me.0 in let x : View = c.claim_id.new.self.seat.me.0 in
+    let id = c.in-Ok-claim_id.id in let wide = c.is_wide-wide.result in let start = c.in-Ok.start in let us : List ℕ = units_of c.args.source.now in
+    let there : IsWritten x wide start us = subst (λ (a : View). IsWritten a wide start us) (sym c.in-Ok-claim_id.ensures.view) (written_claimed w id wide start us c.in-Ok.ensures.ok.0) in
+    c.bear_flat.ensures.units us there (sym c.len-n.ensures)
 
 pub returns-clause-form : goal.returns-clause-form
-returns-clause-form g c = let y : View = c.store_length.new.self.seat.me.0 in let id = c.in-Ok-claim_id.id in let start = c.in-Ok.start in (
-  start,
-  subst (λ (a : View). Has a.forms id (Flat (is_wide (units_of c.args.source.now)) start false)) (sym c.birth.ensures.view)
-      (subst (λ (b : Bool). Has (born y id (Flat c.is_wide-wide.result start false)).forms id (Flat b start false)) c.is_wide-wide.ensures (born_form y id c.is_wide-wide.result start)),
-)
+returns-clause-form g c = let id = c.in-Ok-claim_id.id in let start = c.in-Ok.start in
+    (start, subst (λ (b : Bool). Has c.bear_flat.new.reader.agent.seat.me.0.forms id (Flat b start false)) c.is_wide-wide.ensures c.bear_flat.ensures.form)
+
+pub returns-clause-used : goal.returns-clause-used
+returns-clause-used g c = let v : View = c.args.reader.now.agent.seat.me.0 in let z : View = c.bear_flat.new.reader.agent.seat.me.0 in let n = c.len-n.result in let wide = c.is_wide-wide.result in let us : List ℕ = units_of c.args.source.now in let e = c.in-Ok-claim_id.ensures.view in
+    let long : words_over wide n ≡ words_over (is_wide us) (length us) = (λ j. words_over (c.is_wide-wide.ensures j) (c.len-n.ensures j)) in
+    let ids : z.used.ids ≡ v.used.ids + 1 = ap (λ (m : Counters). m.ids) c.bear_flat.ensures.used ∙ (ap (λ (a : View). a.used.ids) e ∙ ap (λ (m : ℕ). m + 1) c.write_spelled.ensures.ids) in
+    let words : z.used.words ≡ v.used.words + words_over wide n = ap (λ (m : Counters). m.words) c.bear_flat.ensures.used ∙ (ap (λ (a : View). a.used.words) e ∙ c.in-Ok.ensures.ok.1) in
+    subst (UsesExactly v z 1) long (ids, words)
 
 pub returns-in-Err-clause-spared : goal.returns-in-Err-clause-spared
 returns-in-Err-clause-spared g c = let v : View = c.args.reader.now.agent.seat.me.0 in let w : View = c.write_spelled.new.reader.agent.seat.me.0 in let e = c.write_spelled.ensures in let f = c.in-Err.ensures.refused in
@@ -83,9 +75,5 @@ returns-in-Err-claim_id-clause-own g c = let v : View = c.args.reader.now.agent.
     own_full v w c.claim_id.new.self.seat.me.0 Ids c.in-Err-claim_id.full.at c.in-Err-claim_id.ensures.refused.0 (own_written v w c.write_spelled.ensures.own_ids c.write_spelled.ensures.stays)
 
 pub returns-clause-own : goal.returns-clause-own
-returns-clause-own g c = let v : View = c.args.reader.now.agent.seat.me.0 in let w : View = c.write_spelled.new.reader.agent.seat.me.0 in let y : View = c.store_length.new.self.seat.me.0 in
-    let id = c.in-Ok-claim_id.id in let n = c.len-n.result in let wide = c.is_wide-wide.result in let start = c.in-Ok.start in let f = Flat wide start false in
-    let is : y ≡ stored_length (won_claim w Ids id 1) id n = c.store_length.ensures.view ∙ ap (λ (a : View). stored_length a id n) c.in-Ok-claim_id.ensures.view in
-    let kept : KeepsOwn v w = own_written v w c.write_spelled.ensures.own_ids c.write_spelled.ensures.stays in
-    let after : KeepsOwn v (born (stored_length (won_claim w Ids id 1) id n) id f) = own_flat v w id n kept c.in-Ok-claim_id.ensures.above_own wide start c.in-Ok.ensures.fresh in
-    subst (KeepsOwn v) (sym c.birth.ensures.view) (subst (λ (a : View). KeepsOwn v (born a id f)) (sym is) after)
+returns-clause-own g c = let v : View = c.args.reader.now.agent.seat.me.0 in let w : View = c.write_spelled.new.reader.agent.seat.me.0 in let x : View = c.claim_id.new.self.seat.me.0 in let z : View = c.bear_flat.new.reader.agent.seat.me.0 in
+    own_born v w x z c.in-Ok-claim_id.id c.in-Ok.start (words_over c.is_wide-wide.result c.len-n.result) (own_written v w c.write_spelled.ensures.own_ids c.write_spelled.ensures.stays) c.in-Ok-claim_id.ensures.view c.in-Ok-claim_id.ensures.above_own c.bear_flat.ensures.own c.in-Ok.ensures.fresh

@@ -1,0 +1,197 @@
+-- What is kept stays kept, and what is taken leaves the rest.
+use Rattle.std.proofs.Common.{◌≡◌, ◌≢◌, ℕ, suc, ◌+◌, ◌-◌, ◌^◌, ◌<◌, ◌≤◌, ⊎_elim, ◌⊎◌, inl, inr, Bool, true, false, List, [], ◌∷◌, ◌++◌, length, get_or, append-nil, refl, ap, sym, subst, ◌∙◌, arith}
+use Rattle.std.specs.Prelude.{All, Result, Ok, Err, OnOk, IfErr}
+use Rattle.std.proofs.lemmas.List.{append_assoc, length-append}
+use Rattle.std.proofs.lemmas.List.Elements.{All-push}
+use mathlib.Core.Logic.{dite}
+use native.Mathlib.Decide.{ℕ_discrete, dec_le}
+use Rattle.std.specs.FinMap.{FinMap}
+use Rattle.std.specs.Ordering.{nat_cmp}
+use Rattle.js_units.specs.Lanes.{words_over}
+use Rattle.heap_rule.specs.declared.size.HeapSize.{HeapSize}
+use Rattle.heap_rule.specs.declared.view.View.{View}
+use Rattle.heap_rule.specs.declared.size.Counters.{Counters}
+use Rattle.heap_rule.specs.Maps.{Has, HasKey}
+use Rattle.heap_rule.specs.Sound.{IsPossible}
+use Rattle.heap_rule.specs.declared.size.Counter.TheVariants.{Ids, Words}
+use Rattle.heap_rule.specs.Claims.{won_claim}
+use Rattle.heap_rule.proofs.MapLemmas.{has_key, insert_other, insert_same, key_of}
+use Rattle.heap_rule.proofs.Possible.{possible_lawful}
+use Rattle.heap_rule.proofs.Steps.{possible_within}
+use Rattle.heap_read.specs.Reads.{KeepsBeside, OnlyLoads, Writes}
+use Rattle.heap_read.proofs.Going.{run_below, run_keys}
+use Rattle.heap_read.specs.Written.{AreWords, IsWritten}
+use Rattle.heap_text.specs.Texts.{KeepsOwn, KeepsOwnBut}
+use Rattle.heap_text.proofs.Owned.{own_reads}
+use Rattle.heap_text.specs.declared.faults.TextFull.TheVariants as full
+use Rattle.heap_reserve.specs.declared.faults.ReserveFault.{ReserveFault}
+use Rattle.heap_reserve.specs.declared.faults.ReserveFault.TheVariants.{Memory, Full}
+use Rattle.heap_reserve.specs.declared.reserve.Reserve.{Reserve}
+use Rattle.heap_reserve.specs.Claims.{IsClaimAnswer, IsIdRefused}
+use Rattle.heap_reserve.specs.Reserves.{IsAscending, IsClaimed, IsGrown, IsReserve, IsTaken, kept_ids}
+
+-- any call that leaves the agent what it owns leaves it what it keeps
+pub reserve_kept : (v w : View) (r : Reserve) → KeepsOwn v w → IsReserve v r → IsReserve w r
+reserve_kept v w r kept h = record {
+  ids = λ k d l. let i : ℕ = get_or (kept_ids r) k d in let t = has_key v.own_ids i (h.ids k d l) in key_of w.own_ids i t.0 (kept.ids i t.0 t.1);
+  ascending = h.ascending;
+  ordered = h.ordered;
+  words = λ c low high. let t = has_key v.own_words c (h.words c low high) in key_of w.own_words c t.0 (kept.words c t.0 t.1);
+}
+
+-- and so does a claim
+pub own_claimed_id : (v x : View) (id : ℕ) → x ≡ won_claim v Ids id 1 → ((i : ℕ) → HasKey v.own_ids i → i < id) → KeepsOwn v x
+own_claimed_id v x id e above = subst (KeepsOwn v) (sym e) (record {
+  ids = λ i n h. let low = above i (key_of v.own_ids i n h) in insert_other v.own_ids id i 0 (λ d. omega (arith, low, d)) ∙ h;
+  words = λ c y h. h;
+})
+
+pub own_claimed_words : (v w : View) (start want : ℕ) → w ≡ won_claim v Words start want → ((c : ℕ) → HasKey v.own_words c → c < start) → KeepsOwn v w
+own_claimed_words v w start want e above = subst (KeepsOwn v) (sym e) (record {
+  ids = λ i n h. h;
+  words = λ c y h. run_below v.own_words start want c 0 y (above c (key_of v.own_words c y h)) h;
+})
+
+-- what is behind the first id is another id
+behind : (i : ℕ) (is : List ℕ) → IsAscending (i ∷ is) → All (λ j. j ≢ i) is
+behind i is h = λ k d l e. let less = h.0 k d l in omega (arith, less, e)
+
+rest_ids : (v : View) (i : ℕ) (is : List ℕ) → All (λ j. HasKey v.own_ids j) (i ∷ is) → All (λ j. HasKey v.own_ids j) is
+rest_ids v i is h = λ k d l. h (suc k) d (omega arith)
+
+-- the rest stays kept when something is taken
+pub reserve_taken : (v w : View) (r s : Reserve) (id n : ℕ) → IsReserve v r → IsTaken v w r s id n → s.start ≤ s.end → IsReserve w s
+reserve_taken v w r s id n h t ordered = let up : IsAscending (id ∷ kept_ids s) = subst IsAscending t.ids h.ascending in
+    let own : All (λ j. HasKey v.own_ids j) (kept_ids s) = rest_ids v id (kept_ids s) (subst (λ (is : List ℕ). All (λ j. HasKey v.own_ids j) is) t.ids h.ids) in
+    let start = t.words.0 in let end = t.words.1 in record {
+      ids = λ k d l. let i : ℕ = get_or (kept_ids s) k d in let m = has_key v.own_ids i (own k d l) in key_of w.own_ids i m.0 (t.own.ids i m.0 (behind id (kept_ids s) up k d l) m.1);
+      ascending = up.1;
+      ordered = ordered;
+      words = λ c low high. let from : r.start + n ≤ c = omega (arith, low, start) in
+          let m = has_key v.own_words c (h.words c (omega (arith, from)) (omega (arith, high, end))) in key_of w.own_words c m.0 (t.own.words c m.0 (inr from) m.1);
+    }
+
+-- words that are written are those of a flat string
+none_written : (wide : Bool) (n : ℕ) → n ≡ 0 → words_over wide n ≡ 0
+none_written true n e = omega (arith, e)
+none_written false n e = omega (arith, e)
+
+pub all_written : (p : View) → IsPossible p → (wide : Bool) (start words n : ℕ) (us : List ℕ) → words ≡ words_over wide n → length us ≡ n → AreWords p wide start us (words_over wide n) → (words ≡ 0 → start ≡ 0) → IsWritten p wide start us
+all_written p possible wide start words n us e long h empty = record {
+  small = dite (ℕ_discrete words 0) (λ none. let z = empty none in omega (arith, z)) (λ some. there (omega (arith, some, e)));
+  words = subst (λ (m : ℕ). AreWords p wide start us (words_over wide m)) (sym long) h;
+  empty = λ none. empty (e ∙ none_written wide n (sym long ∙ none));
+}
+  where
+    there : 0 < words_over wide n → start < 2 ^ 29
+    there l = let t = h.each 0 l in let a = (possible_within p possible).words (start + 0) (key_of p.own_words (start + 0) t.0 t.1) in let b = (possible_lawful p possible).3 in omega (arith, a, b)
+
+-- a flat string was made of what was taken
+pub copy_taken : (v u p z : View) (r s : Reserve) (id start words : ℕ) → OnlyLoads v u → Writes u p → KeepsBeside start words u p → z.used ≡ p.used → KeepsOwnBut p z id start words
+    → kept_ids r ≡ id ∷ kept_ids s → (s.start ≡ r.start + words) × (s.end ≡ r.end) → (0 < words → start ≡ r.start) → IsTaken v z r s id words
+copy_taken v u p z r s id start words read write beside used but ids run first = record {
+  ids = ids;
+  words = run;
+  used = used ∙ (write.used ∙ read.used);
+  own = record {
+    ids = λ i k ne h. but.ids i k ne (subst (λ (m : FinMap nat_cmp ℕ). Has m i k) (sym (write.own_ids ∙ read.own_ids)) h);
+    words = λ c x side h. let apart = side_of c side in but.words c x apart (beside c x apart (subst (λ (m : FinMap nat_cmp ℕ). Has m c x) (sym read.own_words) h));
+  };
+}
+  where
+    side_of : (c : ℕ) → (c < r.start) ⊎ (r.start + words ≤ c) → (c < start) ⊎ (start + words ≤ c)
+    side_of c side = dite (ℕ_discrete words 0)
+        (λ none. dite (dec_le start c) (λ l. inr (omega (arith, none, l))) (λ l. inl (omega (arith, l))))
+        (λ some. let same = first (omega (arith, some)) in ⊎_elim (λ low. inl (omega (arith, low, same))) (λ high. inr (omega (arith, high, same))) side)
+
+-- and one that needs no word
+pub id_taken : (v z : View) (r s : Reserve) (id : ℕ) → z.used ≡ v.used → KeepsOwnBut v z id 0 0 → kept_ids r ≡ id ∷ kept_ids s → (s.start ≡ r.start) × (s.end ≡ r.end) → IsTaken v z r s id 0
+id_taken v z r s id used but ids run = let e = run.0 in record {
+  ids = ids;
+  words = (omega (arith, e), run.1);
+  used = used;
+  own = record { ids = but.ids; words = λ c x side h. but.words c x (inr (omega arith)) h };
+}
+
+-- what was taken after loads, from before them
+pub taken_after : (v u w : View) (r s : Reserve) (id n : ℕ) → OnlyLoads v u → IsTaken u w r s id n → IsTaken v w r s id n
+taken_after v u w r s id n read t = let kept = own_reads v u read in record {
+  ids = t.ids;
+  words = t.words;
+  used = t.used ∙ read.used;
+  own = record { ids = λ i k ne h. t.own.ids i k ne (kept.ids i k h); words = λ c x side h. t.own.words c x side (kept.words c x h) };
+}
+
+-- Claims.
+pub ascending_push : (is : List ℕ) (x : ℕ) → IsAscending is → All (λ i. i < x) is → IsAscending (is ++ x ∷ [])
+ascending_push [] x h l = (λ k d m. absurd (omega arith), tt)
+ascending_push (i ∷ is) x h l = (All-push (λ j. i < j) is x h.0 (l 0 0 (omega arith)), ascending_push is x h.1 (λ k d m. l (suc k) d (omega arith)))
+
+-- an id that was claimed comes last
+pub reserve_pushed : (v x : View) (r s : Reserve) (id : ℕ) → x ≡ won_claim v Ids id 1 → ((i : ℕ) → HasKey v.own_ids i → i < id) → IsReserve v r → kept_ids s ≡ kept_ids r ++ id ∷ [] → s.start ≡ r.start → s.end ≡ r.end → IsReserve x s
+reserve_pushed v x r s id e above h ids start end = let up = h.ordered in let kept = reserve_kept v x r (own_claimed_id v x id e above) h in
+    let here : HasKey x.own_ids id = subst (λ (y : View). HasKey y.own_ids id) (sym e) (key_of (won_claim v Ids id 1).own_ids id 0 (insert_same v.own_ids id 0)) in record {
+      ids = subst (λ (is : List ℕ). All (λ i. HasKey x.own_ids i) is) (sym ids) (All-push (λ i. HasKey x.own_ids i) (kept_ids r) id kept.ids here);
+      ascending = subst IsAscending (sym ids) (ascending_push (kept_ids r) id h.ascending (λ k d l. above (get_or (kept_ids r) k d) (h.ids k d l)));
+      ordered = omega (arith, up, start, end);
+      words = λ c low high. kept.words c (omega (arith, low, start)) (omega (arith, high, end));
+    }
+
+-- words that were claimed are the run, or the end of it
+pub reserve_grown : (v w : View) (r s : Reserve) (start want : ℕ) → w ≡ won_claim v Words start want → ((c : ℕ) → HasKey v.own_words c → c < start) → IsReserve v r → kept_ids s ≡ kept_ids r → s.end ≡ start + want
+    → (start ≡ r.end → s.start ≡ r.start) → ((start ≡ r.end → ⊥) → s.start ≡ start) → IsReserve w s
+reserve_grown v w r s start want e above h ids end behind other = let kept = reserve_kept v w r (own_claimed_words v w start want e above) h in let up = h.ordered in record {
+  ids = subst (λ (is : List ℕ). All (λ i. HasKey w.own_ids i) is) (sym ids) kept.ids;
+  ascending = subst IsAscending (sym ids) h.ascending;
+  ordered = dite (ℕ_discrete start r.end) (λ same. let b = behind same in omega (arith, b, end, up, same)) (λ ne. let b = other ne in omega (arith, b, end));
+  words = λ c low high. dite (dec_le start c)
+      (λ l. let back : start + (c - start) ≡ c = omega (arith, l) in subst (HasKey w.own_words) back (subst (λ (y : View). HasKey y.own_words (start + (c - start))) (sym e) (run_keys v.own_words start want (c - start) 0 (omega (arith, l, high, end)))))
+      (λ l. dite (ℕ_discrete start r.end) (λ same. let b = behind same in kept.words c (omega (arith, low, b)) (omega (arith, l, same))) (λ ne. let b = other ne in absurd (omega (arith, b, low, l))));
+}
+
+pub claimed_none : (v w : View) (r s : Reserve) → w.used ≡ v.used → kept_ids s ≡ kept_ids r → s.start ≡ r.start → s.end ≡ r.end → IsClaimed v w r s 0 0
+claimed_none v w r s used ids start end = let i : w.used.ids ≡ v.used.ids = ap (λ (n : Counters). n.ids) used in let q : w.used.words ≡ v.used.words = ap (λ (n : Counters). n.words) used in record {
+  used = (omega (arith, i), omega (arith, q));
+  added = ([], ids ∙ sym (append-nil (kept_ids r)), refl);
+  run = inl (start, omega (arith, end));
+}
+
+-- the run is as before where no word was claimed
+same_run : (r s : Reserve) → IsGrown r s 0 → (s.start ≡ r.start) × (s.end ≡ r.end)
+same_run r s g = ⊎_elim (λ c. (c.0, let e = c.1 in omega (arith, e))) (λ c. let l = c.0 in absurd (omega (arith, l))) g
+
+pub claimed_then : (v w x : View) (r s t : Reserve) (i k words : ℕ) → IsClaimed v w r s i words → IsClaimed w x s t k 0 → IsClaimed v x r t (i + k) words
+claimed_then v w x r s t i k words a b = let a0 = a.used.0 in let a1 = a.used.1 in let b0 = b.used.0 in let b1 = b.used.1 in let same = same_run s t b.run in record {
+  used = (omega (arith, a0, b0), omega (arith, a1, b1));
+  added = (
+    a.added.0 ++ b.added.0,
+    b.added.1 ∙ (ap (λ (is : List ℕ). is ++ b.added.0) a.added.1 ∙ append_assoc (kept_ids r) a.added.0 b.added.0),
+    length-append a.added.0 b.added.0 ∙ (λ j. a.added.2 j + b.added.2 j),
+  );
+  run = subst (λ (n : ℕ). ((n ≡ r.start) × (t.end ≡ r.end + words)) ⊎ ((0 < words) × (n ≢ r.end) × (t.end ≡ n + words))) (sym same.0)
+      (subst (λ (n : ℕ). ((s.start ≡ r.start) × (n ≡ r.end + words)) ⊎ ((0 < words) × (s.start ≢ r.end) × (n ≡ s.start + words))) (sym same.1) a.run);
+}
+
+-- ids after words
+claimed_behind : (v w x : View) (r s t : Reserve) (k words : ℕ) → IsClaimed v w r s 0 words → IsClaimed w x s t k 0 → IsClaimed v x r t k words
+claimed_behind v w x r s t k words a b = let plain : 0 + k ≡ k = omega arith in subst (λ (n : ℕ). IsClaimed v x r t n words) plain (claimed_then v w x r s t 0 k words a b)
+
+-- a refusal after ids that were claimed
+pub refused_then : (v w x : View) (z : HeapSize) (r s t : Reserve) (k ids : ℕ) (f : ReserveFault) → k < ids → IsClaimed v w r s k 0 → IsIdRefused w x z s t 1 0 f → IsIdRefused v x z r t ids 0 f
+refused_then v w x z r s t k ids Memory l a h = let j = h.0 in let m = h.1 in (k + j, omega (arith, l, m), claimed_then v w x r s t k j 0 a h.2)
+refused_then v w x z r s t k ids (Full (full.Ids f)) l a h = let j = h.2.0 in let m = h.2.1 in (h.0, h.1, (k + j, omega (arith, l, m), claimed_then v w x r s t k j 0 a h.2.2))
+refused_then v w x z r s t k ids (Full (full.Words f)) l a h = absurd h
+
+-- a refusal after words that were claimed
+pub refused_behind : (v w x : View) (z : HeapSize) (r s t : Reserve) (ids words : ℕ) (f : ReserveFault) → IsClaimed v w r s 0 words → IsIdRefused w x z s t ids 0 f → IsIdRefused v x z r t ids words f
+refused_behind v w x z r s t ids words Memory a h = (h.0, h.1, claimed_behind v w x r s t h.0 words a h.2)
+refused_behind v w x z r s t ids words (Full (full.Ids f)) a h = (h.0, h.1, (h.2.0, h.2.1, claimed_behind v w x r s t h.2.0 words a h.2.2))
+refused_behind v w x z r s t ids words (Full (full.Words f)) a h = absurd h
+
+-- the answer of both
+pub claim_answer : (v w x : View) (z : HeapSize) (r s t : Reserve) (ids words : ℕ) (answer : Result (Unit {0}) ReserveFault) → IsClaimed v w r s 0 words → OnOk answer (IsClaimed w x s t ids 0) → IfErr answer (λ f. IsIdRefused w x z s t ids 0 f)
+    → IsClaimAnswer v x z r t ids words answer
+claim_answer v w x z r s t ids words (Ok u) a ok err = claimed_behind v w x r s t ids words a ok
+claim_answer v w x z r s t ids words (Err Memory) a ok err = refused_behind v w x z r s t ids words Memory a err
+claim_answer v w x z r s t ids words (Err (Full (full.Ids f))) a ok err = refused_behind v w x z r s t ids words (Full (full.Ids f)) a err
+claim_answer v w x z r s t ids words (Err (Full (full.Words f))) a ok err = absurd err

@@ -1,0 +1,3 @@
+pub mod Reserves
+pub mod Claims
+pub mod Making

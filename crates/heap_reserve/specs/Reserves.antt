@@ -1,0 +1,54 @@
+-- What an agent keeps in advance, and how that grows and shrinks.
+use Rattle.std.specs.Prelude.{◌≡◌, ◌≢◌, ◌⊎◌, ℕ, ◌+◌, ◌-◌, ◌<◌, ◌≤◌, List, [], ◌∷◌, ◌++◌, All, length, slice_index}
+use Rattle.heap_rule.specs.declared.view.View.{View}
+use Rattle.heap_rule.specs.Maps.{HasKey}
+use Rattle.heap_text.specs.Texts.{KeepsOwnBut, UsesExactly}
+use Rattle.heap_reserve.specs.declared.reserve.Reserve.{Reserve}
+
+-- its ids, in the order in which they are taken
+abbrev pub kept_ids : Reserve → List ℕ
+kept_ids r = r.ids.items
+
+-- how many content words it has
+abbrev pub kept_words : Reserve → ℕ
+kept_words r = r.end - r.start
+
+-- each number is greater than those before it
+abbrev pub IsAscending : List ℕ → Type 0
+IsAscending [] = Unit {0}
+IsAscending (i ∷ is) = All (λ j. i < j) is × IsAscending is
+
+-- Each id is the agent's own, so it is not born, and greater than those before it, so no two are the same.
+-- Each word of the run is the agent's own, so no string has it.
+pub record IsReserve (v : View) (r : Reserve) : Type 0 where
+  pub ids : All (λ i. HasKey v.own_ids i) (kept_ids r)
+  pub ascending : IsAscending (kept_ids r)
+  pub ordered : r.start ≤ r.end
+  pub words : (c : ℕ) → r.start ≤ c → c < r.end → HasKey v.own_words c
+
+-- the run has n words more, at its end; or it is another one, of n words, where they don't begin at its end
+abbrev pub IsGrown : Reserve → Reserve → ℕ → Type 0
+IsGrown r s n = ((s.start ≡ r.start) × (s.end ≡ r.end + n))
+    ⊎ ((0 < n) × (s.start ≢ r.end) × (s.end ≡ s.start + n))
+
+-- so many ids and content words were claimed, and the reserve has them; the new ids come last
+pub record IsClaimed (v w : View) (r s : Reserve) (ids words : ℕ) : Type 0 where
+  pub used : UsesExactly v w ids words
+  pub added : (more : List ℕ) × (kept_ids s ≡ kept_ids r ++ more) × (length more ≡ ids)
+  pub run : IsGrown r s words
+
+-- it has an id, and n content words
+abbrev pub HasEnough : Reserve → ℕ → Type 0
+HasEnough r n = (0 < length (kept_ids r)) × (n ≤ kept_words r)
+
+-- it has an id, and the first one is greater than i
+abbrev pub HasAbove : Reserve → ℕ → Type 0
+HasAbove r i = (0 < length (kept_ids r)) × (i < slice_index (kept_ids r) 0)
+
+-- The first id and the first n content words left the reserve, and nothing was claimed.
+-- All else that the agent owned it owns still.
+pub record IsTaken (v w : View) (r s : Reserve) (id n : ℕ) : Type 0 where
+  pub ids : kept_ids r ≡ id ∷ kept_ids s
+  pub words : (s.start ≡ r.start + n) × (s.end ≡ r.end)
+  pub used : w.used ≡ v.used
+  pub own : KeepsOwnBut v w id r.start n

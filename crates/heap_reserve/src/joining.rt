@@ -1,0 +1,144 @@
+// Joining two strings with what is kept.
+ghost use Rattle.std.specs.Prelude.{◌≤◌, ◌<◌, ◌+◌, ◌++◌, ◌↔◌, ℕ, IsTrue, List};
+ghost use Rattle.heap_rule.specs.Layout.{MAX};
+ghost use Rattle.heap_rule.specs.Maps.{Has, HasKey};
+ghost use Rattle.heap_table.specs.Agents.{size_of, view_of};
+ghost use Rattle.heap_read.specs.Readers.{Moves, view_in};
+ghost use Rattle.heap_read.specs.Reads.{Continues};
+ghost use Rattle.heap_text.specs.Joins.{AreJoinable, MIN_CONS};
+ghost use Rattle.heap_text.specs.Keeping.{KeepsText};
+ghost use Rattle.heap_reserve.specs.Making.{IsJoinedBy, MakesFlat, MakesRope, TriesJoin};
+ghost use Rattle.heap_reserve.specs.Reserves.{IsReserve};
+
+use crate::reserve::Reserve;
+use heap_read::{HeapRef, JsStr, Reader, UnitSource};
+use heap_text::{JoinFault, MIN_CONS, Text, both_pieces, link_to};
+
+impl Reserve {
+    /// The units of one string followed by those of another, as `Text::concat` joins them. A new string
+    /// takes what it needs from the reserve and uses nothing, where the reserve has that: for a copy an id
+    /// and the content words, for a rope an id that is greater than those of both strings.
+    pub fn concat<H: HeapRef>(
+        &mut self,
+        text: &mut Text<H>,
+        a: JsStr,
+        b: JsStr,
+    ) -> Result<JsStr, JoinFault>
+        requires reserve { IsReserve (view_of text.old.reader.agent) self.old }
+        requires known { HasKey (view_of text.old.reader.agent).units a.id
+            × HasKey (view_of text.old.reader.agent).units b.id }
+        ensures kept { KeepsText text.old text.new }
+        ensures continues { Continues (view_of text.old.reader.agent) (view_of text.new.reader.agent) }
+        ensures reserve { IsReserve (view_of text.new.reader.agent) self.new }
+        ensures joined { (us vs : List ℕ) → Has (view_of text.old.reader.agent).units a.id us
+            → Has (view_of text.old.reader.agent).units b.id vs
+            → IsJoinedBy (view_of text.old.reader.agent) (view_of text.new.reader.agent)
+            (size_of (H.reached text.old.reader.heap)) self.old self.new text.old.limit a b us vs result }
+    {
+        match self.try_concat(text, a, b) {
+            Some(s) => Ok(s),
+            None => text.concat(a, b),
+        }
+    }
+
+    // A new string of two, where the reserve has what that needs.
+    fn try_concat<H: HeapRef>(&mut self, text: &mut Text<H>, a: JsStr, b: JsStr) -> Option<JsStr>
+        requires reserve { IsReserve (view_of text.old.reader.agent) self.old }
+        requires known { HasKey (view_of text.old.reader.agent).units a.id
+            × HasKey (view_of text.old.reader.agent).units b.id }
+        ensures kept { KeepsText text.old text.new }
+        ensures continues { Continues (view_of text.old.reader.agent) (view_of text.new.reader.agent) }
+        ensures reserve { IsReserve (view_of text.new.reader.agent) self.new }
+        ensures tried { (us vs : List ℕ) → Has (view_of text.old.reader.agent).units a.id us
+            → Has (view_of text.old.reader.agent).units b.id vs
+            → TriesJoin (view_of text.old.reader.agent) (view_of text.new.reader.agent) self.old self.new
+            text.old.limit a b us vs result }
+    {
+        let left = text.reader.len(a);
+        let right = text.reader.len(b);
+        if !is_joinable(left, right, text.limit) {
+            return None;
+        }
+        self.join(&mut text.reader, a, b, left + right)
+    }
+
+    // Two strings that are not empty, joined, where the reserve has what that needs.
+    fn join<H: HeapRef>(
+        &mut self,
+        reader: &mut Reader<H>,
+        a: JsStr,
+        b: JsStr,
+        n: u32,
+    ) -> Option<JsStr>
+        requires reserve { IsReserve (view_in reader.old) self.old }
+        requires known { AreJoinable (view_in reader.old) a b n }
+        requires most { n ≤ MAX }
+        ensures continues { Moves Continues reader.old reader.new }
+        ensures reserve { IsReserve (view_in reader.new) self.new }
+        ensures short { n < MIN_CONS → (us vs : List ℕ) → Has (view_in reader.old).units a.id us
+            → Has (view_in reader.old).units b.id vs
+            → MakesFlat (view_in reader.old) (view_in reader.new) self.old self.new (us ++ vs) result }
+        ensures long { MIN_CONS ≤ n → (us vs : List ℕ) → Has (view_in reader.old).units a.id us
+            → Has (view_in reader.old).units b.id vs
+            → MakesRope (view_in reader.old) (view_in reader.new) self.old self.new a b (us ++ vs) result }
+    {
+        if n < MIN_CONS {
+            return self.copy_both(reader, a, b, n);
+        }
+        self.link(reader, a, b, n)
+    }
+
+    // A flat string with the units of two short ones.
+    fn copy_both<H: HeapRef>(
+        &mut self,
+        reader: &mut Reader<H>,
+        a: JsStr,
+        b: JsStr,
+        n: u32,
+    ) -> Option<JsStr>
+        requires reserve { IsReserve (view_in reader.old) self.old }
+        requires known { AreJoinable (view_in reader.old) a b n }
+        requires short { n < MIN_CONS }
+        ensures continues { Moves Continues reader.old reader.new }
+        ensures reserve { IsReserve (view_in reader.new) self.new }
+        ensures made { (us vs : List ℕ) → Has (view_in reader.old).units a.id us
+            → Has (view_in reader.old).units b.id vs
+            → MakesFlat (view_in reader.old) (view_in reader.new) self.old self.new (us ++ vs) result }
+    {
+        let (front, back) = both_pieces(reader, a, b, n);
+        self.copy(reader, &UnitSource::Pieces(front, back), n)
+    }
+
+    // A Cons of two strings.
+    fn link<H: HeapRef>(
+        &mut self,
+        reader: &mut Reader<H>,
+        a: JsStr,
+        b: JsStr,
+        n: u32,
+    ) -> Option<JsStr>
+        requires reserve { IsReserve (view_in reader.old) self.old }
+        requires known { AreJoinable (view_in reader.old) a b n }
+        requires long { (MIN_CONS ≤ n) × (n ≤ MAX) }
+        ensures continues { Moves Continues reader.old reader.new }
+        ensures reserve { IsReserve (view_in reader.new) self.new }
+        ensures made { (us vs : List ℕ) → Has (view_in reader.old).units a.id us
+            → Has (view_in reader.old).units b.id vs
+            → MakesRope (view_in reader.old) (view_in reader.new) self.old self.new a b (us ++ vs) result }
+    {
+        if !(self.is_above(a.id) && self.is_above(b.id)) {
+            return None;
+        }
+        let id = self.take_id();
+        link_to(reader, a, b, n, id);
+        Some(JsStr { id })
+    }
+}
+
+// Whether strings of these lengths are joined to a new one: neither is empty, and it is not too long.
+fn is_joinable(left: u32, right: u32, limit: u32) -> bool
+    requires { (left ≤ MAX) × (right ≤ MAX) }
+    ensures { IsTrue result ↔ ((0 < left) × (0 < right) × (left + right ≤ limit)) }
+{
+    0 < left && 0 < right && left + right <= limit
+}

@@ -1,0 +1,68 @@
+// Making a flat string with what is kept.
+ghost use Rattle.std.specs.Prelude.{◌≡◌, ◌≤◌, IfOk, length};
+ghost use Rattle.heap_rule.specs.Layout.{MAX};
+ghost use Rattle.heap_rule.specs.Maps.{Has};
+ghost use Rattle.heap_table.specs.Agents.{size_of, view_of};
+ghost use Rattle.heap_read.specs.Readers.{Moves, view_in};
+ghost use Rattle.heap_read.specs.Reads.{Continues};
+ghost use Rattle.heap_read.specs.Sources.{ShowsSource, listed_in};
+ghost use Rattle.heap_text.specs.Keeping.{KeepsText};
+ghost use Rattle.heap_reserve.specs.Making.{IsMade, MakesFlat};
+ghost use Rattle.heap_reserve.specs.Reserves.{IsReserve};
+
+use crate::reserve::Reserve;
+use heap_read::{HeapRef, JsStr, Reader, UnitSource};
+use heap_text::{Text, TextFull, bear_flat};
+use js_units::words_for;
+
+impl Reserve {
+    /// A new string with these units, as `Text::make_flat` makes one. Where the reserve has an id and the
+    /// content words that hold the units, the string takes them and uses nothing.
+    pub fn make_flat<H: HeapRef>(
+        &mut self,
+        text: &mut Text<H>,
+        units: &[u16],
+    ) -> Result<JsStr, TextFull>
+        requires reserve { IsReserve (view_of text.old.reader.agent) self.old }
+        requires short { length units.now ≤ MAX }
+        ensures kept { KeepsText text.old text.new }
+        ensures continues { Continues (view_of text.old.reader.agent) (view_of text.new.reader.agent) }
+        ensures reserve { IsReserve (view_of text.new.reader.agent) self.new }
+        ensures units { IfOk result (λ s. Has (view_of text.new.reader.agent).units s.id units.now) }
+        ensures made { IsMade (view_of text.old.reader.agent) (view_of text.new.reader.agent) self.old
+            self.new (size_of (H.reached text.old.reader.heap)) units.now result }
+    {
+        let source = UnitSource::Units(units);
+        match self.copy(&mut text.reader, &source, units.len() as u32) {
+            Some(s) => Ok(s),
+            None => text.make_flat(units),
+        }
+    }
+
+    // A flat string with the `n` units of a source, where the reserve has what it needs.
+    pub(crate) fn copy<H: HeapRef>(
+        &mut self,
+        reader: &mut Reader<H>,
+        source: &UnitSource,
+        n: u32,
+    ) -> Option<JsStr>
+        requires reserve { IsReserve (view_in reader.old) self.old }
+        requires shows { ShowsSource (view_in reader.old) source.now }
+        requires count { length (listed_in reader.old source.now) ≡ n }
+        requires short { n ≤ MAX }
+        ensures continues { Moves Continues reader.old reader.new }
+        ensures reserve { IsReserve (view_in reader.new) self.new }
+        ensures made { MakesFlat (view_in reader.old) (view_in reader.new) self.old self.new
+            (listed_in reader.old source.now) result }
+    {
+        let wide = reader.has_wide(source, n);
+        let words = words_for(n, wide);
+        if !self.has(words) {
+            return None;
+        }
+        let (id, start) = self.take(words);
+        reader.write_at(source, n, wide, start);
+        bear_flat(reader, id, n, wide, start);
+        Some(JsStr { id })
+    }
+}

@@ -1,0 +1,88 @@
+// What is kept in advance, and taking from it.
+ghost use Rattle.std.specs.Prelude.{◌≡◌, ◌↔◌, ◌+◌, ◌<◌, ◌≤◌, [], ◌∷◌, IsTrue, length};
+ghost use Rattle.heap_rule.specs.declared.view.View as view;
+ghost use Rattle.heap_reserve.specs.Reserves.{HasAbove, HasEnough, IsReserve, kept_ids, kept_words};
+
+use std::alloc::Global;
+use std::collections::VecDeque;
+
+/// Ids of an agent that are not born, each greater than those before it, and a run of its content
+/// words, from `start` up to `end`, that no string has.
+#[derive(Drop)]
+pub struct Reserve {
+    pub(crate) ids: VecDeque<u32>,
+    pub(crate) start: u32,
+    pub(crate) end: u32,
+}
+
+impl Reserve {
+    /// One that has nothing.
+    pub fn new(alloc: Global) -> Reserve
+        ensures ids { kept_ids result ≡ [] }
+        ensures words { (result.start ≡ 0) × (result.end ≡ 0) }
+        ensures reserve { (v : view.View) → IsReserve v result }
+    {
+        Reserve {
+            ids: VecDeque::new(alloc),
+            start: 0,
+            end: 0,
+        }
+    }
+
+    /// How many ids it has.
+    pub fn ids_left(&self) -> usize
+        ensures { result ≡ length (kept_ids self.now) }
+    {
+        self.ids.len()
+    }
+
+    /// How many content words it has.
+    pub fn words_left(&self) -> u32
+        ensures { result ≡ kept_words self.now }
+    {
+        self.end.saturating_sub(self.start)
+    }
+
+    // Whether it has an id, and so many content words.
+    pub(crate) fn has(&self, words: u32) -> bool
+        ensures { IsTrue result ↔ HasEnough self.now words }
+    {
+        !self.ids.is_empty() && words <= self.words_left()
+    }
+
+    // Whether it has an id, and the first one is greater than this one.
+    pub(crate) fn is_above(&self, id: u32) -> bool
+        ensures { IsTrue result ↔ HasAbove self.now id }
+    {
+        match self.ids.front() {
+            Some(first) => id < *first,
+            None => false,
+        }
+    }
+
+    // The first id and the first of so many content words, which leave it; 0 where that is no word.
+    pub(crate) fn take(&mut self, words: u32) -> (u32, u32)
+        requires { HasEnough self.old words }
+        ensures ids { kept_ids self.old ≡ result.0 ∷ kept_ids self.new }
+        ensures words { (self.new.start ≡ self.old.start + words) × (self.new.end ≡ self.old.end) }
+        ensures ordered { self.old.start ≤ self.old.end → self.new.start ≤ self.new.end }
+        ensures first { 0 < words → result.1 ≡ self.old.start }
+        ensures none { words ≡ 0 → result.1 ≡ 0 }
+    {
+        let first = if words == 0 { 0 } else { self.start };
+        self.start += words;
+        (self.take_id(), first)
+    }
+
+    // The first id, which leaves it.
+    pub(crate) fn take_id(&mut self) -> u32
+        requires { 0 < length (kept_ids self.old) }
+        ensures ids { kept_ids self.old ≡ result ∷ kept_ids self.new }
+        ensures words { (self.new.start ≡ self.old.start) × (self.new.end ≡ self.old.end) }
+    {
+        match self.ids.pop_front() {
+            Some(id) => id,
+            None => unreachable!(),
+        }
+    }
+}
