@@ -29,7 +29,8 @@ CXX = shlex.split(os.environ.get("CXX", "c++"))
 FLAGS = ["-O2", "-Wall", "-Wextra", "-pthread"]
 # Calls that a library may have, and the macro with which their rows are compiled.
 LATER = {"jsstr_reserve_unchecked": "HAS_RESERVE", "jsstr_intern_many_unchecked": "HAS_INTERN_MANY"}
-OURS, ENGINES, TABLES = ["checked", "unchecked", "reserved", "64 a call", "before"], ["C++", "V8", "SpiderMonkey", "JSC"], ["C++", "mutex", "64 shards", "TBB"]
+OURS = ["checked", "unchecked", "reserved", "64 a call"]
+ENGINES, TABLES = ["before", "C++", "V8", "SpiderMonkey", "JSC"], ["before", "C++", "mutex", "64 shards", "TBB"]
 # The rows of one thread, in ns a call or what they say. Those with more follow.
 ONE = [
     "make 5-12", "from Latin-1 5-12", "make 10^6, a unit", "join 10-24", "join 100+100", "slice 3", "slice 20", "length", "read 9",
@@ -194,8 +195,8 @@ def measure(programs, rows, rounds):
                 times[column].append(program.time(row, column))
         medians.update({(row, column): statistics.median(it) for column, it in times.items()})
         print(".", end="", file=sys.stderr, flush=True)
-    print(file=sys.stderr)
-    ours = {(row, column): medians[kept, column] for row, kept in LET_GO.items() for column in OURS if (kept, column) in medians}
+    print("\n", file=sys.stderr)
+    ours = {(row, column): medians[kept, column] for row, kept in LET_GO.items() for column in (*OURS, "before") if (kept, column) in medians}
     return {**medians, **ours}
 
 
@@ -260,28 +261,32 @@ def print_aims(medians):
 
 
 def main():
-    parser = argparse.ArgumentParser(usage=__doc__, add_help=False)
+    parser = argparse.ArgumentParser(description=__doc__, usage=argparse.SUPPRESS, formatter_class=argparse.RawDescriptionHelpFormatter)
     parser.add_argument("prefix")
     parser.add_argument("--only", default="")
     parser.add_argument("--rounds", type=int, default=5)
     parser.add_argument("--before")
     parser.add_argument("--table", action="store_true")
     given = parser.parse_args()
+    one = [*ONE[:ONE.index("length")], *LET_GO, *ONE[ONE.index("length"):]]
+    asked = [it for it in (*one, *MORE) if given.only in it]
+    rows = list(dict.fromkeys([*asked, *(LET_GO[it] for it in asked if it in LET_GO)]))
+    if not rows:
+        stop(f"no row has {given.only} in its name")
     programs, are, missing = found()
     programs.insert(0, over_library("jsstr", given.prefix))
     if given.before:
         programs.append(over_library("before", given.before, {"unchecked": "before"}))
     print(f"beside {', '.join(['std::u16string', *are])}{'; not installed: ' if missing else ''}{', '.join(missing)}\n")
-    one = [*ONE[:ONE.index("length")], *LET_GO, *ONE[ONE.index("length"):]]
-    asked = [it for it in (*one, *MORE) if given.only in it]
-    rows = list(dict.fromkeys([*asked, *(LET_GO[it] for it in asked if it in LET_GO)]))
     with tempfile.TemporaryDirectory() as room:
         running = started(programs, room)
         medians = measure(running, rows, given.rounds)
         for it in running:
             it.end()
     for part, columns in ((one, ENGINES), (MORE, TABLES)):
-        (ratios if given.table else table)(medians, [it for it in part if it in rows], columns)
+        there = [it for it in part if it in rows]
+        if there:
+            (ratios if given.table else table)(medians, there, columns)
     print_aims(medians)
 
 
