@@ -56,8 +56,12 @@ private:
   std::vector<Handle> handles;
 };
 
+// Whether a call was done, whose status comes alone or with more.
+[[maybe_unused]] bool is_done(uint32_t status) { return status == JSSTR_DONE; }
+template <class Answer> bool is_done(const Answer &answer) { return answer.status == JSSTR_DONE; }
+
 jsstr_id id_of(const jsstr_answer &answer) {
-  want(answer.status == JSSTR_DONE);
+  want(is_done(answer));
   return answer.id;
 }
 
@@ -80,14 +84,14 @@ Ids all_interned(jsstr_agent *agent, const std::vector<Text> &texts) {
 // Room for every string of a row of short ones, its sources and its keys.
 constexpr uint32_t IDS = 2 * STRINGS + KEYS, WORDS = 5 * IDS / 2, SLOTS = 262139;
 
-// What a thread has for a number of strings before it makes the first of them: from the calls that come each claims
-// its own, or a block for as many is claimed before.
-constexpr uint32_t BLOCK = 1024;
+// What comes before string number i of an agent is made: nothing, and it claims its own id and words; or, before each
+// block of strings, a reserve for these.
 using Claim = void (*)(jsstr_agent *, uint32_t);
 void each_its_own(jsstr_agent *, uint32_t) {}
 #ifdef HAS_RESERVE
+constexpr uint32_t BLOCK = 1024;
 void by_blocks(jsstr_agent *agent, uint32_t i) {
-  if (i % BLOCK == 0) want(jsstr_reserve_unchecked(agent, BLOCK, 2 * BLOCK) == JSSTR_DONE);
+  if (i % BLOCK == 0) want(is_done(jsstr_reserve_unchecked(agent, BLOCK, 2 * BLOCK)));
 }
 #endif
 
@@ -103,22 +107,22 @@ template <const Calls &call, Claim claim> double make(uint32_t threads) {
 }
 
 // Each thread's strings are of its own agent.
-template <class One> double over_own(uint32_t threads, const std::vector<Text> &texts, One one) {
+template <class One> double over_own(uint32_t threads, uint32_t count, const std::vector<Text> &texts, One one) {
   Heap heap(IDS, WORDS, SLOTS, threads);
   std::vector<Ids> made;
   for (uint32_t t = 0; t < threads; t++) made.push_back(all_made(heap.agent(t), texts));
-  return timed_threads(threads, STRINGS, [&](uint32_t t, uint32_t i) { one(heap.agent(t), made[t], i); });
+  return timed_threads(threads, count, [&](uint32_t t, uint32_t i) { one(heap.agent(t), made[t], i); });
 }
 
 template <const Calls &call, Claim claim> double join(uint32_t threads) {
-  return over_own(threads, pool(), [](jsstr_agent *agent, const Ids &made, uint32_t i) {
+  return over_own(threads, STRINGS, pool(), [](jsstr_agent *agent, const Ids &made, uint32_t i) {
     claim(agent, i);
     use(id_of(call.concat(agent, made[i % POOL], made[(i + 1) % POOL])));
   });
 }
 
 template <const Calls &call, Claim claim> double cut(uint32_t threads, uint32_t length) {
-  return over_own(threads, forties(), [length](jsstr_agent *agent, const Ids &made, uint32_t i) {
+  return over_own(threads, STRINGS, forties(), [length](jsstr_agent *agent, const Ids &made, uint32_t i) {
     uint32_t from = 1 + i % (39 - length);
     claim(agent, i);
     use(id_of(call.slice(agent, made[i % POOL], from, from + length)));
@@ -142,7 +146,7 @@ template <const Calls &call> double make_long() {
 }
 
 template <const Calls &call> double join_100() {
-  return over_own(1, hundreds(), [](jsstr_agent *agent, const Ids &made, uint32_t i) {
+  return over_own(1, STRINGS, hundreds(), [](jsstr_agent *agent, const Ids &made, uint32_t i) {
     use(id_of(call.concat(agent, made[i % 64], made[(i + 1) % 64])));
   });
 }
@@ -174,7 +178,7 @@ template <const Calls &call> double length() {
 }
 
 template <const Calls &call> double read_short(uint32_t threads) {
-  return over_own(threads, nines(), [](jsstr_agent *agent, const Ids &made, uint32_t i) {
+  return over_own(threads, threads * STRINGS, nines(), [](jsstr_agent *agent, const Ids &made, uint32_t i) {
     uint16_t units[9];
     want(call.read(agent, made[i % POOL], 0, units, 9) == JSSTR_DONE);
     use(units);
@@ -265,7 +269,7 @@ template <const Calls &call> double hit_units(const std::vector<Text> &keys, uin
   Heap heap(IDS, WORDS, slots, threads);
   Ids there;
   for (uint32_t t = 0; t < threads; t++) there = all_interned(heap.agent(t), keys);
-  return timed_threads(threads, STRINGS, [&](uint32_t t, uint32_t i) {
+  return timed_threads(threads, threads * STRINGS, [&](uint32_t t, uint32_t i) {
     uint32_t key = scrambled(i, count, t);
     want(id_of(call.intern_units(heap.agent(t), units_of(keys[key]), keys[key].size())) == there[key]);
   });
@@ -286,7 +290,7 @@ double hit_many() {
       units[k] = units_of(it);
       lengths[k] = it.size();
     }
-    want(jsstr_intern_many_unchecked(heap.agent(), units, lengths, BATCH, ids).status == JSSTR_DONE);
+    want(is_done(jsstr_intern_many_unchecked(heap.agent(), units, lengths, BATCH, ids)));
     for (uint32_t k = 0; k < BATCH; k++) want(ids[k] == there[scrambled(i * BATCH + k, KEYS)]);
   }) / BATCH;
 }

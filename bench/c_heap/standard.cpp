@@ -87,7 +87,7 @@ template <class Table> double hit(uint32_t threads) {
 template <class Table> double hit_units(const std::vector<Text> &keys, uint32_t threads) {
   Table table;
   for (const Text &it : keys) table.number_of(it);
-  return timed_threads(threads, STRINGS, [&](uint32_t t, uint32_t i) {
+  return timed_threads(threads, threads * STRINGS, [&](uint32_t t, uint32_t i) {
     use(table.number_of(keys[scrambled(i, uint32_t(keys.size()), t)]));
   });
 }
@@ -111,7 +111,7 @@ template <class One> double made_by(uint32_t threads, uint32_t kept, One one) {
 
 double read_short(uint32_t threads) {
   std::vector<std::vector<Text>> own(threads, nines());
-  return timed_threads(threads, STRINGS, [&](uint32_t t, uint32_t i) {
+  return timed_threads(threads, threads * STRINGS, [&](uint32_t t, uint32_t i) {
     char16_t units[9];
     own[t][i % POOL].copy(units, 9);
     use(units);
