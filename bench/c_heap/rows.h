@@ -21,6 +21,12 @@ using Text = std::u16string;
 constexpr uint32_t STRINGS = 200000, POOL = 4096, KEYS = 100000, HOT = 256, LONG = 1000000, READ = 10000;
 // Numbered keys, and the slots of the table that they are in.
 constexpr uint32_t NUMBERED = 200000, NUMBERED_SLOTS = 524288;
+constexpr uint32_t THREADS[] = {1, 2, 4};
+
+// What a peer's row makes lives on, as all strings of the heap do; or the last POOL strings do, and earlier ones are
+// let go.
+constexpr uint32_t KEPT[] = {STRINGS, POOL};
+inline std::string kept_name(const char *name, uint32_t kept) { return kept == STRINGS ? name : std::string(name) + ", let go"; }
 
 inline void want(bool it) {
   if (it) return;
@@ -173,10 +179,4 @@ private:
   };
   std::vector<Row> all;
 };
-
-constexpr uint32_t THREADS[] = {1, 2, 4};
-
-// What a row makes lives on, as all strings of the heap do; or the last POOL of them do, and the earlier ones are let go.
-constexpr uint32_t KEPT[] = {STRINGS, POOL};
-inline std::string kept_name(const char *name, uint32_t kept) { return kept == STRINGS ? name : std::string(name) + ", let go"; }
 #endif

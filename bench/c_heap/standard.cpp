@@ -74,7 +74,7 @@ template <class Table> double cold(uint32_t threads) {
   return timed_threads(threads, KEYS, [&](uint32_t t, uint32_t i) { use(table.number_of(made[t * part + i])); });
 }
 
-// Texts that are made before, or, with few keys or many, the keys themselves.
+// Copies of the keys that the table has.
 template <class Table> double hit(uint32_t threads) {
   Table table;
   std::vector<std::vector<Text>> made(threads);
