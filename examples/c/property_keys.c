@@ -8,11 +8,13 @@
 #define THREADS 4
 #define NAMES 2000
 
+/* Each call writes the agent: what is behind a worker keeps the next one's in another cache line. */
 typedef struct worker {
   jsstr_agent agent;
   uint32_t seed;
   jsstr_id keys[NAMES];
   int failed;
+  char apart[64];
 } worker;
 
 static size_t name_units(uint32_t name, uint16_t *units) {
