@@ -65,7 +65,8 @@ impl<H: HeapRef> Reader<H> {
             → slice_index (listed_in self.old source.now) k < 256 }
         ensures writes { Moves Writes self.old self.new }
         ensures below { KeepsBelow to.start (view_in self.old) (view_in self.new) }
-        ensures above { KeepsFrom (to.start + words_over to.wide (at + n)) (view_in self.old) (view_in self.new) }
+        ensures above { KeepsFrom (to.start + words_over to.wide (at + n)) (view_in self.old)
+            (view_in self.new) }
         ensures forms { KeepsForms (view_in self.old) (view_in self.new) }
         ensures filled { IsFilled to.wide to.start (own_word (view_in self.old).own_words)
             (own_word (view_in self.new).own_words) at n (slice_index (listed_in self.old source.now)) }
