@@ -14,7 +14,7 @@ use Rattle.heap_rule.specs.Contents.{lane_in}
 use Rattle.heap_rule.specs.Maps.{Has, HasKey, with_run}
 use Rattle.heap_rule.proofs.MapLemmas.{has_key, insert_other, insert_same}
 use Rattle.heap_read.specs.Filling.{IsFilled, own_word}
-use Rattle.heap_read.specs.Written.{IsWritten}
+use Rattle.heap_read.specs.Written.{AreWords}
 
 -- the words of a claim are 0
 put_still : (m : FinMap nat_cmp ℕ) (k q : ℕ) → Has m q 0 → Has (insert m k 0) q 0
@@ -39,8 +39,9 @@ pub lane_there : (wide : Bool) (n o : ℕ) → o < n → o < words_over wide n *
 lane_there true n o l = omega arith
 lane_there false n o l = omega arith
 
-pub unit_inside : (wide : Bool) (n o : ℕ) → o < n → o / lane_count wide < words_over wide n
-unit_inside wide n o l = word_inside wide n o (lane_there wide n o l)
+pub words_more : (wide : Bool) (m n : ℕ) → m ≤ n → words_over wide m ≤ words_over wide n
+words_more true m n l = omega arith
+words_more false m n l = omega arith
 
 one_base : (wide : Bool) → 0 < lane_base wide ^ 0
 one_base true = omega arith
@@ -59,7 +60,7 @@ lane_within : (wide : Bool) (n q k : ℕ) → q < n → k < lane_count wide → 
 lane_within true n q k l m = omega arith
 lane_within false n q k l m = omega arith
 
-no_words : (wide : Bool) (n : ℕ) → 0 < words_over wide n → n ≡ 0 → ⊥
+pub no_words : (wide : Bool) (n : ℕ) → 0 < words_over wide n → n ≡ 0 → ⊥
 no_words true n l e = omega arith
 no_words false n l e = omega arith
 
@@ -80,12 +81,8 @@ module _ (before : FinMap nat_cmp ℕ) (v : View) (wide : Bool) (start : ℕ) (u
   word_filled q l k m = let p = lane_at wide q k m in
       ap₂ (λ (a b : ℕ). lane_of wide (own_word v.own_words (start + a)) b) (sym p.0) (sym p.1) ∙ lane_filled (q * lane_count wide + k) (lane_within wide (words_over wide (length us)) q k l m)
 
-  pub filled_written : start < 2 ^ 29 → 0 < words_over wide (length us) → ((q : ℕ) → q < words_over wide (length us) → HasKey v.own_words (start + q)) → IsWritten v wide start us
-  filled_written small some own = record {
-    small = small;
-    words = record { each = λ q l. let p = has_key v.own_words (start + q) (own q l) in (p.0, p.1, subst (IsWordOf wide us q) (own_is v.own_words (start + q) p.0 p.1) (word_filled q l)) };
-    empty = λ e. absurd (no_words wide (length us) some e);
-  }
+  pub filled_words : ((q : ℕ) → q < words_over wide (length us) → HasKey v.own_words (start + q)) → AreWords v wide start us (words_over wide (length us))
+  filled_words own = record { each = λ q l. let p = has_key v.own_words (start + q) (own q l) in (p.0, p.1, subst (IsWordOf wide us q) (own_is v.own_words (start + q) p.0 p.1) (word_filled q l)) }
 
 -- a piece that was filled in, by the units that it is of
 pub filled_as : (wide : Bool) (start : ℕ) (before after : ℕ → ℕ) (done count : ℕ) (piece unit : ℕ → ℕ) → ((k : ℕ) → k < count → piece k ≡ unit k) → IsFilled wide start before after done count piece → IsFilled wide start before after (0 + done) count unit

@@ -13,4 +13,4 @@ mod writing;
 pub use decoding::{measure, split_point};
 pub use encoding::Encoding;
 pub use spelling::{ROOM, Spelling};
-pub use writing::write_spelled;
+pub use writing::{spell_at, write_spelled};

@@ -7,9 +7,9 @@ ghost use Rattle.heap_table.specs.Agents.{size_of};
 ghost use Rattle.heap_table.specs.Full.{IsFull};
 ghost use Rattle.heap_read.specs.Filling.{IsFilled, own_word};
 ghost use Rattle.heap_read.specs.Readers.{Moves, view_in};
-ghost use Rattle.heap_read.specs.Reads.{Continues, KeepsBelow, KeepsForms, Writes};
+ghost use Rattle.heap_read.specs.Reads.{Continues, KeepsBelow, KeepsBeside, KeepsForms, KeepsFrom, Writes};
 ghost use Rattle.heap_read.specs.Sources.{FitsLanes};
-ghost use Rattle.heap_read.specs.Written.{IsWritten};
+ghost use Rattle.heap_read.specs.Written.{AreWords, IsWritten};
 ghost use Rattle.heap_bytes.specs.Spellings.{IsReadable, units_of};
 
 use crate::spelling::{ROOM, Spelling};
@@ -26,6 +26,8 @@ fn fill_spelled<H: HeapRef>(reader: &mut Reader<H>, source: &Spelling, to: Run)
     requires fits { FitsLanes to.wide (units_of source.now) }
     ensures writes { Moves Writes reader.old reader.new }
     ensures below { KeepsBelow to.start (view_in reader.old) (view_in reader.new) }
+    ensures above { KeepsFrom (to.start + words_over to.wide (length (units_of source.now)))
+        (view_in reader.old) (view_in reader.new) }
     ensures forms { KeepsForms (view_in reader.old) (view_in reader.new) }
     ensures filled { IsFilled to.wide to.start (own_word (view_in reader.old).own_words)
         (own_word (view_in reader.new).own_words) 0 (length (units_of source.now))
@@ -76,6 +78,27 @@ pub fn write_spelled<H: HeapRef>(
         return Ok(0);
     }
     let start = reader.agent.claim_words(reader.heap.heap(), want)?;
-    fill_spelled(reader, source, Run { start, wide });
+    spell_at(reader, source, n, wide, start);
     Ok(start)
+}
+
+/// The units that bytes spell into own content words that are 0, from `start` on.
+pub fn spell_at<H: HeapRef>(
+    reader: &mut Reader<H>,
+    source: &Spelling,
+    n: u32,
+    wide: bool,
+    start: u32,
+)
+    requires read { IsReadable source.now }
+    requires count { length (units_of source.now) ≡ n }
+    requires wide { wide ≡ is_wide (units_of source.now) }
+    requires short { n ≤ MAX }
+    requires own { (q : ℕ) → q < words_over wide n → Has (view_in reader.old).own_words (start + q) 0 }
+    ensures writes { Moves Writes reader.old reader.new }
+    ensures forms { KeepsForms (view_in reader.old) (view_in reader.new) }
+    ensures written { AreWords (view_in reader.new) wide start (units_of source.now) (words_over wide n) }
+    ensures others { KeepsBeside start (words_over wide n) (view_in reader.old) (view_in reader.new) }
+{
+    fill_spelled(reader, source, Run { start, wide });
 }

@@ -2,7 +2,7 @@
 use Rattle.std.proofs.Common.{◌≡◌, ◌≢◌, ℕ, ◌+◌, ◌-◌, ◌/◌, ◌%◌, ◌<◌, ◌≤◌, Bool, true, false, List, ◌++◌, length, get_or, refl, ap, sym, ◌∙◌, ◌⊎◌, inl, inr, arith}
 use Rattle.std.proofs.lemmas.List.{get_or_append_left, get_or-append_right}
 use Rattle.std.proofs.lemmas.Bool.{cases_eq, cases_lt}
-use Rattle.js_units.specs.Lanes.{lane_base, lane_count, lane_of, with_lane}
+use Rattle.js_units.specs.Lanes.{lane_base, lane_count, lane_of, with_lane, words_over}
 use Rattle.heap_rule.specs.Contents.{lane_in}
 use Rattle.heap_read.specs.Filling.{IsFilled, IsPlaced}
 use Rattle.heap_read.proofs.Changed.{lane_here, lane_other}
@@ -10,6 +10,10 @@ use Rattle.heap_read.proofs.Changed.{lane_here, lane_other}
 pub lane_small : (wide : Bool) (o : ℕ) → o % lane_count wide < lane_count wide
 lane_small true o = omega arith
 lane_small false o = omega arith
+
+pub unit_inside : (wide : Bool) (n o : ℕ) → o < n → o / lane_count wide < words_over wide n
+unit_inside true n o l = omega arith
+unit_inside false n o l = omega arith
 
 -- one more lane of a word
 placed_by : (wide : Bool) (before now low k u : ℕ) (unit : ℕ → ℕ) → IsPlaced wide before now low k unit → low + k < lane_count wide → u < lane_base wide → u ≡ unit k → (j : ℕ) → j < k + 1 → (j ≡ k) ⊎ (j ≢ k) → lane_of wide (with_lane wide now (low + k) u) (low + j) ≡ unit j

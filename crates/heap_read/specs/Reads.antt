@@ -72,3 +72,7 @@ KeepsBelow start v w = (c x : ℕ) → c < start → Has v.own_words c x → Has
 abbrev pub KeepsBeside : ℕ → ℕ → View → View → Type 0
 KeepsBeside start n v w = (c x : ℕ) → (c < start) ⊎ (start + n ≤ c) → Has v.own_words c x
     → Has w.own_words c x
+
+-- the own content words from `end` on are still what they were
+abbrev pub KeepsFrom : ℕ → View → View → Type 0
+KeepsFrom end v w = (c x : ℕ) → end ≤ c → Has v.own_words c x → Has w.own_words c x

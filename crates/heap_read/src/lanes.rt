@@ -1,11 +1,11 @@
 // Units written into a run of own content words, each word stored once.
 ghost use Rattle.std.specs.Prelude.{◌≡◌, ℕ, ◌+◌, ◌*◌, ◌/◌, ◌%◌, ◌^◌, ◌<◌, ◌≤◌, false, slice_index, length};
-ghost use Rattle.js_units.specs.Lanes.{lane_count};
+ghost use Rattle.js_units.specs.Lanes.{lane_count, words_over};
 ghost use Rattle.heap_rule.specs.Layout.{MAX};
 ghost use Rattle.heap_rule.specs.Maps.{HasKey};
 ghost use Rattle.heap_read.specs.Filling.{IsFilled, IsPlaced, own_word};
 ghost use Rattle.heap_read.specs.Readers.{Moves, view_in};
-ghost use Rattle.heap_read.specs.Reads.{KeepsBelow, KeepsForms, OnlyLoads, Writes};
+ghost use Rattle.heap_read.specs.Reads.{KeepsBelow, KeepsForms, KeepsFrom, OnlyLoads, Writes};
 ghost use Rattle.heap_read.specs.Sources.{FitsLanes, ShowsSource, listed_in};
 
 use crate::heap_ref::HeapRef;
@@ -65,6 +65,8 @@ impl<H: HeapRef> Reader<H> {
             → slice_index (listed_in self.old source.now) k < 256 }
         ensures writes { Moves Writes self.old self.new }
         ensures below { KeepsBelow to.start (view_in self.old) (view_in self.new) }
+        ensures above { KeepsFrom (to.start + words_over to.wide (at + n)) (view_in self.old)
+            (view_in self.new) }
         ensures forms { KeepsForms (view_in self.old) (view_in self.new) }
         ensures filled { IsFilled to.wide to.start (own_word (view_in self.old).own_words)
             (own_word (view_in self.new).own_words) at n (slice_index (listed_in self.old source.now)) }

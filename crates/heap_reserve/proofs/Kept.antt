@@ -19,7 +19,8 @@ use Rattle.heap_rule.proofs.MapLemmas.{has_key, insert_other, insert_same, key_o
 use Rattle.heap_rule.proofs.Possible.{possible_lawful}
 use Rattle.heap_rule.proofs.Steps.{possible_within}
 use Rattle.heap_read.specs.Reads.{KeepsBeside, OnlyLoads, Writes}
-use Rattle.heap_read.proofs.Going.{run_below, run_keys}
+use Rattle.heap_read.proofs.Going.{run_below}
+use Rattle.heap_bytes.proofs.Runs.{run_zero}
 use Rattle.heap_read.specs.Written.{AreWords, IsWritten}
 use Rattle.heap_text.specs.Texts.{KeepsOwn, KeepsOwnBut}
 use Rattle.heap_text.proofs.Owned.{own_reads}
@@ -28,7 +29,7 @@ use Rattle.heap_reserve.specs.declared.faults.ReserveFault.{ReserveFault}
 use Rattle.heap_reserve.specs.declared.faults.ReserveFault.TheVariants.{Memory, Full}
 use Rattle.heap_reserve.specs.declared.reserve.Reserve.{Reserve}
 use Rattle.heap_reserve.specs.Claims.{IsClaimAnswer, IsIdRefused}
-use Rattle.heap_reserve.specs.Reserves.{IsAscending, IsClaimed, IsGrown, IsReserve, IsTaken, kept_ids}
+use Rattle.heap_reserve.specs.Reserves.{IsAscending, IsClaimed, IsGrown, IsReserve, IsTaken, kept_ids, kept_words}
 
 -- any call that leaves the agent what it owns leaves it what it keeps
 pub reserve_kept : (v w : View) (r : Reserve) → KeepsOwn v w → IsReserve v r → IsReserve w r
@@ -36,7 +37,7 @@ reserve_kept v w r kept h = record {
   ids = λ k d l. let i : ℕ = get_or (kept_ids r) k d in let t = has_key v.own_ids i (h.ids k d l) in key_of w.own_ids i t.0 (kept.ids i t.0 t.1);
   ascending = h.ascending;
   ordered = h.ordered;
-  words = λ c low high. let t = has_key v.own_words c (h.words c low high) in key_of w.own_words c t.0 (kept.words c t.0 t.1);
+  words = λ c low high. kept.words c 0 (h.words c low high);
 }
 
 -- and so does a claim
@@ -68,8 +69,13 @@ reserve_taken v w r s id n h t ordered = let up : IsAscending (id ∷ kept_ids s
       ascending = up.1;
       ordered = ordered;
       words = λ c low high. let from : r.start + n ≤ c = omega (arith, low, start) in
-          let m = has_key v.own_words c (h.words c (omega (arith, from)) (omega (arith, high, end))) in key_of w.own_words c m.0 (t.own.words c m.0 (inr from) m.1);
+          t.own.words c 0 (inr from) (h.words c (omega (arith, from)) (omega (arith, high, end)));
     }
+
+-- the words that are taken are own, and 0
+pub zero_taken : (v u : View) (r : Reserve) (start words : ℕ) → OnlyLoads v u → IsReserve v r → words ≤ kept_words r → (0 < words → start ≡ r.start) → (q : ℕ) → q < words → Has u.own_words (start + q) 0
+zero_taken v u r start words read h fits first q l = let e = first (omega (arith, l)) in let same : r.start + q ≡ start + q = omega (arith, e) in
+    subst (λ (m : FinMap nat_cmp ℕ). Has m (start + q) 0) (sym read.own_words) (subst (λ (c : ℕ). Has v.own_words c 0) same (h.words (r.start + q) (omega arith) (omega (arith, l, fits))))
 
 -- words that are written are those of a flat string
 none_written : (wide : Bool) (n : ℕ) → n ≡ 0 → words_over wide n ≡ 0
@@ -145,7 +151,7 @@ reserve_grown v w r s start want e above h ids end behind other = let kept = res
   ascending = subst IsAscending (sym ids) h.ascending;
   ordered = dite (ℕ_discrete start r.end) (λ same. let b = behind same in omega (arith, b, end, up, same)) (λ ne. let b = other ne in omega (arith, b, end));
   words = λ c low high. dite (dec_le start c)
-      (λ l. let back : start + (c - start) ≡ c = omega (arith, l) in subst (HasKey w.own_words) back (subst (λ (y : View). HasKey y.own_words (start + (c - start))) (sym e) (run_keys v.own_words start want (c - start) 0 (omega (arith, l, high, end)))))
+      (λ l. let back : start + (c - start) ≡ c = omega (arith, l) in subst (λ (q : ℕ). Has w.own_words q 0) back (subst (λ (y : View). Has y.own_words (start + (c - start)) 0) (sym e) (run_zero v.own_words start want (c - start) (omega (arith, l, high, end)))))
       (λ l. dite (ℕ_discrete start r.end) (λ same. let b = behind same in kept.words c (omega (arith, low, b)) (omega (arith, l, same))) (λ ne. let b = other ne in absurd (omega (arith, b, low, l))));
 }
 

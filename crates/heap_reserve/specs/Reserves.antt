@@ -1,7 +1,7 @@
 -- What an agent keeps in advance, and how that grows and shrinks.
 use Rattle.std.specs.Prelude.{◌≡◌, ◌≢◌, ◌⊎◌, ℕ, ◌+◌, ◌-◌, ◌<◌, ◌≤◌, List, [], ◌∷◌, ◌++◌, All, length, slice_index}
 use Rattle.heap_rule.specs.declared.view.View.{View}
-use Rattle.heap_rule.specs.Maps.{HasKey}
+use Rattle.heap_rule.specs.Maps.{Has, HasKey}
 use Rattle.heap_text.specs.Texts.{KeepsOwnBut, UsesExactly}
 use Rattle.heap_reserve.specs.declared.reserve.Reserve.{Reserve}
 
@@ -19,12 +19,12 @@ IsAscending [] = Unit {0}
 IsAscending (i ∷ is) = All (λ j. i < j) is × IsAscending is
 
 -- Each id is the agent's own, so it is not born, and greater than those before it, so no two are the same.
--- Each word of the run is the agent's own, so no string has it.
+-- Each word of the run is the agent's own and still 0, so no string has it.
 pub record IsReserve (v : View) (r : Reserve) : Type 0 where
   pub ids : All (λ i. HasKey v.own_ids i) (kept_ids r)
   pub ascending : IsAscending (kept_ids r)
   pub ordered : r.start ≤ r.end
-  pub words : (c : ℕ) → r.start ≤ c → c < r.end → HasKey v.own_words c
+  pub words : (c : ℕ) → r.start ≤ c → c < r.end → Has v.own_words c 0
 
 -- the run has n words more, at its end; or it is another one, of n words, where they don't begin at its end
 abbrev pub IsGrown : Reserve → Reserve → ℕ → Type 0

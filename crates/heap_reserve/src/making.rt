@@ -6,11 +6,13 @@ ghost use Rattle.heap_table.specs.Agents.{size_of, view_of};
 ghost use Rattle.heap_read.specs.Readers.{Moves, view_in};
 ghost use Rattle.heap_read.specs.Reads.{Continues};
 ghost use Rattle.heap_read.specs.Sources.{ShowsSource, listed_in};
+ghost use Rattle.heap_bytes.specs.Spellings.{IsReadable, units_of};
 ghost use Rattle.heap_text.specs.Keeping.{KeepsText};
 ghost use Rattle.heap_reserve.specs.Making.{IsMade, MakesFlat};
 ghost use Rattle.heap_reserve.specs.Reserves.{IsReserve};
 
 use crate::reserve::Reserve;
+use heap_bytes::{Spelling, spell_at};
 use heap_read::{HeapRef, JsStr, Reader, UnitSource};
 use heap_text::{Text, TextFull, bear_flat};
 use js_units::words_for;
@@ -37,6 +39,51 @@ impl Reserve {
             Some(s) => Ok(s),
             None => text.make_flat(units),
         }
+    }
+
+    /// A new string with the units that bytes spell, in the same way; as `Text::make_from` makes one.
+    pub fn make_from<H: HeapRef>(
+        &mut self,
+        text: &mut Text<H>,
+        source: &Spelling,
+    ) -> Result<JsStr, TextFull>
+        requires reserve { IsReserve (view_of text.old.reader.agent) self.old }
+        requires read { IsReadable source.now }
+        requires short { length (units_of source.now) ≤ MAX }
+        ensures kept { KeepsText text.old text.new }
+        ensures continues { Continues (view_of text.old.reader.agent) (view_of text.new.reader.agent) }
+        ensures reserve { IsReserve (view_of text.new.reader.agent) self.new }
+        ensures units { IfOk result
+            (λ s. Has (view_of text.new.reader.agent).units s.id (units_of source.now)) }
+        ensures made { IsMade (view_of text.old.reader.agent) (view_of text.new.reader.agent) self.old
+            self.new (size_of (H.reached text.old.reader.heap)) (units_of source.now) result }
+    {
+        match self.spell(&mut text.reader, source) {
+            Some(s) => Ok(s),
+            None => text.make_from(source),
+        }
+    }
+
+    // A flat string with the units that bytes spell, where the reserve has what it needs.
+    fn spell<H: HeapRef>(&mut self, reader: &mut Reader<H>, source: &Spelling) -> Option<JsStr>
+        requires reserve { IsReserve (view_in reader.old) self.old }
+        requires read { IsReadable source.now }
+        requires short { length (units_of source.now) ≤ MAX }
+        ensures continues { Moves Continues reader.old reader.new }
+        ensures reserve { IsReserve (view_in reader.new) self.new }
+        ensures made { MakesFlat (view_in reader.old) (view_in reader.new) self.old self.new
+            (units_of source.now) result }
+    {
+        let n = source.len();
+        let wide = source.is_wide();
+        let words = words_for(n, wide);
+        if !self.has(words) {
+            return None;
+        }
+        let (id, start) = self.take(words);
+        spell_at(reader, source, n, wide, start);
+        bear_flat(reader, id, n, wide, start);
+        Some(JsStr { id })
     }
 
     // A flat string with the `n` units of a source, where the reserve has what it needs.

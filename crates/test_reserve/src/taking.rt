@@ -1,6 +1,7 @@
 // Strings that take what their agent claimed in advance.
 ghost use Rattle.std.specs.Prelude.{◌≡◌, length};
 
+use heap_bytes::Spelling;
 use heap_reserve::Reserve;
 use heap_rule::{HeapSize, MAX};
 use heap_table::Heap;
@@ -15,8 +16,7 @@ struct Taken {
     totals: (u32, u32),
 }
 
-// A copy, a rope over it, a slice of it and an empty string take the ids in their order; a rope over a string
-// whose id is greater than what is kept takes none.
+// A copy, a rope over it, a slice of it, an empty string and one of bytes take the ids in their order.
 #[tactic(auto, using(heap_reserve::proofs::Kept::reserve_kept))]
 fn take_five(alloc: Global, units: &[u16]) -> Option<Taken>
     requires { length units.now ≡ 14 }
@@ -52,7 +52,7 @@ fn take_five(alloc: Global, units: &[u16]) -> Option<Taken>
     let Ok(()) = reserve.claim(&mut text, 0, 3) else {
         return None;
     };
-    let Ok(last) = reserve.make_flat(&mut text, units) else {
+    let Ok(last) = reserve.make_from(&mut text, &Spelling::Latin1(b"in bytes")) else {
         return None;
     };
     let left = (reserve.ids_left(), reserve.words_left());
@@ -66,7 +66,7 @@ fn a_reserve_is_taken_in_order(rt: HostRuntime) {
     let units = [0x61u16; 14];
     let want = Taken {
         ids: [0, 1, 2, 3, 4],
-        left: (0, 3),
+        left: (0, 4),
         totals: (5, 7),
     };
     assert!(&rt; take_five(rt.alloc(), &units) == Some(want));

@@ -7,7 +7,7 @@ use Rattle.heap_read.proofs.Storing.{writes_refl, writes_trans}
 use Rattle.heap_read.proofs.WindowLemmas.{forms_trans}
 use Rattle.heap_bytes.specs.Spellings.{units_of}
 use Rattle.heap_bytes.proofs.Pieces.{all_done, fewer_left, piece_left, piece_long, piece_unit, piece_within}
-use Rattle.heap_bytes.proofs.Runs.{filled_as}
+use Rattle.heap_bytes.proofs.Runs.{filled_as, words_more}
 use Rattle.heap_bytes.proofs.writing.fill_spelled.Goals as goal
 
 pub loop-count-init : goal.loop-count-init
@@ -16,6 +16,7 @@ loop-count-init g c = let v : View = c.args.reader.now.agent.seat.me.0 in let us
   heap = refl;
   writes = writes_refl v;
   below = λ q y l h. h;
+  above = λ q y l h. h;
   forms = (refl, refl);
   filled = filled_none c.args.to.wide c.args.to.start (own_word v.own_words) 0 (λ k. get_or us k 0);
   within = omega arith;
@@ -56,6 +57,7 @@ loop-count-preserved g c = let v : View = c.args.reader.now.agent.seat.me.0 in l
       heap = e.writes.heap ∙ i.heap;
       writes = writes_trans v u w i.writes e.writes.view;
       below = λ q y l h. e.below q y l (i.below q y l h);
+      above = λ q y l h. let more = words_more wide (done + count) (length us) (piece_within us room vs ws done count i.left p.most p.split i.within) in e.above q y (omega (arith, l, more)) (i.above q y l h);
       forms = forms_trans v u w i.forms e.forms;
       filled = filled_on wide start (own_word v.own_words) (own_word u.own_words) (own_word w.own_words) 0 done count (λ k. get_or us k 0) i.filled next;
       within = piece_within us room vs ws done count i.left p.most p.split i.within;
@@ -67,6 +69,7 @@ pub returns : goal.returns
 returns g c = let v : View = c.args.reader.now.agent.seat.me.0 in let u : View = c.loop-count.reader.agent.seat.me.0 in let us : List ℕ = units_of c.args.source.now in let i = c.loop-count.invariant in record {
   writes = record { heap = i.heap; view = i.writes };
   below = i.below;
+  above = i.above;
   forms = i.forms;
   filled = subst (λ (n : ℕ). IsFilled c.args.to.wide c.args.to.start (own_word v.own_words) (own_word u.own_words) 0 n (λ k. get_or us k 0))
       (all_done us (units_of c.loop-count.rest) c.loop-count.done i.left c.in_default.ensures i.within) i.filled;

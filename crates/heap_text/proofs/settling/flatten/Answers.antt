@@ -16,7 +16,8 @@ use Rattle.heap_table.specs.Full.{IsFull}
 use Rattle.heap_table.specs.Headers.{header_found}
 use Rattle.heap_text.specs.Filling.{IsBoth, units_at}
 use Rattle.heap_read.specs.Filling.{IsFilled, own_word}
-use Rattle.heap_bytes.proofs.Runs.{run_zero, unit_inside}
+use Rattle.heap_read.proofs.Placing.{unit_inside}
+use Rattle.heap_bytes.proofs.Runs.{run_zero}
 use Rattle.heap_text.proofs.Flattened.{filled_span, filled_zeros, is_moving, won_or_lost}
 use Rattle.heap_read.proofs.Going.{continues_full_words, continues_reads, continues_trans, continues_words, run_kept, run_keys}
 use Rattle.heap_text.proofs.Joined.{both_filled, narrow_units, some_words}

@@ -1,7 +1,7 @@
-use Rattle.std.proofs.Common.{◌+◌, ◌/◌, ◌%◌, ◌≤◌, ◌∙◌, ℕ, List, get_or, ap, refl, subst, sym, arith}
+use Rattle.std.proofs.Common.{◌+◌, ◌/◌, ◌%◌, ◌<◌, ◌≤◌, ◌∙◌, ℕ, List, get_or, ap, refl, subst, sym, arith}
 use Rattle.std.specs.FinMap.{FinMap, insert}
 use Rattle.std.specs.Ordering.{nat_cmp}
-use Rattle.js_units.specs.Lanes.{lane_count}
+use Rattle.js_units.specs.Lanes.{lane_count, words_over}
 use Rattle.heap_rule.specs.declared.view.View.{View}
 use Rattle.heap_rule.specs.Maps.{Has, HasKey}
 use Rattle.heap_rule.proofs.MapLemmas.{insert_other}
@@ -13,7 +13,7 @@ use Rattle.heap_read.specs.Reads.{Writes}
 use Rattle.heap_read.specs.Sources.{source_units}
 use Rattle.heap_read.proofs.Going.{known_stored}
 use Rattle.heap_read.proofs.Listing.{listed_same, shows_kept}
-use Rattle.heap_read.proofs.Placing.{IsStored, filled_none, filled_on, lane_small, placed_filled}
+use Rattle.heap_read.proofs.Placing.{IsStored, filled_none, filled_on, lane_small, placed_filled, unit_inside}
 use Rattle.heap_read.proofs.Showing.{forms_held}
 use Rattle.heap_read.proofs.Storing.{word_put, writes_reads, writes_refl, writes_stored, writes_trans}
 use Rattle.heap_read.proofs.reader.Reader.copy_lanes.Goals as goal
@@ -23,6 +23,7 @@ loop-done-init g c = let v : View = c.args.self.now.agent.seat.me.0 in let us : 
   heap = refl;
   writes = writes_refl v;
   below = λ q y l h. h;
+  above = λ q y l h. h;
   forms = (refl, refl);
   shows = c.requires.shows;
   same = refl;
@@ -61,6 +62,7 @@ loop-done-preserved g c = let v : View = c.args.self.now.agent.seat.me.0 in let 
     subst (λ (n : ℕ). IsPlaced wide (own_word u.own_words (start + n)) x (o % lane_count wide) count (λ k. get_or us (done + k) 0)) is.0
     (subst (λ (n : ℕ). IsPlaced wide (own_word u.own_words (start + number)) x n count (λ k. get_or us (done + k) 0)) is.1
     (subst (λ (xs : List ℕ). IsPlaced wide (own_word u.own_words (start + number)) x low count (λ k. get_or xs (done + k) 0)) i.same e.placed)) in
+    let inside : number < words_over wide (c.args.at + c.args.n) = subst (λ (m : ℕ). m < words_over wide (c.args.at + c.args.n)) (sym is.0) (unit_inside wide (c.args.at + c.args.n) o (omega (arith, c.loop-done-test.true))) in
     let small = lane_small wide o in let lanes = c.lanes.ensures in let most = c.min-count.ensures in
     let room : o % lane_count wide + count ≤ lane_count wide = omega (arith, is.1) in
     let next : IsFilled wide start (own_word u.own_words) (own_word w.own_words) o count (λ k. get_or us (done + k) 0) = placed_filled wide start (own_word u.own_words) (own_word w.own_words) o count x (λ k. get_or us (done + k) 0) room stored here in record {
@@ -68,6 +70,8 @@ loop-done-preserved g c = let v : View = c.args.self.now.agent.seat.me.0 in let 
       writes = writes_trans v u w i.writes (writes_trans u p w (writes_reads u p e.reads.view) (subst (Writes p) (sym f.view) (writes_stored p (start + number) x)));
       below = λ q y l h. let old : Has p.own_words q y = subst (λ (m : FinMap nat_cmp ℕ). Has m q y) (sym e.reads.view.own_words) (i.below q y l h) in
           subst (λ (a : View). Has a.own_words q y) (sym f.view) (insert_other p.own_words (start + number) q x (λ d. omega arith) ∙ old);
+      above = λ q y l h. let old : Has p.own_words q y = subst (λ (m : FinMap nat_cmp ℕ). Has m q y) (sym e.reads.view.own_words) (i.above q y l h) in
+          subst (λ (a : View). Has a.own_words q y) (sym f.view) (insert_other p.own_words (start + number) q x (λ d. omega (arith, l, d, inside)) ∙ old);
       forms = (ap (λ (y : View). y.forms) f.view ∙ (e.forms.0 ∙ i.forms.0), ap (λ (y : View). y.form_loads) f.view ∙ (e.forms.1 ∙ i.forms.1));
       shows = shows_kept p w c.args.source.now known (forms_held p w (ap (λ (y : View). y.forms) f.view)) e.shows;
       same = listed_same p w c.args.source.now known e.shows ∙ (e.listed ∙ i.same);

@@ -1,8 +1,9 @@
-use Rattle.std.proofs.Common.{◌≡◌, ◌∙◌, ℕ, Bool, false, List, refl, subst, sym}
+use Rattle.std.proofs.Common.{◌≡◌, ◌+◌, ◌∙◌, arith, ℕ, Bool, false, List, refl, subst, sym}
 use Rattle.js_header.specs.declared.form.Form.TheVariants.{Flat}
 use Rattle.js_units.specs.Lanes.{words_over}
 use Rattle.heap_rule.specs.declared.view.View.{View}
 use Rattle.heap_rule.specs.Maps.{Has}
+use Rattle.heap_rule.proofs.MapLemmas.{key_of}
 use Rattle.heap_read.specs.Reads.{KeepsBeside}
 use Rattle.heap_read.specs.Sources.{source_units}
 use Rattle.heap_read.specs.Written.{AreWords, IsWritten}
@@ -11,8 +12,12 @@ use Rattle.heap_read.proofs.Storing.{continues_writes}
 use Rattle.heap_text.specs.Texts.{KeepsOwnBut}
 use Rattle.heap_reserve.specs.Making.{words_of}
 use Rattle.heap_reserve.specs.Reserves.{HasEnough, IsTaken}
-use Rattle.heap_reserve.proofs.Kept.{all_written, copy_taken, reserve_taken}
+use Rattle.heap_reserve.proofs.Kept.{all_written, copy_taken, reserve_taken, zero_taken}
 use Rattle.heap_reserve.proofs.reserve.Reserve.copy.Goals as goal
+
+pub write_at-requires-clause-own : goal.write_at-requires-clause-own
+write_at-requires-clause-own g c q l = let v : View = c.args.reader.now.agent.seat.me.0 in let u : View = c.has_wide-wide.new.self.agent.seat.me.0 in let start = c.take-id.result.1 in let enough = c.if-not-has.ensures.0 refl in
+    key_of u.own_words (start + q) 0 (zero_taken v u c.args.self.now start c.words_for-words.result c.has_wide-wide.ensures.reads.view c.requires.reserve enough.1 c.take-id.ensures.first q (omega (arith, l, c.words_for-words.ensures)))
 
 pub bear_flat-requires-clause-written : goal.bear_flat-requires-clause-written
 bear_flat-requires-clause-written g c = let v : View = c.args.reader.now.agent.seat.me.0 in let p : View = c.write_at.new.self.agent.seat.me.0 in let wide = c.has_wide-wide.result in let start = c.take-id.result.1 in let n = c.args.n in
