@@ -448,7 +448,7 @@ static void intern_again(void) {
   static jsstr_id ids[STRINGS], keys[STRINGS];
   jsstr_agent a = {0}, b = {0};
   uint16_t units[32];
-  CHECK(jsstr_make((jsstr_size){3 * STRINGS, 5 * STRINGS, 509}, 2, 1000, &a) == JSSTR_DONE);
+  CHECK(jsstr_make((jsstr_size){3 * STRINGS, 9 * STRINGS, 509}, 2, 1000, &a) == JSSTR_DONE);
   for (int i = 0; i < STRINGS; i++) {
     size_t n = key_units(i, units);
     ids[i] = jsstr_from_units(&a, units, n).id;
