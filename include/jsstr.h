@@ -30,8 +30,8 @@
    JSSTR_NO_WORDS.
 
    MEMORY. jsstr_make and jsstr_split allocate; a call that appends to a text may; and for its own duration one that
-   compares with bytes, or copies into another heap. These alone may answer JSSTR_NO_MEMORY. That no other call
-   allocates is tested, not proved.
+   compares with bytes, or copies into another heap. These alone may answer JSSTR_NO_MEMORY. jsstr_intern may allocate
+   too, and answers the same where it is refused that. That no other call allocates is tested, not proved.
 
    Link -ljsstr: there is one archive, libjsstr.a, and no shared object. malloc, realloc and free are the C
    library's, and malloc aligns to 16. */
