@@ -62,7 +62,7 @@ typedef uint32_t jsstr_id;
    uses an id, and its units words of 8 bytes; each list of units that is interned uses a slot, and a second id
    where a string was made first. Set a prime number of slots, at least 2.6 for each. A heap occupies
    8 * (2 + slots + 2 * ids + words) bytes, twice that while it is made, and two bits an id for each agent
-   (tested, not proved). */
+   (tested, not proved). An agent that calls jsstr_intern notes slots in at most eight bytes an id besides. */
 typedef struct jsstr_size { uint32_t ids, words, slots; } jsstr_size;
 
 /* The greatest length of a string, and the greatest limit. */
