@@ -30,8 +30,8 @@
    JSSTR_NO_WORDS.
 
    MEMORY. jsstr_make and jsstr_split allocate; a call that appends to a text may; and for its own duration one that
-   copies into another heap. These alone may answer JSSTR_NO_MEMORY. That no other call allocates is tested, not
-   proved.
+   copies into another heap. These alone may answer JSSTR_NO_MEMORY. jsstr_intern may allocate too, and answers the
+   same where it is refused that. That no other call allocates is tested, not proved.
 
    Link -ljsstr: there is one archive, libjsstr.a, and no shared object. malloc, realloc and free are the C
    library's, and malloc aligns to 16. */
@@ -62,7 +62,7 @@ typedef uint32_t jsstr_id;
    uses an id, and its units words of 8 bytes; each list of units that is interned uses a slot, and a second id
    where a string was made first. Set a prime number of slots, at least 2.6 for each. A heap occupies
    8 * (2 + slots + 2 * ids + words) bytes, twice that while it is made, and two bits an id for each agent
-   (tested, not proved). */
+   (tested, not proved). An agent that calls jsstr_intern notes slots in at most eight bytes an id besides. */
 typedef struct jsstr_size { uint32_t ids, words, slots; } jsstr_size;
 
 /* The greatest length of a string, and the greatest limit. */

@@ -1,5 +1,6 @@
 /* What memory the calls take. The rows below say which calls allocate, and no other does. Where malloc answers null, at each
-   place in turn, such a call answers JSSTR_NO_MEMORY, has changed nothing, and succeeds when it is made again.
+   place in turn, such a call answers JSSTR_NO_MEMORY, has changed nothing, and succeeds when it is made again; but jsstr_intern,
+   which allocates to note a slot, answers what it would.
 
    It has a malloc, realloc and free of its own in front of the C library's, so it is linked with -Wl,--wrap=malloc,--wrap=realloc,--wrap=free.
    Prints "ok". */
@@ -11,9 +12,10 @@
 
 #define CHECK(c) do { if (!(c)) { printf("line %d: %s\n", __LINE__, #c); exit(1); } } while (0)
 
-/* What a call does for its answer: it allocates nothing; or it does; or it does, and has settled a rope before that.
+/* What a call does for its answer: it allocates nothing; or it does; or it does, and has settled a rope before that; or it
+   does beside its answer.
    What makes, interns or finds a string of bytes, or compares one with them, is as BYTES says. */
-enum takes { NOTHING, MEMORY, MEMORY_SETTLED, BYTES = NOTHING };
+enum takes { NOTHING, MEMORY, MEMORY_SETTLED, NOTED, BYTES = NOTHING };
 
 /* Two heaps. `one` and `other` are agents of the first, where `plain`, `rope` and `key` are; `text` has units. */
 typedef struct world {
@@ -114,7 +116,8 @@ static const uint8_t latin1[] = "Latin-1 \xE9", utf8[] = "UTF-8 \xC3\xA9 \xF0\x9
   ROW(starts_with, NOTHING, truth(jsstr_starts_with(&w->one, w->rope, w->plain, 11))) \
   ROW(index_of, NOTHING, place(jsstr_index_of(&w->one, w->rope, w->plain, 1))) \
   ROW(last_index_of, NOTHING, place(jsstr_last_index_of(&w->one, w->rope, w->plain, 99))) \
-  ROW(intern, NOTHING, jsstr_intern(&w->one, w->rope)) \
+  ROW(intern, NOTED, jsstr_intern(&w->one, w->rope)) \
+  ROW(intern_again, NOTED, (jsstr_intern(&w->one, w->plain), jsstr_intern(&w->one, w->plain))) \
   ROW(intern_units, NOTHING, jsstr_intern_units(&w->one, UNITS)) \
   ROW(find_units, NOTHING, jsstr_find_units(&w->one, key_units, 3)) \
   ROW(slot_of, NOTHING, number(jsstr_slot_of(&w->one, w->key))) \
@@ -248,6 +251,11 @@ static void refuse(const row *r, long failing, jsstr_answer want) {
   left = failing;
   jsstr_answer answer = r->call(&w);
   left = LONG_MAX;
+  if (r->takes == NOTED) {
+    CHECK(is_same(answer, want) && is_same(r->call(&w), want));
+    end(&w);
+    return;
+  }
   state after = seen(&w);
   if (r->takes == MEMORY_SETTLED && after.settled) {
     CHECK(after.rooms[0].words > before.rooms[0].words);

@@ -441,6 +441,40 @@ static void intern_units(void) {
   CHECK(has_used(&a, use.ids, use.words) && jsstr_free(&a) == JSSTR_DONE);
 }
 
+/* Interned again: a string that was made, a part, a rope, and the interned one itself, over searches, a split, a join,
+   and on a full heap. */
+static void intern_again(void) {
+  enum { STRINGS = 300, ROUNDS = 3 };
+  static jsstr_id ids[STRINGS], keys[STRINGS];
+  jsstr_agent a = {0}, b = {0};
+  uint16_t units[32];
+  CHECK(jsstr_make((jsstr_size){3 * STRINGS, 9 * STRINGS, 509}, 2, 1000, &a) == JSSTR_DONE);
+  for (int i = 0; i < STRINGS; i++) {
+    size_t n = key_units(i, units);
+    ids[i] = jsstr_from_units(&a, units, n).id;
+    if (i % 3 == 1) ids[i] = jsstr_concat(&a, ids[i], ids[i - 1]).id;
+    if (i % 3 == 2) ids[i] = jsstr_slice(&a, ids[i], 1, (uint32_t)n).id;
+    jsstr_answer one = jsstr_intern(&a, ids[i]);
+    CHECK(one.status == JSSTR_DONE);
+    keys[i] = one.id;
+  }
+  jsstr_used use = jsstr_totals(&a);
+  for (int round = 0; round < ROUNDS; round++) {
+    for (int i = 0; i < STRINGS; i++) {
+      CHECK(is_string(jsstr_intern(&a, ids[i]), keys[i]) && is_string(jsstr_intern(&a, keys[i]), keys[i]));
+      CHECK(is_string(jsstr_intern_unchecked(&a, ids[i]), keys[i]) && is_string(jsstr_intern_unchecked(&a, keys[i]), keys[i]));
+      CHECK(jsstr_index_of(&a, ids[i], keys[i], 0).at == 0 && jsstr_starts_with(&a, keys[i], ids[i], 0).holds);
+      CHECK(jsstr_last_index_of(&a, ids[i], keys[i], 9).at == 0 && jsstr_equal(&a, ids[i], keys[i]).holds);
+    }
+    CHECK(has_used(&a, use.ids, use.words) && jsstr_split(&a, 1, &b) == JSSTR_DONE);
+    for (int i = 0; i < STRINGS; i++) CHECK(is_string(jsstr_intern(&b, ids[i]), keys[i]) && is_string(jsstr_intern(&b, ids[i]), keys[i]));
+    CHECK(jsstr_join(&a, &b) == JSSTR_DONE && has_used(&a, use.ids, use.words));
+  }
+  while (jsstr_from_units(&a, units, 0).status == JSSTR_DONE) {}
+  for (int i = 0; i < STRINGS; i++) CHECK(is_string(jsstr_intern(&a, ids[i]), keys[i]));
+  CHECK(jsstr_count_interned(&a).value == STRINGS && jsstr_free(&a) == JSSTR_DONE);
+}
+
 /* One free slot and none, no id and no word: what is in the table is answered, and what isn't is refused. */
 static void refuse_keys(void) {
   jsstr_agent a = {0};
@@ -661,6 +695,7 @@ int main(void) {
   refuse_joins();
   refuse_settling();
   intern_units();
+  intern_again();
   refuse_keys();
   malformed_keys();
   array_indexes();

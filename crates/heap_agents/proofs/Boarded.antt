@@ -4,7 +4,7 @@ use Rattle.heap_rule.specs.Maps.{Has}
 use Rattle.heap_rule.specs.declared.view.View.{View}
 use Rattle.heap_table.specs.Agents.{view_of}
 use Rattle.heap_table.specs.Known.{KeepsKnown}
-use Rattle.heap_intern.specs.Adopted.{Adopts, LoadsHere, adopting_loads}
+use Rattle.heap_intern.specs.Adopted.{Adopts, LoadsHere}
 use Rattle.heap_agents.specs.declared.held.Held.{Held}
 use Rattle.heap_agents.specs.Board.{AdoptedFrom}
 use Rattle.heap_agents.specs.Held.{IsHeld, KeepsMarks, MarksOnlyKey, view_by}

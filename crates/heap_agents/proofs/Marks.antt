@@ -1,5 +1,6 @@
 -- What is marked, over a call on strings and over a search.
-use Rattle.std.proofs.Common.{ap, ◌∙◌, ◌≡◌, ℕ, List, ◌++◌, ◌<◌, subst, sym, inl, ⊎_elim, ◌⊎◌, ◌↔◌, [], Option, None, Some}
+use Rattle.std.proofs.Common.{ap, ◌∙◌, ◌≡◌, ℕ, List, ◌++◌, ◌-◌, ◌<◌, subst, sym, inl, ⊎_elim, ◌⊎◌, ◌↔◌, [], arith, Option, None, Some}
+use Rattle.std.specs.Prelude.{slice_index}
 use Rattle.std.specs.List.{Contains}
 use Rattle.std.proofs.lemmas.List.Elements.{Contains-append_cases, Contains-append_left, Contains-append_right}
 use Rattle.heap_rule.specs.Agents.{MayJoin, left_after_split, right_after_split}
@@ -11,8 +12,18 @@ use Rattle.heap_rule.specs.Views.{history}
 use Rattle.heap_rule.proofs.MapLemmas.{has_key, key_of}
 use Rattle.heap_rule.proofs.Steps.{possible_within}
 use Rattle.heap_table.specs.Agents.{size_of, view_of}
+use Rattle.heap_rule.specs.Claims.{loaded_counter}
+use Rattle.heap_rule.specs.declared.size.Counter.TheVariants.{Ids, Words}
+use Rattle.heap_rule.specs.Sound.{IsPossible}
 use Rattle.heap_table.specs.Known.{KeepsKnown}
+use Rattle.std.specs.Arc.{arc_value}
+use Rattle.heap_read.specs.Reads.{Continues, OnlyLoads}
+use Rattle.heap_read.proofs.Going.{continues_reads}
+use Rattle.heap_text.specs.Keeping.{KeepsText}
+use Rattle.heap_intern.specs.Seats.{AreSeats, IsSeated}
+use Rattle.heap_intern.proofs.Seats.{seats_kept}
 use Rattle.heap_agents.specs.declared.ids.IdSet.{IdSet}
+use Rattle.heap_agents.specs.declared.seats.Seats.{Seats}
 use Rattle.heap_agents.specs.Sets.{Covers, IsIn}
 use Rattle.heap_agents.specs.declared.held.Held.{Held}
 use Rattle.heap_agents.specs.Held.{IsHeld, IsMarked, IsSame, KeepsMarks, Leaves, share_by, held_size, view_by}
@@ -48,13 +59,56 @@ kept_marks x y = record { known = λ i h. h; interned = λ i h. h; number = λ i
 
 module _ (x : Held) (y : Option SharedText) (held : IsHeld x) (there : IsThere y) (same : IsSameText x.text y)
     (units : (i : ℕ) (us : List ℕ) → Has (view_by x).units i us → Has (view_if y).units i us) (calls : KeepsCalls (view_by x) (view_if y)) (agents : (view_if y).agents ≡ (view_by x).agents) where
-  pub still : IsHeld (record x { text = y })
-  still = record {
+  -- also where other slots are noted
+  pub noted : (seats : Seats) → AreSeats (view_if y) seats.slots.items → IsHeld (record x { text = y; seats = seats })
+  noted seats seated = record {
     there = there;
     agents = held.agents ∙ sym agents;
     marked = subst (λ (n : ℕ). IsMarked (view_if y) x.known x.interned n) (same_ids x.text y same)
         (marked_still (view_by x) (view_if y) x.known x.interned (held_size x).ids held.marked units calls);
+    seated = seated;
   }
+
+  pub still : AreSeats (view_if y) x.seats.slots.items → IsHeld (record x { text = y })
+  still seated = noted x.seats seated
+
+possible_in : (t : Option SharedText) → IsThere t → IsPossible (view_if t)
+possible_in None there = absurd there
+possible_in (Some t) there = t.reader.belongs.5
+
+sizes_in : (t : Option SharedText) → IsThere t → (view_if t).sizes ≡ size_if t
+sizes_in None there = absurd there
+sizes_in (Some t) there = t.reader.belongs.1
+
+same_sizes : (x y : Option SharedText) → IsSameText x y → size_if y ≡ size_if x
+same_sizes None y s = absurd s
+same_sizes (Some a) None s = absurd s
+same_sizes (Some a) (Some b) s = λ i. size_of (s.0 i)
+
+-- what is known stays known, so the slots that were noted are right still
+pub seats_still : (x : Held) (y : Option SharedText) → IsHeld x → IsThere y → IsSameText x.text y → KeepsKnown (view_by x) (view_if y) → AreSeats (view_if y) x.seats.slots.items
+seats_still x y held there same known = seats_kept (view_by x) (view_if y) (possible_in x.text held.there) known
+    (sizes_in y there ∙ (same_sizes x.text y same ∙ sym (sizes_in x.text held.there))) x.seats.slots.items held.seated
+
+-- where none is noted, none is wrong
+pub none_seated : (v : View) (l : List ℕ) → l ≡ [] → AreSeats v l
+none_seated v l e s some = let none : slice_index l s ≡ 0 = ap (λ (m : List ℕ). slice_index m s) e in absurd (omega arith)
+
+-- where each place has what it had, what is noted is as right
+pub same_seats : (v : View) (l m : List ℕ) → ((i : ℕ) → slice_index m i ≡ slice_index l i) → AreSeats v l → AreSeats v m
+same_seats v l m e h s some = subst (λ (n : ℕ). IsSeated v s (n - 1)) (sym (e s)) (h s (subst (λ (n : ℕ). 0 < n) (e s) some))
+
+pub counted_known : (v : View) (ids words : ℕ) → KeepsKnown v (loaded_counter (loaded_counter v Ids ids) Words words)
+counted_known v ids words = record {
+  units = λ i us h. h;
+  lengths = λ i n h. h;
+  flats = λ i wide start h. h;
+  thins = λ i t h. h;
+  settled = λ i h. h;
+  frozen = λ c x h. h;
+  known = λ i h. h;
+  slots = λ k i h. h;
+}
 
 -- what a call does from the view of the text t to that of the text u, it does from what a handle with t knows to what one with u knows
 module _ (x : Held) (t u : SharedText) (own : x.text ≡ Some t) (P : View → View → Type 0) (p : P (view_of t.reader.agent) (view_of u.reader.agent)) where
@@ -75,23 +129,37 @@ module _ (x : Held) (t u : SharedText) (own : x.text ≡ Some t) (heap : heap_of
       (λ i us h. known.units i us (subst (λ (o : Option SharedText). Has (view_if o).units i us) own h))
       (record { calls = λ us i h. calls.calls us i (subst (λ (o : Option SharedText). Contains (history (view_if o)) (us, i)) own h) })
       (agents ∙ sym (ap (λ (o : Option SharedText). (view_if o).agents) own))
+      (seats_still x (Some u) held tt same_text (told x t u own KeepsKnown known))
 
   -- the same where the view has become w
-  pub held_counted : (w : View) → IsHeld x → view_of u.reader.agent ≡ w → ((i : ℕ) (us : List ℕ) → Has (view_of t.reader.agent).units i us → Has w.units i us)
+  pub held_counted : (w : View) → IsHeld x → view_of u.reader.agent ≡ w → KeepsKnown (view_of t.reader.agent) w
       → ((us : List ℕ) (i : ℕ) → Contains (history (view_of t.reader.agent)) (us, i) → Contains (history w) (us, i)) → w.agents ≡ (view_of t.reader.agent).agents → IsHeld (record x { text = Some u })
-  held_counted w held e units calls agents = still x (Some u) held tt same_text
-      (λ i us h. subst (λ (z : View). Has z.units i us) (sym e) (units i us (subst (λ (o : Option SharedText). Has (view_if o).units i us) own h)))
+  held_counted w held e known calls agents = still x (Some u) held tt same_text
+      (λ i us h. subst (λ (z : View). Has z.units i us) (sym e) (known.units i us (subst (λ (o : Option SharedText). Has (view_if o).units i us) own h)))
       (record { calls = λ us i h. subst (λ (z : View). Contains (history z) (us, i)) (sym e) (calls us i (subst (λ (o : Option SharedText). Contains (history (view_if o)) (us, i)) own h)) })
       (ap (λ (z : View). z.agents) e ∙ (agents ∙ sym (ap (λ (o : Option SharedText). (view_if o).agents) own)))
+      (seats_still x (Some u) held tt same_text (told x t u own KeepsKnown (subst (KeepsKnown (view_of t.reader.agent)) (sym e) known)))
 
 -- a call on strings with the marks left alone
 pub moved : (x : Held) (y : Option SharedText) → IsHeld x → TextLeaves x.text y → Leaves x (record x { text = y })
 moved x y held l = record {
-  held = still x y held l.there l.same l.continues.known.units (continued (view_by x) (view_if y) l.continues) l.continues.agents;
+  held = still x y held l.there l.same l.continues.known.units (continued (view_by x) (view_if y) l.continues) l.continues.agents (seats_still x y held l.there l.same l.continues.known);
   same = l.same;
   continues = l.continues;
   marks = kept_marks x y;
 }
+
+-- the same of a call on the text t, which became the text u
+pub leaves_on : (x : Held) (t u : SharedText) → x.text ≡ Some t → IsHeld x → KeepsText t u → Continues (view_of t.reader.agent) (view_of u.reader.agent) → Leaves x (record x { text = Some u })
+leaves_on x t u own held kept c = let heap = ap arc_value kept.heap in record {
+  held = held_on x t u own heap kept.limit held c.known (continued (view_of t.reader.agent) (view_of u.reader.agent) c) c.agents;
+  same = same_text x t u own heap kept.limit;
+  continues = told x t u own Continues c;
+  marks = kept_marks x (Some u);
+}
+
+pub leaves_reads : (x : Held) (t u : SharedText) → x.text ≡ Some t → IsHeld x → KeepsText t u → OnlyLoads (view_of t.reader.agent) (view_of u.reader.agent) → Leaves x (record x { text = Some u })
+leaves_reads x t u own held kept reads = leaves_on x t u own held kept (continues_reads (view_of t.reader.agent) (view_of u.reader.agent) reads)
 
 -- an id that is known has its place in a set of marks
 below_in : (t : Option SharedText) → IsThere t → (i : ℕ) → HasKey (view_if t).units i → i < (size_if t).ids
@@ -137,6 +205,7 @@ module _ (x o : Held) (y : Option SharedText) (held : IsHeld x) (theirs : IsHeld
       room = room (held_size x).ids held.marked.room;
       calls_room = calls_room (held_size x).ids held.marked.calls_room;
     });
+    seated = seats_still x y held there same ours;
   }
 
 -- what another agent may use is among what was added
@@ -146,14 +215,27 @@ added_here x o held theirs beside known there i h =
 
 -- what a split leaves to both
 module _ (x : Held) (y : Option SharedText) (give : ℕ) (held : IsHeld x) (there : IsThere y) (same : IsSameText x.text y) where
+  left_known : KeepsKnown (view_by x) (left_after_split (view_by x) give)
+  left_known = record {
+    units = λ i us h. h;
+    lengths = λ i n h. h;
+    flats = λ i wide start h. h;
+    thins = λ i t h. h;
+    settled = λ i h. h;
+    frozen = λ c x h. h;
+    known = λ i h. h;
+    slots = λ k i h. h;
+  }
+
   pub left_held : view_if y ≡ left_after_split (view_by x) give → IsHeld (record x { text = y })
   left_held e = still x y held there same (λ i us h. subst (λ (v : View). Has v.units i us) (sym e) h)
       (record { calls = λ u i h. subst (λ (v : View). Contains (history v) (u, i)) (sym e) h }) (ap (λ (v : View). v.agents) e)
+      (seats_still x y held there same (subst (KeepsKnown (view_by x)) (sym e) left_known))
 
   pub right_held : view_if y ≡ right_after_split (view_by x) give → (o z : Held) → ((i : ℕ) → IsIn o.known i ↔ IsIn x.known i) → ((i : ℕ) → IsIn o.interned i ↔ IsIn x.interned i)
-      → ((n : ℕ) → Covers x.known n → Covers o.known n) → ((n : ℕ) → Covers x.interned n → Covers o.interned n) → z.text ≡ y → z.agents ≡ x.agents → z.known ≡ o.known → z.interned ≡ o.interned
+      → ((n : ℕ) → Covers x.known n → Covers o.known n) → ((n : ℕ) → Covers x.interned n → Covers o.interned n) → z.text ≡ y → z.agents ≡ x.agents → z.known ≡ o.known → z.interned ≡ o.interned → z.seats.slots.items ≡ []
       → IsHeld z × IsSame x z
-  right_held e o z known interned room calls_room member agents marks calls = (
+  right_held e o z known interned room calls_room member agents marks calls seats = (
     record {
       there = subst (λ (m : Option SharedText). IsThere m) (sym member) there;
       agents = agents ∙ (held.agents ∙ sym (ap (λ (m : Option SharedText). (view_if m).agents) member ∙ ap (λ (v : View). v.agents) e));
@@ -167,6 +249,7 @@ module _ (x : Held) (y : Option SharedText) (give : ℕ) (held : IsHeld x) (ther
             room = room (held_size x).ids held.marked.room;
             calls_room = calls_room (held_size x).ids held.marked.calls_room;
           }))));
+      seated = none_seated (view_by z) z.seats.slots.items seats;
     },
     subst (λ (m : Option SharedText). IsSameText x.text m) (sym member) same,
   )
@@ -186,6 +269,7 @@ interned_held x i known interned held key call room only here kept calls_room on
     room = room (held_size x).ids held.marked.room;
     calls_room = calls_room (held_size x).ids held.marked.calls_room;
   };
+  seated = held.seated;
 }
 
 share_in_view : (t : Option SharedText) → IsThere t → (view_if t).share ≡ share_if t

@@ -3,6 +3,7 @@ pub mod Shared
 pub mod Interned
 pub mod Searched
 pub mod Words
+pub mod Looking
 pub mod Held
 pub mod Keys
 pub mod Ready

@@ -1,5 +1,5 @@
 // How heaps and agents are made and given back.
-ghost use Rattle.std.specs.Prelude.{◌≡◌, ◌↔◌, ◌++◌, ◌+◌, ◌≤◌, ◌<◌, ℕ, IfOk, IfErr, OnOk, Err, None, Some};
+ghost use Rattle.std.specs.Prelude.{◌≡◌, ◌↔◌, ◌++◌, ◌+◌, ◌≤◌, ◌<◌, ℕ, [], IfOk, IfErr, OnOk, Err, None, Some};
 ghost use Rattle.heap_rule.specs.Agents.{MayJoin, first_view, joined_view, left_after_split, right_after_split};
 ghost use Rattle.heap_rule.specs.Layout.{MAX};
 ghost use Rattle.heap_rule.specs.Views.{history};
@@ -12,6 +12,7 @@ ghost use Rattle.heap_agents.specs.Sets.{Covers, IsIn};
 
 use crate::held::Held;
 use crate::ids::IdSet;
+use crate::seats::Seats;
 use heap_rule::{HeapSize, MAX};
 use heap_table::{Heap, MakeFault};
 use heap_text::Text;
@@ -127,6 +128,7 @@ impl Held {
             agents,
             known,
             interned,
+            seats: Seats::none(alloc),
             numbers,
             number: 1,
             giver: 0,
@@ -170,6 +172,7 @@ impl Held {
         ensures room { IfOk result (λ b. (n : ℕ) → Covers self.now.known n → Covers b.value.known n) }
         ensures calls_room { IfOk result
             (λ b. (n : ℕ) → Covers self.now.interned n → Covers b.value.interned n) }
+        ensures seats { IfOk result (λ b. b.value.seats.slots.items ≡ []) }
         ensures agents { IfOk result (λ b. b.value.agents ≡ self.now.agents) }
         ensures giver { IfOk result (λ b. b.value.giver ≡ self.now.number) }
     {
@@ -181,6 +184,7 @@ impl Held {
             agents: self.agents,
             known,
             interned,
+            seats: Seats::none(alloc),
             numbers,
             number: 0,
             giver: self.number,

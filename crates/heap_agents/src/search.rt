@@ -1,4 +1,5 @@
-// Comparing settled strings, and finding one in another, which goes by the calls of `js_search` on a session.
+// Comparing settled strings, and finding one in another, which goes by the calls of `js_search` on a session
+// that makes nothing.
 ghost use Rattle.std.specs.Prelude.{◌≡◌, Some, ◌↔◌, ℕ, ◌≤◌, List, length, Option, IsTrue};
 ghost use Rattle.heap_rule.specs.Maps.{Has};
 ghost use Rattle.heap_read.specs.Reads.{OnlyLoads};
@@ -8,11 +9,10 @@ ghost use Rattle.heap_agents.specs.Held.{IsHeld, Searched, view_by, without_text
 ghost use Rattle.heap_agents.specs.Searched.{IsOrder, IsReadable};
 
 use crate::held::Held;
+use crate::looking::Looking;
 use heap_read::Reader;
-use heap_session::Session;
 use heap_table::Heap;
 use heap_text::{JsStr, Text};
-use js_store::Limit;
 use std::alloc::Global;
 use std::cmp::Ordering;
 use std::sync::Arc;
@@ -82,9 +82,9 @@ impl Held {
     {
         let Text { reader, limit } = self.take_text();
         let Reader { heap, agent } = reader;
-        let mut session = Session::new(&*heap, agent, Limit::Bits64);
-        let answer = js_search::stands_at(&mut session, hay, needle, at);
-        let agent = session.into_agent();
+        let mut store = Looking::new(&*heap, agent, self.seats.slots.as_slice());
+        let answer = js_search::stands_at(&mut store, hay, needle, at);
+        let agent = store.into_agent();
         self.text = Some(Text::new(heap, agent, limit));
         answer
     }
@@ -105,9 +105,9 @@ impl Held {
     {
         let Text { reader, limit } = self.take_text();
         let Reader { heap, agent } = reader;
-        let mut session = Session::new(&*heap, agent, Limit::Bits64);
-        let answer = js_search::index_of(&mut session, hay, needle, from);
-        let agent = session.into_agent();
+        let mut store = Looking::new(&*heap, agent, self.seats.slots.as_slice());
+        let answer = js_search::index_of(&mut store, hay, needle, from);
+        let agent = store.into_agent();
         self.text = Some(Text::new(heap, agent, limit));
         answer
     }
@@ -130,9 +130,9 @@ impl Held {
             limit: most,
         } = self.take_text();
         let Reader { heap, agent } = reader;
-        let mut session = Session::new(&*heap, agent, Limit::Bits64);
-        let answer = js_search::last_index_of(&mut session, hay, needle, limit);
-        let agent = session.into_agent();
+        let mut store = Looking::new(&*heap, agent, self.seats.slots.as_slice());
+        let answer = js_search::last_index_of(&mut store, hay, needle, limit);
+        let agent = store.into_agent();
         self.text = Some(Text::new(heap, agent, most));
         answer
     }

@@ -9,4 +9,5 @@ pub mod Same
 pub mod Decoded
 pub mod Copied
 pub mod Slots
+pub mod Entering
 pub mod Texts

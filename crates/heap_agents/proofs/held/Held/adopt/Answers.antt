@@ -1,4 +1,4 @@
-use Rattle.std.proofs.Common.{ℕ, ◌≡◌, Option, Some, None, ap, refl}
+use Rattle.std.proofs.Common.{Some, ap, refl}
 use Rattle.std.specs.Arc.{arc_value}
 use Rattle.heap_rule.specs.declared.view.View.{View}
 use Rattle.heap_rule.proofs.MapLemmas.{key_of}

@@ -1,0 +1,41 @@
+-- Helpers: no public contract reaches these definitions.
+-- The state of a session that makes nothing: that of the session, but for memory, which it always lacks, and
+-- with what its agent noted, which stays.
+use Rattle.std.specs.Prelude.{ℕ, List, false}
+use Rattle.js_store.specs.State.{Sound, State}
+use Rattle.heap_session.specs.Sessions.{SessionFrame}
+
+pub record LookFrame : Type 0 where
+  pub session : SessionFrame
+  pub seats : List ℕ
+
+abbrev pub looking_state : State SessionFrame → List ℕ → State LookFrame
+looking_state s seats = record {
+  known = s.known;
+  settled = s.settled;
+  shut = s.shut;
+  history = s.history;
+  used_ids = s.used_ids;
+  used_words = s.used_words;
+  low_ids = s.low_ids;
+  low_words = s.low_words;
+  sizes = s.sizes;
+  limit = s.limit;
+  bounded = s.bounded;
+  sure = false;
+  frame = record { session = s.frame; seats = seats };
+}
+
+-- what the trait of stores asks of it
+pub looking_sound : (s : State SessionFrame) (seats : List ℕ) → Sound s → Sound (looking_state s seats)
+looking_sound s seats p = record {
+  one_number = p.one_number;
+  one_list = p.one_list;
+  agrees = p.agrees;
+  shut_apart = p.shut_apart;
+  numbers = p.numbers;
+  lengths = p.lengths;
+  units = p.units;
+  low = p.low;
+  high = p.high;
+}
