@@ -188,7 +188,8 @@ module _ (x o : Held) (y : Option SharedText) (held : IsHeld x) (theirs : IsHeld
     (ours : KeepsKnown (view_by x) (view_if y)) (others : KeepsKnown (view_by o) (view_if y)) (calls : history (view_if y) ≡ history (view_by x) ++ (view_by o).mine)
     (known interned : IdSet) (room : (n : ℕ) → Covers x.known n → Covers known n) (only : (i : ℕ) → IsIn known i → IsIn x.known i ⊎ IsIn o.known i)
     (calls_room : (n : ℕ) → Covers x.interned n → Covers interned n) (only_calls : (i : ℕ) → IsIn interned i → IsIn x.interned i ⊎ IsIn o.interned i) where
-  pub joined_held : (view_if y).agents ≡ (view_by x).agents → ((i : ℕ) → IsIn x.known i → IsIn known i) → ((i : ℕ) → IsIn o.known i → IsIn known i) → IsHeld (record x { text = y; known = known; interned = interned })
+  pub joined_held : (view_if y).agents ≡ (view_by x).agents → ((i : ℕ) → IsIn x.known i → IsIn known i) → ((i : ℕ) → IsIn o.known i → IsIn
+      known i) → IsHeld (record x { text = y; known = known; interned = interned })
   joined_held agents ours_in theirs_in = record {
     there = there;
     agents = held.agents ∙ sym agents;
@@ -233,7 +234,8 @@ module _ (x : Held) (y : Option SharedText) (give : ℕ) (held : IsHeld x) (ther
       (seats_still x y held there same (subst (KeepsKnown (view_by x)) (sym e) left_known))
 
   pub right_held : view_if y ≡ right_after_split (view_by x) give → (o z : Held) → ((i : ℕ) → IsIn o.known i ↔ IsIn x.known i) → ((i : ℕ) → IsIn o.interned i ↔ IsIn x.interned i)
-      → ((n : ℕ) → Covers x.known n → Covers o.known n) → ((n : ℕ) → Covers x.interned n → Covers o.interned n) → z.text ≡ y → z.agents ≡ x.agents → z.known ≡ o.known → z.interned ≡ o.interned → z.seats.slots.items ≡ []
+      → ((n : ℕ) → Covers x.known n → Covers o.known n) → ((n : ℕ) → Covers x.interned n → Covers o.interned n) → z.text ≡ y → z.agents ≡
+      x.agents → z.known ≡ o.known → z.interned ≡ o.interned → z.seats.slots.items ≡ []
       → IsHeld z × IsSame x z
   right_held e o z known interned room calls_room member agents marks calls seats = (
     record {
@@ -244,7 +246,8 @@ module _ (x : Held) (y : Option SharedText) (give : ℕ) (held : IsHeld x) (ther
           (subst (λ (n : ℕ). IsMarked (view_if y) o.known o.interned n) (same_ids x.text y same) (record {
             known = λ i h. subst (λ (v : View). HasKey v.units i) (sym e) (held.marked.known i ((known i).0 h));
             both = λ i h. (known i).1 (held.marked.both i ((interned i).0 h));
-            calls = λ i h. let u = held.marked.calls i ((interned i).0 h) in (u.0, subst (λ (v : View). Contains (history v) (u.0, i)) (sym e) (Contains-append_left (history (view_by x)) [] (u.0, i) u.1));
+            calls = λ i h. let u = held.marked.calls i ((interned i).0 h) in
+                (u.0, subst (λ (v : View). Contains (history v) (u.0, i)) (sym e) (Contains-append_left (history (view_by x)) [] (u.0, i) u.1));
             calls_below = λ i h. held.marked.calls_below i ((interned i).0 h);
             room = room (held_size x).ids held.marked.room;
             calls_room = calls_room (held_size x).ids held.marked.calls_room;

@@ -35,21 +35,23 @@ is_some o us e = subst (λ (p : Option (List ℕ)). IsSome p) (sym e) refl
 -- by what a store's callers see
 module _ {H : Type 0} {g : Ghosts H} where
   strings : (s t : Session H g) → Uses (state_in s) (state_in t) None 0 0 → KeepsStrings (session_view s) (session_view t)
-  strings s t u = let p = u.step in let o = p.grows in let v : View = session_view s in let w : View = session_view t in let a = o.used_ids in let b = o.used_words in let c = p.within_ids in let d = p.within_words in record {
-    units = λ i us k. o.known i (is_some (get v.units i) us k) ∙ k;
-    settled = λ i k. test_settled w i (o.settled i (settled_test v i k));
-    sizes = λ i. record { ids = (o.sizes i).ids; words = (o.sizes i).words; slots = (o.sizes i).slots };
-    agents = λ i. (o.frame i).agents;
-    share = λ i. (o.frame i).share;
-    used_ids = omega arith;
-    used_words = omega arith;
-    low_ids = o.low_ids;
-    low_words = o.low_words;
-    seen = λ i. (o.frame i).seen;
-    calls = u.history;
-  }
+  strings s t u = let p = u.step in let o = p.grows in let v : View = session_view s in let w : View = session_view t in
+      let a = o.used_ids in let b = o.used_words in let c = p.within_ids in let d = p.within_words in record {
+        units = λ i us k. o.known i (is_some (get v.units i) us k) ∙ k;
+        settled = λ i k. test_settled w i (o.settled i (settled_test v i k));
+        sizes = λ i. record { ids = (o.sizes i).ids; words = (o.sizes i).words; slots = (o.sizes i).slots };
+        agents = λ i. (o.frame i).agents;
+        share = λ i. (o.frame i).share;
+        used_ids = omega arith;
+        used_words = omega arith;
+        low_ids = o.low_ids;
+        low_words = o.low_words;
+        seen = λ i. (o.frame i).seen;
+        calls = u.history;
+      }
 
-  pub belongs : (h : Heap) (a b : Agent) (s t : Session H g) → Belongs a h → state_in s ≡ state_by (view_of a) (limit_units Bits64) (table_of h) → Uses (state_in s) (state_in t) None 0 0 → BelongsAs (state_in t) b → Belongs b h
+  pub belongs : (h : Heap) (a b : Agent) (s t : Session H g) → Belongs a h → state_in s ≡ state_by (view_of a) (limit_units Bits64)
+      (table_of h) → Uses (state_in s) (state_in t) None 0 0 → BelongsAs (state_in t) b → Belongs b h
   belongs h a b s t is e u of = let k = u.step in of h (
     (λ i. (k.grows.frame i).table) ∙ (λ i. (e i).frame.table),
     k.grows.sizes ∙ (λ i. (e i).sizes) ∙ (λ i. record { ids = (is.1 i).ids; words = (is.1 i).words; slots = (is.1 i).slots }),

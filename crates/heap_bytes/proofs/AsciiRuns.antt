@@ -1,5 +1,35 @@
 -- Runs of ASCII, which are read without being decoded.
-use Rattle.std.proofs.Common.{◌≡◌, ℕ, suc, ◌+◌, ◌-◌, ◌<◌, ◌≤◌, ⊎_elim, Bool, true, false, List, [], ◌∷◌, ◌++◌, length, take, drop, get_or, refl, sym, ap, ap₂, ◌∙◌, arith, subst, append_assoc, length-append, length-drop}
+use Rattle.std.proofs.Common.{
+  ◌≡◌,
+  ℕ,
+  suc,
+  ◌+◌,
+  ◌-◌,
+  ◌<◌,
+  ◌≤◌,
+  ⊎_elim,
+  Bool,
+  true,
+  false,
+  List,
+  [],
+  ◌∷◌,
+  ◌++◌,
+  length,
+  take,
+  drop,
+  get_or,
+  refl,
+  sym,
+  ap,
+  ap₂,
+  ◌∙◌,
+  arith,
+  subst,
+  append_assoc,
+  length-append,
+  length-drop,
+}
 use Rattle.std.specs.Prelude.{encode_utf8, encode_utf8_all, nat_eq, nat_lt, ◌&&◌}
 use Rattle.std.specs.Char.{len_utf8}
 use Rattle.std.specs.Str.{IsAscii, chars}
@@ -49,7 +79,8 @@ gone false first n e = ap (λ (b : Bool). b && nat_eq n 0) e
 -- what was read up to a run of ASCII was read up to what is behind it
 module _ (e : Encoding) (bytes after : List ℕ) where
   by_run : (run : List ℕ) (lead : Bool) (count : ℕ) → IsAscii run → HasRead e bytes (run ++ after) lead count → HasRead e bytes after (lead && nat_eq (length run) 0) (count + length run)
-  by_run [] lead count a r = let n : count ≡ count + 0 = omega arith in subst (λ (m : ℕ). HasRead e bytes after (lead && nat_eq 0 0) m) n (subst (λ (b : Bool). HasRead e bytes after b count) (stays lead) r)
+  by_run [] lead count a r = let n : count ≡ count + 0 = omega arith in subst (λ (m : ℕ). HasRead e bytes after (lead && nat_eq 0 0) m) n
+      (subst (λ (b : Bool). HasRead e bytes after b count) (stays lead) r)
   by_run (c ∷ cs) lead count a r = let small : c < 128 = a 0 in
       let next = read_more e bytes (c ∷ (cs ++ after)) lead count r (cs ++ after) c 1 (follows_ascii e lead c small) (begun c (cs ++ after) small) (ap length (sym (one_ascii c small))) in
       let n : count + 1 + length cs ≡ count + suc (length cs) = omega arith in
@@ -81,7 +112,8 @@ module _ (bytes : List ℕ) (run : ℕ) (l : run ≤ length bytes) (a : IsAscii 
 
   -- with what was put before
   pub run_put : (before after : List ℕ) → after ≡ before ++ take run bytes → before ++ utf16 (chars bytes) ≡ after ++ utf16 (chars (take (length bytes - run) (drop run bytes)))
-  run_put before after is = ap (λ (us : List ℕ). before ++ us) units_run ∙ (sym (append_assoc before (take run bytes) (utf16 (chars behind))) ∙ ap (λ (us : List ℕ). us ++ utf16 (chars behind)) (sym is))
+  run_put before after is = ap (λ (us : List ℕ). before ++ us) units_run ∙
+      (sym (append_assoc before (take run bytes) (utf16 (chars behind))) ∙ ap (λ (us : List ℕ). us ++ utf16 (chars behind)) (sym is))
 
 -- what is behind a place is no longer
 pub no_longer : (n : ℕ) (xs : List ℕ) → length (take (length xs - n) (drop n xs)) ≤ length xs
@@ -98,7 +130,9 @@ take_ascii n bs h i = ⊎_elim
 pub run_more : (room old bytes : List ℕ) (at run u : ℕ) → at + run < length room → run < length bytes → u ≡ get_or bytes run 0 → take (at + run) room ≡ take at old ++ take run bytes
     → take (at + (run + 1)) (set room (at + run) u) ≡ take at old ++ take (run + 1) bytes
 run_more room old bytes at run u l m is e = let n : at + (run + 1) ≡ at + run + 1 = omega arith in
-    ap (λ (k : ℕ). take k (set room (at + run) u)) n ∙ (one_put room (at + run) u l ∙ (ap₂ (λ (xs : List ℕ) (v : ℕ). xs ++ v ∷ []) e is ∙ (append_assoc (take at old) (take run bytes) (get_or bytes run 0 ∷ []) ∙ ap (λ (xs : List ℕ). take at old ++ xs) (sym (take_more bytes run 0 m)))))
+    ap (λ (k : ℕ). take k (set room (at + run) u)) n ∙ (one_put room (at + run) u l ∙
+    (ap₂ (λ (xs : List ℕ) (v : ℕ). xs ++ v ∷ []) e is ∙ (append_assoc (take at old) (take run bytes) (get_or bytes run 0 ∷ []) ∙ ap
+    (λ (xs : List ℕ). take at old ++ xs) (sym (take_more bytes run 0 m)))))
 
 -- as many units as bytes are ASCII
 two_less : (c : ℕ) → 128 ≤ c → length (utf16_of c) < len_utf8 c

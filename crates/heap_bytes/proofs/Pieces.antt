@@ -12,8 +12,10 @@ take_alike n xs ys a b h = let p = length-take-le n xs a in let q = length-take-
     same_number_lists (take n xs) (take n ys) (p ∙ sym q) (λ k l. get_or-take n xs k 0 (omega arith) ∙ (h k (omega arith) ∙ sym (get_or-take n ys k 0 (omega arith))))
 
 -- a copy of the first bytes
-pub copied_front : (n : ℕ) (bytes room : List ℕ) → n ≤ length bytes → n ≤ length room → ((k : ℕ) → k < n → get_or room k 0 ≡ get_or bytes k 0) → bytes ≡ take n room ++ take (length bytes - n) (drop n bytes)
-copied_front n bytes room a b h = sym (take-append-drop n bytes) ∙ ap₂ (λ (xs ys : List ℕ). xs ++ ys) (sym (take_alike n room bytes b a h)) (sym (take_all (length bytes - n) (drop n bytes) (omega (arith, length-drop n bytes))))
+pub copied_front : (n : ℕ) (bytes room : List ℕ) → n ≤ length bytes → n
+    ≤ length room → ((k : ℕ) → k < n → get_or room k 0 ≡ get_or bytes k 0) → bytes ≡ take n room ++ take (length bytes - n) (drop n bytes)
+copied_front n bytes room a b h = sym (take-append-drop n bytes) ∙ ap₂ (λ (xs ys : List ℕ). xs ++ ys) (sym (take_alike n room bytes b a h))
+    (sym (take_all (length bytes - n) (drop n bytes) (omega (arith, length-drop n bytes))))
 
 -- what is left, of units of which `done` were read, once a piece more is
 module _ (us room vs ws : List ℕ) (done count : ℕ) (left : vs ≡ drop done us) (most : count ≤ length room) (split : vs ≡ take count room ++ ws) where
@@ -55,4 +57,5 @@ one_put room at u l = take_more_set room at u l
 pub two_put : (room : List ℕ) (at u v : ℕ) → at + 1 < length room → take (at + 2) (set (set room at u) (at + 1) v) ≡ take at room ++ u ∷ v ∷ []
 two_put room at u v l = let two : at + 2 ≡ at + 1 + 1 = omega arith in
     ap (λ (n : ℕ). take n (set (set room at u) (at + 1) v)) two
-    ∙ (one_put (set room at u) (at + 1) v (omega (arith, length-set room at u)) ∙ (ap (λ (xs : List ℕ). xs ++ v ∷ []) (one_put room at u (omega arith)) ∙ append_assoc (take at room) (u ∷ []) (v ∷ [])))
+    ∙ (one_put (set room at u) (at + 1) v (omega (arith, length-set room at u)) ∙
+    (ap (λ (xs : List ℕ). xs ++ v ∷ []) (one_put room at u (omega arith)) ∙ append_assoc (take at room) (u ∷ []) (v ∷ [])))

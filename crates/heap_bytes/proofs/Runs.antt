@@ -73,7 +73,8 @@ module _ (before : FinMap nat_cmp ℕ) (v : View) (wide : Bool) (start : ℕ) (u
   lane_filled : (o : ℕ) → o < words_over wide (length us) * lane_count wide → lane_in (own_word v.own_words) wide start o ≡ get_or us o 0
   lane_filled o l = ⊎_elim
       (λ (m : o < length us). let e : 0 + o ≡ o = omega arith in ap (lane_in (own_word v.own_words) wide start) (sym e) ∙ f.inside o m)
-      (λ (m : length us ≤ o). f.above o (omega arith) ∙ (zero_lane (own_word before) wide start o (own_is before (start + o / lane_count wide) 0 (none (o / lane_count wide) (word_inside wide (length us) o l))) ∙ sym (get_or_past us o 0 m)))
+      (λ (m : length us ≤ o). f.above o (omega arith) ∙ (zero_lane (own_word before) wide start o
+      (own_is before (start + o / lane_count wide) 0 (none (o / lane_count wide) (word_inside wide (length us) o l))) ∙ sym (get_or_past us o 0 m)))
       (cases_lt o (length us))
 
   word_filled : (q : ℕ) → q < words_over wide (length us) → IsWordOf wide us q (own_word v.own_words (start + q))
@@ -85,6 +86,8 @@ module _ (before : FinMap nat_cmp ℕ) (v : View) (wide : Bool) (start : ℕ) (u
   filled_words own = record { each = λ q l. let p = has_key v.own_words (start + q) (own q l) in (p.0, p.1, subst (IsWordOf wide us q) (own_is v.own_words (start + q) p.0 p.1) (word_filled q l)) }
 
 -- a piece that was filled in, by the units that it is of
-pub filled_as : (wide : Bool) (start : ℕ) (before after : ℕ → ℕ) (done count : ℕ) (piece unit : ℕ → ℕ) → ((k : ℕ) → k < count → piece k ≡ unit k) → IsFilled wide start before after done count piece → IsFilled wide start before after (0 + done) count unit
+pub filled_as : (wide : Bool) (start : ℕ) (before after : ℕ → ℕ) (done count : ℕ)
+    (piece unit : ℕ → ℕ) → ((k : ℕ) → k < count → piece k ≡ unit k) → IsFilled wide start before after done count piece → IsFilled wide start
+    before after (0 + done) count unit
 filled_as wide start before after done count piece unit same f = let e : 0 + done ≡ done = omega arith in
     subst (λ (at : ℕ). IsFilled wide start before after at count unit) (sym e) (record { inside = λ k l. f.inside k l ∙ same k l; below = f.below; above = f.above })

@@ -22,7 +22,8 @@ module _ (s : Core) (j k : ℕ) (v : View) (at : At s.views j v) where
 
   module _ (i : ℕ) (slot : get v.slots k ≡ Some i) where
     of_view : (us : List ℕ) → HasEntry s j k us → get v.units i ≡ Some us
-    of_view us e = let is = same_view us e in let here : get v.slots k ≡ Some e.1 = ap (λ (w : View). get w.slots k) (sym is) ∙ e.3 in let both : Some i ≡ Some e.1 = sym slot ∙ here in let id : i ≡ e.1 = cc in
+    of_view us e = let is = same_view us e in let here : get v.slots k ≡ Some e.1 = ap (λ (w : View). get w.slots k) (sym is) ∙ e.3 in
+        let both : Some i ≡ Some e.1 = sym slot ∙ here in let id : i ≡ e.1 = cc in
         (λ d. get (sym is d).units (id d)) ∙ e.4
 
     pub if_units : (r : Option (Bor (List ℕ))) → option_copied r ≡ get v.units i → IfSome r (λ us. HasEntry s j k us.now)

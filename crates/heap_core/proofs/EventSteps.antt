@@ -20,7 +20,8 @@ use Rattle.heap_core.specs.Steps.{EventsAreSteps}
 use Rattle.heap_rule.proofs.ListLemmas.{at_index}
 
 -- the view at j is v, so what becomes of it is the same
-same_step : (s : Core) (j : ℕ) (v : View) → At s.views j v → (f : View → View) (ws ws' : List ℕ) → ws ≡ ws' → core s.size s.agents ws (set s.views j (f (view_at s j))) ≡ core s.size s.agents ws' (set s.views j (f v))
+same_step : (s : Core) (j : ℕ) (v : View) → At s.views j v → (f : View → View) (ws ws' : List ℕ) → ws ≡ ws' → core s.size s.agents ws
+    (set s.views j (f (view_at s j))) ≡ core s.size s.agents ws' (set s.views j (f v))
 same_step s j v at f ws ws' e = λ i. core s.size s.agents (e i) (set s.views j (f (at_index s.views j v spent at i)))
 
 -- a load puts back what it found
@@ -46,7 +47,8 @@ events_are_steps s (LoadWord j c names) en = let x : ℕ = get_or s.words (conte
     (en.0, en.1, en.2, (en.3.0, same_step s j en.0 en.1 (λ v. learned (loaded_word v c x) names.items) s.words (set s.words (content_at s.size c) x) (put_back s (content_at s.size c))))
 events_are_steps s (Flatten j i old new names) en = let x : ℕ = get_or s.words (form_at s.size i) 0 in let ws : List ℕ = set s.words (form_at s.size i) (cond (eqb x (word_of old)) (word_of new) x) in
     (en.0, en.1, en.2, (en.3.0, same_step s j en.0 en.1 (λ v. learned (flattened v i old new x) names.items) ws ws refl))
-events_are_steps s (Thin j i old t names) en = let x : ℕ = get_or s.words (form_at s.size i) 0 in let ws : List ℕ = set s.words (form_at s.size i) (cond (eqb x (word_of old)) (word_of (form.Thin t)) x) in
+events_are_steps s (Thin j i old t names) en = let x : ℕ = get_or s.words (form_at s.size i) 0 in
+    let ws : List ℕ = set s.words (form_at s.size i) (cond (eqb x (word_of old)) (word_of (form.Thin t)) x) in
     (en.0, en.1, en.2, (en.3.0, same_step s j en.0 en.1 (λ v. learned (thinned v i old t x) names.items) ws ws refl))
 events_are_steps s (LoadSlot j k entry names) en = let x : ℕ = get_or s.words (slot_at s.size k) 0 in
     (en.0, en.1, en.2, ((en.3.0, en.3.1), same_step s j en.0 en.1 (λ v. learned (loaded_slot v k entry x) names.items) s.words (set s.words (slot_at s.size k) x) (put_back s (slot_at s.size k))))

@@ -21,7 +21,8 @@ runs_keep s [] h en i b = (b, refl)
 runs_keep s (e ∷ es) h en i b = let k = enabled_keeps s e h en.0 in let one = k.1 i b in let rest = runs_keep (after s e) es (inr k.0) en.1 i one.0 in (rest.0, rest.1 ∙ one.1)
 
 core_legal : (s : Core) → IsCore s → AreLegal s.views
-core_legal s h = ⊎_elim (λ (n : HasNoHeap s). λ j v at live. absurd (some-ne-none v (sym at ∙ ap (λ (vs : List View). get_elem? vs j) n.1))) (λ (g : IsSoundCore s). legal s.size s.agents s.words s.views g) h
+core_legal s h = ⊎_elim (λ (n : HasNoHeap s). λ j v at live. absurd (some-ne-none v (sym at ∙ ap (λ (vs : List View). get_elem? vs j) n.1)))
+    (λ (g : IsSoundCore s). legal s.size s.agents s.words s.views g) h
 
 pub runs_legal : RunsAreLegal
 runs_legal s [] h en = core_legal s h

@@ -75,7 +75,8 @@ module _ (s : Core) (h : IsCore s) (j i : ℕ) where
     room_by each l stands t e is = let k = each t.0 t.1 t.2 t.3 in
         subst HasRoom (sym (seen_by l t.0 stands e is)) (room_of s.size s.agents k.1.0 (set s.views j (F t.0 found)) k.1.1 j (F t.0 found) (set_there s.views j (F t.0 found) t.0 t.1) k.0)
 
-    pub move_room : (each : Turns) (l : Load) (stands : Form) (v : View) (t : LiveIn s.views j P) → v ≡ t.0 → form_of found ≡ Some stands → loaded_by v l ≡ F v (word_of stands) → HasRoom (loaded_by v l)
+    pub move_room : (each : Turns) (l : Load) (stands : Form) (v : View) (t : LiveIn s.views j P) → v ≡ t.0 → form_of found ≡ Some stands →
+        loaded_by v l ≡ F v (word_of stands) → HasRoom (loaded_by v l)
     move_room each l stands v t is e seen = subst (λ (y : View). HasRoom (loaded_by y l)) (sym is) (room_by each l stands t e (subst (λ (y : View). loaded_by y l ≡ F y (word_of stands)) is seen))
 
     pub move_tells : (names : List ℕ) (l : Load) (stands : Form) (b : Bool) (t : LiveIn s.views j P) → form_of found ≡ Some stands → loaded_by t.0 l ≡ F t.0 (word_of stands)
@@ -87,20 +88,27 @@ module _ (s : Core) (h : IsCore s) (j i : ℕ) where
         )
 
     pub move_became : (old new stands : Form) (names : List ℕ) (l : Load) (t u : Core) (x : ℕ) → form_of found ≡ Some stands → loaded_by (view_at s j) l ≡ F (view_at s j) (word_of stands)
-        → u ≡ looked s j (learned (loaded_by (view_at s j) l) names) → t ≡ stored u (form_at u.size i) (exchanged u (form_at u.size i) (word_of old) (word_of new)) → x ≡ get_or u.words (form_at u.size i) 0
+        → u ≡ looked s j (learned (loaded_by (view_at s j) l) names) → t ≡ stored u (form_at u.size i)
+        (exchanged u (form_at u.size i) (word_of old) (word_of new)) → x ≡ get_or u.words (form_at u.size i) 0
         → (t ≡ after_move s j i old new F names) × (x ≡ found)
-    move_became old new stands names l t u x e is seen left here = let same : u ≡ looked s j (learned (F (view_at s j) found) names) = seen ∙ ap (λ (y : View). looked s j (learned y names)) (seen_by l (view_at s j) stands e is) in
+    move_became old new stands names l t u x e is seen left here =
+        let same : u ≡ looked s j (learned (F (view_at s j) found) names) = seen ∙ ap (λ (y : View). looked s j (learned y names))
+        (seen_by l (view_at s j) stands e is) in
         (left ∙ ap (λ (y : Core). stored y (form_at y.size i) (exchanged y (form_at y.size i) (word_of old) (word_of new))) same, here ∙ ap (λ (y : Core). get_or y.words (form_at y.size i) 0) same)
 
   -- the two
   pub flatten_turns : (old new : Form) → Turns (λ v. MayFlatten v i old new) (λ v x. flattened v i old new x)
   flatten_turns old new v at live may = let g : IsSoundCore s = sound_of s j (λ v. MayFlatten v i old new) h (v, at, live, may) in
-      let k : KeepsRule s.size s.agents s.words (set s.words (form_at s.size i) (word_left (access_of (flatten i old new)) found)) (set s.views j (learned (flattened v i old new found) [])) = kinds_keep s.size s.agents s.words s.views j v (flatten i old new) [] g at live may in
-      (either_live v i (length (unwrap_or (get v.units i) [])) new (form_of found) (eqb found (word_of old)) ∙ live, (set s.words (form_at s.size i) (word_left (access_of (flatten i old new)) found), k.0))
+      let k : KeepsRule s.size s.agents s.words (set s.words (form_at s.size i) (word_left (access_of (flatten i old new)) found))
+      (set s.views j (learned (flattened v i old new found) [])) = kinds_keep s.size s.agents s.words s.views j v (flatten i old new) [] g at live may in (
+        either_live v i (length (unwrap_or (get v.units i) [])) new (form_of found) (eqb found (word_of old)) ∙ live,
+        (set s.words (form_at s.size i) (word_left (access_of (flatten i old new)) found), k.0),
+      )
 
   pub thin_turns : (old : Form) (t : ℕ) → Turns (λ v. MayThin v i old t) (λ v x. thinned v i old t x)
   thin_turns old t v at live may = let g : IsSoundCore s = sound_of s j (λ v. MayThin v i old t) h (v, at, live, may) in
-      let k : KeepsRule s.size s.agents s.words (set s.words (form_at s.size i) (word_left (access_of (thin i old t)) found)) (set s.views j (learned (thinned v i old t found) [])) = kinds_keep s.size s.agents s.words s.views j v (thin i old t) [] g at live may in
+      let k : KeepsRule s.size s.agents s.words (set s.words (form_at s.size i) (word_left (access_of (thin i old t)) found))
+      (set s.views j (learned (thinned v i old t found) [])) = kinds_keep s.size s.agents s.words s.views j v (thin i old t) [] g at live may in
       (seen_live v i (cond (eqb found (word_of old)) (Some (Thin t)) (form_of found)) ∙ live, (set s.words (form_at s.size i) (word_left (access_of (thin i old t)) found), k.0))
 
   -- the new forms are spelt by words
@@ -132,7 +140,8 @@ pub thin_live : (vs : List View) (j i : ℕ) (old : Form) (target : ℕ) → Liv
 thin_live vs j i old target t = (t.0, t.1, t.2, t.3.0)
 
 -- what a compare-exchange of the form word leaves there
-pub exchange_done : (s : Core) (i p n : ℕ) (old new stands : Form) → form_of (form s.size s.words i) ≡ Some stands → p ≡ form_at s.size i → n ≡ cond (eqb (word_of stands) (word_of old)) (word_of new) (word_of stands)
+pub exchange_done : (s : Core) (i p n : ℕ) (old new stands : Form) → form_of (form s.size s.words i) ≡ Some stands → p ≡ form_at s.size i →
+    n ≡ cond (eqb (word_of stands) (word_of old)) (word_of new) (word_of stands)
     → stored s p n ≡ stored s (form_at s.size i) (exchanged s (form_at s.size i) (word_of old) (word_of new))
 exchange_done s i p n old new stands e place put = let word : word_of stands ≡ form s.size s.words i = word_of-form_of (form s.size s.words i) stands e in
     λ q. stored s (place q) ((put ∙ ap (λ (x : ℕ). cond (eqb x (word_of old)) (word_of new) x) word) q)

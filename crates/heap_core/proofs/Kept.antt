@@ -45,9 +45,11 @@ enabled_keeps s (Make z agents) h en = (keeps_making z agents en.1 en.2, λ i b.
 enabled_keeps s (Split j give) h en = split_kept s j give (sound_of s j (λ v. (1 ≤ give) × (give < v.share)) h en) en
 enabled_keeps s (Join j other) h en = join_kept s j other (sound_of s j (λ v. LiveAt s other (λ b. MayJoin v b)) h en.1) en
 enabled_keeps s (LoadCounter j k) h en = let g : IsSoundCore s = sound_of s j (λ v. Unit {0}) h en in
-    subst (λ (v : View). Kept s (core s.size s.agents s.words (set s.views j (loaded_counter v k (get_or s.words (counter_at k) 0))))) (sym (at_index s.views j en.0 spent en.1)) (counter_kept s.size s.agents s.words s.views g j en.0 en.1 en.2 k)
+    subst (λ (v : View). Kept s (core s.size s.agents s.words (set s.views j (loaded_counter v k (get_or s.words (counter_at k) 0)))))
+    (sym (at_index s.views j en.0 spent en.1)) (counter_kept s.size s.agents s.words s.views g j en.0 en.1 en.2 k)
 enabled_keeps s (Claim j k a want) h en = let g : IsSoundCore s = sound_of s j (λ v. MayClaim v k a want) h en in let x : ℕ = get_or s.words (counter_at k) 0 in
-    subst (λ (v : View). Kept s (core s.size s.agents (set s.words (counter_at k) (cond (eqb x a) (a + want) x)) (set s.views j (cond (eqb x a) (won_claim v k a want) (loaded_counter v k x))))) (sym (at_index s.views j en.0 spent en.1))
+    subst (λ (v : View). Kept s (core s.size s.agents (set s.words (counter_at k) (cond (eqb x a) (a + want) x))
+    (set s.views j (cond (eqb x a) (won_claim v k a want) (loaded_counter v k x))))) (sym (at_index s.views j en.0 spent en.1))
     (claim_by s.size s.agents s.words s.views g j en.0 en.1 en.2 k a want (eqb x a) en.3 (eqb-true x a))
 enabled_keeps s (StoreWord j c n) h en = let g : IsSoundCore s = sound_of s j (λ v. HasKey v.own_words c) h en in
     subst (λ (v : View). Kept s (core s.size s.agents (set s.words (content_at s.size c) n) (set s.views j (stored_word v c n)))) (sym (at_index s.views j en.0 spent en.1))
@@ -57,11 +59,16 @@ enabled_keeps s (StoreLength j i n) h en = let g : IsSoundCore s = sound_of s j 
     (length_stored s.size s.agents s.words s.views g j en.0 en.1 en.2 i n en.3)
 enabled_keeps s (Birth j i f) h en = birth_kept s j i f (sound_of s j (λ v. MayBear v i f) h en) en
 enabled_keeps s (LoadHeader j i len names) h en = load_header_kept s j i len names.items (sound_of s j (λ v. MayUse v i) h en.0) en
-enabled_keeps s (LoadWord j c names) h en = load_word_kept s j c names.items (sound_of s j (λ v. MayLoadWord v c × MayLearn (loaded_word v c (get_or s.words (content_at s.size c) 0)) names.items) h en) en
-enabled_keeps s (Flatten j i old new names) h en = flatten_kept s j i old new names.items (sound_of s j (λ v. MayFlatten v i old new × MayLearn (flattened v i old new (get_or s.words (form_at s.size i) 0)) names.items) h en) en
-enabled_keeps s (Thin j i old t names) h en = thin_kept s j i old t names.items (sound_of s j (λ v. MayThin v i old t × MayLearn (thinned v i old t (get_or s.words (form_at s.size i) 0)) names.items) h en) en
-enabled_keeps s (LoadSlot j k entry names) h en = load_slot_kept s j k entry names.items (sound_of s j (λ v. (k < v.sizes.slots) × MayEnter v k entry × MayLearn (loaded_slot v k entry (get_or s.words (slot_at s.size k) 0)) names.items) h en) en
-enabled_keeps s (TakeSlot j k i names) h en = take_slot_kept s j k i names.items (sound_of s j (λ v. MayTakeSlot v k i × MayLearn (took_slot v k i (get_or s.words (slot_at s.size k) 0)) names.items) h en) en
+enabled_keeps s (LoadWord j c names) h en = load_word_kept s j c names.items
+    (sound_of s j (λ v. MayLoadWord v c × MayLearn (loaded_word v c (get_or s.words (content_at s.size c) 0)) names.items) h en) en
+enabled_keeps s (Flatten j i old new names) h en = flatten_kept s j i old new names.items
+    (sound_of s j (λ v. MayFlatten v i old new × MayLearn (flattened v i old new (get_or s.words (form_at s.size i) 0)) names.items) h en) en
+enabled_keeps s (Thin j i old t names) h en = thin_kept s j i old t names.items
+    (sound_of s j (λ v. MayThin v i old t × MayLearn (thinned v i old t (get_or s.words (form_at s.size i) 0)) names.items) h en) en
+enabled_keeps s (LoadSlot j k entry names) h en = load_slot_kept s j k entry names.items
+    (sound_of s j (λ v. (k < v.sizes.slots) × MayEnter v k entry × MayLearn (loaded_slot v k entry (get_or s.words (slot_at s.size k) 0)) names.items) h en) en
+enabled_keeps s (TakeSlot j k i names) h en = take_slot_kept s j k i names.items
+    (sound_of s j (λ v. MayTakeSlot v k i × MayLearn (took_slot v k i (get_or s.words (slot_at s.size k) 0)) names.items) h en) en
 
 -- what an application leaves
 pub applied_keeps : (s : Core) (e : Event) (t : Core) (r : Result ℕ Refusal) → IsCore s → Applied s e t r → IsCore t × KeepsUnits s t

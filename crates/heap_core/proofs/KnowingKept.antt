@@ -17,7 +17,28 @@ use Rattle.heap_rule.specs.Kinds.{take_slot, flatten, thin}
 use Rattle.heap_rule.specs.Agents.{spent, left_after_split, right_after_split, joined_view}
 use Rattle.heap_rule.specs.Sound.{IsSound}
 use Rattle.heap_core.specs.Core.{Core, core}
-use Rattle.heap_core.specs.Events.{IsSoundCore, CanSplit, after_split, CanJoin, after_join, CanLoadHeader, after_load_header, CanLoadWord, after_load_word, LiveAt, view_at, CanFlatten, after_flatten, CanThinTo, after_thin, CanLoadSlot, after_load_slot, CanTakeSlot, after_take_slot, Kept}
+use Rattle.heap_core.specs.Events.{
+  IsSoundCore,
+  CanSplit,
+  after_split,
+  CanJoin,
+  after_join,
+  CanLoadHeader,
+  after_load_header,
+  CanLoadWord,
+  after_load_word,
+  LiveAt,
+  view_at,
+  CanFlatten,
+  after_flatten,
+  CanThinTo,
+  after_thin,
+  CanLoadSlot,
+  after_load_slot,
+  CanTakeSlot,
+  after_take_slot,
+  Kept,
+}
 use Rattle.heap_rule.proofs.ListLemmas.{at_index}
 use Rattle.heap_rule.proofs.KindsKept.{form_loaded, length_loaded, word_loaded, slot_loaded, birth_by, kinds_keep}
 use Rattle.heap_rule.proofs.Steps.{sizes_are}
@@ -35,7 +56,8 @@ split_kept s j give h can = let v : View = can.0 in
 
 pub join_kept : (s : Core) (j other : ℕ) → IsSoundCore s → CanJoin s j other → Kept s (after_join s j other)
 join_kept s j other h can = let l = can.1 in let v : View = l.0 in let t = l.3 in let b : View = t.0 in
-    subst (λ (u : View × View). Kept s (core s.size s.agents s.words (set (set s.views j (joined_view u.0 u.1)) other spent))) (λ i. (sym (at_index s.views j v spent l.1) i, sym (at_index s.views other b spent t.1) i))
+    subst (λ (u : View × View). Kept s (core s.size s.agents s.words (set (set s.views j (joined_view u.0 u.1)) other spent)))
+    (λ i. (sym (at_index s.views j v spent l.1) i, sym (at_index s.views other b spent t.1) i))
     (still s _ (keeps_joined s.size s.agents s.words s.views h j other v b can.0 l.1 l.2 t.1 t.2))
 
 pub load_header_kept : (s : Core) (j i : ℕ) (len : Bool) (names : List ℕ) → IsSoundCore s → CanLoadHeader s j i len names → Kept s (after_load_header s j i len names)
@@ -65,20 +87,25 @@ load_slot_kept s j k entry names h l = let v : View = l.0 in let x : ℕ = get_o
 
 pub take_slot_kept : (s : Core) (j k i : ℕ) (names : List ℕ) → IsSoundCore s → CanTakeSlot s j k i names → Kept s (after_take_slot s j k i names)
 take_slot_kept s j k i names h l = let v : View = l.0 in let x : ℕ = get_or s.words (slot_at s.size k) 0 in
-    subst (λ (u : View). Kept s (core s.size s.agents (set s.words (slot_at s.size k) (cond (eqb x 0) (i + 1) x)) (set s.views j (learned (took_slot u k i x) names)))) (sym (at_index s.views j v spent l.1))
+    subst (λ (u : View). Kept s (core s.size s.agents (set s.words (slot_at s.size k) (cond (eqb x 0) (i + 1) x))
+    (set s.views j (learned (took_slot u k i x) names)))) (sym (at_index s.views j v spent l.1))
     (kinds_keep s.size s.agents s.words s.views j v (take_slot k i) names h l.1 l.2 l.3.0)
 
 pub flatten_kept : (s : Core) (j i : ℕ) (old new : Form) (names : List ℕ) → IsSoundCore s → CanFlatten s j i old new names → Kept s (after_flatten s j i old new names)
 flatten_kept s j i old new names h l = let v : View = l.0 in let x : ℕ = get_or s.words (form_at s.size i) 0 in
-    subst (λ (u : View). Kept s (core s.size s.agents (set s.words (form_at s.size i) (cond (eqb x (word_of old)) (word_of new) x)) (set s.views j (learned (flattened u i old new x) names)))) (sym (at_index s.views j v spent l.1))
+    subst (λ (u : View). Kept s (core s.size s.agents (set s.words (form_at s.size i) (cond (eqb x (word_of old)) (word_of new) x))
+    (set s.views j (learned (flattened u i old new x) names)))) (sym (at_index s.views j v spent l.1))
     (kinds_keep s.size s.agents s.words s.views j v (flatten i old new) names h l.1 l.2 l.3.0)
 
 pub thin_kept : (s : Core) (j i : ℕ) (old : Form) (t : ℕ) (names : List ℕ) → IsSoundCore s → CanThinTo s j i old t names → Kept s (after_thin s j i old t names)
 thin_kept s j i old t names h l = let v : View = l.0 in let x : ℕ = get_or s.words (form_at s.size i) 0 in
-    subst (λ (u : View). Kept s (core s.size s.agents (set s.words (form_at s.size i) (cond (eqb x (word_of old)) (word_of (Thin t)) x)) (set s.views j (learned (thinned u i old t x) names)))) (sym (at_index s.views j v spent l.1))
+    subst (λ (u : View). Kept s (core s.size s.agents (set s.words (form_at s.size i) (cond (eqb x (word_of old)) (word_of (Thin t)) x))
+    (set s.views j (learned (thinned u i old t x) names)))) (sym (at_index s.views j v spent l.1))
     (kinds_keep s.size s.agents s.words s.views j v (thin i old t) names h l.1 l.2 l.3.0)
 
-pub birth_kept : (s : Core) (j i : ℕ) (f : Form) → IsSoundCore s → LiveAt s j (λ v. MayBear v i f) → Kept s (core s.size s.agents (set s.words (form_at s.size i) (word_of f)) (set s.views j (born (view_at s j) i f)))
+pub birth_kept : (s : Core) (j i : ℕ) (f : Form) → IsSoundCore s → LiveAt s j (λ v. MayBear v i f) → Kept s
+    (core s.size s.agents (set s.words (form_at s.size i) (word_of f)) (set s.views j (born (view_at s j) i f)))
 birth_kept s j i f h l = let v : View = l.0 in let n : ℕ = l.3.0 in
     let is : born (view_at s j) i f ≡ born_with v i n f = ap (λ (u : View). born u i f) (at_index s.views j v spent l.1) ∙ ap (λ (o : Option ℕ). born_with v i (unwrap_or o 0) f) l.3.1 in
-    subst (λ (w : View). Kept s (core s.size s.agents (set s.words (form_at s.size i) (word_of f)) (set s.views j w))) (sym is) (birth_by s.size s.agents s.words s.views h j v l.1 l.2 i n f l.3.1 l.3.2)
+    subst (λ (w : View). Kept s (core s.size s.agents (set s.words (form_at s.size i) (word_of f)) (set s.views j w))) (sym is)
+    (birth_by s.size s.agents s.words s.views h j v l.1 l.2 i n f l.3.1 l.3.2)

@@ -29,8 +29,10 @@ some_words false n h = omega arith
 
 -- in a sound state the lanes of every Flat that is known can be counted
 pub room_of : (z : HeapSize) (agents : ℕ) (W : List ℕ) (vs : List View) (s : IsSound z agents W vs) (j : ℕ) (v : View) → At vs j v → v.live ≡ true → HasRoom v
-room_of z agents W vs s j v at live i wide start fixed n f l h = let k = s.knows j v at live in let b = k.of_forms i (Flat wide start fixed) f in let e = (k.of_lengths i n l).1 in let short = (s.standing i b.born).short in
-    let some : 1 ≤ words_over wide (length_word z W i) = some_words wide (length_word z W i) (omega arith) in let low = (b.shows.1 start (omega arith) (omega arith)).below in let most = s.counted.words_end in let small = s.lawful.3 in omega arith
+room_of z agents W vs s j v at live i wide start fixed n f l h = let k = s.knows j v at live in
+    let b = k.of_forms i (Flat wide start fixed) f in let e = (k.of_lengths i n l).1 in let short = (s.standing i b.born).short in
+    let some : 1 ≤ words_over wide (length_word z W i) = some_words wide (length_word z W i) (omega arith) in
+    let low = (b.shows.1 start (omega arith) (omega arith)).below in let most = s.counted.words_end in let small = s.lawful.3 in omega arith
 
 -- a load of a header freezes nothing
 pub header_run : (z : HeapSize) (W : List ℕ) (i : ℕ) (len : Bool) (l : Load) → IsHeaderLoad z W i len l → IsRunCounted l
@@ -46,7 +48,10 @@ module _ (s : Core) (h : IsCore s) (j : ℕ) where
 
   pub header_is : (i : ℕ) (len : Bool) (l : Load) (v : View) → At s.views j v → IsHeaderLoad s.size s.words i len l → header_seen s j i len ≡ loaded_by v l
   header_is i true l v at e = (λ k. loaded_length (at_index s.views j v spent at k) i (length_word s.size s.words i)) ∙ ap (loaded_by v) (sym e)
-  header_is i false l v at e = (λ k. record (with_form (at_index s.views j v spent at k) i (e.1 k)) { form_loads = added_loads (at_index s.views j v spent at k).form_loads 1 }) ∙ ap (loaded_by v) (sym e.2)
+  header_is i false l v at e = (λ k. record (with_form (at_index s.views j v spent at k) i (e.1 k)) {
+    form_loads = added_loads
+        (at_index s.views j v spent at k).form_loads 1;
+  }) ∙ ap (loaded_by v) (sym e.2)
 
   pub header_room_by : (i : ℕ) (len : Bool) (l : Load) (t : LiveIn s.views j (λ v. MayUse v i)) → IsHeaderLoad s.size s.words i len l → HasRoom (loaded_by t.0 l)
   header_room_by i true l t e = let g : IsSoundCore s = sound_of s j (λ v. MayUse v i) h t in let v : View = t.0 in let w : View = loaded_length v i (length_word s.size s.words i) in
@@ -55,7 +60,8 @@ module _ (s : Core) (h : IsCore s) (j : ℕ) where
   header_room_by i false l t e = let g : IsSoundCore s = sound_of s j (λ v. MayUse v i) h t in let v : View = t.0 in let x : ℕ = form s.size s.words i in
       let w : View = record (with_form v i (Some e.0)) { form_loads = added_loads v.form_loads 1 } in
       let same : learned (loaded_form v i x) [] ≡ w = (λ k. learned (record (with_form v i (e.1 k)) { form_loads = added_loads v.form_loads 1 }) []) in
-      let k : IsSound s.size s.agents s.words (set s.views j w) = subst (λ (u : View). IsSound s.size s.agents s.words (set s.views j u)) same (keeps_loaded_form s.size s.agents s.words s.views g j v t.1 t.2 i t.3 []) in
+      let k : IsSound s.size s.agents s.words (set s.views j w) = subst (λ (u : View). IsSound s.size s.agents s.words (set s.views j u))
+      same (keeps_loaded_form s.size s.agents s.words s.views g j v t.1 t.2 i t.3 []) in
       subst (λ (q : Load). HasRoom (loaded_by v q)) (sym e.2) (room_of s.size s.agents s.words (set s.views j w) k j w (set_there s.views j w v t.1) t.2)
 
   pub header_room : (i : ℕ) (len : Bool) (l : Load) (t : LiveIn s.views j (λ v. MayUse v i)) → IsHeaderLoad s.size s.words i len l → HasRoom (loaded_by (view_at s j) l)
@@ -68,14 +74,18 @@ module _ (s : Core) (h : IsCore s) (j : ℕ) where
   pub header_not_known : (i : ℕ) (len : Bool) (names : List ℕ) (v : View) → At s.views j v × (v.live ≡ true) → (MayUse v i → IsTrue false) → Tells false (CanLoadHeader s j i len names)
   header_not_known i len names v is not = ((λ (e : false ≡ true). absurd (cc)), (λ c. not (subst (λ (u : View). MayUse u i) (some-injective c.0.0 v (sym c.0.1 ∙ is.0)) c.0.3)))
 
-  pub header_tells : (i : ℕ) (len : Bool) (names : List ℕ) (l : Load) (b : Bool) (t : LiveIn s.views j (λ v. MayUse v i)) → IsHeaderLoad s.size s.words i len l → Tells b (MayLearn (loaded_by t.0 l) names) → Tells b (CanLoadHeader s j i len names)
+  pub header_tells : (i : ℕ) (len : Bool) (names : List ℕ) (l : Load) (b : Bool) (t : LiveIn s.views j (λ v. MayUse v i)) → IsHeaderLoad
+      s.size s.words i len l → Tells b (MayLearn (loaded_by t.0 l) names) → Tells b (CanLoadHeader s j i len names)
   header_tells i len names l b t e test = let is : header_seen s j i len ≡ loaded_by t.0 l = header_is i len l t.0 t.1 e in
       ((λ q. (t, subst (λ (u : View). MayLearn u names) (sym is) (test.0 q))), (λ c. test.1 (subst (λ (u : View). MayLearn u names) is c.1)))
 
   -- what a load leaves
-  pub header_became : (i : ℕ) (len : Bool) (names : List ℕ) (l : Load) (p x : ℕ) (t : Core) → LiveIn s.views j (λ v. MayUse v i) → IsHeaderLoad s.size s.words i len l → p ≡ header_at s.size i len → x ≡ get_or s.words p 0
+  pub header_became : (i : ℕ) (len : Bool) (names : List ℕ) (l : Load) (p x : ℕ) (t : Core) → LiveIn s.views j (λ v. MayUse v i) →
+      IsHeaderLoad s.size s.words i len l → p ≡ header_at s.size i len → x ≡ get_or s.words p 0
       → t ≡ looked s j (learned (loaded_by (view_at s j) l) names) → (t ≡ after_load_header s j i len names) × (x ≡ get_or s.words (header_at s.size i len) 0)
-  header_became i len names l p x t live e place found is = let same : loaded_by (view_at s j) l ≡ header_seen s j i len = ap (λ (v : View). loaded_by v l) (at_index s.views j live.0 spent live.1) ∙ sym (header_is i len l live.0 live.1 e) in
+  header_became i len names l p x t live e place found is =
+      let same : loaded_by (view_at s j) l ≡ header_seen s j i len = ap (λ (v : View). loaded_by v l) (at_index s.views j live.0 spent live.1)
+      ∙ sym (header_is i len l live.0 live.1 e) in
       (is ∙ ap (λ (v : View). looked s j (learned v names)) same, found ∙ ap (λ (q : ℕ). get_or s.words q 0) place)
 
   pub place_inside : (i : ℕ) (len : Bool) (p : ℕ) → LiveIn s.views j (λ v. MayUse v i) → p ≡ header_at s.size i len → p < length s.words
@@ -91,7 +101,8 @@ module _ (s : Core) (h : IsCore s) (j : ℕ) where
   pub word_room_by : (c x : ℕ) (l : Load) (t : LiveIn s.views j (λ v. MayLoadWord v c)) → x ≡ content s.size s.words c → loaded_by t.0 l ≡ loaded_word t.0 c x → HasRoom (loaded_by t.0 l)
   word_room_by c x l t found e = let g : IsSoundCore s = sound_of s j (λ v. MayLoadWord v c) h t in let w : View = loaded_word t.0 c (content s.size s.words c) in
       let live : w.live ≡ true = word_live t.0 c (content s.size s.words c) t.2 in
-      subst HasRoom (sym (e ∙ ap (loaded_word t.0 c) found)) (room_of s.size s.agents s.words (set s.views j w) (keeps_loaded_word s.size s.agents s.words s.views g j t.0 t.1 t.2 c t.3) j w (set_there s.views j w t.0 t.1) live)
+      subst HasRoom (sym (e ∙ ap (loaded_word t.0 c) found)) (room_of s.size s.agents s.words (set s.views j w)
+      (keeps_loaded_word s.size s.agents s.words s.views g j t.0 t.1 t.2 c t.3) j w (set_there s.views j w t.0 t.1) live)
 
   -- the word that is found
   pub word_found : (c p x : ℕ) → p ≡ content_at s.size c → x ≡ get_or s.words p 0 → x ≡ content s.size s.words c
@@ -117,6 +128,7 @@ module _ (s : Core) (h : IsCore s) (j : ℕ) where
   pub may_word : (c : ℕ) (names : List ℕ) → CanLoadWord s j c names → LiveIn s.views j (λ v. MayLoadWord v c)
   may_word c names t = (t.0, t.1, t.2, t.3.0)
 
-  pub word_became : (c x : ℕ) (names : List ℕ) (l : Load) (t : Core) → x ≡ content s.size s.words c → loaded_by (view_at s j) l ≡ loaded_word (view_at s j) c x → t ≡ looked s j (learned (loaded_by (view_at s j) l) names)
+  pub word_became : (c x : ℕ) (names : List ℕ) (l : Load) (t : Core) → x ≡ content s.size s.words c → loaded_by (view_at s j) l ≡
+      loaded_word (view_at s j) c x → t ≡ looked s j (learned (loaded_by (view_at s j) l) names)
       → (t ≡ after_load_word s j c names) × (x ≡ get_or s.words (content_at s.size c) 0)
   word_became c x names l t found e is = (is ∙ ap (λ (v : View). looked s j (learned v names)) (e ∙ ap (loaded_word (view_at s j) c) found), found)

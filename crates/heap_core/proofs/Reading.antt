@@ -32,7 +32,8 @@ module _ (z : HeapSize) (W : List ℕ) (stand : AreStanding z W) (i : ℕ) (b : 
   pub flat_read : (wide : Bool) (start : ℕ) (fixed : Bool) (n : ℕ) → form_of (form z W i) ≡ Some (Flat wide start fixed) → length_word z W i ≡ n → units_of z W i ≡ span (content z W) wide start 0 n
   flat_read wide start fixed n e l = (shows (Flat wide start fixed) e).0 ∙ ap (λ (m : ℕ). span (content z W) wide start 0 m) l
 
-  pub sliced_read : (wide' : Bool) (parent offset n : ℕ) (wide : Bool) (start m : ℕ) → form_of (form z W i) ≡ Some (Sliced wide' parent offset) → length_word z W i ≡ n → units_of z W parent ≡ span (content z W) wide start 0 m
+  pub sliced_read : (wide' : Bool) (parent offset n : ℕ) (wide : Bool) (start m : ℕ) → form_of (form z W i) ≡ Some
+      (Sliced wide' parent offset) → length_word z W i ≡ n → units_of z W parent ≡ span (content z W) wide start 0 m
       → (units_of z W i ≡ span (content z W) wide start offset n) × (offset + n ≤ m)
   sliced_read wide' parent offset n wide start m e l p = let s = shows (Sliced wide' parent offset) e in
       let long : length (units_of z W parent) ≡ m = ap length p ∙ length_span (content z W) wide start 0 m in

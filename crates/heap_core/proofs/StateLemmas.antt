@@ -1,5 +1,42 @@
 -- What the executable steps do to the machine, as plain data.
-use Rattle.std.proofs.Common.{◌≡◌, ◌≢◌, ℕ, zero, suc, ◌+◌, ◌^◌, ◌<◌, ◌≤◌, ⊎_elim, Bool, true, false, cond, List, [], ◌∷◌, ◌++◌, length, get_or, set, sym, refl, ap, ◌∙◌, subst, arith, IsTrue, Option, Some, None, Bor, Ok, eqb, eq-eqb, ne_eqb}
+use Rattle.std.proofs.Common.{
+  ◌≡◌,
+  ◌≢◌,
+  ℕ,
+  zero,
+  suc,
+  ◌+◌,
+  ◌^◌,
+  ◌<◌,
+  ◌≤◌,
+  ⊎_elim,
+  Bool,
+  true,
+  false,
+  cond,
+  List,
+  [],
+  ◌∷◌,
+  ◌++◌,
+  length,
+  get_or,
+  set,
+  sym,
+  refl,
+  ap,
+  ◌∙◌,
+  subst,
+  arith,
+  IsTrue,
+  Option,
+  Some,
+  None,
+  Bor,
+  Ok,
+  eqb,
+  eq-eqb,
+  ne_eqb,
+}
 use Rattle.std.specs.Prelude.{unwrap_or, is_some, IfSome, IsNone}
 use Rattle.std.proofs.lemmas.List.{set-get_or, set-append_left}
 use Rattle.std.proofs.Math.ListN.{get_or-append}
@@ -56,7 +93,8 @@ live_tells vs j P v b is test = (
 pub none_tells : (vs : List View) (j : ℕ) (P : View → Type 0) → (LiveIn vs j (λ v. Unit {0}) → ⊥) → Tells false (LiveIn vs j P)
 none_tells vs j P not = ((λ (e : false ≡ true). absurd (cc)), (λ t. absurd (not (t.0, t.1, t.2, tt))))
 
-pub some_tells : (vs : List View) (j : ℕ) (o : Option (Bor View)) (b : Bool) → b ≡ is_some o → IfSome o (λ v. At vs j v.now × (v.now.live ≡ true)) → (IsNone o → LiveIn vs j (λ v. Unit {0}) → ⊥) → Tells b (LiveIn vs j (λ v. Unit {0}))
+pub some_tells : (vs : List View) (j : ℕ) (o : Option (Bor View)) (b : Bool) → b ≡ is_some o → IfSome o
+    (λ v. At vs j v.now × (v.now.live ≡ true)) → (IsNone o → LiveIn vs j (λ v. Unit {0}) → ⊥) → Tells b (LiveIn vs j (λ v. Unit {0}))
 some_tells vs j (Some v) b e is not = ((λ _. (v.now, is.0, is.1, tt)), (λ _. e))
 some_tells vs j None b e is not = ((λ q. let both : false ≡ true = sym e ∙ q in absurd (cc)), (λ t. absurd (not refl t)))
 
@@ -78,25 +116,31 @@ module _ (s : Core) (j : ℕ) (d : View) where
   pub load_done : (k : Counter) (p x : ℕ) (w : View) → LiveIn s.views j (λ v. Unit {0}) → p ≡ counter_at k → x ≡ get_or s.words p 0 → w ≡ loaded_counter here k x
       → Made s (LoadCounter j k) (core s.size s.agents s.words (set s.views j w)) (Ok x)
   load_done k p x w live place found is = (
-    (λ i. core s.size s.agents s.words (set s.views j (is i))) ∙ (λ i. core s.size s.agents s.words (set s.views j (loaded_counter (same_view (λ v. Unit {0}) live i) k ((found ∙ ap (λ (q : ℕ). get_or s.words q 0) place) i)))),
+    (λ i. core s.size s.agents s.words (set s.views j (is i))) ∙ (λ i. core s.size s.agents s.words
+        (set s.views j (loaded_counter (same_view (λ v. Unit {0}) live i) k ((found ∙ ap (λ (q : ℕ). get_or s.words q 0) place) i)))),
     found ∙ ap (λ (q : ℕ). get_or s.words q 0) place,
   )
 
-  pub claim_won : (k : Counter) (a want p q x n : ℕ) (w : View) → LiveIn s.views j (λ v. MayClaim v k a want) → p ≡ counter_at k → q ≡ counter_at k → x ≡ get_or s.words p 0 → x ≡ a → n ≡ want → w ≡ won_claim here k a want
+  pub claim_won : (k : Counter) (a want p q x n : ℕ) (w : View) → LiveIn s.views j (λ v. MayClaim v k a want) → p ≡ counter_at k → q ≡
+      counter_at k → x ≡ get_or s.words p 0 → x ≡ a → n ≡ want → w ≡ won_claim here k a want
       → Made s (Claim j k a want) (core s.size s.agents (set s.words q (x + n)) (set s.views j w)) (Ok x)
-  claim_won k a want p q x n w live pe qe found won ne is = let y : ℕ = get_or s.words (counter_at k) 0 in let there : x ≡ y = found ∙ ap (λ (r : ℕ). get_or s.words r 0) pe in let b : eqb y a ≡ true = eq-eqb y a (sym there ∙ won) in let v : View = view_at s j in (
-    (λ i. core s.size s.agents (set s.words (qe i) (won i + ne i)) (set s.views j ((is ∙ ap (λ (u : View). won_claim u k a want) (same_view (λ v. MayClaim v k a want) live)) i)))
-        ∙ (λ i. core s.size s.agents (set s.words (counter_at k) (cond (sym b i) (a + want) y)) (set s.views j (cond (sym b i) (won_claim v k a want) (loaded_counter v k y)))),
-    there,
-  )
+  claim_won k a want p q x n w live pe qe found won ne is = let y : ℕ = get_or s.words (counter_at k) 0 in
+      let there : x ≡ y = found ∙ ap (λ (r : ℕ). get_or s.words r 0) pe in let b : eqb y a ≡ true = eq-eqb y a (sym there ∙ won) in
+      let v : View = view_at s j in (
+        (λ i. core s.size s.agents (set s.words (qe i) (won i + ne i)) (set s.views j ((is ∙ ap (λ (u : View). won_claim u k a want) (same_view (λ v. MayClaim v k a want) live)) i)))
+            ∙ (λ i. core s.size s.agents (set s.words (counter_at k) (cond (sym b i) (a + want) y)) (set s.views j (cond (sym b i) (won_claim v k a want) (loaded_counter v k y)))),
+        there,
+      )
 
   pub claim_lost : (k : Counter) (a want p x : ℕ) (w : View) → LiveIn s.views j (λ v. MayClaim v k a want) → p ≡ counter_at k → x ≡ get_or s.words p 0 → x ≢ a → w ≡ loaded_counter here k x
       → Made s (Claim j k a want) (core s.size s.agents s.words (set s.views j w)) (Ok x)
-  claim_lost k a want p x w live pe found lost is = let y : ℕ = get_or s.words (counter_at k) 0 in let there : x ≡ y = found ∙ ap (λ (r : ℕ). get_or s.words r 0) pe in let b : eqb y a ≡ false = ne_eqb y a (λ e. lost (there ∙ e)) in let v : View = view_at s j in (
-    (λ i. core s.size s.agents (sym (set-get_or s.words (counter_at k) 0) i) (set s.views j ((is ∙ (λ m. loaded_counter (same_view (λ v. MayClaim v k a want) live m) k (there m))) i)))
-        ∙ (λ i. core s.size s.agents (set s.words (counter_at k) (cond (sym b i) (a + want) y)) (set s.views j (cond (sym b i) (won_claim v k a want) (loaded_counter v k y)))),
-    there,
-  )
+  claim_lost k a want p x w live pe found lost is = let y : ℕ = get_or s.words (counter_at k) 0 in
+      let there : x ≡ y = found ∙ ap (λ (r : ℕ). get_or s.words r 0) pe in let b : eqb y a ≡ false = ne_eqb y a (λ e. lost (there ∙ e)) in
+      let v : View = view_at s j in (
+        (λ i. core s.size s.agents (sym (set-get_or s.words (counter_at k) 0) i) (set s.views j ((is ∙ (λ m. loaded_counter (same_view (λ v. MayClaim v k a want) live m) k (there m))) i)))
+            ∙ (λ i. core s.size s.agents (set s.words (counter_at k) (cond (sym b i) (a + want) y)) (set s.views j (cond (sym b i) (won_claim v k a want) (loaded_counter v k y)))),
+        there,
+      )
 
   pub store_done : (c n p x : ℕ) (w : View) → LiveIn s.views j (λ v. HasKey v.own_words c) → p ≡ content_at s.size c → x ≡ get_or s.words p 0 → w ≡ stored_word here c n
       → Made s (StoreWord j c n) (core s.size s.agents (set s.words p n) (set s.views j w)) (Ok x)
@@ -124,8 +168,10 @@ part_of : (f : View → ℕ) (vs : List View) (j : ℕ) (v w : View) → At vs j
 part_of f vs j v w at live l e = let h = total_set f vs j v w at live l in omega arith
 
 pub used_within : (s : Core) (j : ℕ) (v : View) (k : Counter) → IsSoundCore s → At s.views j v → v.live ≡ true → counter_value v.used k ≤ get_or s.words (counter_at k) 0
-used_within s j v Ids h at live = let w : View = record v { used = nothing_used } in let e = h.added in let f = e.ids in let p = part_of (λ u. u.used.ids) s.views j v w at live live refl in omega arith
-used_within s j v Words h at live = let w : View = record v { used = nothing_used } in let e = h.added in let f = e.words in let p = part_of (λ u. u.used.words) s.views j v w at live live refl in omega arith
+used_within s j v Ids h at live = let w : View = record v { used = nothing_used } in let e = h.added in let f = e.ids in
+    let p = part_of (λ u. u.used.ids) s.views j v w at live live refl in omega arith
+used_within s j v Words h at live = let w : View = record v { used = nothing_used } in let e = h.added in let f = e.words in
+    let p = part_of (λ u. u.used.words) s.views j v w at live live refl in omega arith
 
 -- where a counter ends
 pub end_small : (s : Core) (j : ℕ) (v : View) (k : Counter) → IsSoundCore s → At s.views j v → v.live ≡ true → end_of v.sizes k < 536870912
@@ -134,12 +180,15 @@ end_small s j v Words h at live = let l = h.lawful in let i = l.3 in let e = (h.
 
 -- where an own word lies
 pub own_word : (s : Core) (j c : ℕ) → IsCore s → LiveIn s.views j (λ v. HasKey v.own_words c) → IsLawfulSize s.size × (c < s.size.words) × (content_at s.size c < length s.words)
-own_word s j c h live = let g : IsSoundCore s = sound_of s j (λ v. HasKey v.own_words c) h live in let p = has_key live.0.own_words c live.3 in let o = ((g.own_words j live.0 live.1 live.2).each c p.0 p.1).0 in
+own_word s j c h live = let g : IsSoundCore s = sound_of s j (λ v. HasKey v.own_words c) h live in
+    let p = has_key live.0.own_words c live.3 in let o = ((g.own_words j live.0 live.1 live.2).each c p.0 p.1).0 in
     let n = g.counted in let e = n.words_end in let l = n.long in (g.lawful, omega arith, omega arith)
 
 -- where the words of an own id lie
-pub own_id : (s : Core) (j i : ℕ) → IsCore s → LiveIn s.views j (λ v. HasKey v.own_ids i) → IsLawfulSize s.size × (i < s.size.ids) × (form_at s.size i < length s.words) × (length_at s.size i < length s.words)
-own_id s j i h live = let g : IsSoundCore s = sound_of s j (λ v. HasKey v.own_ids i) h live in let p = has_key live.0.own_ids i live.3 in let o = ((g.own_ids j live.0 live.1 live.2).each i p.0 p.1).0 in
+pub own_id : (s : Core) (j i : ℕ) → IsCore s → LiveIn s.views j (λ v. HasKey v.own_ids i) → IsLawfulSize s.size × (i < s.size.ids) ×
+    (form_at s.size i < length s.words) × (length_at s.size i < length s.words)
+own_id s j i h live = let g : IsSoundCore s = sound_of s j (λ v. HasKey v.own_ids i) h live in let p = has_key live.0.own_ids i live.3 in
+    let o = ((g.own_ids j live.0 live.1 live.2).each i p.0 p.1).0 in
     let n = g.counted in let e = n.ids_end in let l = n.long in (g.lawful, omega arith, omega arith, omega arith)
 
 pub own_lengths : (s : Core) (i : ℕ) → IsCore s → EachLive s.views (λ _ v. (n : ℕ) → Has v.own_ids i n → n ≤ MAX)
@@ -191,21 +240,27 @@ join_not_other vs j o not = ((λ (e : false ≡ true). absurd (cc)), (λ h. let 
 pub some_words : (s : Core) (j : ℕ) (P : View → Type 0) → IsCore s → LiveIn s.views j P → 0 < length s.words
 some_words s j P h t = let g : IsSoundCore s = sound_of s j P h t in let l = g.counted.long in omega arith
 
-pub split_done : (s : Core) (j give x : ℕ) (d e left right : View) (vs : List View) → LiveIn s.views j (λ v. (1 ≤ give) × (give < v.share)) → x ≡ get_or s.words 0 0 → right ≡ right_after_split (get_or s.views j d) give
+pub split_done : (s : Core) (j give x : ℕ) (d e left right : View) (vs : List View) → LiveIn s.views j (λ v. (1 ≤ give) × (give < v.share))
+    → x ≡ get_or s.words 0 0 → right ≡ right_after_split (get_or s.views j d) give
     → vs ≡ s.views ++ right ∷ [] → left ≡ left_after_split (get_or vs j e) give → Made s (Split j give) (core s.size s.agents s.words (set vs j left)) (Ok x)
 split_done s j give x d e left right vs live found is grown rest = let P : View → Type 0 = (λ v. (1 ≤ give) × (give < v.share)) in let l = view_inside s.views j P live in let u : View = view_at s j in
     let r : right ≡ right_after_split u give = is ∙ ap (λ (v : View). right_after_split v give) (any_default s.views j d spent l) in
-    let h : left ≡ left_after_split u give = rest ∙ ap (λ (v : View). left_after_split v give) (ap (λ (ws : List View). get_or ws j e) grown ∙ (get_or-append s.views (right ∷ []) e j l ∙ any_default s.views j e spent l)) in (
-      (λ i. core s.size s.agents s.words (set (grown i) j left)) ∙ ((λ i. core s.size s.agents s.words (set-append_left s.views (right ∷ []) j left l i)) ∙ (λ i. core s.size s.agents s.words (set s.views j (h i) ++ r i ∷ []))),
+    let h : left ≡ left_after_split u give = rest ∙ ap (λ (v : View). left_after_split v give)
+    (ap (λ (ws : List View). get_or ws j e) grown ∙ (get_or-append s.views (right ∷ []) e j l ∙ any_default s.views j e spent l)) in (
+      (λ i. core s.size s.agents s.words (set (grown i) j left)) ∙ ((λ i. core s.size s.agents s.words
+          (set-append_left s.views (right ∷ []) j left l i)) ∙ (λ i. core s.size s.agents s.words (set s.views j (h i) ++ r i ∷ []))),
       found,
     )
 
 -- what a giver has left, where one more view stands behind it
 pub split_room : (vs us : List View) (j give : ℕ) (v right : View) → LiveIn vs j (λ v. (1 ≤ give) × (give < v.share)) → us ≡ vs ++ right ∷ [] → v ≡ get_or us j v → give ≤ v.share
-split_room vs us j give v right live grown here = let is : v ≡ live.0 = here ∙ (ap (λ (ws : List View). get_or ws j v) grown ∙ (get_or-append vs (right ∷ []) v j (at_within vs j live.0 live.1) ∙ at_index vs j live.0 v live.1)) in
+split_room vs us j give v right live grown here =
+    let is : v ≡ live.0 = here ∙ (ap (λ (ws : List View). get_or ws j v) grown ∙
+    (get_or-append vs (right ∷ []) v j (at_within vs j live.0 live.1) ∙ at_index vs j live.0 v live.1)) in
     let less = live.3.1 in subst (λ (u : View). give ≤ u.share) (sym is) (omega arith)
 
-pub join_done : (s : Core) (j o x : ℕ) (d e w b : View) → (j ≢ o) × LiveIn s.views j (λ v. LiveIn s.views o (λ b. MayJoin v b)) → x ≡ get_or s.words 0 0 → w ≡ joined_view (get_or s.views j d) (get_or s.views o e) → b ≡ spent
+pub join_done : (s : Core) (j o x : ℕ) (d e w b : View) → (j ≢ o) × LiveIn s.views j (λ v. LiveIn s.views o (λ b. MayJoin v b)) → x ≡ get_or
+    s.words 0 0 → w ≡ joined_view (get_or s.views j d) (get_or s.views o e) → b ≡ spent
     → Made s (Join j o) (core s.size s.agents s.words (set (set s.views j w) o b)) (Ok x)
 join_done s j o x d e w b can found is dead = let l = view_inside s.views j (λ v. LiveIn s.views o (λ b. MayJoin v b)) can.1 in let m = view_inside s.views o (λ b. MayJoin can.1.0 b) can.1.3 in (
   (λ i. core s.size s.agents s.words (set (set s.views j ((is ∙ (λ k. joined_view (any_default s.views j d spent l k) (any_default s.views o e spent m k))) i)) o (dead i))),
@@ -220,9 +275,12 @@ two_within f vs j o v b ne at live at_other live_other = let gone = total_gone f
 -- what a joining adds up fits
 pub join_fits : (s : Core) (j o : ℕ) (d e : View) → s.agents < 2 ^ 32 → IsCore s → (j ≢ o) × LiveIn s.views j (λ v. LiveIn s.views o (λ b. MayJoin v b))
     → let v : View = get_or s.views j d in let b : View = get_or s.views o e in (v.share + b.share < 2 ^ 32) × (v.used.ids + b.used.ids < 2 ^ 32) × (v.used.words + b.used.words < 2 ^ 32)
-join_fits s j o d e small_agents h can = let t = can.1 in let v : View = t.0 in let r = t.3 in let b : View = r.0 in let g : IsSoundCore s = sound_of s j (λ v. LiveIn s.views o (λ b. MayJoin v b)) h t in
+join_fits s j o d e small_agents h can = let t = can.1 in let v : View = t.0 in let r = t.3 in let b : View = r.0 in
+    let g : IsSoundCore s = sound_of s j (λ v. LiveIn s.views o (λ b. MayJoin v b)) h t in
     let a = g.added in let n = g.counted in let z = g.lawful in let small = n.ids_end in let small_words = n.words_end in
-    let shares = two_within (λ u. u.share) s.views j o v b can.0 t.1 t.2 r.1 r.2 in let ids = two_within (λ u. u.used.ids) s.views j o v b can.0 t.1 t.2 r.1 r.2 in let words = two_within (λ u. u.used.words) s.views j o v b can.0 t.1 t.2 r.1 r.2 in
+    let shares = two_within (λ u. u.share) s.views j o v b can.0 t.1 t.2 r.1 r.2 in
+    let ids = two_within (λ u. u.used.ids) s.views j o v b can.0 t.1 t.2 r.1 r.2 in
+    let words = two_within (λ u. u.used.words) s.views j o v b can.0 t.1 t.2 r.1 r.2 in
     let agents = a.shares in let total_ids = a.ids in let total_words = a.words in
     subst (λ (p : View × View). (p.0.share + p.1.share < 2 ^ 32) × (p.0.used.ids + p.1.used.ids < 2 ^ 32) × (p.0.used.words + p.1.used.words < 2 ^ 32))
     (λ i. (sym (at_index s.views j v d t.1) i, sym (at_index s.views o b e r.1) i)) (omega arith, omega arith, omega arith)

@@ -47,11 +47,14 @@ same_word old stands e = eq-eqb (word_of stands) (word_of old) (ap word_of e)
 module _ (v : View) (i : ℕ) (old stands : Form) where
   pub flatten_lost : (new : Form) → IsInRange stands → IsSameOrLater old stands → stands ≢ old → loaded_by v (Turned i stands 0 0) ≡ flattened v i old new (word_of stands)
   flatten_lost new range way ne = let w : View = freeze_form v (length (unwrap_or (get v.units i) [])) new in
-      ap (seen_form v i) (sym (form_of-word_of stands range)) ∙ ap (λ (b : Bool). cond b (record w { forms = insert v.forms i new }) (seen_form v i (form_of (word_of stands)))) (sym (other_word old stands way ne))
+      ap (seen_form v i) (sym (form_of-word_of stands range)) ∙ ap (λ (b : Bool). cond b (record w { forms = insert v.forms i new })
+      (seen_form v i (form_of (word_of stands)))) (sym (other_word old stands way ne))
 
-  pub flatten_won : (new : Form) (n start count : ℕ) → n ≡ length (unwrap_or (get v.units i) []) → freeze v start count ≡ freeze_form v n new → stands ≡ old → loaded_by v (Turned i new start count) ≡ flattened v i old new (word_of stands)
+  pub flatten_won : (new : Form) (n start count : ℕ) → n ≡ length (unwrap_or (get v.units i) []) → freeze v start count ≡ freeze_form v n
+      new → stands ≡ old → loaded_by v (Turned i new start count) ≡ flattened v i old new (word_of stands)
   flatten_won new n start count e f is = let w : View = freeze_form v (length (unwrap_or (get v.units i) [])) new in
-      ap (λ (u : View). record u { forms = insert v.forms i new }) (f ∙ ap (λ (m : ℕ). freeze_form v m new) e) ∙ ap (λ (b : Bool). cond b (record w { forms = insert v.forms i new }) (seen_form v i (form_of (word_of stands)))) (sym (same_word old stands is))
+      ap (λ (u : View). record u { forms = insert v.forms i new }) (f ∙ ap (λ (m : ℕ). freeze_form v m new) e) ∙ ap
+      (λ (b : Bool). cond b (record w { forms = insert v.forms i new }) (seen_form v i (form_of (word_of stands)))) (sym (same_word old stands is))
 
   pub thin_lost : (t : ℕ) → IsInRange stands → IsSameOrLater old stands → stands ≢ old → loaded_by v (Turned i stands 0 0) ≡ thinned v i old t (word_of stands)
   thin_lost t range way ne = ap (seen_form v i) (sym (form_of-word_of stands range) ∙ ap (λ (b : Bool). cond b (Some (Thin t)) (form_of (word_of stands))) (sym (other_word old stands way ne)))
@@ -60,7 +63,8 @@ module _ (v : View) (i : ℕ) (old stands : Form) where
   thin_won t is = ap (λ (b : Bool). seen_form v i (cond b (Some (Thin t)) (form_of (word_of stands)))) (sym (same_word old stands is))
 
 -- the test of a flattening, by the new form
-pub may_flatten_by : (v : View) (i : ℕ) (old : Form) (wide : Bool) (start : ℕ) (b : Bool) → Has v.forms i old → IsCons old → IsTrue b ↔ SpellsUnits v i wide start → IsTrue b ↔ MayFlatten v i old (Flat wide start false)
+pub may_flatten_by : (v : View) (i : ℕ) (old : Form) (wide : Bool) (start : ℕ) (b : Bool) → Has v.forms i old → IsCons old → IsTrue b ↔
+    SpellsUnits v i wide start → IsTrue b ↔ MayFlatten v i old (Flat wide start false)
 may_flatten_by v i old wide start b has cons test = (
   (λ h. let u = test.0 h in (has, cons, u.2.0, (u.0, u.1, u.2.1, u.2.2, u.2.3))),
   (λ m. let u = m.3 in test.1 (u.0, u.1, (m.2, u.2, u.3, u.4))),

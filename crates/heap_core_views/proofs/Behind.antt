@@ -45,8 +45,12 @@ module _ (v : View) (us : List ℕ) (h : ℕ) (e : h ≡ hash_of us) where
   pub behind_all : (k : ℕ) → Below (IsShutAt v us) us v.sizes.slots ((k + (v.sizes.slots - h % v.sizes.slots)) % v.sizes.slots) → IsTrue true ↔ IsBehind v us k
   behind_all k p = ((λ t. subst (Below (IsShutAt v us) us v.sizes.slots) (code_rank v.sizes.slots k) p), (λ b. refl))
 
-  pub behind_not : (k r : ℕ) → k < v.sizes.slots → r < (k + (v.sizes.slots - h % v.sizes.slots)) % v.sizes.slots → shut_at v us ((h % v.sizes.slots + r) % v.sizes.slots) ≡ false → IsTrue false ↔ IsBehind v us k
+  pub behind_not : (k r : ℕ) → k < v.sizes.slots → r < (k + (v.sizes.slots - h % v.sizes.slots)) % v.sizes.slots → shut_at v us
+      ((h % v.sizes.slots + r) % v.sizes.slots) ≡ false → IsTrue false ↔ IsBehind v us k
   behind_not k r inside l s = let n : ℕ = v.sizes.slots in let m : r < rank us n k = subst (λ (x : ℕ). r < x) (code_rank n k) l in let top : rank us n k < n = rank_inside us n k inside in
       let r' : ℕ = rank us n k in let small : r < n = (let m' : r < r' = m in let top' : r' < n = top in omega arith) in
-      let other : shut_at v us (path_slot us n r) ≡ false = to_place (λ x. shut_at v us x ≡ false) n r s in
-      ((λ t. absurd (false_true t)), (λ b. absurd (false_true (sym other ∙ (shut_at_decides v us (path_slot us n r)).1 (b (path_slot us n r) (place_inside us n r small) (subst (λ (x : ℕ). x < r') (sym (rank_place us n r small)) m))))))
+      let other : shut_at v us (path_slot us n r) ≡ false = to_place (λ x. shut_at v us x ≡ false) n r s in (
+        (λ t. absurd (false_true t)),
+        (λ b. absurd (false_true (sym other ∙ (shut_at_decides v us (path_slot us n r)).1
+            (b (path_slot us n r) (place_inside us n r small) (subst (λ (x : ℕ). x < r') (sym (rank_place us n r small)) m))))),
+      )

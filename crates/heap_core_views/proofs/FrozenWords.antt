@@ -41,7 +41,8 @@ spanned v c i (Sliced a b d) h s = absurd s
 spanned v c i (Cons a b d) h s = absurd s
 spanned v c i (Thin a) h s = absurd s
 
-pub load_by : (v : View) (c : ℕ) (own frozen b : Bool) → own ≡ false → frozen ≡ false → (HasKey v.own_words c → IsTrue own) → (HasKey v.frozen c → IsTrue frozen) → (IsTrue b → IsSpanned v c) × (IsSpanned v c → IsTrue b)
+pub load_by : (v : View) (c : ℕ) (own frozen b : Bool) → own ≡ false → frozen ≡ false → (HasKey v.own_words c → IsTrue own) →
+    (HasKey v.frozen c → IsTrue frozen) → (IsTrue b → IsSpanned v c) × (IsSpanned v c → IsTrue b)
     → (IsTrue b → MayLoadWord v c) × (MayLoadWord v c → IsTrue b)
 load_by v c own frozen b no_own no_frozen has_own has_frozen t = (
   (λ h. let p = t.0 h in inr (spanned v c p.0 p.1 p.2 p.3)),

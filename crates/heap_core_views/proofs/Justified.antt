@@ -1,5 +1,41 @@
 -- When the units of a string follow from a view, and which they are.
-use Rattle.std.proofs.Common.{◌≡◌, ◌≢◌, ℕ, zero, suc, ◌+◌, ◌-◌, ◌<◌, ◌⊎◌, inl, inr, ⊎_elim, Bool, true, false, List, [], ◌∷◌, sym, refl, ap, ◌∙◌, subst, arith, Option, Some, None, Result, Ok, Err, IsTrue, length, drop, get_or, ◌≤◌}
+use Rattle.std.proofs.Common.{
+  ◌≡◌,
+  ◌≢◌,
+  ℕ,
+  zero,
+  suc,
+  ◌+◌,
+  ◌-◌,
+  ◌<◌,
+  ◌⊎◌,
+  inl,
+  inr,
+  ⊎_elim,
+  Bool,
+  true,
+  false,
+  List,
+  [],
+  ◌∷◌,
+  sym,
+  refl,
+  ap,
+  ◌∙◌,
+  subst,
+  arith,
+  Option,
+  Some,
+  None,
+  Result,
+  Ok,
+  Err,
+  IsTrue,
+  length,
+  drop,
+  get_or,
+  ◌≤◌,
+}
 use Rattle.std.specs.Prelude.{◌&&◌, ◌||◌, is_some, IsSome, IfOk}
 use Rattle.std.specs.List.{list_any}
 use Rattle.std.proofs.lemmas.List.{drop_more}
@@ -55,7 +91,8 @@ first_at : {X : Type 0} (f : ℕ → Option X) (j : ℕ) (ks : List ℕ) → lis
 first_at f j [] h s = absurd (cc)
 first_at f j (k ∷ ks) h s = dite (ℕ_discrete j k)
     (λ is. first_one (f k) (first_in f ks) ∙ left_true (is_some (f k)) (is_some (first_in f ks)) (subst (λ (q : ℕ). IsSome (f q)) is s))
-    (λ ne. first_one (f k) (first_in f ks) ∙ right_true (is_some (f k)) (is_some (first_in f ks)) (first_at f j ks (rest_of (eq_by_cmp nat_cmp j k) (list_any (eq_by_cmp nat_cmp j) ks) (unsigned_tied j k ∙ ne_eqb j k ne) h) s))
+    (λ ne. first_one (f k) (first_in f ks) ∙ right_true (is_some (f k)) (is_some (first_in f ks))
+    (first_at f j ks (rest_of (eq_by_cmp nat_cmp j k) (list_any (eq_by_cmp nat_cmp j) ks) (unsigned_tied j k ∙ ne_eqb j k ne) h) s))
 
 -- only a form that was seen tells anything
 pub told_form : (v : View) (i j : ℕ) (o : Option Form) → IsTrue (tells v i j o) → (f : Form) × (o ≡ Some f)
@@ -90,9 +127,11 @@ module _ (v : View) (i : ℕ) where
   pub justified_told : IsSome (justified v i) → Told ⊎ IsSome flat
   unfolding justified
   justified_told h = let t = some_of (first_some thins (first_some conses flat)) h in let us : List ℕ = t.0 in ⊎_elim
-      (λ (a : thins ≡ Some us). let p = first_found (λ j. by_thin v i j (get v.forms j)) (keys v.forms) us a in inl (p.0, left_true (is_some (by_thin v i p.0 (get v.forms p.0))) (is_some (by_cons v i p.0 (get v.forms p.0))) (is_of _ us p.1)))
+      (λ (a : thins ≡ Some us). let p = first_found (λ j. by_thin v i j (get v.forms j)) (keys v.forms) us a in inl
+      (p.0, left_true (is_some (by_thin v i p.0 (get v.forms p.0))) (is_some (by_cons v i p.0 (get v.forms p.0))) (is_of _ us p.1)))
       (λ (b : first_some conses flat ≡ Some us). ⊎_elim
-      (λ (a : conses ≡ Some us). let p = first_found (λ j. by_cons v i j (get v.forms j)) (keys v.forms) us a in inl (p.0, right_true (is_some (by_thin v i p.0 (get v.forms p.0))) (is_some (by_cons v i p.0 (get v.forms p.0))) (is_of _ us p.1)))
+      (λ (a : conses ≡ Some us). let p = first_found (λ j. by_cons v i j (get v.forms j)) (keys v.forms) us a in inl
+      (p.0, right_true (is_some (by_thin v i p.0 (get v.forms p.0))) (is_some (by_cons v i p.0 (get v.forms p.0))) (is_of _ us p.1)))
       (λ (a : flat ≡ Some us). inr (is_of flat us a)) (either_way conses flat us b))
       (either_way thins (first_some conses flat) us t.1)
 
@@ -101,20 +140,24 @@ module _ (v : View) (i : ℕ) where
 
   pub told_justified : Told ⊎ IsSome flat → IsSome (justified v i)
   unfolding justified
-  told_justified h = let split : is_some (first_some thins (first_some conses flat)) ≡ (is_some thins || (is_some conses || is_some flat)) = first_one thins (first_some conses flat) ∙ ap (λ b. is_some thins || b) (first_one conses flat) in
+  told_justified h = let split : is_some (first_some thins (first_some conses flat)) ≡
+      (is_some thins || (is_some conses || is_some flat)) = first_one thins (first_some conses flat) ∙ ap (λ b. is_some thins || b) (first_one conses flat) in
       split ∙ ⊎_elim
       (λ (t : Told). ⊎_elim
       (λ a. left_true (is_some thins) (is_some conses || is_some flat) (first_at (λ j. by_thin v i j (get v.forms j)) t.0 (keys v.forms) (listed t.0 t.1) a))
-      (λ b. right_true (is_some thins) (is_some conses || is_some flat) (left_true (is_some conses) (is_some flat) (first_at (λ j. by_cons v i j (get v.forms j)) t.0 (keys v.forms) (listed t.0 t.1) b)))
+      (λ b. right_true (is_some thins) (is_some conses || is_some flat)
+      (left_true (is_some conses) (is_some flat) (first_at (λ j. by_cons v i j (get v.forms j)) t.0 (keys v.forms) (listed t.0 t.1) b)))
       (either_true (is_some (by_thin v i t.0 (get v.forms t.0))) (is_some (by_cons v i t.0 (get v.forms t.0))) t.1))
       (λ f. right_true (is_some thins) (is_some conses || is_some flat) (right_true (is_some conses) (is_some flat) f)) h
 
 -- where a load changes no form, none but the forms of the view tell anything
-pub none_told : (v : View) (l : Load) (i : ℕ) → ((k : ℕ) (x : Form) → Has v.forms k x → IsTrue (tells (loaded_by v l) i k (get (loaded_by v l).forms k)) → ⊥) → ((k : ℕ) (x : Form) → Has (loaded_by v l).forms k x → Has v.forms k x)
+pub none_told : (v : View) (l : Load) (i : ℕ) → ((k : ℕ) (x : Form) → Has v.forms k x → IsTrue
+    (tells (loaded_by v l) i k (get (loaded_by v l).forms k)) → ⊥) → ((k : ℕ) (x : Form) → Has (loaded_by v l).forms k x → Has v.forms k x)
     → Told (loaded_by v l) i → ⊥
 none_told v l i none same t = let p = told_form (loaded_by v l) i t.0 (get (loaded_by v l).forms t.0) t.1 in none t.0 p.0 (same t.0 p.0 p.1) t.1
 
-pub one_told : (v : View) (l : Load) (i at : ℕ) → ((k : ℕ) (x : Form) → Has v.forms k x → IsTrue (tells (loaded_by v l) i k (get (loaded_by v l).forms k)) → ⊥) → ((k : ℕ) (x : Form) → k ≢ at → Has (loaded_by v l).forms k x → Has v.forms k x)
+pub one_told : (v : View) (l : Load) (i at : ℕ) → ((k : ℕ) (x : Form) → Has v.forms k x → IsTrue
+    (tells (loaded_by v l) i k (get (loaded_by v l).forms k)) → ⊥) → ((k : ℕ) (x : Form) → k ≢ at → Has (loaded_by v l).forms k x → Has v.forms k x)
     → Told (loaded_by v l) i → IsTrue (tells (loaded_by v l) i at (get (loaded_by v l).forms at))
 one_told v l i at none same t = dite (ℕ_discrete t.0 at) (λ is. subst (λ (q : ℕ). IsTrue (tells (loaded_by v l) i q (get (loaded_by v l).forms q))) is t.1)
     (λ ne. let p = told_form (loaded_by v l) i t.0 (get (loaded_by v l).forms t.0) t.1 in absurd (none t.0 p.0 (same t.0 p.0 ne p.1) t.1))
@@ -124,7 +167,8 @@ if_ok_same (Ok z) x y e h = h ∙ e
 if_ok_same (Err q) x y e h = tt
 
 -- one more name
-pub learn_next : (f : ℕ → Option (List ℕ)) (m m' all : FinMap nat_cmp (List ℕ)) (names : List ℕ) (k i d : ℕ) → k < length names → learn_into f m (drop k names) ≡ all → m' ≡ learn_one m i (f i) → i ≡ get_or names k d → learn_into f m' (drop (k + 1) names) ≡ all
+pub learn_next : (f : ℕ → Option (List ℕ)) (m m' all : FinMap nat_cmp (List ℕ)) (names : List ℕ) (k i d : ℕ) → k < length names → learn_into
+    f m (drop k names) ≡ all → m' ≡ learn_one m i (f i) → i ≡ get_or names k d → learn_into f m' (drop (k + 1) names) ≡ all
 learn_next f m m' all names k i d l e is named = (λ j. learn_into f ((is ∙ ap (λ (q : ℕ). learn_one m q (f q)) named) j) (drop (k + 1) names)) ∙ (ap (learn_into f m) (sym (drop_more names k d l)) ∙ e)
 
 pub learn_end : (f : ℕ → Option (List ℕ)) (m all : FinMap nat_cmp (List ℕ)) (names : List ℕ) (k : ℕ) → length names ≤ k → learn_into f m (drop k names) ≡ all → m ≡ all

@@ -20,4 +20,5 @@ next_is o = omega arith
 pub span_step : (f : ℕ → ℕ) (wide : Bool) (start o n x : ℕ) (us us' all : List ℕ) → o < n → us ++ span f wide start o (n - o) ≡ all → us' ≡ us ++ x ∷ [] → x ≡ lane_in f wide start o
     → us' ++ span f wide start (o + 1) (n - (o + 1)) ≡ all
 span_step f wide start o n x us us' all l e is here = (λ i. is i ++ span f wide start (sym (next_is o) i) (n - (o + 1)))
-    ∙ (append_assoc us (x ∷ []) (span f wide start (suc o) (n - (o + 1))) ∙ ((λ i. us ++ here i ∷ span f wide start (suc o) (n - (o + 1))) ∙ ((λ i. us ++ span f wide start o (sym (left_over n o l) i)) ∙ e)))
+    ∙ (append_assoc us (x ∷ []) (span f wide start (suc o) (n - (o + 1))) ∙
+    ((λ i. us ++ here i ∷ span f wide start (suc o) (n - (o + 1))) ∙ ((λ i. us ++ span f wide start o (sym (left_over n o l) i)) ∙ e)))

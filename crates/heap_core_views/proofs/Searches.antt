@@ -38,7 +38,11 @@ module _ {X : Type 0} where
     head_found s t k x e g = let h : All (IsFound m) ((k, x) ∷ t) = subst (All (IsFound m)) e g in h 0 (k, x) (omega arith)
 
     pub search_next : (s t : List (ℕ × X)) (k : ℕ) (x : X) → s ≡ (k, x) ∷ t → (P k x → ⊥) → Searching P m s → Searching P m t
-    search_next s t k x e not h = ((λ q y has p. ⊎_elim (λ (is : (k, x) ≡ (q, y)). absurd (not (subst (λ (z : ℕ × X). P z.0 z.1) (sym is) p))) (λ i. i) (subst (λ (l : List (ℕ × X)). In l q y) e (h.0 q y has p))), tail_found s t k x e h.1)
+    search_next s t k x e not h = (
+      (λ q y has p. ⊎_elim (λ (is : (k, x) ≡ (q, y)). absurd
+          (not (subst (λ (z : ℕ × X). P z.0 z.1) (sym is) p))) (λ i. i) (subst (λ (l : List (ℕ × X)). In l q y) e (h.0 q y has p))),
+      tail_found s t k x e h.1,
+    )
 
     pub search_none : (s : List (ℕ × X)) → s ≡ [] → Searching P m s → (k : ℕ) (x : X) → Has m k x → P k x → ⊥
     search_none s e h k x has p = subst (λ (l : List (ℕ × X)). In l k x) e (h.0 k x has p)

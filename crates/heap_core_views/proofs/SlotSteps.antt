@@ -50,7 +50,8 @@ learn_loaded v k entry x names = λ j. All (λ i. IsSome (sym (justified_loaded 
 learn_took : (v : View) (k t x : ℕ) (names : List ℕ) → MayLearn v names ≡ MayLearn (took_slot v k t x) names
 learn_took v k t x names = λ j. All (λ i. IsSome (sym (justified_took v k t x i) j)) names
 
-pub may_load_by : (v : View) (k : ℕ) (entry : Option (List ℕ)) (names : List ℕ) (b : Bool) (x : ℕ) → k < v.sizes.slots → MayEnter v k entry → IsTrue b ↔ MayLearn v names → IsTrue b ↔ MayLoad v k entry names x
+pub may_load_by : (v : View) (k : ℕ) (entry : Option (List ℕ)) (names : List ℕ) (b : Bool) (x : ℕ) → k < v.sizes.slots → MayEnter v k entry
+    → IsTrue b ↔ MayLearn v names → IsTrue b ↔ MayLoad v k entry names x
 may_load_by v k entry names b x inside may test = let t : IsTrue b ↔ MayLearn (loaded_slot v k entry x) names = subst (λ (A : Type 0). IsTrue b ↔ A) (learn_loaded v k entry x names) test in
     ((λ h. (inside, may, t.0 h)), (λ m. t.1 m.2))
 

@@ -29,7 +29,8 @@ module _ {X : Type 0} where
   run_has : (own m : FinMap nat_cmp X) (c n q : ℕ) → c ≤ q → q < c + n → HasKey own q → HasKey (with_run_of own m c n) q
   run_has own m c zero q lo hi h = absurd (omega arith)
   run_has own m c (suc n) q lo hi h = dite (ℕ_discrete q c)
-      (λ e. let p = has_key own q h in run_keeps own (put_some m c (get own c)) (suc c) n q (subst (HasKey (put_some m c (get own c))) (sym e) (put_has m c (get own c) p.0 (subst (λ (k : ℕ). get own k ≡ Some p.0) e p.1))))
+      (λ e. let p = has_key own q h in run_keeps own (put_some m c (get own c)) (suc c) n q
+      (subst (HasKey (put_some m c (get own c))) (sym e) (put_has m c (get own c) p.0 (subst (λ (k : ℕ). get own k ≡ Some p.0) e p.1))))
       (λ ne. run_has own (put_some m c (get own c)) (suc c) n q (omega arith) (omega arith) h)
 
   -- the answers of the test
@@ -38,4 +39,5 @@ module _ {X : Type 0} where
 
   pub not_in_run : (own m : FinMap nat_cmp X) (c n q : ℕ) → ((c ≤ q) → (q - c < n) → contains_key own q ≡ true → ⊥) → contains_key m q ≡ contains_key (with_run_of own m c n) q
   not_in_run own m c n q not = same_truth (contains_key m q) (contains_key (with_run_of own m c n) q) (run_keeps own m c n q)
-      (λ h. let p = has_key (with_run_of own m c n) q h in ⊎_elim (λ t. let lo = t.0 in let hi = t.1 in absurd (not lo (omega arith) (key_of own q p.0 t.2))) (λ t. key_of m q p.0 t) (has_frozen own m c n q p.0 p.1))
+      (λ h. let p = has_key (with_run_of own m c n) q h in ⊎_elim (λ t. let lo = t.0 in
+      let hi = t.1 in absurd (not lo (omega arith) (key_of own q p.0 t.2))) (λ t. key_of m q p.0 t) (has_frozen own m c n q p.0 p.1))

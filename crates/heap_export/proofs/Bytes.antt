@@ -54,7 +54,8 @@ module _ (c : ℕ) (xs : List ℕ) (room : len_utf8 c ≤ length xs) where
   put_three l h = let n = len_three c l h in set_three xs (224 + c / 4096) (128 + c / 64 % 64) (128 + c % 64) (omega (arith, n, room))
       ∙ (ap (λ bs. bs ++ drop 3 xs) (sym (three c l h)) ∙ ap (λ k. encode_utf8 c ++ drop k xs) (sym n))
 
-  pub put_four : 65536 ≤ c → slice_set (slice_set (slice_set (slice_set xs 0 (240 + c / 262144)) 1 (128 + c / 4096 % 64)) 2 (128 + c / 64 % 64)) 3 (128 + c % 64) ≡ encode_utf8 c ++ drop (len_utf8 c) xs
+  pub put_four : 65536 ≤ c → slice_set (slice_set (slice_set (slice_set xs 0 (240 + c / 262144)) 1 (128 + c / 4096 % 64)) 2
+      (128 + c / 64 % 64)) 3 (128 + c % 64) ≡ encode_utf8 c ++ drop (len_utf8 c) xs
   put_four l = let n = len_four c l in set_four xs (240 + c / 262144) (128 + c / 4096 % 64) (128 + c / 64 % 64) (128 + c % 64) (omega (arith, n, room))
       ∙ (ap (λ bs. bs ++ drop 4 xs) (sym (four c l)) ∙ ap (λ k. encode_utf8 c ++ drop k xs) (sym n))
 

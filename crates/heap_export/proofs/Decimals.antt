@@ -59,7 +59,8 @@ picked true m n e h = ap Some h
 picked false m n e h = cc
 
 index_when : (us : List ℕ) (n : ℕ) → has_form us ≡ true → read_on 0 us ≡ n → n ≤ 4294967294 → index_read us ≡ Some n
-index_when us n f e l = picked (has_form us && nat_le (read_on 0 us) 4294967294) (read_on 0 us) n (and_from (has_form us) (nat_le (read_on 0 us) 4294967294) f (le_from (read_on 0 us) 4294967294 (omega (arith, e, l)))) e
+index_when us n f e l = picked (has_form us && nat_le (read_on 0 us) 4294967294) (read_on 0 us) n
+    (and_from (has_form us) (nat_le (read_on 0 us) 4294967294) f (le_from (read_on 0 us) 4294967294 (omega (arith, e, l)))) e
 
 index_only : (us : List ℕ) (n : ℕ) → index_read us ≡ Some n → (has_form us ≡ true) × (read_on 0 us ≡ n)
 index_only us n e =

@@ -19,9 +19,19 @@ module _ (at k n v : ℕ) (out new tail : List ℕ) (r : at ≤ length out) (cou
   there = ap (λ (ys : List ℕ). take at out ++ (ys ++ post_of at k out)) bytes ∙ ap (λ (ys : List ℕ). take at out ++ ys) (append_assoc (encode_utf8 v) tail (post_of at k out))
 
   pub fill_room : at + n ≤ length (put_mid at k out new)
-  fill_room = omega (arith, count, ap length there, length-append (take at out) (encode_utf8 v ++ (tail ++ post_of at k out)), length-append (encode_utf8 v) (tail ++ post_of at k out), length-take-le at out r, length-encode v)
+  fill_room = omega (
+    arith,
+    count,
+    ap length there,
+    length-append (take at out) (encode_utf8 v ++ (tail ++ post_of at k out)),
+    length-append
+        (encode_utf8 v) (tail ++ post_of at k out),
+    length-take-le at out r,
+    length-encode v,
+  )
 
   pub fill_next : (m : Unpaired) (us : List ℕ) (i : ℕ) (p : Point) → IsPointAt us i p → v ≡ written m p.value → take at out ++ spelled m (drop i us) ≡ spelled m us
       → take (at + n) (put_mid at k out new) ++ spelled m (drop (i + p.count) us) ≡ spelled m us
-  fill_next m us i p is e h = put_behind at n out (put_mid at k out new) (encode_utf8 v) (tail ++ post_of at k out) (spelled m (drop (i + p.count) us)) (spelled m us) r (count ∙ sym (length-encode v)) there
+  fill_next m us i p is e h = put_behind at n out (put_mid at k out new) (encode_utf8 v) (tail ++ post_of at k out)
+      (spelled m (drop (i + p.count) us)) (spelled m us) r (count ∙ sym (length-encode v)) there
       (ap (λ (bs : List ℕ). take at out ++ bs) (ap (λ (x : ℕ). encode_utf8 x ++ spelled m (drop (i + p.count) us)) e ∙ sym (spelled_next m us i p is)) ∙ h)

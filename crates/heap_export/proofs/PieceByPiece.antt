@@ -43,7 +43,8 @@ module _ (us piece vs ws : List ℕ) (done count : ℕ) (all o : Ordering) (long
 
 -- the end
 pub by_lengths : (us vs : List ℕ) (done len : ℕ) → vs ≡ [] → len ≡ length us → done ≤ len → nat_cmp len done ≡ units_cmp (drop done us) vs
-by_lengths us vs done len none long l = let left = drop done us in let n = length-drop done us in let m : nat_cmp len done ≡ nat_cmp (length left) 0 = same_order len done (length left) (omega (arith, n, long)) l in
+by_lengths us vs done len none long l = let left = drop done us in let n = length-drop done us in
+    let m : nat_cmp len done ≡ nat_cmp (length left) 0 = same_order len done (length left) (omega (arith, n, long)) l in
     m ∙ (by_front left [] 0 Equal (omega arith) refl ∙ ap (units_cmp left) (sym none))
 
 -- the units of a block, as many as are there

@@ -1,5 +1,35 @@
 -- The code points of a string in a row, and their bytes.
-use Rattle.std.proofs.Common.{◌≡◌, ℕ, suc, ◌+◌, ◌*◌, ◌<◌, ◌≤◌, Bool, true, false, List, [], ◌∷◌, ◌++◌, map, length, take, drop, get_or, drop-cons, refl, sym, ap, ◌∙◌, arith, length-append, Some, None, subst}
+use Rattle.std.proofs.Common.{
+  ◌≡◌,
+  ℕ,
+  suc,
+  ◌+◌,
+  ◌*◌,
+  ◌<◌,
+  ◌≤◌,
+  Bool,
+  true,
+  false,
+  List,
+  [],
+  ◌∷◌,
+  ◌++◌,
+  map,
+  length,
+  take,
+  drop,
+  get_or,
+  drop-cons,
+  refl,
+  sym,
+  ap,
+  ◌∙◌,
+  arith,
+  length-append,
+  Some,
+  None,
+  subst,
+}
 use Rattle.std.specs.Prelude.{◌&&◌, encode_utf8, encode_utf8_all, if◌then◌else◌}
 use Rattle.std.specs.Char.{len_utf8}
 use Rattle.std.proofs.lemmas.Str.{length-encode}
@@ -80,7 +110,8 @@ module _ (us : List ℕ) (i : ℕ) (l : i < length us) where
   front : drop i us ≡ get_or us i 0 ∷ drop (i + 1) us
   front = let e : suc i ≡ i + 1 = omega arith in drop-cons us i 0 l ∙ ap (λ n. get_or us i 0 ∷ drop n us) e
 
-  pub point_alone : ((v : ℕ) (vs : List ℕ) → drop (i + 1) us ≡ v ∷ vs → (is_lead (get_or us i 0) && is_trail v) ≡ false) → get_or us i 0 < 65536 → IsPointAt us i (record { value = get_or us i 0; count = 1 })
+  pub point_alone : ((v : ℕ) (vs : List ℕ) → drop (i + 1) us ≡ v ∷ vs → (is_lead (get_or us i 0) && is_trail v) ≡ false) → get_or us i 0 <
+      65536 → IsPointAt us i (record { value = get_or us i 0; count = 1 })
   point_alone h small = record {
     some = omega arith;
     within = omega arith;
@@ -101,7 +132,8 @@ module _ (us : List ℕ) (i : ℕ) (l : i < length us) where
       let w : v ≡ get_or us (i + 1) 0 = cc in
       ap (λ x. is_lead (get_or us i 0) && is_trail x) w ∙ (ap (λ b. is_lead (get_or us i 0) && b) e ∙ and_false (is_lead (get_or us i 0)))
 
-  pub point_pair : i + 1 < length us → is_lead (get_or us i 0) ≡ true → is_trail (get_or us (i + 1) 0) ≡ true → IsPointAt us i (record { value = pair_value (get_or us i 0) (get_or us (i + 1) 0); count = 2 })
+  pub point_pair : i + 1 < length us → is_lead (get_or us i 0) ≡ true → is_trail (get_or us (i + 1) 0) ≡ true → IsPointAt us i
+      (record { value = pair_value (get_or us i 0) (get_or us (i + 1) 0); count = 2 })
   point_pair l2 a b = let u = get_or us i 0 in let v = get_or us (i + 1) 0 in let next : suc (i + 1) ≡ i + 2 = omega arith in
       let whole : drop i us ≡ u ∷ v ∷ drop (i + 2) us = front ∙ ap (λ xs. u ∷ xs) (drop-cons us (i + 1) 0 l2 ∙ ap (λ n. v ∷ drop n us) next) in
       let both_true : (is_lead u && is_trail v) ≡ true = ap (λ x. x && is_trail v) a ∙ b in
@@ -167,7 +199,8 @@ spelled_end m us i l = ap (spelled m) (drop_all i us l)
 pub size_done : (m : Unpaired) (us : List ℕ) (i n : ℕ) → length us ≤ i → n + length (spelled m (drop i us)) ≡ length (spelled m us) → n ≡ length (bytes_of m us)
 size_done m us i n l h = omega (arith, h, ap length (spelled_end m us i l), ap length (bytes_by m us))
 
-pub bytes_done : (m : Unpaired) (us out : List ℕ) (i n : ℕ) → length us ≤ i → length out ≡ length (bytes_of m us) → n ≤ length out → take n out ++ spelled m (drop i us) ≡ spelled m us → out ≡ bytes_of m us
+pub bytes_done : (m : Unpaired) (us out : List ℕ) (i n : ℕ) → length us ≤ i → length out ≡ length (bytes_of m us) → n ≤ length out → take n
+    out ++ spelled m (drop i us) ≡ spelled m us → out ≡ bytes_of m us
 bytes_done m us out i n l e r h =
     let front : take n out ≡ spelled m us = sym (append-nil (take n out)) ∙ (ap (λ bs. take n out ++ bs) (sym (spelled_end m us i l)) ∙ h) in
     let long : length out ≤ n = omega (arith, e, ap length front, length-take-le n out r, ap length (bytes_by m us)) in

@@ -27,7 +27,9 @@ decided Greater p q n = refl
 
 pub first_other : (us vs : List ℕ) (i n : ℕ) (o : Ordering) → i < length us → i < length vs → nat_cmp (get_or us i 0) (get_or vs i 0) ≡ o → o ≢ Equal
     → units_cmp (drop i us) (drop i vs) ≡ units_cmp us vs → units_cmp us vs ≡ ordering_then o (units_cmp (drop n us) (drop n vs))
-first_other us vs i n o l m e d h = sym h ∙ (first_then us vs i l m ∙ (ap (λ p. ordering_then p (units_cmp (drop (i + 1) us) (drop (i + 1) vs))) e ∙ decided o (units_cmp (drop (i + 1) us) (drop (i + 1) vs)) (units_cmp (drop n us) (drop n vs)) d))
+first_other us vs i n o l m e d h = sym h ∙ (first_then us vs i l m ∙ (ap
+    (λ p. ordering_then p (units_cmp (drop (i + 1) us) (drop (i + 1) vs))) e ∙ decided o (units_cmp (drop (i + 1) us) (drop (i + 1) vs))
+    (units_cmp (drop n us) (drop n vs)) d))
 
 narrow_first : (k u : ℕ) (us : List ℕ) → u ≤ 255 → past_latin1 k (u ∷ us) ≡ past_latin1 (k + 1) us
 narrow_first k u us h = cond-false (nat_lt 255 u) (Some k) (past_latin1 (k + 1) us) (le-ltb 255 u h)
@@ -35,7 +37,8 @@ narrow_first k u us h = cond-false (nat_lt 255 u) (Some k) (past_latin1 (k + 1) 
 wide_first : (k u : ℕ) (us : List ℕ) → 255 < u → past_latin1 k (u ∷ us) ≡ Some k
 wide_first k u us h = cond-true (nat_lt 255 u) (Some k) (past_latin1 (k + 1) us) (lt-ltb 255 u h)
 
-by_first : (k u : ℕ) (us : List ℕ) (i : ℕ) → past_latin1 k (u ∷ us) ≡ None → ((j : ℕ) → past_latin1 (k + 1) us ≡ None → j < length us → get_or us j 0 ≤ 255) → i < suc (length us) → (255 < u) ⊎ (u ≤ 255) → get_or (u ∷ us) i 0 ≤ 255
+by_first : (k u : ℕ) (us : List ℕ) (i : ℕ) → past_latin1 k (u ∷ us) ≡ None → ((j : ℕ) → past_latin1 (k + 1) us ≡ None → j < length us →
+    get_or us j 0 ≤ 255) → i < suc (length us) → (255 < u) ⊎ (u ≤ 255) → get_or (u ∷ us) i 0 ≤ 255
 by_first k u us i e on l (inl w) = let f : Some k ≡ None = sym (wide_first k u us w) ∙ e in absurd (cc)
 by_first k u us zero e on l (inr h) = h
 by_first k u us (suc j) e on l (inr h) = on j (sym (narrow_first k u us h) ∙ e) (omega (arith, l))

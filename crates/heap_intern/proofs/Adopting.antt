@@ -74,7 +74,8 @@ fixed_shows v p i t us h u = let n : t.len ≡ length us = possible_length v p i
 }
 
 -- the load of its slot that enters the call
-pub adopted_by : (u v w : View) (k i x : ℕ) → IsPossible v → Looks u v → Has v.slots k i → (t : Window) → IsFixedWindow v i t → HasKey v.units i → KeepsKnown v w → w ≡ learned_all (loaded_slot v k (entry_in v k) x) → IsAdopted u w k i
+pub adopted_by : (u v w : View) (k i x : ℕ) → IsPossible v → Looks u v → Has v.slots k i → (t : Window) → IsFixedWindow v i t → HasKey
+    v.units i → KeepsKnown v w → w ≡ learned_all (loaded_slot v k (entry_in v k) x) → IsAdopted u w k i
 adopted_by u v w k i x p l there t h known kept e = let us = has_key v.units i known in let go = goes_slot v w k x (entry_in v k) ((us.0, i) ∷ []) (entered_is v k i us.0 there us.1) kept e in record {
   units = us.0;
   goes = goes_trans u v w [] ((us.0, i) ∷ []) l.goes go.0;
@@ -97,7 +98,8 @@ slot_in : (v : View) → StandsIn v → (u : List ℕ) (i : ℕ) → Contains (h
 slot_in v (z, agents, W, vs, j, s, at, live) u i c = (s.recalls j v at live u i c).0
 
 one_slot_in : (v : View) → StandsIn v → (k l i : ℕ) → Has v.slots k i → Has v.slots l i → k ≡ l
-one_slot_in v (z, agents, W, vs, j, s, at, live) k l i a b = let know = s.knows j v at live in let here = know.of_slots k i a in let there = know.of_slots l i b in s.different k l i i here.0 there.0 here.1 there.1 refl
+one_slot_in v (z, agents, W, vs, j, s, at, live) k l i a b = let know = s.knows j v at live in let here = know.of_slots k i a in
+    let there = know.of_slots l i b in s.different k l i i here.0 there.0 here.1 there.1 refl
 
 one_slot : (v : View) → IsPossible v → (k l i : ℕ) → Has v.slots k i → Has v.slots l i → k ≡ l
 one_slot v p k l i a b = ∥∥₁_elim p (Prim.hlevel props) (λ t. one_slot_in v t k l i a b)
@@ -128,7 +130,8 @@ module _ (a v w : View) (possible : IsPossible a) (us : List ℕ) (i r n h : ℕ
   at_rank = subst (λ (k : ℕ). rank us a.sizes.slots k ≡ r) (sym place) (rank_place us a.sizes.slots r (omega arith))
 
   walked : LoadsHere v w ((h % n + r) % n) 1 → Walking a w us (r + 1) 0 (r + 1)
-  walked e = walking_next a v w us r 0 r (r + 1) ((h % n + r) % n) 1 p.walking place_within at_rank (record { times = 1; few = omega arith; here = e.here; others = e.others; sum = refl }) (omega arith)
+  walked e = walking_next a v w us r 0 r (r + 1) ((h % n + r) % n) 1 p.walking place_within at_rank
+      (record { times = 1; few = omega arith; here = e.here; others = e.others; sum = refl }) (omega arith)
 
   -- it has another string, or none
   pub ahead_next : Looks v w → HoldsForms v w → LoadsHere v w ((h % n + r) % n) 1 → (Has w.slots ((h % n + r) % n) i → ⊥) → IsAhead a w us i (r + 1)
@@ -136,7 +139,8 @@ module _ (a v w : View) (possible : IsPossible a) (us : List ℕ) (i r n h : ℕ
     looks = looks_trans a v w p.looks go;
     forms = forms_trans a v w p.forms forms;
     ahead = λ k has. let before = p.ahead k has in let inside = possible_inside a possible k i has in let there : Has w.slots k i = go.goes.known.slots k i (p.looks.goes.known.slots k i has) in
-        let other : r ≢ rank us a.sizes.slots k = (λ same. never (subst (λ (q : ℕ). Has w.slots q i) (sym (place ∙ (ap (path_slot us a.sizes.slots) same ∙ place_rank us a.sizes.slots k inside))) there)) in omega arith;
+        let other : r ≢ rank us a.sizes.slots k = (λ same. never (subst (λ (q : ℕ). Has w.slots q i)
+        (sym (place ∙ (ap (path_slot us a.sizes.slots) same ∙ place_rank us a.sizes.slots k inside))) there)) in omega arith;
     walking = walked e;
   }
 

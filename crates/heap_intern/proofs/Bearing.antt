@@ -1,5 +1,36 @@
 -- The birth of a fixed Flat over the words of a string.
-use Rattle.std.proofs.Common.{◌≡◌, ◌≢◌, ℕ, zero, suc, ◌+◌, ◌-◌, ◌*◌, ◌/◌, ◌^◌, ◌<◌, ◌≤◌, inl, inr, Bool, true, false, List, [], length, get_or, sym, refl, ap, ◌∙◌, subst, arith, append-nil, Option, Some}
+use Rattle.std.proofs.Common.{
+  ◌≡◌,
+  ◌≢◌,
+  ℕ,
+  zero,
+  suc,
+  ◌+◌,
+  ◌-◌,
+  ◌*◌,
+  ◌/◌,
+  ◌^◌,
+  ◌<◌,
+  ◌≤◌,
+  inl,
+  inr,
+  Bool,
+  true,
+  false,
+  List,
+  [],
+  length,
+  get_or,
+  sym,
+  refl,
+  ap,
+  ◌∙◌,
+  subst,
+  arith,
+  append-nil,
+  Option,
+  Some,
+}
 use Rattle.std.specs.Prelude.{unwrap_or}
 use Rattle.std.proofs.lemmas.Grind.{same_number_lists}
 use Rattle.std.proofs.lemmas.List.{get_or_past}
@@ -36,13 +67,23 @@ use Rattle.heap_intern.specs.Seeking.{IsSought}
 -- a run that is taken away leaves the other keys
 without_keeps : (m : FinMap nat_cmp ℕ) (k n q x : ℕ) → ((p : ℕ) → p < n → q ≡ k + p → ⊥) → Has m q x → Has (without_run m k n) q x
 without_keeps m k zero q x never h = h
-without_keeps m k (suc n) q x never h = without_keeps (remove m k) (suc k) n q x (λ p l e. never (suc p) (omega arith) (omega arith)) (remove_other m k q (λ e. never 0 (omega arith) (omega arith)) ∙ h)
+without_keeps m k (suc n) q x never h = without_keeps (remove m k) (suc k) n q x (λ p l e. never (suc p) (omega arith) (omega arith))
+    (remove_other m k q (λ e. never 0 (omega arith) (omega arith)) ∙ h)
 
 known_ids : (v : View) (id : ℕ) → KeepsKnown v (won_claim v Ids id 1)
 known_ids v id = record { units = λ i us h. h; lengths = λ i n h. h; flats = λ i wide start h. h; thins = λ i t h. h; settled = λ i h. h; frozen = λ c x h. h; known = λ i h. h; slots = λ k i h. h }
 
 known_length : (v : View) (i n : ℕ) → KeepsKnown v (stored_length v i n)
-known_length v i n = record { units = λ i us h. h; lengths = λ i n h. h; flats = λ i wide start h. h; thins = λ i t h. h; settled = λ i h. h; frozen = λ c x h. h; known = λ i h. h; slots = λ k i h. h }
+known_length v i n = record {
+  units = λ i us h. h;
+  lengths = λ i n h. h;
+  flats = λ i wide start h. h;
+  thins = λ i t h. h;
+  settled = λ i h. h;
+  frozen = λ c x h. h;
+  known = λ i h. h;
+  slots = λ k i h. h;
+}
 
 known_full : (v : View) (at : ℕ) → KeepsKnown v (loaded_counter v Ids at)
 known_full v at = record { units = λ i us h. h; lengths = λ i n h. h; flats = λ i wide start h. h; thins = λ i t h. h; settled = λ i h. h; frozen = λ c x h. h; known = λ i h. h; slots = λ k i h. h }
@@ -90,20 +131,23 @@ module _ (v : View) (wide : Bool) (start n : ℕ) (us : List ℕ) (h : MayBeOver
         ∙ (ap (λ (o : Option ℕ). Some (span (shown_word v) wide start 0 (unwrap_or o 0))) (insert_same (won_claim v Ids id 1).own_ids id n) ∙ ap Some shown_span),
   )
 
-  born_by : (a : View) → ((c : ℕ) → start ≤ c → c < start + words_over wide n → HasKey a.own_words c → ⊥) → (m : ℕ) → unwrap_or (get ready.own_ids id) 0 ≡ m → (c x : ℕ) → m ≡ n → Has a.own_words c x → Has v.own_words c x
+  born_by : (a : View) → ((c : ℕ) → start ≤ c → c < start + words_over wide n → HasKey a.own_words c → ⊥) → (m : ℕ) → unwrap_or
+      (get ready.own_ids id) 0 ≡ m → (c x : ℕ) → m ≡ n → Has a.own_words c x → Has v.own_words c x
       → Has (born ready id (Flat wide start true)).own_words c x
   born_by a never m e c x is own h' = subst (λ (l : ℕ). Has (without_run v.own_words start (words_over wide l)) c x) (sym (e ∙ is))
       (without_keeps v.own_words start (words_over wide n) c x (λ q l e'. let e'' : c ≡ start + q = e' in never c (omega arith) (omega arith) (key_of a.own_words c x own)) h')
 
   -- for an earlier view that has none of the words as its own
-  pub goes_born : (a w : View) → AddsCalls a v [] → ((c : ℕ) → start ≤ c → c < start + words_over wide n → HasKey a.own_words c → ⊥) → w ≡ born ready id (Flat wide start true) → ((i : ℕ) → HasKey v.own_ids i → i < id) → v.low.ids ≤ id + 1
+  pub goes_born : (a w : View) → AddsCalls a v [] → ((c : ℕ) → start ≤ c → c < start + words_over wide n → HasKey a.own_words c → ⊥) → w ≡
+      born ready id (Flat wide start true) → ((i : ℕ) → HasKey v.own_ids i → i < id) → v.low.ids ≤ id + 1
       → KeepsKnown ready w → AddsCalls a w []
   goes_born a w g never e above low k = let f = Flat wide start true in let z : View = born ready id f in let k' : KeepsKnown ready z = subst (KeepsKnown ready) e k in
       let p = g.ids_used in let q = g.words_used in let l = g.ids_low in let m = g.words_low in subst (λ (u : View). AddsCalls a u []) (sym e) record {
         known = known_trans a v z g.known (known_trans v (won_claim v Ids id 1) z (known_ids v id) (known_trans (won_claim v Ids id 1) ready z (known_length (won_claim v Ids id 1) id n) k'));
         own_ids = λ i m' h'. let t = g.own_ids i m' h' in let b = above i (key_of v.own_ids i m' t) in let ne : i ≢ id = (λ e'. omega arith) in
             remove_other ready.own_ids id i ne ∙ (insert_other (won_claim v Ids id 1).own_ids id i n ne ∙ (insert_other v.own_ids id i 0 ne ∙ t));
-        own_words = λ c x h'. born_by a never (unwrap_or (get ready.own_ids id) 0) refl c x (ap (λ (o : Option ℕ). unwrap_or o 0) (insert_same (won_claim v Ids id 1).own_ids id n)) h' (g.own_words c x h');
+        own_words = λ c x h'. born_by a never (unwrap_or (get ready.own_ids id) 0) refl c x
+            (ap (λ (o : Option ℕ). unwrap_or o 0) (insert_same (won_claim v Ids id 1).own_ids id n)) h' (g.own_words c x h');
         sizes = g.sizes;
         agents = g.agents;
         live = g.live;
@@ -117,7 +161,8 @@ module _ (v : View) (wide : Bool) (start n : ℕ) (us : List ℕ) (h : MayBeOver
       }
 
 -- no form that the view has changes, since an own id has none
-pub forms_born : (v x w : View) (id n : ℕ) (wide : Bool) (start : ℕ) → IsPossible x → x ≡ won_claim v Ids id 1 → w ≡ born (stored_length (won_claim v Ids id 1) id n) id (Flat wide start true) → HoldsForms v w
+pub forms_born : (v x w : View) (id n : ℕ) (wide : Bool) (start : ℕ) → IsPossible x → x ≡ won_claim v Ids id 1 → w ≡ born
+    (stored_length (won_claim v Ids id 1) id n) id (Flat wide start true) → HoldsForms v w
 forms_born v x w id n wide start p e b i g h = let own : HasKey x.own_ids id = subst (λ (u : View). HasKey u.own_ids id) (sym e) (key_of _ id 0 (insert_same v.own_ids id 0)) in
     let ne : i ≢ id = (λ d. possible_unborn x p i g (subst (HasKey x.own_ids) (sym d) own) (subst (λ (u : View). Has u.forms i g) (sym e) h)) in
     ap (λ (u : View). get u.forms i) b ∙ (insert_other v.forms id i (Flat wide start true) ne ∙ h)
@@ -131,25 +176,32 @@ some_lane true n o l = omega arith
 some_lane false n o l = omega arith
 
 -- the words of a string that has them for itself
-module _ (v : View) (p : IsPossible v) (s : Sought) (h : IsSought v s) (whole : IsSliced s.form → ⊥) (all : (q : ℕ) → q < words_over s.window.wide s.window.len → HasKey v.frozen (s.window.start + q)) (first : ℕ) (none : s.window.len ≡ 0 → first ≡ 0) (some : 0 < s.window.len → first ≡ s.window.start) where
+module _ (v : View) (p : IsPossible v) (s : Sought) (h : IsSought v s) (whole : IsSliced s.form → ⊥) (all : (q : ℕ) → q < words_over
+    s.window.wide s.window.len → HasKey v.frozen (s.window.start + q)) (first : ℕ) (none : s.window.len ≡ 0 → first ≡ 0) (some : 0 <
+    s.window.len → first ≡ s.window.start) where
   small_by : (n : ℕ) → s.window.len ≡ n → first < 2 ^ 29
   small_by zero e = let z = none e in omega arith
-  small_by (suc n) e = let l : 0 < s.window.len = omega arith in let is = some l in let m : 0 / lane_count s.window.wide < words_over s.window.wide s.window.len = lane_word s.window.wide 0 s.window.len l in
+  small_by (suc n) e = let l : 0 < s.window.len = omega arith in let is = some l in
+      let m : 0 / lane_count s.window.wide < words_over s.window.wide s.window.len = lane_word s.window.wide 0 s.window.len l in
       let a = possible_frozen v p (s.window.start + 0 / lane_count s.window.wide) (inl (all (0 / lane_count s.window.wide) m)) in let b = (possible_lawful v p).3 in omega arith
 
   pub frozen_word : (c : ℕ) → first ≤ c → c < first + words_over s.window.wide s.window.len → HasKey v.frozen c
-  frozen_word c lo hi = let l : c - first < words_over s.window.wide s.window.len = omega arith in let is = some (some_word s.window.wide s.window.len (c - first) l) in let e : s.window.start + (c - first) ≡ c = omega arith in
+  frozen_word c lo hi = let l : c - first < words_over s.window.wide s.window.len = omega arith in
+      let is = some (some_word s.window.wide s.window.len (c - first) l) in let e : s.window.start + (c - first) ≡ c = omega arith in
       subst (HasKey v.frozen) e (all (c - first) l)
 
   module _ (us : List ℕ) (u : Has v.units s.id us) where
     unit_shown : (o : ℕ) → o < length us → o < s.window.len → lane_in (shown_word v) s.window.wide s.window.start o ≡ get_or us o 0
     unit_shown o l l' = let w = (h.whole whole).1 in let plain : s.window.offset + o ≡ o = omega arith in
         subst (λ (x : ℕ). lane_in (shown_word v) s.window.wide s.window.start x ≡ get_or us o 0) plain
-        (possible_unit v p s.id h.flat s.window.offset s.window.wide s.window.start h.fixed us o h.leads h.form u l (inr (subst (λ (x : ℕ). HasKey v.frozen (s.window.start + x / lane_count s.window.wide)) (sym plain) (all (o / lane_count s.window.wide) (lane_word s.window.wide o s.window.len l')))))
+        (possible_unit v p s.id h.flat s.window.offset s.window.wide s.window.start h.fixed us o h.leads h.form u l
+        (inr (subst (λ (x : ℕ). HasKey v.frozen (s.window.start + x / lane_count s.window.wide)) (sym plain)
+        (all (o / lane_count s.window.wide) (lane_word s.window.wide o s.window.len l')))))
 
     lane_shown : (o : ℕ) → o < words_over s.window.wide s.window.len * lane_count s.window.wide → lane_in (shown_word v) s.window.wide s.window.start o ≡ get_or us o 0
     lane_shown o l = let long = sought_length v p s us h u in dite (dec_le s.window.len o)
-        (λ past. possible_zeros v p h.flat s.window.wide s.window.start h.fixed s.window.len h.form (subst (λ (i : ℕ). Has v.lengths i s.window.len) (h.whole whole).0 h.long) all o past l ∙ sym (get_or_past us o 0 (omega arith)))
+        (λ past. possible_zeros v p h.flat s.window.wide s.window.start h.fixed s.window.len h.form
+        (subst (λ (i : ℕ). Has v.lengths i s.window.len) (h.whole whole).0 h.long) all o past l ∙ sym (get_or_past us o 0 (omega arith)))
         (λ inside. unit_shown o (omega arith) (omega arith))
 
     pub plain_over : MayBeOver v s.window.wide first s.window.len us

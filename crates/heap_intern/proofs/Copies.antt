@@ -56,7 +56,8 @@ module _ (w : View) (wide : Bool) (start n : ℕ) (us : List ℕ) (written : IsW
     small = written.small;
     long = long;
     short = short;
-    words = λ c lo hi. let e : start + (c - start) ≡ c = omega arith in let t = words_are.each (c - start) (omega arith) in inl (subst (HasKey w.own_words) e (key_of w.own_words (start + (c - start)) t.0 t.1));
+    words = λ c lo hi. let e : start + (c - start) ≡ c = omega arith in
+        let t = words_are.each (c - start) (omega arith) in inl (subst (HasKey w.own_words) e (key_of w.own_words (start + (c - start)) t.0 t.1));
     lanes = copied_lane;
     empty = λ none. written.empty (sym long ∙ none);
   }

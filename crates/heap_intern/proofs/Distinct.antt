@@ -1,5 +1,35 @@
 -- As many slots are used as a history has different lists of units.
-use Rattle.std.proofs.Common.{◌≡◌, ◌≢◌, ℕ, zero, suc, ◌+◌, ◌<◌, ◌≤◌, ◌⊎◌, inl, inr, ⊎_elim, Bool, List, [], ◌∷◌, map, length, refl, sym, ap, ◌∙◌, arith, Option, Some, None, Decides, nat_eq, if◌then◌else◌}
+use Rattle.std.proofs.Common.{
+  ◌≡◌,
+  ◌≢◌,
+  ℕ,
+  zero,
+  suc,
+  ◌+◌,
+  ◌<◌,
+  ◌≤◌,
+  ◌⊎◌,
+  inl,
+  inr,
+  ⊎_elim,
+  Bool,
+  List,
+  [],
+  ◌∷◌,
+  map,
+  length,
+  refl,
+  sym,
+  ap,
+  ◌∙◌,
+  arith,
+  Option,
+  Some,
+  None,
+  Decides,
+  nat_eq,
+  if◌then◌else◌,
+}
 use Rattle.std.specs.Prelude.{Contains, is_some}
 use mathlib.Core.Logic.{dite}
 use native.Mathlib.Decide.{ℕ_discrete}
@@ -18,12 +48,15 @@ use Rattle.heap_rule.specs.Paths.{Calls}
 use Rattle.heap_intern.specs.Counting.{different, count_below}
 
 -- lists without repetition of which each maps into the other, no two items to one, are of one length
-module _ {X Y : Type 0} (eq : X → X → Bool) (eq' : Y → Y → Bool) (same : (a b : X) → Decides (eq a b) (a ≡ b)) (same' : (a b : Y) → Decides (eq' a b) (a ≡ b)) (laws : IsEquivalence eq) (laws' : IsEquivalence eq') where
+module _ {X Y : Type 0} (eq : X → X → Bool) (eq' : Y → Y → Bool) (same : (a b : X) → Decides (eq a b) (a ≡ b)) (same' : (a b : Y) → Decides
+    (eq' a b) (a ≡ b)) (laws : IsEquivalence eq) (laws' : IsEquivalence eq') where
   pub length_into : (xs : List X) (ys : List Y) (f : X → Y) → IsDistinct eq' (map f xs) → ((y : Y) → Contains (map f xs) y → Contains ys y) → length xs ≤ length ys
-  length_into xs ys f d into = let m : length (map f xs) ≤ length ys = length-le_from_is_member laws' (map f xs) ys d (λ q h. (is_member-Decides same' ys q).1 (into q ((is_member-Decides same' (map f xs) q).0 h))) in
+  length_into xs ys f d into = let m : length (map f xs) ≤ length ys = length-le_from_is_member laws' (map f xs) ys d
+      (λ q h. (is_member-Decides same' ys q).1 (into q ((is_member-Decides same' (map f xs) q).0 h))) in
       let e : length (map f xs) ≡ length xs = length-map xs f in omega arith
 
-  pub length_same : (xs : List X) (ys : List Y) (f : X → Y) (g : Y → X) → IsDistinct eq' (map f xs) → IsDistinct eq (map g ys) → ((y : Y) → Contains (map f xs) y → Contains ys y) → ((x : X) → Contains (map g ys) x → Contains xs x) → length xs ≡ length ys
+  pub length_same : (xs : List X) (ys : List Y) (f : X → Y) (g : Y → X) → IsDistinct eq' (map f xs) → IsDistinct eq
+      (map g ys) → ((y : Y) → Contains (map f xs) y → Contains ys y) → ((x : X) → Contains (map g ys) x → Contains xs x) → length xs ≡ length ys
   length_same xs ys f g d e into back = let a : length xs ≤ length ys = length_into xs ys f d into in
       let m : length (map g ys) ≤ length xs = length-le_from_is_member laws (map g ys) xs e (λ q h. (is_member-Decides same xs q).1 (back q ((is_member-Decides same (map g ys) q).0 h))) in
       let l : length (map g ys) ≡ length ys = length-map ys g in omega arith
@@ -76,11 +109,13 @@ module _ {X : Type 0} where
 
   values_apart : (f : ℕ → Option X) (n : ℕ) → ((k l : ℕ) (x : X) → k < n → l < n → f k ≡ Some x → f l ≡ Some x → k ≡ l) → AreApart (values_below f n)
   values_apart f zero apart = λ i j d a b. absurd (omega arith)
-  values_apart f (suc n) apart = apart_some (f n) (values_below f n) (λ x e c. let t = values_from f n x c in let l = t.1 in let is : n ≡ t.0 = apart n t.0 x (omega arith) (omega arith) e t.2 in omega arith)
+  values_apart f (suc n) apart = apart_some (f n) (values_below f n) (λ x e c. let t = values_from f n x c in let l = t.1 in
+      let is : n ≡ t.0 = apart n t.0 x (omega arith) (omega arith) e t.2 in omega arith)
       (values_apart f n (λ k l x a b e g. apart k l x (omega arith) (omega arith) e g))
 
 -- numbers below m, no two of them equal, stand at no more than m places
-pub used_below : (f : ℕ → Option ℕ) (n m : ℕ) → ((k l i : ℕ) → k < n → l < n → f k ≡ Some i → f l ≡ Some i → k ≡ l) → ((k i : ℕ) → k < n → f k ≡ Some i → i < m) → count_below (λ k. is_some (f k)) n ≤ m
+pub used_below : (f : ℕ → Option ℕ) (n m : ℕ) → ((k l i : ℕ) → k < n → l < n → f k ≡ Some i → f l ≡ Some i → k ≡ l) →
+    ((k i : ℕ) → k < n → f k ≡ Some i → i < m) → count_below (λ k. is_some (f k)) n ≤ m
 used_below f n m apart below = let vs : List ℕ = values_below f n in let e = length_values f n in
     let w = length-le_from_distinct_below vs m (IsDistinct-from_AllPairs Decides-eqb vs (values_apart f n apart))
     (λ q h. let t = values_from f n q ((is_member-Decides Decides-eqb vs q).0 h) in below t.0 q t.1 t.2) in omega arith

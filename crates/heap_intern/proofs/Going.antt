@@ -38,21 +38,22 @@ goes_self v = record {
 }
 
 pub goes_trans : (u v w : View) (a b : Calls) → AddsCalls u v a → AddsCalls v w b → AddsCalls u w (a ++ b)
-goes_trans u v w a b g h = let p = g.ids_used in let q = h.ids_used in let m = g.ids_low in let n = h.ids_low in let x = g.words_used in let y = h.words_used in let c = g.words_low in let d = h.words_low in record {
-  known = known_trans u v w g.known h.known;
-  own_ids = λ i n x. h.own_ids i n (g.own_ids i n x);
-  own_words = λ c x y. h.own_words c x (g.own_words c x y);
-  sizes = h.sizes ∙ g.sizes;
-  agents = h.agents ∙ g.agents;
-  live = h.live ∙ g.live;
-  share = h.share ∙ g.share;
-  ids_used = omega arith;
-  words_used = omega arith;
-  ids_low = omega arith;
-  words_low = omega arith;
-  seen = h.seen ∙ g.seen;
-  mine = h.mine ∙ (ap (λ (m : Calls). m ++ b) g.mine ∙ append_assoc u.mine a b);
-}
+goes_trans u v w a b g h = let p = g.ids_used in let q = h.ids_used in let m = g.ids_low in let n = h.ids_low in let x = g.words_used in
+    let y = h.words_used in let c = g.words_low in let d = h.words_low in record {
+      known = known_trans u v w g.known h.known;
+      own_ids = λ i n x. h.own_ids i n (g.own_ids i n x);
+      own_words = λ c x y. h.own_words c x (g.own_words c x y);
+      sizes = h.sizes ∙ g.sizes;
+      agents = h.agents ∙ g.agents;
+      live = h.live ∙ g.live;
+      share = h.share ∙ g.share;
+      ids_used = omega arith;
+      words_used = omega arith;
+      ids_low = omega arith;
+      words_low = omega arith;
+      seen = h.seen ∙ g.seen;
+      mine = h.mine ∙ (ap (λ (m : Calls). m ++ b) g.mine ∙ append_assoc u.mine a b);
+    }
 
 pub looks_self : (v : View) → Looks v v
 looks_self v = record { goes = goes_self v; used = refl; words = refl }
@@ -136,7 +137,8 @@ module _ (v : View) where
   looks_seen w i o k e = subst (λ (u : View). Looks v u × (u.slot_loads ≡ v.slot_loads)) (sym e) (seen_by i o (subst (KeepsKnown v) e k))
 
   -- a load of a slot, with the call that it enters, if any
-  slot_by : (k x : ℕ) (entry : Option (List ℕ)) (calls : Calls) → calls_entered v k entry ≡ v.mine ++ calls → KeepsKnown v (learned_all (loaded_slot v k entry x)) → AddsCalls v (learned_all (loaded_slot v k entry x)) calls
+  slot_by : (k x : ℕ) (entry : Option (List ℕ)) (calls : Calls) → calls_entered v k entry ≡ v.mine ++ calls → KeepsKnown v
+      (learned_all (loaded_slot v k entry x)) → AddsCalls v (learned_all (loaded_slot v k entry x)) calls
   slot_by k zero entry calls m h = goes_by v (learned_all (loaded_slot v k entry zero)) calls h refl refl refl refl refl refl refl refl refl m
   slot_by k (suc x) entry calls m h = goes_by v (learned_all (loaded_slot v k entry (suc x))) calls h refl refl refl refl refl refl refl refl refl m
 
@@ -147,7 +149,8 @@ module _ (v : View) where
   pub used_slot : (w : View) (k x : ℕ) (entry : Option (List ℕ)) → w ≡ learned_all (loaded_slot v k entry x) → w.used ≡ v.used
   used_slot w k x entry e = ap (λ (u : View). u.used) e ∙ slot_used k x entry
 
-  pub goes_slot : (w : View) (k x : ℕ) (entry : Option (List ℕ)) (calls : Calls) → calls_entered v k entry ≡ v.mine ++ calls → KeepsKnown v w → w ≡ learned_all (loaded_slot v k entry x) → AddsCalls v w calls × (w.used ≡ v.used)
+  pub goes_slot : (w : View) (k x : ℕ) (entry : Option (List ℕ)) (calls : Calls) → calls_entered v k entry ≡ v.mine ++ calls → KeepsKnown v
+      w → w ≡ learned_all (loaded_slot v k entry x) → AddsCalls v w calls × (w.used ≡ v.used)
   goes_slot w k x entry calls m h e = subst (λ (u : View). AddsCalls v u calls × (u.used ≡ v.used)) (sym e) (slot_by k x entry calls m (subst (KeepsKnown v) e h), slot_used k x entry)
 
   pub looks_slot : (w : View) (k x : ℕ) → KeepsKnown v w → w ≡ learned_all (loaded_slot v k None x) → Looks v w
@@ -173,13 +176,15 @@ module _ (v : View) where
   -- a claim of a slot: where it is won the call enters the history
   pub goes_won : (w : View) (k i : ℕ) (us : List ℕ) → Has v.units i us → KeepsKnown v w → w ≡ learned_all (took_slot v k i 0) → AddsCalls v w ((us, i) ∷ []) × (w.used ≡ v.used) × Has w.slots k i
   goes_won w k i us has h e = subst (λ (u : View). AddsCalls v u ((us, i) ∷ []) × (u.used ≡ v.used) × Has u.slots k i) (sym e) (
-    goes_by v (learned_all (took_slot v k i 0)) ((us, i) ∷ []) (subst (KeepsKnown v) e h) refl refl refl refl refl refl refl refl refl (ap (λ (o : Option (List ℕ)). v.mine ++ (unwrap_or o [], i) ∷ []) has),
+    goes_by v (learned_all (took_slot v k i 0)) ((us, i) ∷ []) (subst (KeepsKnown v) e h) refl refl refl refl refl refl refl refl refl
+        (ap (λ (o : Option (List ℕ)). v.mine ++ (unwrap_or o [], i) ∷ []) has),
     refl,
     insert_same v.slots k i,
   )
 
   -- where it is lost the winner's id stands there
-  lost_by : (k i j x : ℕ) → x ≡ j + 1 → KeepsKnown v (learned_all (took_slot v k i x)) → Looks v (learned_all (took_slot v k i x)) × Has (learned_all (took_slot v k i x)).slots k j × MayUse (learned_all (took_slot v k i x)) j
+  lost_by : (k i j x : ℕ) → x ≡ j + 1 → KeepsKnown v (learned_all (took_slot v k i x)) → Looks v (learned_all (took_slot v k i x)) × Has
+      (learned_all (took_slot v k i x)).slots k j × MayUse (learned_all (took_slot v k i x)) j
   lost_by k i j zero e h = absurd (omega arith)
   lost_by k i j (suc x) e h = let is : x ≡ j = omega arith in (
     record { goes = goes_by v (learned_all (took_slot v k i (suc x))) [] h refl refl refl refl refl refl refl refl refl nothing; used = refl; words = refl },

@@ -103,14 +103,22 @@ pub record Walking (a v : View) (us : List ℕ) (r before now : ℕ) : Type 0 wh
   pub sum : now ≡ before + sum_below times a.sizes.slots
 
 pub walking_none : (a : View) (us : List ℕ) (before : ℕ) → Walking a a us 0 before before
-walking_none a us before = let z = sum_none (λ k. 0) a.sizes.slots (λ k. refl) in record { times = λ k. 0; each = λ k. refl; once = λ k. omega arith; ahead = λ k l. refl; inside = λ k l. absurd (omega arith); sum = omega arith }
+walking_none a us before = let z = sum_none (λ k. 0) a.sizes.slots (λ k. refl) in record {
+  times = λ k. 0;
+  each = λ k. refl;
+  once = λ k. omega arith;
+  ahead = λ k l. refl;
+  inside = λ k l. absurd (omega arith);
+  sum = omega arith;
+}
 
 -- at the first slot none was loaded so far
 pub walking_first : (a v : View) (us : List ℕ) (r before now : ℕ) → Walking a v us r before now → r ≡ 0 → now ≡ before
 walking_first a v us r before now p e = let s = p.sum in let z = sum_none p.times a.sizes.slots (λ k. p.ahead k (omega arith)) in omega arith
 
 -- the slot of rank r
-module _ (a v w : View) (us : List ℕ) (r before now after k most : ℕ) (p : Walking a v us r before now) (inside : k < a.sizes.slots) (at : rank us a.sizes.slots k ≡ r) (h : LoadsOne v w k most now after) where
+module _ (a v w : View) (us : List ℕ) (r before now after k most : ℕ) (p : Walking a v
+    us r before now) (inside : k < a.sizes.slots) (at : rank us a.sizes.slots k ≡ r) (h : LoadsOne v w k most now after) where
   abbrev loaded : ℕ → ℕ
   loaded = with_more p.times k h.times
 
@@ -195,7 +203,8 @@ slots_from u v w answer before after e z h = record {
 }
 
 -- a step after the walk that loads no slot
-pub slots_then : (v w x : View) (answer : Option ℕ) (before after : ℕ) → x.slot_loads ≡ w.slot_loads → ((k i : ℕ) → Has w.slots k i → Has x.slots k i) → LoadsSlots v w answer before after → LoadsSlots v x answer before after
+pub slots_then : (v w x : View) (answer : Option ℕ) (before after : ℕ) → x.slot_loads ≡ w.slot_loads →
+    ((k i : ℕ) → Has w.slots k i → Has x.slots k i) → LoadsSlots v w answer before after → LoadsSlots v x answer before after
 slots_then v w x answer before after e slots h = record {
   times = h.times;
   each = λ k. ap (λ (m : FinMap nat_cmp ℕ). unwrap_or (get m k) 0) e ∙ h.each k;

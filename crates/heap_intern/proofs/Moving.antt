@@ -20,7 +20,8 @@ pub looks_thinned : (v w : View) (i : ℕ) (old : Form) (t x : ℕ) → KeepsKno
 looks_thinned v w i old t x k e = looks_seen v w i (if x == word_of old then Some (Thin t) else form_of x) k e
 
 -- a settled string that may not come to forward is a fixed Flat, or forwards to the answer
-pub stays_forwarded : (v : View) → IsPossible v → (id : ℕ) (f : Form) (k answer : ℕ) (us : List ℕ) → Has v.forms id f → (IsCons f → ⊥) → (CanThin f → ⊥) → Has v.slots k answer → Has v.units id us → Has v.units answer us → IsForwarded v id answer
+pub stays_forwarded : (v : View) → IsPossible v → (id : ℕ) (f : Form) (k answer : ℕ) (us : List ℕ) → Has v.forms id f → (IsCons f → ⊥) →
+    (CanThin f → ⊥) → Has v.slots k answer → Has v.units id us → Has v.units answer us → IsForwarded v id answer
 stays_forwarded v p id Unborn k answer us h n m s u w = absurd (possible_born v p id h)
 stays_forwarded v p id (Flat wide start true) k answer us h n m s u w = inr (wide, start, h)
 stays_forwarded v p id (Flat wide start false) k answer us h n m s u w = absurd (m tt)

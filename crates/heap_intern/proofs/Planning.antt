@@ -57,7 +57,8 @@ module _ (v : View) (p : IsPossible v) (s : Sought) (us : List ℕ) (h : IsSough
       h.leads
     where
       same : Has v.forms s.id (Flat s.window.wide s.window.start h.fixed) → (s.window.wide ≡ wide) × (s.window.start ≡ start)
-      same m = let e : Flat s.window.wide s.window.start h.fixed ≡ Flat wide start fixed = one_form v s.id _ _ m own in let a : s.window.wide ≡ wide = cc in let b : s.window.start ≡ start = cc in (a, b)
+      same m = let e : Flat s.window.wide s.window.start h.fixed ≡ Flat wide start fixed = one_form v s.id _ _ m own in
+          let a : s.window.wide ≡ wide = cc in let b : s.window.start ≡ start = cc in (a, b)
 
   -- what forwards has those of a fixed Flat
   thin_is : (target : ℕ) → Has v.forms s.id (Thin target) → Has v.forms target (Flat s.window.wide s.window.start true)
@@ -73,7 +74,8 @@ module _ (v : View) (p : IsPossible v) (s : Sought) (us : List ℕ) (h : IsSough
     where
       there : Has v.forms s.id (Thin h.flat) → Has v.forms target (Flat s.window.wide s.window.start true)
       there m = let e : Thin h.flat ≡ Thin target = one_form v s.id _ _ m own in let is : h.flat ≡ target = cc in
-          let q = possible_fixed v p h.flat (inr (s.id, m)) (Flat s.window.wide s.window.start h.fixed) h.form in let d : Flat s.window.wide s.window.start h.fixed ≡ Flat q.0 q.1 true = q.2 in let fixed : h.fixed ≡ true = cc in
+          let q = possible_fixed v p h.flat (inr (s.id, m)) (Flat s.window.wide s.window.start h.fixed) h.form in
+          let d : Flat s.window.wide s.window.start h.fixed ≡ Flat q.0 q.1 true = q.2 in let fixed : h.fixed ≡ true = cc in
           subst (λ (i : ℕ). Has v.forms i (Flat s.window.wide s.window.start true)) is (subst (λ (b : Bool). Has v.forms h.flat (Flat s.window.wide s.window.start b)) fixed h.form)
 
   plan_at : (w : View) → KeepsKnown v w → (f : Form) → Has v.forms s.id f → (IsCons f → ⊥) → IsPlanBy w f us (plan_by f s us)
@@ -127,10 +129,12 @@ makes_before u v w (Cons wide left right) a b = tt
 makes_before u v w (Sliced wide parent offset) a b = tt
 
 -- a header takes no words, or those of a copy, where the string was never seen as a Flat
-pub plan_words : (v w : View) (id : ℕ) (us : List ℕ) (plan : HeaderPlan) → IsPlan v w id us plan → (plan.words ≡ 0) ⊎ ((plan.words ≡ words_of_copy us) × ((wide : Bool) (start : ℕ) (fixed : Bool) → Has v.forms id (Flat wide start fixed) → ⊥))
+pub plan_words : (v w : View) (id : ℕ) (us : List ℕ) (plan : HeaderPlan) → IsPlan v w id us plan → (plan.words ≡ 0) ⊎
+    ((plan.words ≡ words_of_copy us) × ((wide : Bool) (start : ℕ) (fixed : Bool) → Has v.forms id (Flat wide start fixed) → ⊥))
 plan_words v w id us plan h = by_form h.0 h.1 h.2
   where
-    by_form : (f : Form) → IsFound v id f → IsPlanBy w f us plan → (plan.words ≡ 0) ⊎ ((plan.words ≡ words_of_copy us) × ((wide : Bool) (start : ℕ) (fixed : Bool) → Has v.forms id (Flat wide start fixed) → ⊥))
+    by_form : (f : Form) → IsFound v id f → IsPlanBy w f us plan → (plan.words ≡ 0) ⊎
+        ((plan.words ≡ words_of_copy us) × ((wide : Bool) (start : ℕ) (fixed : Bool) → Has v.forms id (Flat wide start fixed) → ⊥))
     by_form (Sliced a parent offset) found p = inr (p.0, λ wide start fixed g. no_slice wide start fixed (Sliced a parent offset) (found (Flat wide start fixed) g) tt)
     by_form (Flat a start fixed) found p = inl p.0
     by_form (Thin t) found p = inl p.0

@@ -35,7 +35,8 @@ pub word_of_lane : (wide : Bool) (n o : ℕ) → o < words_over wide n * lane_co
 word_of_lane true n o l = omega arith
 word_of_lane false n o l = omega arith
 
-zeros_in : (v : View) → StandsIn v → (i : ℕ) (wide : Bool) (start : ℕ) (fixed : Bool) (n : ℕ) → Has v.forms i (Flat wide start fixed) → Has v.lengths i n → ((q : ℕ) → q < words_over wide n → HasKey v.frozen (start + q))
+zeros_in : (v : View) → StandsIn v → (i : ℕ) (wide : Bool) (start : ℕ) (fixed : Bool) (n : ℕ) → Has v.forms i (Flat wide start fixed) → Has
+    v.lengths i n → ((q : ℕ) → q < words_over wide n → HasKey v.frozen (start + q))
     → (o : ℕ) → n ≤ o → o < words_over wide n * lane_count wide → lane_in (shown_word v) wide start o ≡ 0
 zeros_in v (z, agents, W, vs, j, s, at, live) i wide start fixed n f l h o lo hi = let k = s.knows j v at live in let c : ℕ = start + o / lane_count wide in
     let word : shown_word v c ≡ content z W c = shown_by (get v.own_words c) (get v.frozen c) (content z W c) (λ x e. ((s.own_words j v at live).each c x e).1) (λ x e. (k.of_frozen c x e).1)
@@ -43,7 +44,8 @@ zeros_in v (z, agents, W, vs, j, s, at, live) i wide start fixed n f l h o lo hi
     lane_same (shown_word v) (content z W) wide start o word
     ∙ subst (λ (m : ℕ). m ≤ o → o < words_over wide m * lane_count wide → lane_in (content z W) wide start o ≡ 0) (k.of_lengths i n l).1 ((k.of_forms i (Flat wide start fixed) f).shows.2 o) lo hi
 
-pub possible_zeros : (v : View) → IsPossible v → (i : ℕ) (wide : Bool) (start : ℕ) (fixed : Bool) (n : ℕ) → Has v.forms i (Flat wide start fixed) → Has v.lengths i n → ((q : ℕ) → q < words_over wide n → HasKey v.frozen (start + q))
+pub possible_zeros : (v : View) → IsPossible v → (i : ℕ) (wide : Bool) (start : ℕ) (fixed : Bool) (n : ℕ) → Has v.forms i
+    (Flat wide start fixed) → Has v.lengths i n → ((q : ℕ) → q < words_over wide n → HasKey v.frozen (start + q))
     → (o : ℕ) → n ≤ o → o < words_over wide n * lane_count wide → lane_in (shown_word v) wide start o ≡ 0
 possible_zeros v p i wide start fixed n f l h o lo hi = ∥∥₁_elim p (Prim.hlevel props) (λ t. zeros_in v t i wide start fixed n f l h o lo hi)
 

@@ -97,7 +97,8 @@ module _ (v w : View) (p : IsPossible v) (known : KeepsKnown v w) (sizes : w.siz
   seats_kept seats h s some = seated_by w s (slice_index seats s - 1) (seat_kept s (slice_index seats s - 1) (seat_of v s (slice_index seats s - 1) (h s some)))
 
 -- the slot of a string that was interned is noted
-pub seats_with : (w : View) (seats later : List ℕ) (id k : ℕ) → ((i : ℕ) → (slice_index later i ≡ slice_index seats i) ⊎ ((i ≡ id) × (slice_index later i ≡ k + 1))) → AreSeats w seats → IsSeat w id k → AreSeats w later
+pub seats_with : (w : View) (seats later : List ℕ) (id k : ℕ) → ((i : ℕ) → (slice_index later i ≡ slice_index seats i) ⊎
+    ((i ≡ id) × (slice_index later i ≡ k + 1))) → AreSeats w seats → IsSeat w id k → AreSeats w later
 seats_with w seats later id k only h x s some = ⊎_elim
     (λ (e : slice_index later s ≡ slice_index seats s). subst (λ (n : ℕ). IsSeated w s (n - 1)) (sym e) (h s (subst (λ (n : ℕ). 0 < n) e some)))
     (λ (t : (s ≡ id) × (slice_index later s ≡ k + 1)). let is : slice_index later s - 1 ≡ k = (let e = t.1 in omega arith) in
@@ -130,7 +131,8 @@ module _ (v w : View) (s k t : ℕ) (x : IsSeat v s k) (known : KeepsKnown v w) 
           unused,
         ),
       ))
-      (λ (b : (wide : Bool) × (start : ℕ) × Has v.forms s (Flat wide start true)). (record { words = 0; wide = b.0; start = Some b.1 }, (Flat b.0 b.1 true, found_by (Flat b.0 b.1 true) b.2, (refl, refl, λ some. refl), tt)))
+      (λ (b : (wide : Bool) × (start : ℕ) × Has v.forms s (Flat wide start true)).
+      (record { words = 0; wide = b.0; start = Some b.1 }, (Flat b.0 b.1 true, found_by (Flat b.0 b.1 true) b.2, (refl, refl, λ some. refl), tt)))
       x.forwards
 
   module _ (sizes : w.sizes ≡ v.sizes) (p : IsPossible v) where

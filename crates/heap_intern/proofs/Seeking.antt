@@ -139,7 +139,10 @@ module _ (w : View) (i : ℕ) (t : Window) (us : List ℕ) (h : IsFixedWindow w 
 
   pub has_units : IsPossible w → IsLearned w → t.len ≡ length us → HasUnits w t us → Has w.units i us
   has_units p learned long same = let lanes : (o : ℕ) → o < length us → HasLane w t.wide t.start o (get_or us o 0) = (λ o l. plain_lane o (get_or us o 0) (same.each o l)) in
-      let all : AreFrozen w t = record { each = λ o l. let l' : o < length us = omega arith in let r = same.each o l' in key_of w.frozen (t.start + (t.offset + o) / lane_count t.wide) r.word r.frozen } in
+      let all : AreFrozen w t = record {
+        each = λ o l. let l' : o < length us = omega arith in
+            let r = same.each o l' in key_of w.frozen (t.start + (t.offset + o) / lane_count t.wide) r.word r.frozen;
+      } in
       let u = has_key w.units i (learned.each i t.wide t.start true t.len h.form h.long (words_frozen w t h.whole all)) in let n : t.len ≡ length u.0 = possible_length w p i t.len u.0 u.1 h.long in
       u.1 ∙ ap Some (same_number_lists u.0 us (sym n ∙ long) (λ k l. let l' : k < length us = omega arith in sym (lane_is w p i t.wide t.start true u.0 k (get_or us k 0) h.form u.1 l (lanes k l'))))
 

@@ -49,7 +49,9 @@ abbrev AreCalled : View → Type 0
 AreCalled v = (k i : ℕ) → Has v.slots k i → (u : List ℕ) × Contains (history v) (u, i)
 
 counted_in : (v : View) → StandsIn v → AreCalled v → count_below (λ k. contains_key v.slots k) v.sizes.slots ≡ different (history v)
-counted_in v (z, agents, W, vs, j, s, at, live) into = let know = s.knows j v at live in subst (λ (y : HeapSize). count_below (λ k. contains_key v.slots k) y.slots ≡ different (history v)) (sym (s.members j v at live).1)
+counted_in v (z, agents, W, vs, j, s, at, live) into =
+    let know = s.knows j v at live in subst (λ (y : HeapSize). count_below (λ k. contains_key v.slots k) y.slots ≡ different (history v))
+    (sym (s.members j v at live).1)
     (count_same (λ k. contains_key v.slots k) (λ k. is_some (units_in_slot z W (get v.slots k))) (λ k. sym (some_kept z W (get v.slots k))) z.slots
     ∙ used_different (λ k. units_in_slot z W (get v.slots k)) z.slots (history v)
     (λ k l u a b e g. let p = some_units z W (get v.slots k) u e in let q = some_units z W (get v.slots l) u g in
@@ -88,8 +90,10 @@ module _ (a v : View) (k count : ℕ) (c : Counted a v k count) where
       (ap (λ (n : ℕ). n + 1) (c.number ∙ sym (count_insert v.slots k i k (omega arith)))
       ∙ ap (λ (o : Option ℕ). count_below (λ l. contains_key (insert v.slots k i) l) k + (if is_some o then 1 else 0)) (sym (insert_same v.slots k i)))
 
-  entered_at : (x : ℕ) → ((i : ℕ) → x ≡ i + 1 → (u : List ℕ) × Contains v.mine (u, i)) → ((i : ℕ) → Has v.slots k i → x ≡ i + 1) → (l i : ℕ) → l < k + 1 → Has (learned_all (loaded_slot v k None x)).slots l i → (u : List ℕ) × Contains v.mine (u, i)
-  entered_at zero whole again l i m h = dite (ℕ_discrete l k) (λ (e : l ≡ k). let here : Has v.slots k i = ap (get v.slots) (sym e) ∙ h in let t = again i here in absurd (omega arith)) (λ ne. c.entered l i (omega arith) h)
+  entered_at : (x : ℕ) → ((i : ℕ) → x ≡ i + 1 → (u : List ℕ) × Contains v.mine (u, i)) → ((i : ℕ) → Has v.slots k i → x ≡ i + 1) → (l i : ℕ)
+      → l < k + 1 → Has (learned_all (loaded_slot v k None x)).slots l i → (u : List ℕ) × Contains v.mine (u, i)
+  entered_at zero whole again l i m h = dite (ℕ_discrete l k) (λ (e : l ≡ k). let here : Has v.slots k i = ap (get v.slots) (sym e) ∙ h in
+      let t = again i here in absurd (omega arith)) (λ ne. c.entered l i (omega arith) h)
   entered_at (suc x) whole again l i m h = dite (ℕ_discrete l k)
       (λ (e : l ≡ k). let s : Some x ≡ Some i = sym (insert_same v.slots k x) ∙ (ap (get (insert v.slots k x)) (sym e) ∙ h) in let is : x ≡ i = cc in whole i (omega arith))
       (λ ne. c.entered l i (omega arith) (sym (insert_other v.slots k l x ne) ∙ h))

@@ -38,7 +38,8 @@ pub alike : (g h : HeldWord) (i k : ℕ) → g.from ≤ i → h.from ≤ i → g
 alike g h i k l m a b e = let f : g.lane + (i + k - g.from) ≡ h.lane + (i + k - h.from) = omega arith in
     λ n. lane_of (b n) (a n) (f n)
 
-module _ (u y : View) (b : Window) (us : List ℕ) (left right : HeldWord) (i count : ℕ) (kept : KeepsKnown u y) (hl : Holds us left) (hr : IsWordHeld y b right) (al : HasAt left i count) (ar : HasAt right i count) where
+module _ (u y : View) (b : Window) (us : List ℕ) (left right : HeldWord)
+    (i count : ℕ) (kept : KeepsKnown u y) (hl : Holds us left) (hr : IsWordHeld y b right) (al : HasAt left i count) (ar : HasAt right i count) where
   -- what was compared before, and the words
   pub compared_on : ((k : ℕ) → k < i → HasLane u b.wide b.start (b.offset + k) (get_or us k 0)) → ((k : ℕ) → k < count → held_unit left (i + k) ≡ held_unit right (i + k))
       → (k : ℕ) → k < i + count → HasLane y b.wide b.start (b.offset + k) (get_or us k 0)

@@ -52,9 +52,14 @@ held_lanes x w i at k back count word l a b m n r s has = let small = lane_small
   within = omega arith;
   each = λ q t. let o : ℕ = w.offset + i in let t' : q < count = t in let e = same_word w.wide o back q (omega arith) (omega arith) in let j : ℕ = i - back + q in
       let o' : w.offset + j ≡ o - back + q = omega arith in
-      let word_is : w.start + (w.offset + j) / lane_count w.wide ≡ w.start + at = ap (λ (y : ℕ). w.start + y / lane_count w.wide) o' ∙ (ap (λ (y : ℕ). w.start + y) e.0 ∙ ap (λ (y : ℕ). w.start + y) (sym a)) in
+      let word_is : w.start + (w.offset + j) / lane_count w.wide ≡ w.start + at = ap (λ (y : ℕ). w.start + y / lane_count w.wide) o' ∙
+      (ap (λ (y : ℕ). w.start + y) e.0 ∙ ap (λ (y : ℕ). w.start + y) (sym a)) in
       let lane_is : (w.offset + j) % lane_count w.wide ≡ k - back + q = ap (λ (y : ℕ). y % lane_count w.wide) o' ∙ (e.1 ∙ ap (λ (y : ℕ). y - back + q) (sym b)) in
-      record { word = word; frozen = subst (λ (c : ℕ). Has x.frozen c word) (sym word_is) has; lane = lane_by (λ _. word) w.wide w.start (w.offset + j) (w.start + at) (k - back + q) word word_is lane_is refl };
+      record {
+        word = word;
+        frozen = subst (λ (c : ℕ). Has x.frozen c word) (sym word_is) has;
+        lane = lane_by (λ _. word) w.wide w.start (w.offset + j) (w.start + at) (k - back + q) word word_is lane_is refl;
+      };
 }
 
 module _ (v w : View) (k : KeepsKnown v w) where

@@ -18,21 +18,22 @@ use Rattle.heap_read.specs.Written.{AreWords}
 use Rattle.heap_read.proofs.Loaded.{key_more, known_trans}
 
 pub continues_trans : (u v w : View) → Continues u v → Continues v w → Continues u w
-continues_trans u v w a b = let a0 = a.ids_used in let b0 = b.ids_used in let a1 = a.words_used in let b1 = b.words_used in let a2 = a.ids_low in let b2 = b.ids_low in let a3 = a.words_low in let b3 = b.words_low in record {
-  known = known_trans u v w a.known b.known;
-  sizes = b.sizes ∙ a.sizes;
-  agents = b.agents ∙ a.agents;
-  live = b.live ∙ a.live;
-  share = b.share ∙ a.share;
-  ids_used = omega arith;
-  words_used = omega arith;
-  ids_low = omega arith;
-  words_low = omega arith;
-  slots = b.slots ∙ a.slots;
-  seen = b.seen ∙ a.seen;
-  mine = b.mine ∙ a.mine;
-  slot_loads = b.slot_loads ∙ a.slot_loads;
-}
+continues_trans u v w a b = let a0 = a.ids_used in let b0 = b.ids_used in let a1 = a.words_used in let b1 = b.words_used in
+    let a2 = a.ids_low in let b2 = b.ids_low in let a3 = a.words_low in let b3 = b.words_low in record {
+      known = known_trans u v w a.known b.known;
+      sizes = b.sizes ∙ a.sizes;
+      agents = b.agents ∙ a.agents;
+      live = b.live ∙ a.live;
+      share = b.share ∙ a.share;
+      ids_used = omega arith;
+      words_used = omega arith;
+      ids_low = omega arith;
+      words_low = omega arith;
+      slots = b.slots ∙ a.slots;
+      seen = b.seen ∙ a.seen;
+      mine = b.mine ∙ a.mine;
+      slot_loads = b.slot_loads ∙ a.slot_loads;
+    }
 
 pub continues_reads : (v w : View) → OnlyLoads v w → Continues v w
 continues_reads v w r = record {
@@ -54,16 +55,52 @@ continues_reads v w r = record {
 -- one step that leaves what is known as it is
 module _ (v : View) where
   pub known_words : (at want : ℕ) → KeepsKnown v (won_claim v Words at want)
-  known_words at want = record { units = λ i us h. h; lengths = λ i n h. h; flats = λ i wide start h. h; thins = λ i t h. h; settled = λ i h. h; frozen = λ c x h. h; known = λ i h. h; slots = λ k i h. h }
+  known_words at want = record {
+    units = λ i us h. h;
+    lengths = λ i n h. h;
+    flats = λ i wide start h. h;
+    thins = λ i t h. h;
+    settled = λ i h. h;
+    frozen = λ c x h. h;
+    known = λ i h. h;
+    slots = λ k i h. h;
+  }
 
   pub known_ids : (at want : ℕ) → KeepsKnown v (won_claim v Ids at want)
-  known_ids at want = record { units = λ i us h. h; lengths = λ i n h. h; flats = λ i wide start h. h; thins = λ i t h. h; settled = λ i h. h; frozen = λ c x h. h; known = λ i h. h; slots = λ k i h. h }
+  known_ids at want = record {
+    units = λ i us h. h;
+    lengths = λ i n h. h;
+    flats = λ i wide start h. h;
+    thins = λ i t h. h;
+    settled = λ i h. h;
+    frozen = λ c x h. h;
+    known = λ i h. h;
+    slots = λ k i h. h;
+  }
 
   pub known_stored : (c x : ℕ) → KeepsKnown v (stored_word v c x)
-  known_stored c x = record { units = λ i us h. h; lengths = λ i n h. h; flats = λ i wide start h. h; thins = λ i t h. h; settled = λ i h. h; frozen = λ c x h. h; known = λ i h. h; slots = λ k i h. h }
+  known_stored c x = record {
+    units = λ i us h. h;
+    lengths = λ i n h. h;
+    flats = λ i wide start h. h;
+    thins = λ i t h. h;
+    settled = λ i h. h;
+    frozen = λ c x h. h;
+    known = λ i h. h;
+    slots = λ k i h. h;
+  }
 
   pub known_length : (i n : ℕ) → KeepsKnown v (stored_length v i n)
-  known_length i n = record { units = λ i us h. h; lengths = λ i n h. h; flats = λ i wide start h. h; thins = λ i t h. h; settled = λ i h. h; frozen = λ c x h. h; known = λ i h. h; slots = λ k i h. h }
+  known_length i n = record {
+    units = λ i us h. h;
+    lengths = λ i n h. h;
+    flats = λ i wide start h. h;
+    thins = λ i t h. h;
+    settled = λ i h. h;
+    frozen = λ c x h. h;
+    known = λ i h. h;
+    slots = λ k i h. h;
+  }
 
   pub continues_words : (w : View) (at want : ℕ) → w ≡ won_claim v Words at want → v.low.words ≤ w.low.words → Continues v w
   continues_words w at want e l = let l' : v.low.words ≤ at + want = subst (λ (x : View). v.low.words ≤ x.low.words) e l in subst (Continues v) (sym e) record {
@@ -134,10 +171,38 @@ module _ (v : View) where
   }
 
   pub continues_stored : (c x : ℕ) → Continues v (stored_word v c x)
-  continues_stored c x = record { known = known_stored c x; sizes = refl; agents = refl; live = refl; share = refl; ids_used = omega arith; words_used = omega arith; ids_low = omega arith; words_low = omega arith; slots = refl; seen = refl; mine = refl; slot_loads = refl }
+  continues_stored c x = record {
+    known = known_stored c x;
+    sizes = refl;
+    agents = refl;
+    live = refl;
+    share = refl;
+    ids_used = omega arith;
+    words_used = omega arith;
+    ids_low = omega arith;
+    words_low = omega arith;
+    slots = refl;
+    seen = refl;
+    mine = refl;
+    slot_loads = refl;
+  }
 
   pub continues_length : (i n : ℕ) → Continues v (stored_length v i n)
-  continues_length i n = record { known = known_length i n; sizes = refl; agents = refl; live = refl; share = refl; ids_used = omega arith; words_used = omega arith; ids_low = omega arith; words_low = omega arith; slots = refl; seen = refl; mine = refl; slot_loads = refl }
+  continues_length i n = record {
+    known = known_length i n;
+    sizes = refl;
+    agents = refl;
+    live = refl;
+    share = refl;
+    ids_used = omega arith;
+    words_used = omega arith;
+    ids_low = omega arith;
+    words_low = omega arith;
+    slots = refl;
+    seen = refl;
+    mine = refl;
+    slot_loads = refl;
+  }
 
 module _ {X : Type 0} where
   pub run_kept : (m : FinMap nat_cmp X) (k n q : ℕ) (x : X) → HasKey m q → HasKey (with_run m k n x) q
@@ -152,13 +217,21 @@ module _ {X : Type 0} where
   -- the keys of a run
   pub run_keys : (m : FinMap nat_cmp X) (k n q : ℕ) (x : X) → q < n → HasKey (with_run m k n x) (k + q)
   run_keys m k zero q x l = absurd (omega arith)
-  run_keys m k (suc n) zero x l = let e : k ≡ k + 0 = omega arith in subst (HasKey (with_run (insert m k x) (suc k) n x)) e (run_kept (insert m k x) (suc k) n k x (key_of (insert m k x) k x (insert_same m k x)))
+  run_keys m k (suc n) zero x l =
+      let e : k ≡ k + 0 = omega arith in subst (HasKey (with_run (insert m k x) (suc k) n x)) e
+      (run_kept (insert m k x) (suc k) n k x (key_of (insert m k x) k x (insert_same m k x)))
   run_keys m k (suc n) (suc q) x l = let e : suc k + q ≡ k + suc q = omega arith in subst (HasKey (with_run (insert m k x) (suc k) n x)) e (run_keys (insert m k x) (suc k) n q x (omega arith))
 
 -- one more word holds its units
-pub words_stored : (v : View) (wide : Bool) (start at word : ℕ) (us : List ℕ) → AreWords v wide start us at → IsWordOf wide us at word → AreWords (stored_word v (start + at) word) wide start us (suc at)
+pub words_stored : (v : View) (wide : Bool) (start at word : ℕ) (us : List ℕ) → AreWords v wide start us at → IsWordOf wide us at word →
+    AreWords (stored_word v (start + at) word) wide start us (suc at)
 words_stored v wide start at word us h is = record {
   each = λ q l. dite (ℕ_discrete q at)
-      (λ (e : q ≡ at). (word, ap (λ (n : ℕ). get (insert v.own_words (start + at) word) (start + n)) e ∙ insert_same v.own_words (start + at) word, subst (λ (n : ℕ). IsWordOf wide us n word) (sym e) is))
+      (λ (e : q ≡ at). (
+        word,
+        ap (λ (n : ℕ). get (insert v.own_words (start + at) word) (start + n)) e ∙ insert_same v.own_words
+            (start + at) word,
+        subst (λ (n : ℕ). IsWordOf wide us n word) (sym e) is,
+      ))
       (λ ne. let t = h.each q (omega arith) in (t.0, insert_other v.own_words (start + at) (start + q) word (λ e. ne (omega arith)) ∙ t.1, t.2));
 }

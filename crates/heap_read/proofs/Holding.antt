@@ -36,7 +36,8 @@ held_window x w us i at k back count word p h l a b m n r s has is = let small =
   within = omega arith;
   each = λ q t. let o : ℕ = w.offset + i in let t' : q < count = t in let e = same_word w.wide o back q (omega arith) (omega arith) in let j : ℕ = i - back + q in
       let o' : w.offset + j ≡ o - back + q = omega arith in
-      let word_is : w.start + (w.offset + j) / lane_count w.wide ≡ w.start + at = ap (λ (y : ℕ). w.start + y / lane_count w.wide) o' ∙ (ap (λ (y : ℕ). w.start + y) e.0 ∙ ap (λ (y : ℕ). w.start + y) (sym a)) in
+      let word_is : w.start + (w.offset + j) / lane_count w.wide ≡ w.start + at = ap (λ (y : ℕ). w.start + y / lane_count w.wide) o' ∙
+      (ap (λ (y : ℕ). w.start + y) e.0 ∙ ap (λ (y : ℕ). w.start + y) (sym a)) in
       let lane_is : (w.offset + j) % lane_count w.wide ≡ k - back + q = ap (λ (y : ℕ). y % lane_count w.wide) o' ∙ (e.1 ∙ ap (λ (y : ℕ). y - back + q) (sym b)) in
       lane_by (shown_word x) w.wide w.start (w.offset + j) (w.start + at) (k - back + q) word word_is lane_is is
       ∙ window_unit x w us j p h (omega arith) (subst (λ (c : ℕ). HasKey x.own_words c ⊎ HasKey x.frozen c) (sym word_is) has);
@@ -65,7 +66,8 @@ pub holds_back : (xs ys : List ℕ) (n : ℕ) (h : HeldWord) → length xs ≡ n
 holds_back xs ys n h e r = let m = length-append xs ys in let s = r.within in record {
   lanes = r.lanes;
   within = omega arith;
-  each = λ k l. let back : n + h.from + k - n ≡ h.from + k = omega arith in r.each k l ∙ (ap (λ (i : ℕ). get_or ys i 0) (sym back) ∙ sym (get_or-append_right xs ys n (n + h.from + k) 0 e (omega arith)));
+  each = λ k l. let back : n + h.from + k - n ≡ h.from + k = omega arith in r.each k l ∙
+      (ap (λ (i : ℕ). get_or ys i 0) (sym back) ∙ sym (get_or-append_right xs ys n (n + h.from + k) 0 e (omega arith)));
 }
 
 -- the word of unit i shows the units from there on

@@ -27,7 +27,9 @@ turned false word unit = omega arith
 pub packed_lane : (wide : Bool) (xs : List ℕ) (k : ℕ) → Each1 (λ x. x < lane_base wide) xs → k < length xs → k < lane_count wide → lane_of wide (number_l (lane_base wide) xs) k ≡ get_or xs k 0
 packed_lane wide [] k h l m = absurd (omega arith)
 packed_lane wide (x ∷ xs) zero h l m = let w : ℕ = number_l (lane_base wide) xs in ap (λ (n : ℕ). lane_of wide n 0) (turned wide w x) ∙ first_lane wide w x h.0
-packed_lane wide (x ∷ xs) (suc k) h l m = let w : ℕ = number_l (lane_base wide) xs in ap (λ (n : ℕ). lane_of wide n (suc k)) (turned wide w x) ∙ (next_lane wide k w x h.0 m ∙ packed_lane wide xs k h.1 (omega (arith, l)) (omega arith))
+packed_lane wide (x ∷ xs) (suc k) h l m =
+    let w : ℕ = number_l (lane_base wide) xs in ap (λ (n : ℕ). lane_of wide n (suc k)) (turned wide w x) ∙
+    (next_lane wide k w x h.0 m ∙ packed_lane wide xs k h.1 (omega (arith, l)) (omega arith))
 
 -- a number of its digits
 number_digits : (p n x : ℕ) → 0 < p → x < p ^ n → number_l p (digits_l p n x) ≡ x
@@ -60,7 +62,8 @@ one_lane : (x : ℕ) → x < 2 ^ 64 → get_or (digits_l (2 ^ 64) 1 x) 0 0 ≡ x
 one_lane x l = omega arith
 
 bytes_below : (us : List ℕ) (at : ℕ) → at + 8 ≤ length us → ((k : ℕ) → k < 8 → get_or us (at + k) 0 < 256) → Each1 (λ x. x < 256) (chunk at 8 us)
-bytes_below us at room fits = let long = length-chunk at 8 us room in Each1-from_get_or (λ x. x < 256) (chunk at 8 us) 0 (λ k l. let m : k < 8 = omega arith in let e = get_or-chunk at 8 us k 0 m in let f = fits k m in omega arith)
+bytes_below us at room fits = let long = length-chunk at 8 us room in Each1-from_get_or (λ x. x < 256) (chunk at 8 us) 0
+    (λ k l. let m : k < 8 = omega arith in let e = get_or-chunk at 8 us k 0 m in let f = fits k m in omega arith)
 
 fits_byte : (x : ℕ) → x < 256 → Fits w8 x
 fits_byte x l = record { fits = l }

@@ -65,7 +65,8 @@ narrow_thin v p i t true start us h u g = tt
 narrow_thin v p i t false start us h u g = ∥∥₁_elim p (Prim.hlevel props) (λ q. thin_narrow_in v q i t false start us h u g)
 
 part_narrow_in : (v : View) → StandsIn v → (i : ℕ) (wide : Bool) (parent offset : ℕ) (us : List ℕ) → Has v.forms i (Sliced wide parent offset) → Has v.units i us → IsNarrow wide us
-part_narrow_in v (z, agents, W, vs, j, s, at, live) i wide parent offset us h u = let k = s.knows j v at live in subst (IsNarrow wide) (k.of_units i us u).1 (k.of_forms i (Sliced wide parent offset) h).shows.6
+part_narrow_in v (z, agents, W, vs, j, s, at, live) i wide parent offset us h u =
+    let k = s.knows j v at live in subst (IsNarrow wide) (k.of_units i us u).1 (k.of_forms i (Sliced wide parent offset) h).shows.6
 
 pub narrow_sliced : (v : View) → IsPossible v → (i : ℕ) (wide : Bool) (parent offset : ℕ) (us : List ℕ) → Has v.forms i (Sliced wide parent offset) → Has v.units i us → IsNarrow wide us
 narrow_sliced v p i true parent offset us h u = tt
@@ -114,7 +115,17 @@ module _ (v w : View) (s by : ℕ) (wide : Bool) (start before n : ℕ) (us : Li
   led_long = let size = led_length in ⊎_elim
       (λ (t : StandsFor v s led.id × (by ≡ led.id) × (before ≡ 0)). let none = t.2 in let plain : n ≡ before + length us = omega arith in
       inl (subst (λ (m : ℕ). Has w.lengths led.id m) plain (subst (λ (i : ℕ). Has w.lengths i n) t.1 count)))
-      (λ t. inr (s, t.0, t.1, before, n, forms_held v w same s (Sliced t.0 t.1 before) t.2, subst (λ (i : ℕ). Has w.lengths i n) t.4 count, omega arith, stands_for_kept v w (forms_held v w same) t.1 led.id t.3))
+      (λ t. inr (
+        s,
+        t.0,
+        t.1,
+        before,
+        n,
+        forms_held v w same s (Sliced t.0 t.1 before) t.2,
+        subst (λ (i : ℕ). Has w.lengths i n) t.4 count,
+        omega arith,
+        stands_for_kept v w (forms_held v w same) t.1 led.id t.3,
+      ))
       led.way
 
   pub led_window : IsWindow w (record { wide = wide; start = start; offset = before; len = n }) us × (n ≡ length us)

@@ -78,13 +78,15 @@ module _ (v : View) where
   all_are : (start n : ℕ) → ((q : ℕ) → q < n → HasKey v.frozen (start + q)) → all_frozen v start n ≡ true
   all_are start zero h = refl
   all_are start (suc n) h = let plain : start + 0 ≡ start = omega arith in
-      and_from _ _ (subst (HasKey v.frozen) plain (h 0 (omega arith))) (all_are (suc start) n (λ q l. let e : start + suc q ≡ suc start + q = omega arith in subst (HasKey v.frozen) e (h (suc q) (omega arith))))
+      and_from _ _ (subst (HasKey v.frozen) plain (h 0 (omega arith)))
+      (all_are (suc start) n (λ q l. let e : start + suc q ≡ suc start + q = omega arith in subst (HasKey v.frozen) e (h (suc q) (omega arith))))
 
   flat_tells : (i : ℕ) (wide : Bool) (start : ℕ) (fixed : Bool) (n : ℕ) → Has v.forms i (Flat wide start fixed) → Has v.lengths i n → all_frozen v start (words_over wide n) ≡ true
       → by_flat v i (get v.forms i) (get v.lengths i) ≡ Some (span (frozen_word v) wide start 0 n)
   flat_tells i wide start fixed n f l all = (λ j. by_flat v i (f j) (l j)) ∙ ap (λ (b : Bool). cond b (Some (span (frozen_word v) wide start 0 n)) None) all
 
-  flat_justified : (i : ℕ) (wide : Bool) (start : ℕ) (fixed : Bool) (n : ℕ) → Has v.forms i (Flat wide start fixed) → Has v.lengths i n → all_frozen v start (words_over wide n) ≡ true → (us : List ℕ) × (justified v i ≡ Some us)
+  flat_justified : (i : ℕ) (wide : Bool) (start : ℕ) (fixed : Bool) (n : ℕ) → Has v.forms i (Flat wide start fixed) → Has v.lengths i n →
+      all_frozen v start (words_over wide n) ≡ true → (us : List ℕ) × (justified v i ≡ Some us)
   unfolding justified
   flat_justified i wide start fixed n f l all = some_third (first_in (λ j. by_thin v i j (get v.forms j)) (keys v.forms)) (first_in (λ j. by_cons v i j (get v.forms j)) (keys v.forms))
       (by_flat v i (get v.forms i) (get v.lengths i)) (span (frozen_word v) wide start 0 n) (flat_tells i wide start fixed n f l all)

@@ -54,22 +54,107 @@ reads_trans u v w a b = record {
 }
 
 pub reads_refl : (v : View) → OnlyLoads v v
-reads_refl v = record { known = known_refl v; sizes = refl; agents = refl; live = refl; share = refl; used = refl; low = refl; own_ids = refl; own_words = refl; slots = refl; seen = refl; mine = refl; slot_loads = refl }
+reads_refl v = record {
+  known = known_refl v;
+  sizes = refl;
+  agents = refl;
+  live = refl;
+  share = refl;
+  used = refl;
+  low = refl;
+  own_ids = refl;
+  own_words = refl;
+  slots = refl;
+  seen = refl;
+  mine = refl;
+  slot_loads = refl;
+}
 
 pub reads_length : (v w : View) (i n : ℕ) → KeepsKnown v w → w ≡ learned_all (loaded_length v i n) → OnlyLoads v w
 reads_length v w i n k e = subst (OnlyLoads v) (sym e)
-    record { known = subst (KeepsKnown v) e k; sizes = refl; agents = refl; live = refl; share = refl; used = refl; low = refl; own_ids = refl; own_words = refl; slots = refl; seen = refl; mine = refl; slot_loads = refl }
+    record {
+      known = subst (KeepsKnown v) e k;
+      sizes = refl;
+      agents = refl;
+      live = refl;
+      share = refl;
+      used = refl;
+      low = refl;
+      own_ids = refl;
+      own_words = refl;
+      slots = refl;
+      seen = refl;
+      mine = refl;
+      slot_loads = refl;
+    }
 
 form_by : (v : View) (i n : ℕ) (o : Option Form) → KeepsKnown v (learned_all (record (with_form v i o) { form_loads = n })) → OnlyLoads v (learned_all (record (with_form v i o) { form_loads = n }))
-form_by v i n None k = record { known = k; sizes = refl; agents = refl; live = refl; share = refl; used = refl; low = refl; own_ids = refl; own_words = refl; slots = refl; seen = refl; mine = refl; slot_loads = refl }
-form_by v i n (Some f) k = record { known = k; sizes = refl; agents = refl; live = refl; share = refl; used = refl; low = refl; own_ids = refl; own_words = refl; slots = refl; seen = refl; mine = refl; slot_loads = refl }
+form_by v i n None k = record {
+  known = k;
+  sizes = refl;
+  agents = refl;
+  live = refl;
+  share = refl;
+  used = refl;
+  low = refl;
+  own_ids = refl;
+  own_words = refl;
+  slots = refl;
+  seen = refl;
+  mine = refl;
+  slot_loads = refl;
+}
+form_by v i n (Some f) k = record {
+  known = k;
+  sizes = refl;
+  agents = refl;
+  live = refl;
+  share = refl;
+  used = refl;
+  low = refl;
+  own_ids = refl;
+  own_words = refl;
+  slots = refl;
+  seen = refl;
+  mine = refl;
+  slot_loads = refl;
+}
 
 pub reads_form : (v w : View) (i x : ℕ) → KeepsKnown v w → w ≡ learned_all (loaded_form v i x) → OnlyLoads v w
 reads_form v w i x k e = subst (OnlyLoads v) (sym e) (form_by v i _ (form_of x) (subst (KeepsKnown v) e k))
 
-word_by : (v : View) (c x : ℕ) (b : Bool) → KeepsKnown v (learned_all (cond b v (record v { frozen = insert v.frozen c x }))) → OnlyLoads v (learned_all (cond b v (record v { frozen = insert v.frozen c x })))
-word_by v c x true k = record { known = k; sizes = refl; agents = refl; live = refl; share = refl; used = refl; low = refl; own_ids = refl; own_words = refl; slots = refl; seen = refl; mine = refl; slot_loads = refl }
-word_by v c x false k = record { known = k; sizes = refl; agents = refl; live = refl; share = refl; used = refl; low = refl; own_ids = refl; own_words = refl; slots = refl; seen = refl; mine = refl; slot_loads = refl }
+word_by : (v : View) (c x : ℕ) (b : Bool) → KeepsKnown v (learned_all (cond b v (record v { frozen = insert v.frozen c x }))) → OnlyLoads v
+    (learned_all (cond b v (record v { frozen = insert v.frozen c x })))
+word_by v c x true k = record {
+  known = k;
+  sizes = refl;
+  agents = refl;
+  live = refl;
+  share = refl;
+  used = refl;
+  low = refl;
+  own_ids = refl;
+  own_words = refl;
+  slots = refl;
+  seen = refl;
+  mine = refl;
+  slot_loads = refl;
+}
+word_by v c x false k = record {
+  known = k;
+  sizes = refl;
+  agents = refl;
+  live = refl;
+  share = refl;
+  used = refl;
+  low = refl;
+  own_ids = refl;
+  own_words = refl;
+  slots = refl;
+  seen = refl;
+  mine = refl;
+  slot_loads = refl;
+}
 
 pub reads_word : (v w : View) (c x : ℕ) → KeepsKnown v w → w ≡ learned_all (loaded_word v c x) → OnlyLoads v w
 reads_word v w c x k e = subst (OnlyLoads v) (sym e) (word_by v c x (contains_key v.own_words c) (subst (KeepsKnown v) e k))

@@ -26,7 +26,8 @@ module _ (z : HeapSize) (W : List ℕ) (vs : List View) (v : View) (k : Knows z 
   led_narrow s i offset way h = ⊎_elim
       (λ (t : ((s ≡ i) ⊎ Has v.forms s (Thin i)) × (offset ≡ 0)). subst (IsNarrow false) (sym (same_units s i t.0)) h)
       (λ (t : (wide : Bool) × (parent : ℕ) × Has v.forms s (Sliced wide parent offset) × ((parent ≡ i) ⊎ Has v.forms parent (Thin i))).
-      let whole : units_of z W s ≡ take (length_word z W s) (drop offset (units_of z W i)) = (k.of_forms s (Sliced t.0 t.1 offset) t.2).shows.2 ∙ ap (λ (xs : List ℕ). take (length_word z W s) (drop offset xs)) (same_units t.1 i t.3) in
+      let whole : units_of z W s ≡ take (length_word z W s) (drop offset (units_of z W i)) = (k.of_forms s (Sliced t.0 t.1 offset)
+      t.2).shows.2 ∙ ap (λ (xs : List ℕ). take (length_word z W s) (drop offset xs)) (same_units t.1 i t.3) in
       subst (IsNarrow false) (sym whole) (All-take (λ (u : ℕ). u < 256) (length_word z W s) (drop offset (units_of z W i)) (All-drop (λ (u : ℕ). u < 256) offset (units_of z W i) h)))
       way
 
@@ -34,7 +35,8 @@ narrow_in : (v : View) → StandsIn v → (s i offset start : ℕ) (fixed : Bool
 narrow_in v (z, agents, W, vs, j, stand, at, live) s i offset start fixed us way f h = let k = stand.knows j v at live in
     subst (IsNarrow false) (k.of_units s us h).1 (led_narrow z W vs v k s i offset way (k.of_forms i (Flat false start fixed) f).shows.3)
 
-pub possible_narrow : (v : View) → IsPossible v → (s i offset start : ℕ) (fixed : Bool) (us : List ℕ) → LeadsTo v s i offset → Has v.forms i (Flat false start fixed) → Has v.units s us → IsNarrow false us
+pub possible_narrow : (v : View) → IsPossible v → (s i offset start : ℕ) (fixed : Bool) (us : List ℕ) → LeadsTo v s i offset → Has v.forms i
+    (Flat false start fixed) → Has v.units s us → IsNarrow false us
 possible_narrow v p s i offset start fixed us way f h = ∥∥₁_elim p (Prim.hlevel props) (λ t. narrow_in v t s i offset start fixed us way f h)
 
 all_narrow : (us : List ℕ) → IsNarrow false us → is_wide us ≡ false

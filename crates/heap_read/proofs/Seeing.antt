@@ -30,7 +30,9 @@ side_of v i n (Thin target) = inr (key_of (insert v.met target tt) target tt (in
 
 -- the string that a form names first is known
 pub side_met : (v w : View) (i x : ℕ) (f : Form) → form_of x ≡ Some f → w ≡ learned_all (loaded_form v i x) → KnowsSide w f
-side_met v w i x f spelt e = subst (λ (u : View). KnowsSide u f) (sym e) (subst (λ (o : Option Form). KnowsSide (learned_all (record (with_form v i o) { form_loads = added_loads v.form_loads 1 })) f) (sym spelt) (side_of v i (added_loads v.form_loads 1) f))
+side_met v w i x f spelt e = subst (λ (u : View). KnowsSide u f) (sym e)
+    (subst (λ (o : Option Form). KnowsSide (learned_all (record (with_form v i o) { form_loads = added_loads v.form_loads 1 })) f) (sym spelt)
+    (side_of v i (added_loads v.form_loads 1) f))
 
 loads_by : (v : View) (i n : ℕ) (o : Option Form) → (learned_all (record (with_form v i o) { form_loads = n })).form_loads ≡ n
 loads_by v i n None = refl

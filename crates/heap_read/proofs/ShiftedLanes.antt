@@ -17,8 +17,12 @@ use Rattle.heap_read.proofs.Comparison.{unit_held_is}
 pub power_is : (wide : Bool) (k : ℕ) → lane_base wide ^ k ≡ 2 ^ (lane_bits wide * k)
 power_is true zero = refl
 power_is false zero = refl
-power_is true (suc k) = let e : suc k ≡ k + 1 = omega arith in let f : 16 * suc k ≡ 16 * k + 16 = omega arith in ap (λ (n : ℕ). 65536 ^ n) e ∙ (pow-add 65536 k 1 ∙ (ap (λ (n : ℕ). n * 65536) (power_is true k) ∙ sym (ap (λ (n : ℕ). 2 ^ n) f ∙ pow-add 2 (16 * k) 16)))
-power_is false (suc k) = let e : suc k ≡ k + 1 = omega arith in let f : 8 * suc k ≡ 8 * k + 8 = omega arith in ap (λ (n : ℕ). 256 ^ n) e ∙ (pow-add 256 k 1 ∙ (ap (λ (n : ℕ). n * 256) (power_is false k) ∙ sym (ap (λ (n : ℕ). 2 ^ n) f ∙ pow-add 2 (8 * k) 8)))
+power_is true (suc k) = let e : suc k ≡ k + 1 = omega arith in
+    let f : 16 * suc k ≡ 16 * k + 16 = omega arith in ap (λ (n : ℕ). 65536 ^ n) e ∙
+    (pow-add 65536 k 1 ∙ (ap (λ (n : ℕ). n * 65536) (power_is true k) ∙ sym (ap (λ (n : ℕ). 2 ^ n) f ∙ pow-add 2 (16 * k) 16)))
+power_is false (suc k) = let e : suc k ≡ k + 1 = omega arith in
+    let f : 8 * suc k ≡ 8 * k + 8 = omega arith in ap (λ (n : ℕ). 256 ^ n) e ∙
+    (pow-add 256 k 1 ∙ (ap (λ (n : ℕ). n * 256) (power_is false k) ∙ sym (ap (λ (n : ℕ). 2 ^ n) f ∙ pow-add 2 (8 * k) 8)))
 
 pub lane_shown : (wide : Bool) (x k : ℕ) → lane_of wide x k ≡ x / 2 ^ (lane_bits wide * k) % 2 ^ lane_bits wide
 unfolding lane_of
@@ -57,7 +61,8 @@ word_fits wide k l = subst (λ (n : ℕ). n ≤ 2 ^ 64) (sym (power_is wide k)) 
 -- the lanes of a word from `low` on
 pub cut_holds : (wide : Bool) (word low count r : ℕ) → r ≡ word / 2 ^ (lane_bits wide * low) % 2 ^ (lane_bits wide * count) → HoldsLanes wide r count (λ k. lane_of wide word (low + k))
 cut_holds wide word low count r e = let b = lane_bits wide in record {
-  small = subst (λ (n : ℕ). n < lane_base wide ^ count) (sym e) (subst (λ (n : ℕ). word / 2 ^ (b * low) % 2 ^ (b * count) < n) (sym (power_is wide count)) (mod-lt (word / 2 ^ (b * low)) (pow_pos (b * count))));
+  small = subst (λ (n : ℕ). n < lane_base wide ^ count) (sym e) (subst (λ (n : ℕ). word / 2 ^ (b * low) % 2 ^ (b * count) < n)
+      (sym (power_is wide count)) (mod-lt (word / 2 ^ (b * low)) (pow_pos (b * count))));
   each = λ k l. ap (λ (n : ℕ). lane_of wide n k) e ∙ (lane_cut wide (word / 2 ^ (b * low)) count k l ∙ lane_shifted wide word low k);
 }
 
@@ -100,7 +105,9 @@ unfolding lane_of
 wide_lane x zero l s = let e : (x % 256 + x / 256 % 256 * 65536 + x / 65536 % 256 * 4294967296 + x / 16777216 * 281474976710656) / 1 % 65536 ≡ x / 1 % 256 = omega arith in e
 wide_lane x (suc zero) l s = let e : (x % 256 + x / 256 % 256 * 65536 + x / 65536 % 256 * 4294967296 + x / 16777216 * 281474976710656) / 65536 % 65536 ≡ x / 256 % 256 = omega arith in e
 wide_lane x (suc (suc zero)) l s = let e : (x % 256 + x / 256 % 256 * 65536 + x / 65536 % 256 * 4294967296 + x / 16777216 * 281474976710656) / 4294967296 % 65536 ≡ x / 65536 % 256 = omega arith in e
-wide_lane x (suc (suc (suc zero))) l s = let e : (x % 256 + x / 256 % 256 * 65536 + x / 65536 % 256 * 4294967296 + x / 16777216 * 281474976710656) / 281474976710656 % 65536 ≡ x / 16777216 % 256 = omega arith in e
+wide_lane x (suc (suc (suc zero))) l s =
+    let e : (x % 256 + x / 256 % 256 * 65536 + x / 65536 % 256 * 4294967296 + x / 16777216 * 281474976710656) / 281474976710656 % 65536 ≡
+    x / 16777216 % 256 = omega arith in e
 wide_lane x (suc (suc (suc (suc k)))) l s = absurd (omega arith)
 
 wide_small : (x count : ℕ) → count ≤ 4 → x < 256 ^ count → x % 256 + x / 256 % 256 * 65536 + x / 65536 % 256 * 4294967296 + x / 16777216 * 281474976710656 < 65536 ^ count
@@ -121,10 +128,17 @@ half_word count x l s = let h = pow-le-pow_right (base_some false) {i = count} {
 -- two-byte lanes as one-byte ones
 narrow_lane : (x k : ℕ) → k < 4 → lane_of true x k < 256 → lane_of false (x % 256 + x / 65536 % 256 * 256 + x / 4294967296 % 256 * 65536 + x / 281474976710656 % 256 * 16777216) k ≡ lane_of true x k
 unfolding lane_of
-narrow_lane x zero l s = let t : x / 1 % 65536 < 256 = s in let e : (x % 256 + x / 65536 % 256 * 256 + x / 4294967296 % 256 * 65536 + x / 281474976710656 % 256 * 16777216) / 1 % 256 ≡ x / 1 % 65536 = omega arith in e
-narrow_lane x (suc zero) l s = let t : x / 65536 % 65536 < 256 = s in let e : (x % 256 + x / 65536 % 256 * 256 + x / 4294967296 % 256 * 65536 + x / 281474976710656 % 256 * 16777216) / 256 % 256 ≡ x / 65536 % 65536 = omega arith in e
-narrow_lane x (suc (suc zero)) l s = let t : x / 4294967296 % 65536 < 256 = s in let e : (x % 256 + x / 65536 % 256 * 256 + x / 4294967296 % 256 * 65536 + x / 281474976710656 % 256 * 16777216) / 65536 % 256 ≡ x / 4294967296 % 65536 = omega arith in e
-narrow_lane x (suc (suc (suc zero))) l s = let t : x / 281474976710656 % 65536 < 256 = s in let e : (x % 256 + x / 65536 % 256 * 256 + x / 4294967296 % 256 * 65536 + x / 281474976710656 % 256 * 16777216) / 16777216 % 256 ≡ x / 281474976710656 % 65536 = omega arith in e
+narrow_lane x zero l s = let t : x / 1 % 65536 < 256 = s in
+    let e : (x % 256 + x / 65536 % 256 * 256 + x / 4294967296 % 256 * 65536 + x / 281474976710656 % 256 * 16777216) / 1 % 256 ≡ x / 1 % 65536 = omega arith in e
+narrow_lane x (suc zero) l s = let t : x / 65536 % 65536 < 256 = s in
+    let e : (x % 256 + x / 65536 % 256 * 256 + x / 4294967296 % 256 * 65536 + x / 281474976710656 % 256 * 16777216) / 256 % 256 ≡
+    x / 65536 % 65536 = omega arith in e
+narrow_lane x (suc (suc zero)) l s = let t : x / 4294967296 % 65536 < 256 = s in
+    let e : (x % 256 + x / 65536 % 256 * 256 + x / 4294967296 % 256 * 65536 + x / 281474976710656 % 256 * 16777216) / 65536 % 256 ≡
+    x / 4294967296 % 65536 = omega arith in e
+narrow_lane x (suc (suc (suc zero))) l s = let t : x / 281474976710656 % 65536 < 256 = s in
+    let e : (x % 256 + x / 65536 % 256 * 256 + x / 4294967296 % 256 * 65536 + x / 281474976710656 % 256 * 16777216) / 16777216 % 256 ≡
+    x / 281474976710656 % 65536 = omega arith in e
 narrow_lane x (suc (suc (suc (suc k)))) l s = absurd (omega arith)
 
 narrow_small : (x count : ℕ) → count ≤ 4 → x < 65536 ^ count → x % 256 + x / 65536 % 256 * 256 + x / 4294967296 % 256 * 65536 + x / 281474976710656 % 256 * 16777216 < 256 ^ count
@@ -145,8 +159,10 @@ narrowed_holds x count unit l f h = record {
 -- the higher bytes of four two-byte lanes
 pub over_none : (x : ℕ) → x < 2 ^ 64 → ((k : ℕ) → k < 4 → lane_of true x k < 256) → x / 256 % 256 + x / 16777216 % 256 + x / 1099511627776 % 256 + x / 72057594037927936 ≡ 0
 unfolding lane_of
-over_none x s h = let a : x / 1 % 65536 < 256 = h 0 (omega arith) in let b : x / 65536 % 65536 < 256 = h 1 (omega arith) in let c : x / 4294967296 % 65536 < 256 = h 2 (omega arith) in let d : x / 281474976710656 % 65536 < 256 = h 3 (omega arith) in
-    let a' : x / 256 % 256 ≡ 0 = omega (arith, a) in let b' : x / 16777216 % 256 ≡ 0 = omega (arith, b) in let c' : x / 1099511627776 % 256 ≡ 0 = omega (arith, c) in let d' : x / 72057594037927936 ≡ 0 = omega (arith, d, s) in
+over_none x s h = let a : x / 1 % 65536 < 256 = h 0 (omega arith) in let b : x / 65536 % 65536 < 256 = h 1 (omega arith) in
+    let c : x / 4294967296 % 65536 < 256 = h 2 (omega arith) in let d : x / 281474976710656 % 65536 < 256 = h 3 (omega arith) in
+    let a' : x / 256 % 256 ≡ 0 = omega (arith, a) in let b' : x / 16777216 % 256 ≡ 0 = omega (arith, b) in
+    let c' : x / 1099511627776 % 256 ≡ 0 = omega (arith, c) in let d' : x / 72057594037927936 ≡ 0 = omega (arith, d, s) in
     omega (arith, a', b', c', d')
 
 pub over_some : (x k : ℕ) → k < 4 → 256 ≤ lane_of true x k → 0 < x / 256 % 256 + x / 16777216 % 256 + x / 1099511627776 % 256 + x / 72057594037927936
@@ -159,7 +175,8 @@ over_some x (suc (suc (suc (suc k)))) l h = absurd (omega arith)
 
 -- a word whose lanes from `low` on are others
 module _ (wide : Bool) (word part before behind upper r low count : ℕ) (room : low + count ≤ lane_count wide) where
-  pub replaced_placed : ((q : ℕ) → q < low → lane_of wide before q ≡ lane_of wide word (0 + q)) → ((q : ℕ) → q < lane_count wide - (low + count) → lane_of wide behind q ≡ lane_of wide word (low + count + q))
+  pub replaced_placed : ((q : ℕ) → q < low → lane_of wide before q ≡ lane_of wide word (0 + q)) → ((q : ℕ) → q < lane_count wide
+      - (low + count) → lane_of wide behind q ≡ lane_of wide word (low + count + q))
       → ((q : ℕ) → q < count → lane_of wide upper q ≡ lane_of wide part q) → ((q : ℕ) → lane_of wide upper (count + q) ≡ lane_of wide behind q)
       → ((q : ℕ) → q < low → lane_of wide r q ≡ lane_of wide before q) → ((q : ℕ) → lane_of wide r (low + q) ≡ lane_of wide upper q)
       → IsPlaced wide word r low count (lane_of wide part)
@@ -206,7 +223,8 @@ wide_by us true e h = e
 wide_by us false e h = absurd (h (λ q. narrow_unit us q e))
 
 -- of a window, one word after the other
-module _ (us : List ℕ) (h : HeldWord) (i x : ℕ) (holds : Holds us h) (low : h.from ≤ i) (high : i < h.from + h.count) (lanes : HoldsLanes true x (h.count - (i - h.from)) (λ k. held_unit h (i + k))) where
+module _ (us : List ℕ) (h : HeldWord) (i x : ℕ) (holds : Holds us h) (low : h.from ≤ i) (high : i < h.from + h.count) (lanes : HoldsLanes
+    true x (h.count - (i - h.from)) (λ k. held_unit h (i + k))) where
   unit_here : (k : ℕ) → k < h.count - (i - h.from) → lane_of true x k ≡ get_or us (i + k) 0
   unit_here k l = lanes.each k l ∙ unit_held_is us h (i + k) holds (omega arith) (omega arith)
 
@@ -224,7 +242,8 @@ module _ (us : List ℕ) (h : HeldWord) (i x : ℕ) (holds : Holds us h) (low : 
       let small = ⊎_elim (λ (a : lane_of true x j < 256). a) (λ (a : 256 ≤ lane_of true x j). absurd (none j (omega arith) a)) (cases_lt (lane_of true x j) 256) in omega (arith, is, small))
       (cases_lt q i)
 
-pub placed_as : (wide : Bool) (before after low count : ℕ) (unit other : ℕ → ℕ) → IsPlaced wide before after low count unit → ((k : ℕ) → k < count → unit k ≡ other k) → IsPlaced wide before after low count other
+pub placed_as : (wide : Bool) (before after low count : ℕ) (unit other : ℕ → ℕ) → IsPlaced wide before after
+    low count unit → ((k : ℕ) → k < count → unit k ≡ other k) → IsPlaced wide before after low count other
 placed_as wide before after low count unit other p same = record { inside = λ k l. p.inside k l ∙ same k l; below = p.below; above = p.above }
 
 -- the lanes of one word of a list are all that there are for it

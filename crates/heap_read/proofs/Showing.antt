@@ -81,7 +81,8 @@ part_unit o n i us l = get_or-take n (drop o us) i 0 l ∙ get_or-drop o us i 0
 
 -- a lane of a word that the view has shows its unit
 pub window_unit : (v : View) (w : Window) (us : List ℕ) (i : ℕ) → IsPossible v → IsWindow v w us → i < w.len
-    → HasKey v.own_words (w.start + (w.offset + i) / lane_count w.wide) ⊎ HasKey v.frozen (w.start + (w.offset + i) / lane_count w.wide) → lane_in (shown_word v) w.wide w.start (w.offset + i) ≡ get_or us i 0
+    → HasKey v.own_words (w.start + (w.offset + i) / lane_count w.wide) ⊎ HasKey v.frozen (w.start + (w.offset + i) / lane_count w.wide) →
+    lane_in (shown_word v) w.wide w.start (w.offset + i) ≡ get_or us i 0
 window_unit v w us i p h l has = let m = h.within in let q = h.place in let e : w.offset + i ≡ h.before + (h.from + i) = omega arith in
     let has' = subst (λ (o : ℕ). HasKey v.own_words (w.start + o / lane_count w.wide) ⊎ HasKey v.frozen (w.start + o / lane_count w.wide)) e has in
     ap (λ (o : ℕ). lane_in (shown_word v) w.wide w.start o) e

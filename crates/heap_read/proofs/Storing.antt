@@ -38,7 +38,21 @@ word_put m c x = record {
 }
 
 pub writes_refl : (v : View) → Writes v v
-writes_refl v = record { known = known_refl v; sizes = refl; agents = refl; live = refl; share = refl; used = refl; low = refl; own_ids = refl; own_words = λ c h. h; slots = refl; seen = refl; mine = refl; slot_loads = refl }
+writes_refl v = record {
+  known = known_refl v;
+  sizes = refl;
+  agents = refl;
+  live = refl;
+  share = refl;
+  used = refl;
+  low = refl;
+  own_ids = refl;
+  own_words = λ c h. h;
+  slots = refl;
+  seen = refl;
+  mine = refl;
+  slot_loads = refl;
+}
 
 pub writes_trans : (u v w : View) → Writes u v → Writes v w → Writes u w
 writes_trans u v w a b = record {
@@ -75,7 +89,21 @@ writes_reads v w r = record {
 }
 
 pub writes_stored : (v : View) (c x : ℕ) → Writes v (stored_word v c x)
-writes_stored v c x = record { known = known_stored v c x; sizes = refl; agents = refl; live = refl; share = refl; used = refl; low = refl; own_ids = refl; own_words = λ q h. key_more v.own_words c q x h; slots = refl; seen = refl; mine = refl; slot_loads = refl }
+writes_stored v c x = record {
+  known = known_stored v c x;
+  sizes = refl;
+  agents = refl;
+  live = refl;
+  share = refl;
+  used = refl;
+  low = refl;
+  own_ids = refl;
+  own_words = λ q h. key_more v.own_words c q x h;
+  slots = refl;
+  seen = refl;
+  mine = refl;
+  slot_loads = refl;
+}
 
 pub continues_writes : (v w : View) → Writes v w → Continues v w
 continues_writes v w r = record {

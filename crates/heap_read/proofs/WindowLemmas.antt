@@ -72,11 +72,13 @@ next_lowest true o from i n z e = omega arith
 next_lowest false o from i n z e = omega arith
 
 -- what was searched before, and the word
-pub none_on : (us : List ℕ) (unit from i next : ℕ) → ((k : ℕ) → from ≤ k → k < i → get_or us k 0 ≡ unit → ⊥) → ((k : ℕ) → i ≤ k → k < next → get_or us k 0 ≡ unit → ⊥) → (k : ℕ) → from ≤ k → k < next → get_or us k 0 ≡ unit → ⊥
+pub none_on : (us : List ℕ) (unit from i next : ℕ) → ((k : ℕ) → from ≤ k → k < i → get_or us k 0 ≡ unit → ⊥) → ((k : ℕ) → i ≤ k → k < next →
+    get_or us k 0 ≡ unit → ⊥) → (k : ℕ) → from ≤ k → k < next → get_or us k 0 ≡ unit → ⊥
 none_on us unit from i next old new k a b e = ⊎_elim (λ l. old k a l e) (λ l. new k l b e) (cases_lt k i)
 
 -- some more units after those that were copied, from place `low` on
-pub read_on : (us : List ℕ) (from low done count : ℕ) (old new : List ℕ) → ((k : ℕ) → low ≤ k → k < done → get_or old k 0 ≡ get_or us (from + k) 0) → ((k : ℕ) → k < done → get_or new k 0 ≡ get_or old k 0)
+pub read_on : (us : List ℕ) (from low done count : ℕ) (old new : List ℕ) → ((k : ℕ) → low ≤ k → k < done → get_or old k 0 ≡ get_or us
+    (from + k) 0) → ((k : ℕ) → k < done → get_or new k 0 ≡ get_or old k 0)
     → ((k : ℕ) → k < count → get_or new (done + k) 0 ≡ get_or us (from + done + k) 0) → (k : ℕ) → low ≤ k → k < done + count → get_or new k 0 ≡ get_or us (from + k) 0
 read_on us from low done count old new was before inside k from_low l = ⊎_elim
     (λ a. before k a ∙ was k from_low a)
@@ -92,7 +94,8 @@ pub read_more : (us : List ℕ) (from done count : ℕ) (old new : List ℕ) →
 read_more us from done count old new was before inside k l = read_on us from 0 done count old new (λ j z. was j) before inside k (omega arith) l
 
 -- all of them
-pub read_all : (us : List ℕ) (from n : ℕ) (into : List ℕ) → length into ≡ n → from + n ≤ length us → ((k : ℕ) → k < n → get_or into k 0 ≡ get_or us (from + k) 0) → into ≡ slice_range us from (from + n)
+pub read_all : (us : List ℕ) (from n : ℕ) (into : List ℕ) → length into ≡ n → from + n
+    ≤ length us → ((k : ℕ) → k < n → get_or into k 0 ≡ get_or us (from + k) 0) → into ≡ slice_range us from (from + n)
 read_all us from n into e l same =
     let size : from + n - from ≡ n = omega arith in
     let long = length-take-le n (drop from us) (omega (arith, length-drop from us)) in
@@ -114,7 +117,9 @@ pub window_short : (v : View) (w : Window) (us : List ℕ) → IsPossible v → 
 window_short v w us p h = let m = possible_short v p h.of h.whole h.known in let l = h.within in omega arith
 
 -- the hash goes on over some units
-pub hash_word : (h g i n : ℕ) (us ls : List ℕ) → i + n ≤ length us → length ls ≡ n → ((k : ℕ) → k < n → get_or ls k 0 ≡ get_or us (i + k) 0) → hash_from h (drop i us) ≡ g → hash_from (hash_from h ls) (drop (i + n) us) ≡ g
+pub hash_word : (h g i n : ℕ) (us ls : List ℕ) → i + n ≤ length us → length ls ≡ n → ((k : ℕ) → k < n → get_or ls k 0 ≡ get_or us (i + k) 0)
+    → hash_from h (drop i us) ≡ g → hash_from (hash_from h ls) (drop (i + n) us) ≡ g
 hash_word h g i n us ls l e same k = let long = length-take-le n (drop i us) (omega (arith, length-drop i us)) in
-    let here : ls ≡ take n (drop i us) = same_number_lists ls (take n (drop i us)) (e ∙ sym long) (λ j b. same j (omega arith) ∙ sym (get_or-take n (drop i us) j 0 (omega arith) ∙ get_or-drop i us j 0)) in
+    let here : ls ≡ take n (drop i us) = same_number_lists ls (take n (drop i us)) (e ∙ sym long)
+    (λ j b. same j (omega arith) ∙ sym (get_or-take n (drop i us) j 0 (omega arith) ∙ get_or-drop i us j 0)) in
     sym (hash_append h ls (drop (i + n) us)) ∙ (ap (λ (xs : List ℕ). hash_from h (xs ++ drop (i + n) us)) here ∙ (ap (hash_from h) (sym (chunk-drop i n us)) ∙ k))

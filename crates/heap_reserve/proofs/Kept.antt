@@ -73,7 +73,8 @@ reserve_taken v w r s id n h t ordered = let up : IsAscending (id ∷ kept_ids s
     }
 
 -- the words that are taken are own, and 0
-pub zero_taken : (v u : View) (r : Reserve) (start words : ℕ) → OnlyLoads v u → IsReserve v r → words ≤ kept_words r → (0 < words → start ≡ r.start) → (q : ℕ) → q < words → Has u.own_words (start + q) 0
+pub zero_taken : (v u : View) (r : Reserve) (start words : ℕ) → OnlyLoads v u → IsReserve v r → words ≤ kept_words r →
+    (0 < words → start ≡ r.start) → (q : ℕ) → q < words → Has u.own_words (start + q) 0
 zero_taken v u r start words read h fits first q l = let e = first (omega (arith, l)) in let same : r.start + q ≡ start + q = omega (arith, e) in
     subst (λ (m : FinMap nat_cmp ℕ). Has m (start + q) 0) (sym read.own_words) (subst (λ (c : ℕ). Has v.own_words c 0) same (h.words (r.start + q) (omega arith) (omega (arith, l, fits))))
 
@@ -82,7 +83,8 @@ none_written : (wide : Bool) (n : ℕ) → n ≡ 0 → words_over wide n ≡ 0
 none_written true n e = omega (arith, e)
 none_written false n e = omega (arith, e)
 
-pub all_written : (p : View) → IsPossible p → (wide : Bool) (start words n : ℕ) (us : List ℕ) → words ≡ words_over wide n → length us ≡ n → AreWords p wide start us (words_over wide n) → (words ≡ 0 → start ≡ 0) → IsWritten p wide start us
+pub all_written : (p : View) → IsPossible p → (wide : Bool) (start words n : ℕ) (us : List ℕ) → words ≡ words_over wide n → length us ≡ n →
+    AreWords p wide start us (words_over wide n) → (words ≡ 0 → start ≡ 0) → IsWritten p wide start us
 all_written p possible wide start words n us e long h empty = record {
   small = dite (ℕ_discrete words 0) (λ none. let z = empty none in omega (arith, z)) (λ some. there (omega (arith, some, e)));
   words = subst (λ (m : ℕ). AreWords p wide start us (words_over wide m)) (sym long) h;
@@ -134,7 +136,8 @@ ascending_push [] x h l = (λ k d m. absurd (omega arith), tt)
 ascending_push (i ∷ is) x h l = (All-push (λ j. i < j) is x h.0 (l 0 0 (omega arith)), ascending_push is x h.1 (λ k d m. l (suc k) d (omega arith)))
 
 -- an id that was claimed comes last
-pub reserve_pushed : (v x : View) (r s : Reserve) (id : ℕ) → x ≡ won_claim v Ids id 1 → ((i : ℕ) → HasKey v.own_ids i → i < id) → IsReserve v r → kept_ids s ≡ kept_ids r ++ id ∷ [] → s.start ≡ r.start → s.end ≡ r.end → IsReserve x s
+pub reserve_pushed : (v x : View) (r s : Reserve) (id : ℕ) → x ≡ won_claim v Ids id 1 → ((i : ℕ) → HasKey v.own_ids i → i < id) → IsReserve
+    v r → kept_ids s ≡ kept_ids r ++ id ∷ [] → s.start ≡ r.start → s.end ≡ r.end → IsReserve x s
 reserve_pushed v x r s id e above h ids start end = let up = h.ordered in let kept = reserve_kept v x r (own_claimed_id v x id e above) h in
     let here : HasKey x.own_ids id = subst (λ (y : View). HasKey y.own_ids id) (sym e) (key_of (won_claim v Ids id 1).own_ids id 0 (insert_same v.own_ids id 0)) in record {
       ids = subst (λ (is : List ℕ). All (λ i. HasKey x.own_ids i) is) (sym ids) (All-push (λ i. HasKey x.own_ids i) (kept_ids r) id kept.ids here);
@@ -144,14 +147,16 @@ reserve_pushed v x r s id e above h ids start end = let up = h.ordered in let ke
     }
 
 -- words that were claimed are the run, or the end of it
-pub reserve_grown : (v w : View) (r s : Reserve) (start want : ℕ) → w ≡ won_claim v Words start want → ((c : ℕ) → HasKey v.own_words c → c < start) → IsReserve v r → kept_ids s ≡ kept_ids r → s.end ≡ start + want
+pub reserve_grown : (v w : View) (r s : Reserve) (start want : ℕ) → w ≡ won_claim v
+    Words start want → ((c : ℕ) → HasKey v.own_words c → c < start) → IsReserve v r → kept_ids s ≡ kept_ids r → s.end ≡ start + want
     → (start ≡ r.end → s.start ≡ r.start) → ((start ≡ r.end → ⊥) → s.start ≡ start) → IsReserve w s
 reserve_grown v w r s start want e above h ids end behind other = let kept = reserve_kept v w r (own_claimed_words v w start want e above) h in let up = h.ordered in record {
   ids = subst (λ (is : List ℕ). All (λ i. HasKey w.own_ids i) is) (sym ids) kept.ids;
   ascending = subst IsAscending (sym ids) h.ascending;
   ordered = dite (ℕ_discrete start r.end) (λ same. let b = behind same in omega (arith, b, end, up, same)) (λ ne. let b = other ne in omega (arith, b, end));
   words = λ c low high. dite (dec_le start c)
-      (λ l. let back : start + (c - start) ≡ c = omega (arith, l) in subst (λ (q : ℕ). Has w.own_words q 0) back (subst (λ (y : View). Has y.own_words (start + (c - start)) 0) (sym e) (run_zero v.own_words start want (c - start) (omega (arith, l, high, end)))))
+      (λ l. let back : start + (c - start) ≡ c = omega (arith, l) in subst (λ (q : ℕ). Has w.own_words q 0) back
+      (subst (λ (y : View). Has y.own_words (start + (c - start)) 0) (sym e) (run_zero v.own_words start want (c - start) (omega (arith, l, high, end)))))
       (λ l. dite (ℕ_discrete start r.end) (λ same. let b = behind same in kept.words c (omega (arith, low, b)) (omega (arith, l, same))) (λ ne. let b = other ne in absurd (omega (arith, b, low, l))));
 }
 
@@ -195,7 +200,8 @@ refused_behind v w x z r s t ids words (Full (full.Ids f)) a h = (h.0, h.1, (h.2
 refused_behind v w x z r s t ids words (Full (full.Words f)) a h = absurd h
 
 -- the answer of both
-pub claim_answer : (v w x : View) (z : HeapSize) (r s t : Reserve) (ids words : ℕ) (answer : Result (Unit {0}) ReserveFault) → IsClaimed v w r s 0 words → OnOk answer (IsClaimed w x s t ids 0) → IfErr answer (λ f. IsIdRefused w x z s t ids 0 f)
+pub claim_answer : (v w x : View) (z : HeapSize) (r s t : Reserve) (ids words : ℕ) (answer : Result (Unit {0}) ReserveFault) → IsClaimed v w
+    r s 0 words → OnOk answer (IsClaimed w x s t ids 0) → IfErr answer (λ f. IsIdRefused w x z s t ids 0 f)
     → IsClaimAnswer v x z r t ids words answer
 claim_answer v w x z r s t ids words (Ok u) a ok err = claimed_behind v w x r s t ids words a ok
 claim_answer v w x z r s t ids words (Err Memory) a ok err = refused_behind v w x z r s t ids words Memory a err

@@ -86,7 +86,8 @@ module _ (z : HeapSize) (W : List ℕ) (vs : List View) (stand : (i : ℕ) → I
     pub fixed_stays : (i : ℕ) (wide : Bool) (start : ℕ) → IsBorn z W i → form_of (form z W i) ≡ Some (Flat wide start true) → form z W' i ≡ form z W i
     fixed_stays i wide start b e = ⊎_elim (λ h. h) (λ (t : Turned z W W' vs' i). absurd (t.moving wide start e)) (a.forms i b)
 
-    flat_at : (i : ℕ) (wide : Bool) (start : ℕ) (f : Form) → IsBorn z W i → form_of (form z W i) ≡ Some f → f ≡ Flat wide start true → StandsAs z W vs i f → form z W' i ≡ form z W i → flat z W i ≡ flat z W' i
+    flat_at : (i : ℕ) (wide : Bool) (start : ℕ) (f : Form) → IsBorn z W i → form_of (form z W i) ≡ Some f → f ≡ Flat wide start true →
+        StandsAs z W vs i f → form z W' i ≡ form z W i → flat z W i ≡ flat z W' i
     flat_at i wide start (Flat w s false) b e is st keep = absurd (cc)
     flat_at i wide start (Flat w s true) b e is st keep = ap (flat_by z W i) e ∙ (span_then i w s b st.0 ∙ ap (flat_by z W' i) (sym (ap form_of keep ∙ e)))
     flat_at i wide start Unborn b e is st keep = absurd (cc)

@@ -1,5 +1,41 @@
 -- The birth of a Flat keeps the rule.
-use Rattle.std.proofs.Common.{◌≡◌, ◌≢◌, ℕ, zero, suc, ◌+◌, ◌*◌, ◌/◌, ◌%◌, ◌^◌, ◌<◌, ◌≤◌, ◌⊎◌, inl, inr, ⊎_elim, Bool, true, false, List, length, set, sym, refl, ap, ◌∙◌, subst, arith, Option, Some, None, IsTrue, get_or-set_other, get_or-set_same, length-set}
+use Rattle.std.proofs.Common.{
+  ◌≡◌,
+  ◌≢◌,
+  ℕ,
+  zero,
+  suc,
+  ◌+◌,
+  ◌*◌,
+  ◌/◌,
+  ◌%◌,
+  ◌^◌,
+  ◌<◌,
+  ◌≤◌,
+  ◌⊎◌,
+  inl,
+  inr,
+  ⊎_elim,
+  Bool,
+  true,
+  false,
+  List,
+  length,
+  set,
+  sym,
+  refl,
+  ap,
+  ◌∙◌,
+  subst,
+  arith,
+  Option,
+  Some,
+  None,
+  IsTrue,
+  get_or-set_other,
+  get_or-set_same,
+  length-set,
+}
 use Rattle.std.specs.Prelude.{All, unwrap_or, is_some}
 use mathlib.Core.Logic.{dite}
 use native.Mathlib.Decide.{ℕ_discrete, dec_le}
@@ -39,7 +75,8 @@ module _ {X : Type 0} where
   pub has_frozen : (own m : FinMap nat_cmp X) (c n q : ℕ) (x : X) → Has (with_run_of own m c n) q x → ((c ≤ q) × (q < c + n) × Has own q x) ⊎ Has m q x
   has_frozen own m c zero q x h = inr h
   has_frozen own m c (suc n) q x h = ⊎_elim (λ (t : (suc c ≤ q) × (q < suc c + n) × Has own q x). let lo = t.0 in let hi = t.1 in inl (omega arith, omega arith, t.2))
-      (λ (t : Has (put_some m c (get own c)) q x). ⊎_elim (λ (s : (q ≡ c) × (get own c ≡ Some x)). let e = s.0 in inl (omega arith, omega arith, ap (get own) s.0 ∙ s.1)) (λ s. inr s) (has_put m c (get own c) q x t))
+      (λ (t : Has (put_some m c (get own c)) q x). ⊎_elim (λ (s : (q ≡ c) × (get own c ≡ Some x)). let e = s.0 in inl
+      (omega arith, omega arith, ap (get own) s.0 ∙ s.1)) (λ s. inr s) (has_put m c (get own c) q x t))
       (has_frozen own (put_some m c (get own c)) (suc c) n q x h)
 
 pub length_span : (f : ℕ → ℕ) (wide : Bool) (start o n : ℕ) → length (span f wide start o n) ≡ n
@@ -125,7 +162,9 @@ module _ (z : HeapSize) (agents : ℕ) (W : List ℕ) (vs : List View) (s : IsSo
       (λ (h : HasKey v.own_words c). let p = has_key v.own_words c h in let o = (s.own_words j v at live).each c p.0 p.1 in let below = o.0 in record {
         below = omega arith;
         free = each_set (λ _ u. HasKey u.own_words c → ⊥) vs j w
-            (λ g. let q = has_key w.own_words c g in let out = (has_without v.own_words start (words_over wide n) c q.0 q.1).0 in ⊎_elim (λ (l : c < start). absurd (omega arith)) (λ (l : start + words_over wide n ≤ c). absurd (omega arith)) out)
+            (λ g. let q = has_key w.own_words c g in
+            let out = (has_without v.own_words start (words_over wide n) c q.0 q.1).0 in ⊎_elim (λ (l : c < start). absurd (omega arith))
+            (λ (l : start + words_over wide n ≤ c). absurd (omega arith)) out)
             (λ k u ne e l g. s.words_apart j v at live k u e l (λ x'. ne (sym x')) c h g);
       })
       (λ (h : HasKey v.frozen c). let p = has_key v.frozen c h in kept_then z W vs s.standing W' vs' agrees c ((s.knows j v at live).of_frozen c p.0 p.1).0)
@@ -145,7 +184,8 @@ module _ (z : HeapSize) (agents : ℕ) (W : List ℕ) (vs : List View) (s : IsSo
   units_are : units_of z W' i ≡ units_for v n f
   units_are = units_now ∙ (ap (λ (m : ℕ). span (content z W') wide start 0 m) length_now ∙ sym (flat_same (shown_word v) (content z W') wide start n shown_is))
 
-  lane_now : (b : Bool) (o : ℕ) → o < words_over b n * lane_count b → ((c : ℕ) → start ≤ c → c < start + words_over b n → shown_word v c ≡ content z W' c) → lane_in (shown_word v) b start o ≡ lane_in (content z W') b start o
+  lane_now : (b : Bool) (o : ℕ) → o < words_over b n * lane_count b → ((c : ℕ) → start ≤ c → c < start + words_over b n → shown_word v c ≡
+      content z W' c) → lane_in (shown_word v) b start o ≡ lane_in (content z W') b start o
   lane_now true o h e = lane_same (shown_word v) (content z W') true start o (e (start + o / 4) (omega arith) (omega arith))
   lane_now false o h e = lane_same (shown_word v) (content z W') false start o (e (start + o / 8) (omega arith) (omega arith))
 
@@ -200,11 +240,26 @@ module _ (z : HeapSize) (agents : ℕ) (W : List ℕ) (vs : List View) (s : IsSo
     others_words = λ q u ne e l. (moved_words u.own_words (s.own_words q u e l), λ c h g. s.words_apart j v at live q u e l (λ x'. ne (sym x')) c (back c h) g);
     knows = record {
       of_met = k.of_met;
-      of_units = λ q us h. ⊎_elim (λ (t : (q ≡ i) × (units_for v n f ≡ us)). (subst (IsBorn z W') (sym t.0) born_now, ap (units_of z W') t.0 ∙ (units_are ∙ t.1))) (λ (t : (q ≢ i) × Has v.units q us). k.of_units q us t.1) (has_insert v.units i q (units_for v n f) us h);
-      of_forms = λ q g h. ⊎_elim (λ (t : (q ≡ i) × (f ≡ g)). subst (λ (y : ℕ × Form). KnowsForm z W' vs' y.0 y.1) (λ d. (sym t.0 d, t.1 d)) record { born = born_now; now = f; decodes = decodes; later = inl refl; shows = (units_now, kept_now, zeros_now, narrow_now, start_now) })
+      of_units = λ q us h. ⊎_elim (λ (t : (q ≡ i) × (units_for v n f ≡ us)).
+          (subst (IsBorn z W') (sym t.0) born_now, ap (units_of z W') t.0 ∙ (units_are ∙ t.1)))
+          (λ (t : (q ≢ i) × Has v.units q us). k.of_units q us t.1) (has_insert v.units i q (units_for v n f) us h);
+      of_forms = λ q g h. ⊎_elim (λ (t : (q ≡ i) × (f ≡ g)). subst (λ (y : ℕ × Form). KnowsForm z W' vs' y.0 y.1)
+          (λ d. (sym t.0 d, t.1 d)) record {
+            born = born_now;
+            now = f;
+            decodes = decodes;
+            later = inl refl;
+            shows = (units_now, kept_now, zeros_now, narrow_now, start_now);
+          })
           (λ (t : (q ≢ i) × Has v.forms q g). k.of_forms q g t.1) (has_insert v.forms i q f g h);
-      of_lengths = λ q m h. ⊎_elim (λ (t : (q ≡ i) × (n ≡ m)). (subst (IsBorn z W') (sym t.0) born_now, ap (λ (y : ℕ). length_word z W' y) t.0 ∙ (length_now ∙ t.1))) (λ (t : (q ≢ i) × Has v.lengths q m). k.of_lengths q m t.1) (has_insert v.lengths i q n m h);
-      of_frozen = λ c x h. ⊎_elim (λ (t : (start ≤ c) × (c < start + words_over wide n) × Has v.own_words c x). (kept c t.0 t.1, contents c ∙ ((s.own_words j v at live).each c x t.2).1)) (λ t. k.of_frozen c x t) (has_frozen v.own_words v.frozen start (words_over wide n) c x h);
+      of_lengths = λ q m h. ⊎_elim (λ (t : (q ≡ i) × (n ≡ m)). (
+        subst (IsBorn z W') (sym t.0) born_now,
+        ap (λ (y : ℕ). length_word z W' y)
+            t.0 ∙ (length_now ∙ t.1),
+      )) (λ (t : (q ≢ i) × Has v.lengths q m). k.of_lengths q m t.1) (has_insert v.lengths i q n m h);
+      of_frozen = λ c x h. ⊎_elim (λ (t : (start ≤ c) × (c < start + words_over wide n) × Has v.own_words c x).
+          (kept c t.0 t.1, contents c ∙ ((s.own_words j v at live).each c x t.2).1)) (λ t. k.of_frozen c x t)
+          (has_frozen v.own_words v.frozen start (words_over wide n) c x h);
       of_slots = k.of_slots;
     };
     recalls = recalled z agents W vs s j v at live W' w agrees;

@@ -38,7 +38,8 @@ at_end calls front i l g = ((λ _. g.0 (drop i calls, ap (λ (f : Calls). f ++ d
 
 -- one more call taken over
 pub add_step : (have items all have' : Calls) (i : ℕ) (d x : Call) → i < length items → have ++ drop i items ≡ all → have' ≡ have ++ x ∷ [] → x ≡ get_or items i d → have' ++ drop (i + 1) items ≡ all
-add_step have items all have' i d x l e is val = (λ k. is k ++ drop (i + 1) items) ∙ (append_assoc have (x ∷ []) (drop (i + 1) items) ∙ ((λ k. have ++ val k ∷ drop (i + 1) items) ∙ ((λ k. have ++ sym (drop_more items i d l) k) ∙ e)))
+add_step have items all have' i d x l e is val = (λ k. is k ++ drop (i + 1) items) ∙
+    (append_assoc have (x ∷ []) (drop (i + 1) items) ∙ ((λ k. have ++ val k ∷ drop (i + 1) items) ∙ ((λ k. have ++ sym (drop_more items i d l) k) ∙ e)))
 
 continues_as : (a l r : Calls) (b : Bool) → (IsTrue b → StartsWith l r) × (StartsWith l r → IsTrue b) → (IsTrue b → StartsWith (a ++ l) (a ++ r)) × (StartsWith (a ++ l) (a ++ r) → IsTrue b)
 continues_as a l r b t = (
@@ -47,8 +48,11 @@ continues_as a l r b t = (
 )
 
 -- what follows a front, by the rest behind it
-pub continues_by : (a l f l' g : Calls) (n : ℕ) (b : Bool) → l' ≡ l → g ≡ f → n ≡ length a → StartsWith f a → (IsTrue b → StartsWith l' (take (length g - n) (drop n g))) × (StartsWith l' (take (length g - n) (drop n g)) → IsTrue b)
+pub continues_by : (a l f l' g : Calls) (n : ℕ) (b : Bool) → l' ≡ l → g ≡ f → n ≡ length a → StartsWith f a →
+    (IsTrue b → StartsWith l' (take (length g - n) (drop n g))) × (StartsWith l' (take (length g - n) (drop n g)) → IsTrue b)
     → (IsTrue b → StartsWith (a ++ l) f) × (StartsWith (a ++ l) f → IsTrue b)
-continues_by a l f l' g n b el eg en s t = let rest : take (length g - n) (drop n g) ≡ s.0 = ap (λ m. take m (drop n g)) (sym (length-drop n g)) ∙ (take-length (drop n g) ∙ ((λ k. drop (en k) ((eg ∙ s.1) k)) ∙ drop-append_seam a s.0)) in
+continues_by a l f l' g n b el eg en s t =
+    let rest : take (length g - n) (drop n g) ≡ s.0 = ap (λ m. take m (drop n g)) (sym (length-drop n g)) ∙
+    (take-length (drop n g) ∙ ((λ k. drop (en k) ((eg ∙ s.1) k)) ∙ drop-append_seam a s.0)) in
     subst (λ (q : Calls). (IsTrue b → StartsWith (a ++ l) q) × (StartsWith (a ++ l) q → IsTrue b)) (sym s.1)
     (continues_as a l s.0 b (subst (λ (p : Calls × Calls). (IsTrue b → StartsWith p.0 p.1) × (StartsWith p.0 p.1 → IsTrue b)) (λ k. (el k, rest k)) t))

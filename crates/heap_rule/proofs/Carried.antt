@@ -63,14 +63,16 @@ module _ (z : HeapSize) (W : List ℕ) (vs : List View) (stand : (i : ℕ) → I
       → (c : ℕ) → start ≤ c → c < start + words_over wide (length_word z W' i) → IsKept W' vs' c
   kept_span i wide start b h c lo hi = kept c (h c lo (subst (λ (n : ℕ). c < start + words_over wide n) (a.lengths i b) hi))
 
-  lane_kept : (wide : Bool) (start o n : ℕ) → o < words_over wide n * lane_count wide → ((c : ℕ) → start ≤ c → c < start + words_over wide n → IsKept W vs c) → lane_in (content z W') wide start o ≡ lane_in (content z W) wide start o
+  lane_kept : (wide : Bool) (start o n : ℕ) → o < words_over wide n * lane_count wide → ((c : ℕ) → start ≤ c → c < start + words_over wide n
+      → IsKept W vs c) → lane_in (content z W') wide start o ≡ lane_in (content z W) wide start o
   lane_kept true start o n h k = lane_same (content z W') (content z W) true start o (a.contents (start + o / 4) (k (start + o / 4) (omega arith) (omega arith)))
   lane_kept false start o n h k = lane_same (content z W') (content z W) false start o (a.contents (start + o / 8) (k (start + o / 8) (omega arith) (omega arith)))
 
   lanes_then : (i : ℕ) (wide : Bool) (start : ℕ) → IsBorn z W i → ((c : ℕ) → start ≤ c → c < start + words_over wide (length_word z W i) → IsKept W vs c)
       → ((o : ℕ) → length_word z W i ≤ o → o < words_over wide (length_word z W i) * lane_count wide → lane_in (content z W) wide start o ≡ 0)
       → (o : ℕ) → length_word z W' i ≤ o → o < words_over wide (length_word z W' i) * lane_count wide → lane_in (content z W') wide start o ≡ 0
-  lanes_then i wide start b kept_words zeros o lo hi = let hi' : o < words_over wide (length_word z W i) * lane_count wide = subst (λ (n : ℕ). o < words_over wide n * lane_count wide) (a.lengths i b) hi in
+  lanes_then i wide start b kept_words zeros o lo hi =
+      let hi' : o < words_over wide (length_word z W i) * lane_count wide = subst (λ (n : ℕ). o < words_over wide n * lane_count wide) (a.lengths i b) hi in
       lane_kept wide start o (length_word z W i) hi' kept_words ∙ zeros o (subst (λ (n : ℕ). n ≤ o) (a.lengths i b) lo) hi'
 
   long_then : (i : ℕ) → IsBorn z W i → 13 ≤ length_word z W i → 13 ≤ length_word z W' i

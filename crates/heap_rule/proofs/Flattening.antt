@@ -1,5 +1,35 @@
 -- A flattening that finds the Cons keeps the rule: a Flat of own words takes its place.
-use Rattle.std.proofs.Common.{◌≡◌, ◌≢◌, ℕ, ◌+◌, ◌*◌, ◌/◌, ◌^◌, ◌<◌, ◌≤◌, inl, inr, ⊎_elim, Bool, true, false, List, length, set, sym, refl, ap, ◌∙◌, subst, arith, Option, Some, get_or-set_other, get_or-set_same, length-set}
+use Rattle.std.proofs.Common.{
+  ◌≡◌,
+  ◌≢◌,
+  ℕ,
+  ◌+◌,
+  ◌*◌,
+  ◌/◌,
+  ◌^◌,
+  ◌<◌,
+  ◌≤◌,
+  inl,
+  inr,
+  ⊎_elim,
+  Bool,
+  true,
+  false,
+  List,
+  length,
+  set,
+  sym,
+  refl,
+  ap,
+  ◌∙◌,
+  subst,
+  arith,
+  Option,
+  Some,
+  get_or-set_other,
+  get_or-set_same,
+  length-set,
+}
 use mathlib.Core.Logic.{dite}
 use native.Mathlib.Decide.{ℕ_discrete}
 use Rattle.std.specs.FinMap.{FinMap, get, insert}
@@ -122,7 +152,9 @@ module _ (z : HeapSize) (agents : ℕ) (W : List ℕ) (vs : List View) (s : IsSo
   kept c lo hi = let b = words_same in let h = own c lo hi in let p = has_key v.own_words c h in let o = (s.own_words j v at live).each c p.0 p.1 in let below = o.0 in record {
     below = omega arith;
     free = each_set (λ _ u. HasKey u.own_words c → ⊥) vs j w
-        (λ g. let q = has_key w.own_words c g in let out = (has_without v.own_words start (words_over wide n) c q.0 q.1).0 in ⊎_elim (λ (l : c < start). absurd (omega arith)) (λ (l : start + words_over wide n ≤ c). absurd (omega arith)) out)
+        (λ g. let q = has_key w.own_words c g in
+        let out = (has_without v.own_words start (words_over wide n) c q.0 q.1).0 in ⊎_elim (λ (l : c < start). absurd (omega arith))
+        (λ (l : start + words_over wide n ≤ c). absurd (omega arith)) out)
         (λ k u ne e l g. s.words_apart j v at live k u e l (λ x'. ne (sym x')) c h g);
   }
 
@@ -144,7 +176,8 @@ module _ (z : HeapSize) (agents : ℕ) (W : List ℕ) (vs : List View) (s : IsSo
   unfolding shape
   units_now = units_step (shape z W') (low z W') i ∙ ap (λ (o : Option Form). units_by (units_in (shape z W')) (shape_by z W' i o)) decodes
 
-  lane_now : (b : Bool) (o : ℕ) → o < words_over b n * lane_count b → ((c : ℕ) → start ≤ c → c < start + words_over b n → shown_word v c ≡ content z W' c) → lane_in (shown_word v) b start o ≡ lane_in (content z W') b start o
+  lane_now : (b : Bool) (o : ℕ) → o < words_over b n * lane_count b → ((c : ℕ) → start ≤ c → c < start + words_over b n → shown_word v c ≡
+      content z W' c) → lane_in (shown_word v) b start o ≡ lane_in (content z W') b start o
   lane_now true o h e = lane_same (shown_word v) (content z W') true start o (e (start + o / 4) (omega arith) (omega arith))
   lane_now false o h e = lane_same (shown_word v) (content z W') false start o (e (start + o / 8) (omega arith) (omega arith))
 
@@ -205,35 +238,45 @@ module _ (z : HeapSize) (agents : ℕ) (W : List ℕ) (vs : List View) (s : IsSo
   moved_words m o = record { each = λ c y h. let t = o.each c y h in let a = words_same in let b = t.0 in (omega arith, contents c ∙ t.1) }
 
   pub keeps_flattening : IsSound z agents W' vs'
-  keeps_flattening = let k = knew z agents W vs s j v at live W' w agrees_flattening in let counted = s.counted in let a = ids_same in let b = words_same in one_view z agents W vs j v W' w s at live record {
-    live = live;
-    agrees = agrees_flattening;
-    counted = record {
-      long = length-set W (form_at z i) (word_of f) ∙ counted.long;
-      ids_end = (let h = counted.ids_end in omega arith);
-      words_end = (let h = counted.words_end in omega arith);
-      no_form = λ q lo hi. forms q (λ e. let m = (s.standing i known.born).below in omega arith) ∙ counted.no_form q (omega arith) hi;
-      no_length = λ q lo hi. lengths q ∙ counted.no_length q (omega arith) hi;
-      no_content = λ c lo hi. contents c ∙ counted.no_content c (omega arith) hi;
-    };
-    newborn = λ q h. dite (ℕ_discrete q i) (λ e. inr (subst (λ (y : ℕ). IsStanding z W' vs' y) (sym e) standing)) (λ ne. inl (h.0, λ e. h.1 (forms q ne ∙ e)));
-    own_ids = moved_ids v.own_ids (s.own_ids j v at live);
-    own_words = record { each = λ c y h. let t = has_without v.own_words start (words_over wide n) c y h in (moved_words v.own_words (s.own_words j v at live)).each c y t.1 };
-    others_ids = λ q u ne e l. (moved_ids u.own_ids (s.own_ids q u e l), s.ids_apart j v at live q u e l (λ x'. ne (sym x')));
-    others_words = λ q u ne e l. (moved_words u.own_words (s.own_words q u e l), λ c h g. s.words_apart j v at live q u e l (λ x'. ne (sym x')) c (back c h) g);
-    knows = record {
-      of_met = k.of_met;
-      of_units = k.of_units;
-      of_forms = λ q g h. ⊎_elim (λ (t : (q ≡ i) × (f ≡ g)). subst (λ (y : ℕ × Form). KnowsForm z W' vs' y.0 y.1) (λ d. (sym t.0 d, t.1 d)) record { born = (inside, turned.born); now = f; decodes = decodes; later = inl refl; shows = (units_now, kept_now, zeros_now, narrow_now, start_now) })
-          (λ (t : (q ≢ i) × Has v.forms q g). k.of_forms q g t.1) (has_insert v.forms i q f g h);
-      of_lengths = k.of_lengths;
-      of_frozen = λ c x h. ⊎_elim (λ (t : (start ≤ c) × (c < start + words_over wide n) × Has v.own_words c x). (kept c t.0 t.1, contents c ∙ ((s.own_words j v at live).each c x t.2).1)) (λ t. k.of_frozen c x t) (has_frozen v.own_words v.frozen start (words_over wide n) c x h);
-      of_slots = k.of_slots;
-    };
-    recalls = recalled z agents W vs s j v at live W' w agrees_flattening;
-    mine = λ u q h. h;
-    added = added_keep z agents W vs s j v at live w live refl refl W' a b;
-    low = (let q = s.lows j v at live in let q0 = q.0 in let q1 = q.1 in (omega arith, omega arith));
-    member = s.members j v at live;
-    new_slots = no_slot z W vs W' vs' (λ k h. get_or-set_other W (form_at z i) (2 + k) (word_of f) 0 (λ e. omega arith));
-  }
+  keeps_flattening = let k = knew z agents W vs s j v at live W' w agrees_flattening in let counted = s.counted in let a = ids_same in
+      let b = words_same in one_view z agents W vs j v W' w s at live record {
+        live = live;
+        agrees = agrees_flattening;
+        counted = record {
+          long = length-set W (form_at z i) (word_of f) ∙ counted.long;
+          ids_end = (let h = counted.ids_end in omega arith);
+          words_end = (let h = counted.words_end in omega arith);
+          no_form = λ q lo hi. forms q (λ e. let m = (s.standing i known.born).below in omega arith) ∙ counted.no_form q (omega arith) hi;
+          no_length = λ q lo hi. lengths q ∙ counted.no_length q (omega arith) hi;
+          no_content = λ c lo hi. contents c ∙ counted.no_content c (omega arith) hi;
+        };
+        newborn = λ q h. dite (ℕ_discrete q i) (λ e. inr (subst (λ (y : ℕ). IsStanding z W' vs' y) (sym e) standing)) (λ ne. inl (h.0, λ e. h.1 (forms q ne ∙ e)));
+        own_ids = moved_ids v.own_ids (s.own_ids j v at live);
+        own_words = record { each = λ c y h. let t = has_without v.own_words start (words_over wide n) c y h in (moved_words v.own_words (s.own_words j v at live)).each c y t.1 };
+        others_ids = λ q u ne e l. (moved_ids u.own_ids (s.own_ids q u e l), s.ids_apart j v at live q u e l (λ x'. ne (sym x')));
+        others_words = λ q u ne e l. (moved_words u.own_words (s.own_words q u e l), λ c h g. s.words_apart j v at live q u e l (λ x'. ne (sym x')) c (back c h) g);
+        knows = record {
+          of_met = k.of_met;
+          of_units = k.of_units;
+          of_forms = λ q g h. ⊎_elim (λ (t : (q ≡ i) × (f ≡ g)). subst (λ (y : ℕ × Form). KnowsForm z W' vs' y.0 y.1)
+              (λ d. (sym t.0 d, t.1 d)) record {
+                born = (inside, turned.born);
+                now = f;
+                decodes = decodes;
+                later = inl refl;
+                shows = (units_now, kept_now, zeros_now, narrow_now, start_now);
+              })
+              (λ (t : (q ≢ i) × Has v.forms q g). k.of_forms q g t.1) (has_insert v.forms i q f g h);
+          of_lengths = k.of_lengths;
+          of_frozen = λ c x h. ⊎_elim (λ (t : (start ≤ c) × (c < start + words_over wide n) × Has v.own_words c x).
+              (kept c t.0 t.1, contents c ∙ ((s.own_words j v at live).each c x t.2).1)) (λ t. k.of_frozen c x t)
+              (has_frozen v.own_words v.frozen start (words_over wide n) c x h);
+          of_slots = k.of_slots;
+        };
+        recalls = recalled z agents W vs s j v at live W' w agrees_flattening;
+        mine = λ u q h. h;
+        added = added_keep z agents W vs s j v at live w live refl refl W' a b;
+        low = (let q = s.lows j v at live in let q0 = q.0 in let q1 = q.1 in (omega arith, omega arith));
+        member = s.members j v at live;
+        new_slots = no_slot z W vs W' vs' (λ k h. get_or-set_other W (form_at z i) (2 + k) (word_of f) 0 (λ e. omega arith));
+      }

@@ -1,5 +1,37 @@
 -- Joining keeps the rule: of two maps laid over one another each key has what one of them has, and v then has what both agents had.
-use Rattle.std.proofs.Common.{◌≡◌, ◌≢◌, ℕ, zero, suc, ◌+◌, ◌<◌, ◌⊎◌, inl, inr, ⊎_elim, Bool, true, false, cond, List, [], ◌∷◌, append_assoc, set, sym, refl, ap, ◌∙◌, subst, arith, ne_eqb, Option, Some, None, IsTrue}
+use Rattle.std.proofs.Common.{
+  ◌≡◌,
+  ◌≢◌,
+  ℕ,
+  zero,
+  suc,
+  ◌+◌,
+  ◌<◌,
+  ◌⊎◌,
+  inl,
+  inr,
+  ⊎_elim,
+  Bool,
+  true,
+  false,
+  cond,
+  List,
+  [],
+  ◌∷◌,
+  append_assoc,
+  set,
+  sym,
+  refl,
+  ap,
+  ◌∙◌,
+  subst,
+  arith,
+  ne_eqb,
+  Option,
+  Some,
+  None,
+  IsTrue,
+}
 use Rattle.std.specs.Prelude.{◌||◌, Contains, is_some}
 use Rattle.std.specs.List.{list_any}
 use Rattle.std.proofs.lemmas.List.Elements.{Contains-append_left, Contains-append_right, Contains-append_cases}
@@ -35,7 +67,8 @@ module _ {X : Type 0} (f : Option X → X → X) (P : ℕ → X → Type 0) (one
       (λ (t : (q ≡ k) × (f (get m k) y ≡ x)). subst (λ (p : ℕ × X). P p.0 p.1) (λ i. (sym t.0 i, t.1 i)) (one_of k (get m k) y (λ z is. h k z is) (g y refl)))
       (λ (t : (q ≢ k) × Has m q x). h q x t.1) (has_insert m k q (f (get m k) y) x e)
 
-  laid_has_at : (upper : FinMap nat_cmp X) → ((q : ℕ) (x : X) → Has upper q x → P q x) → (ks : List ℕ) (m : FinMap nat_cmp X) → ((q : ℕ) (x : X) → Has m q x → P q x) → (q : ℕ) (x : X) → Has (laid_at f m upper ks) q x → P q x
+  laid_has_at : (upper : FinMap nat_cmp X) → ((q : ℕ) (x : X) → Has upper q x →
+      P q x) → (ks : List ℕ) (m : FinMap nat_cmp X) → ((q : ℕ) (x : X) → Has m q x → P q x) → (q : ℕ) (x : X) → Has (laid_at f m upper ks) q x → P q x
   laid_has_at upper g [] m h q x e = h q x e
   laid_has_at upper g (k ∷ ks) m h q x e = laid_has_at upper g ks (put_if_some f m k (get upper k)) (put_has m k (get upper k) h (λ y is. g k y is)) q x e
 
@@ -95,9 +128,11 @@ total_gone f [] j v e l = absurd (some-ne-none v (sym e))
 total_gone f (x ∷ xs) zero v e l = let b : of_live f x ≡ f v = ap (of_live f) (some-injective x v e) ∙ of_live_true f v l in
     let c : total f (spent ∷ xs) ≡ 0 + total f xs = sum_by-cons (of_live f) spent xs in let d : total f (x ∷ xs) ≡ of_live f x + total f xs = sum_by-cons (of_live f) x xs in omega arith
 total_gone f (x ∷ xs) (suc j) v e l = let h : total f (set xs j spent) + f v ≡ total f xs = total_gone f xs j v e l in
-    let c : total f (x ∷ set xs j spent) ≡ of_live f x + total f (set xs j spent) = sum_by-cons (of_live f) x (set xs j spent) in let d : total f (x ∷ xs) ≡ of_live f x + total f xs = sum_by-cons (of_live f) x xs in omega arith
+    let c : total f (x ∷ set xs j spent) ≡ of_live f x + total f (set xs j spent) = sum_by-cons (of_live f) x (set xs j spent) in
+    let d : total f (x ∷ xs) ≡ of_live f x + total f xs = sum_by-cons (of_live f) x xs in omega arith
 
-module _ (z : HeapSize) (agents : ℕ) (W : List ℕ) (vs : List View) (s : IsSound z agents W vs) (j o : ℕ) (v b : View) (ne : j ≢ o) (at : At vs j v) (live : v.live ≡ true) (at_other : At vs o b) (live_other : b.live ≡ true) where
+module _ (z : HeapSize) (agents : ℕ) (W : List ℕ) (vs : List View) (s : IsSound z agents W vs) (j o : ℕ)
+    (v b : View) (ne : j ≢ o) (at : At vs j v) (live : v.live ≡ true) (at_other : At vs o b) (live_other : b.live ≡ true) where
   abbrev w : View
   w = joined_view v b
 
@@ -133,14 +168,16 @@ module _ (z : HeapSize) (agents : ℕ) (W : List ℕ) (vs : List View) (s : IsSo
       (λ l x _ _ e' m' n. old k u e m l x e' m' n))
 
   known : Knows z W vs' w
-  known = let k : Knows z W vs' v = knows_then z W vs s.standing W vs' agrees_joined v (s.knows j v at live) in let n : Knows z W vs' b = knows_then z W vs s.standing W vs' agrees_joined b (s.knows o b at_other live_other) in record {
-    of_met = λ i h. let p = has_key w.met i h in laid_has upper_one (λ q _. IsBorn z W q) (upper_of _) v.met b.met (λ q x e. k.of_met q (key_of v.met q x e)) (λ q x e. n.of_met q (key_of b.met q x e)) i p.0 p.1;
-    of_units = laid_has upper_one (λ i us. IsBorn z W i × (units_of z W i ≡ us)) (upper_of _) v.units b.units k.of_units n.of_units;
-    of_forms = laid_has later_form (KnowsForm z W vs') (later_of (KnowsForm z W vs')) v.forms b.forms k.of_forms n.of_forms;
-    of_lengths = laid_has upper_one (λ i x. IsBorn z W i × (length_word z W i ≡ x)) (upper_of _) v.lengths b.lengths k.of_lengths n.of_lengths;
-    of_frozen = laid_has upper_one (λ c x. IsKept W vs' c × (content z W c ≡ x)) (upper_of _) v.frozen b.frozen k.of_frozen n.of_frozen;
-    of_slots = laid_has upper_one (λ l i. (l < z.slots) × (slot z W l ≡ i + 1)) (upper_of _) v.slots b.slots k.of_slots n.of_slots;
-  }
+  known = let k : Knows z W vs' v = knows_then z W vs s.standing W vs' agrees_joined v (s.knows j v at live) in
+      let n : Knows z W vs' b = knows_then z W vs s.standing W vs' agrees_joined b (s.knows o b at_other live_other) in record {
+        of_met = λ i h. let p = has_key w.met i h in laid_has upper_one (λ q _. IsBorn z W q) (upper_of _) v.met b.met
+            (λ q x e. k.of_met q (key_of v.met q x e)) (λ q x e. n.of_met q (key_of b.met q x e)) i p.0 p.1;
+        of_units = laid_has upper_one (λ i us. IsBorn z W i × (units_of z W i ≡ us)) (upper_of _) v.units b.units k.of_units n.of_units;
+        of_forms = laid_has later_form (KnowsForm z W vs') (later_of (KnowsForm z W vs')) v.forms b.forms k.of_forms n.of_forms;
+        of_lengths = laid_has upper_one (λ i x. IsBorn z W i × (length_word z W i ≡ x)) (upper_of _) v.lengths b.lengths k.of_lengths n.of_lengths;
+        of_frozen = laid_has upper_one (λ c x. IsKept W vs' c × (content z W c ≡ x)) (upper_of _) v.frozen b.frozen k.of_frozen n.of_frozen;
+        of_slots = laid_has upper_one (λ l i. (l < z.slots) × (slot z W l ≡ i + 1)) (upper_of _) v.slots b.slots k.of_slots n.of_slots;
+      }
 
   -- a slot that one of the two saw
   seen_slot : (l i : ℕ) → slot z W l ≡ i + 1 → HasKey w.slots l → Has w.slots l i
@@ -150,7 +187,8 @@ module _ (z : HeapSize) (agents : ℕ) (W : List ℕ) (vs : List View) (s : IsSo
   recalled_joined u i c = ⊎_elim
       (λ (h : Contains (history v) (u, i)). let r = s.recalls j v at live u i h in let t = (s.knows j v at live).of_slots r.0.0 i r.0.1 in
       ((r.0.0, seen_slot r.0.0 i t.1 (laid_keeps upper_one v.slots b.slots r.0.0 (key_of v.slots r.0.0 i r.0.1))), r.1))
-      (λ (h : Contains b.mine (u, i)). let r = s.recalls o b at_other live_other u i (Contains-append_right b.seen b.mine (u, i) h) in let t = (s.knows o b at_other live_other).of_slots r.0.0 i r.0.1 in
+      (λ (h : Contains b.mine (u, i)). let r = s.recalls o b at_other live_other u i (Contains-append_right b.seen b.mine (u, i) h) in
+      let t = (s.knows o b at_other live_other).of_slots r.0.0 i r.0.1 in
       ((r.0.0, seen_slot r.0.0 i t.1 (laid_takes upper_one v.slots b.slots r.0.0 (key_of b.slots r.0.0 i r.0.1))), r.1))
       (Contains-append_cases (history v) b.mine (u, i) (subst (λ (l : Calls). Contains l (u, i)) (sym (append_assoc v.seen v.mine b.mine)) c))
 
@@ -164,8 +202,14 @@ module _ (z : HeapSize) (agents : ℕ) (W : List ℕ) (vs : List View) (s : IsSo
   keeps_joined = let st = s.standing in let a = agrees_joined in let d = s.added in let m = s.members j v at live in let lv = s.lows j v at live in let lb = s.lows o b at_other live_other in record {
     lawful = s.lawful;
     counted = s.counted;
-    own_ids = each (λ _ u. OwnsIds z W u.own_ids) record { each = laid_has upper_one _ (upper_of _) v.own_ids b.own_ids (s.own_ids j v at live).each (s.own_ids o b at_other live_other).each } (λ k u _ _ e l. s.own_ids k u e l);
-    own_words = each (λ _ u. OwnsWords z W u.own_words) record { each = laid_has upper_one _ (upper_of _) v.own_words b.own_words (s.own_words j v at live).each (s.own_words o b at_other live_other).each } (λ k u _ _ e l. s.own_words k u e l);
+    own_ids = each (λ _ u. OwnsIds z W u.own_ids) record {
+      each = laid_has upper_one _ (upper_of _) v.own_ids b.own_ids
+          (s.own_ids j v at live).each (s.own_ids o b at_other live_other).each;
+    } (λ k u _ _ e l. s.own_ids k u e l);
+    own_words = each (λ _ u. OwnsWords z W u.own_words) record {
+      each = laid_has upper_one _ (upper_of _) v.own_words b.own_words
+          (s.own_words j v at live).each (s.own_words o b at_other live_other).each;
+    } (λ k u _ _ e l. s.own_words k u e l);
     ids_apart = apart (λ u. u.own_ids) (key_laid v.own_ids b.own_ids) s.ids_apart;
     words_apart = apart (λ u. u.own_words) (key_laid v.own_words b.own_words) s.words_apart;
     standing = λ i h. standing_then z W vs st W vs' a i h;

@@ -1,5 +1,35 @@
 -- Each kind of step keeps the rule and the units of every born id.
-use Rattle.std.proofs.Common.{◌≡◌, ℕ, zero, suc, ◌+◌, ◌<◌, Bool, true, false, cond, List, [], ◌∷◌, ◌++◌, length, get_or, set, eqb, eqb-true, ne_eqb, arith, Option, Some, None, sym, refl, ap, ◌∙◌, subst}
+use Rattle.std.proofs.Common.{
+  ◌≡◌,
+  ℕ,
+  zero,
+  suc,
+  ◌+◌,
+  ◌<◌,
+  Bool,
+  true,
+  false,
+  cond,
+  List,
+  [],
+  ◌∷◌,
+  ◌++◌,
+  length,
+  get_or,
+  set,
+  eqb,
+  eqb-true,
+  ne_eqb,
+  arith,
+  Option,
+  Some,
+  None,
+  sym,
+  refl,
+  ap,
+  ◌∙◌,
+  subst,
+}
 use Rattle.std.specs.Prelude.{unwrap_or}
 use Rattle.std.proofs.lemmas.List.{set-get_or}
 use Rattle.std.specs.FinMap.{get, insert, contains_key}
@@ -22,7 +52,28 @@ use Rattle.heap_rule.specs.Loads.{with_form, loaded_form, loaded_length, MayLoad
 use Rattle.heap_rule.specs.HeaderMoves.{seen_form, MayFlatten, flattened, MayThin}
 use Rattle.heap_rule.specs.Slots.{with_slot, MayEnter, loaded_slot, Differs, MayTakeSlot, took_slot}
 use Rattle.heap_rule.specs.Sound.{At, IsSound}
-use Rattle.heap_rule.specs.Kinds.{StepKind, load_counter, claim, store_word, store_length, birth, load_form, load_length, load_word, flatten, thin, load_slot, take_slot, MayCome, place_of, access_of, word_left, view_after, KeepsRule, KindsKeep}
+use Rattle.heap_rule.specs.Kinds.{
+  StepKind,
+  load_counter,
+  claim,
+  store_word,
+  store_length,
+  birth,
+  load_form,
+  load_length,
+  load_word,
+  flatten,
+  thin,
+  load_slot,
+  take_slot,
+  MayCome,
+  place_of,
+  access_of,
+  word_left,
+  view_after,
+  KeepsRule,
+  KindsKeep,
+}
 use Rattle.heap_rule.proofs.ListLemmas.{set_there}
 use Rattle.heap_rule.proofs.Agreement.{Agrees, born_then, units_stay}
 use Rattle.heap_rule.proofs.Steps.{keeps_loaded_counter, keeps_won_claim, agrees_won_claim, keeps_stored_word, agrees_stored_word, keeps_stored_length, agrees_stored_length, sizes_are}
@@ -85,20 +136,26 @@ module _ (z : HeapSize) (agents : ℕ) (W : List ℕ) (vs : List View) (s : IsSo
 
   pub claim_by : (k : Counter) (a want : ℕ) (b : Bool) → MayClaim v k a want → (b ≡ true → get_or W (counter_at k) 0 ≡ a)
       → KeepsRule z agents W (set W (counter_at k) (cond b (a + want) (get_or W (counter_at k) 0))) (set vs j (cond b (won_claim v k a want) (loaded_counter v k (get_or W (counter_at k) 0))))
-  claim_by k a want true may won = by_agrees (set W (counter_at k) (a + want)) (set vs j (won_claim v k a want)) (agrees_won_claim z agents W vs s j v at live k a want (sym (won refl))) (keeps_won_claim z agents W vs s j v at live k a want may (sym (won refl)))
+  claim_by k a want true may won = by_agrees (set W (counter_at k) (a + want)) (set vs j (won_claim v k a want))
+      (agrees_won_claim z agents W vs s j v at live k a want (sym (won refl))) (keeps_won_claim z agents W vs s j v at live k a want may (sym (won refl)))
   claim_by k a want false may won = same_word (counter_at k) (set vs j (loaded_counter v k (get_or W (counter_at k) 0))) (counter_kept k)
 
   -- stores to what is own, and births
   pub word_stored : (c n : ℕ) → HasKey v.own_words c → KeepsRule z agents W (set W (content_at z c) n) (set vs j (stored_word v c n))
-  word_stored c n own = by_agrees (set W (content_at z c) n) (set vs j (stored_word v c n)) (agrees_stored_word z agents W vs s j v at live c n own) (keeps_stored_word z agents W vs s j v at live c n own)
+  word_stored c n own = by_agrees (set W (content_at z c) n) (set vs j (stored_word v c n))
+      (agrees_stored_word z agents W vs s j v at live c n own) (keeps_stored_word z agents W vs s j v at live c n own)
 
   pub length_stored : (i n : ℕ) → MayStoreLength v i n → KeepsRule z agents W (set W (length_at z i) n) (set vs j (stored_length v i n))
-  length_stored i n may = by_agrees (set W (length_at z i) n) (set vs j (stored_length v i n)) (agrees_stored_length z agents W vs s j v at live i n may.0) (keeps_stored_length z agents W vs s j v at live i n may)
+  length_stored i n may = by_agrees (set W (length_at z i) n) (set vs j (stored_length v i n))
+      (agrees_stored_length z agents W vs s j v at live i n may.0) (keeps_stored_length z agents W vs s j v at live i n may)
 
   pub birth_by : (i n : ℕ) (f : Form) → Has v.own_ids i n → FormFits v i n f → KeepsRule z agents W (set W (form_at z i) (word_of f)) (set vs j (born_with v i n f))
-  birth_by i n (Flat wide start fixed) own fits = by_agrees _ _ (flat_birth.agrees z agents W vs s j v at live i n own wide start fixed fits) (keeps_birth z agents W vs s j v at live i n own wide start fixed fits)
-  birth_by i n (Cons wide left right) own fits = by_agrees _ _ (agrees_cons_birth z agents W vs s j v at live i n own wide left right fits) (keeps_cons_birth z agents W vs s j v at live i n own wide left right fits)
-  birth_by i n (Sliced wide parent offset) own fits = by_agrees _ _ (agrees_sliced_birth z agents W vs s j v at live i n own wide parent offset fits) (keeps_sliced_birth z agents W vs s j v at live i n own wide parent offset fits)
+  birth_by i n (Flat wide start fixed) own fits = by_agrees _ _ (flat_birth.agrees z agents W vs s j v at live i n own wide start fixed
+      fits) (keeps_birth z agents W vs s j v at live i n own wide start fixed fits)
+  birth_by i n (Cons wide left right) own fits = by_agrees _ _ (agrees_cons_birth z agents W vs s j v at live i n own wide left right fits)
+      (keeps_cons_birth z agents W vs s j v at live i n own wide left right fits)
+  birth_by i n (Sliced wide parent offset) own fits = by_agrees _ _ (agrees_sliced_birth z agents W vs s j v at live i n own wide parent
+      offset fits) (keeps_sliced_birth z agents W vs s j v at live i n own wide parent offset fits)
   birth_by i n Unborn own fits = absurd fits
   birth_by i n (Thin t) own fits = absurd fits
 
@@ -119,7 +176,8 @@ module _ (z : HeapSize) (agents : ℕ) (W : List ℕ) (vs : List View) (s : IsSo
   form_loaded i names known = still (set vs j (learned (loaded_form v i (get_or W (form_at z i) 0)) names)) (keeps_loaded_form z agents W vs s j v at live i known names)
 
   pub length_loaded : (i : ℕ) (names : List ℕ) → MayUse v i → KeepsRule z agents W W (set vs j (learned (loaded_length v i (get_or W (length_at z i) 0)) names))
-  length_loaded i names known = let w : View = loaded_length v i (get_or W (length_at z i) 0) in then_learns W w names live (still (set vs j w) (keeps_loaded_length z agents W vs s j v at live i known))
+  length_loaded i names known = let w : View = loaded_length v i (get_or W (length_at z i) 0) in then_learns W w names live
+      (still (set vs j w) (keeps_loaded_length z agents W vs s j v at live i known))
 
   pub word_loaded : (c : ℕ) (names : List ℕ) → MayLoadWord v c → KeepsRule z agents W W (set vs j (learned (loaded_word v c (get_or W (content_at z c) 0)) names))
   word_loaded c names may = let x : ℕ = get_or W (content_at z c) 0 in
@@ -134,7 +192,10 @@ module _ (z : HeapSize) (agents : ℕ) (W : List ℕ) (vs : List View) (s : IsSo
   -- flattening; b says whether the Cons was found
   pub flatten_by : (i : ℕ) (old : Form) (wide : Bool) (start : ℕ) (names : List ℕ) (b : Bool) → MayFlatten v i old (Flat wide start false) → (b ≡ true → get_or W (form_at z i) 0 ≡ word_of old)
       → KeepsRule z agents W (set W (form_at z i) (cond b (word_of (Flat wide start false)) (get_or W (form_at z i) 0)))
-      (set vs j (learned (cond b (record (freeze v start (words_over wide (length (unwrap_or (get v.units i) [])))) { forms = insert v.forms i (Flat wide start false) }) (seen_form v i (form_of (get_or W (form_at z i) 0)))) names))
+      (set vs j (learned (cond b (record (freeze v start (words_over wide (length (unwrap_or (get v.units i) [])))) {
+        forms = insert v.forms
+            i (Flat wide start false);
+      }) (seen_form v i (form_of (get_or W (form_at z i) 0)))) names))
   flatten_by i old wide start names true may hit = let f : Form = Flat wide start false in let r = may.3 in let us : List ℕ = r.0 in let W' : List ℕ = set W (form_at z i) (word_of f) in
       let w : View = record (freeze v start (words_over wide (length us))) { forms = insert v.forms i f } in
       subst (λ (o : Option (List ℕ)). KeepsRule z agents W W' (set vs j (learned (record (freeze v start (words_over wide (length (unwrap_or o [])))) { forms = insert v.forms i f }) names))) (sym r.1)
@@ -154,7 +215,8 @@ module _ (z : HeapSize) (agents : ℕ) (W : List ℕ) (vs : List View) (s : IsSo
 
   -- thinning; b says whether the old form was found
   pub thin_by : (i : ℕ) (old : Form) (t : ℕ) (names : List ℕ) (b : Bool) → MayThin v i old t → (b ≡ true → get_or W (form_at z i) 0 ≡ word_of old)
-      → KeepsRule z agents W (set W (form_at z i) (cond b (word_of (Thin t)) (get_or W (form_at z i) 0))) (set vs j (learned (seen_form v i (cond b (Some (Thin t)) (form_of (get_or W (form_at z i) 0)))) names))
+      → KeepsRule z agents W (set W (form_at z i) (cond b (word_of (Thin t)) (get_or W (form_at z i) 0)))
+      (set vs j (learned (seen_form v i (cond b (Some (Thin t)) (form_of (get_or W (form_at z i) 0)))) names))
   thin_by i old t names true may hit = let k = may.2 in let u = may.3 in let W' : List ℕ = set W (form_at z i) (word_of (Thin t)) in let w : View = record v { forms = insert v.forms i (Thin t) } in
       then_learns W' w names live (by_agrees W' (set vs j w)
       (agrees_thinning z agents W vs s j v at live i t old may.0 may.1 (hit refl) k.0 k.1 u.0 u.1 u.2)
@@ -162,7 +224,8 @@ module _ (z : HeapSize) (agents : ℕ) (W : List ℕ) (vs : List View) (s : IsSo
   thin_by i old t names false may hit = lost_header i old names may.0
 
   -- slots of the table; a claim finds 0, or a string
-  pub slot_loaded : (k : ℕ) (entry : Option (List ℕ)) (names : List ℕ) → k < z.slots → MayEnter v k entry → KeepsRule z agents W W (set vs j (learned (loaded_slot v k entry (get_or W (slot_at z k) 0)) names))
+  pub slot_loaded : (k : ℕ) (entry : Option (List ℕ)) (names : List ℕ) → k < z.slots → MayEnter v k entry → KeepsRule z agents W W
+      (set vs j (learned (loaded_slot v k entry (get_or W (slot_at z k) 0)) names))
   slot_loaded k entry names inside may = let w : View = loaded_slot v k entry (get_or W (slot_at z k) 0) in
       then_learns W w names (slot_live v k entry (get_or W (slot_at z k) 0) ∙ live) (still (set vs j w) (keeps_loaded_slot z agents W vs s j v at live k inside entry may))
 
@@ -170,7 +233,8 @@ module _ (z : HeapSize) (agents : ℕ) (W : List ℕ) (vs : List View) (s : IsSo
       → KeepsRule z agents W (set W (slot_at z k) (cond (eqb x 0) (i + 1) x)) (set vs j (learned (took_slot v k i x) names))
   take_by k i names zero inside may free = let fixed = may.1 in let r = may.2 in let us : List ℕ = r.0 in let W' : List ℕ = set W (slot_at z k) (i + 1) in
       let w : View = record v { slots = insert v.slots k i; mine = v.mine ++ (us, i) ∷ [] } in
-      let before = subst (λ (n : ℕ). (l : ℕ) → l < n → rank us n l < rank us n k → (t : ℕ) × Has v.slots l t × Differs v us t) (ap (λ (y : HeapSize). y.slots) (sizes_are z agents W vs s j v at live)) r.2 in
+      let before = subst (λ (n : ℕ). (l : ℕ) → l < n → rank us n l < rank us n k → (t : ℕ) × Has v.slots l t × Differs v us t)
+      (ap (λ (y : HeapSize). y.slots) (sizes_are z agents W vs s j v at live)) r.2 in
       subst (λ (o : Option (List ℕ)). KeepsRule z agents W W' (set vs j (learned (record v { slots = insert v.slots k i; mine = v.mine ++ (unwrap_or o [], i) ∷ [] }) names))) (sym r.1)
       (then_learns W' w names live (by_agrees W' (set vs j w)
       (agrees_took_slot z agents W vs s j v at live k i us inside fixed.0 fixed.1 fixed.2 r.1 free before)
@@ -184,9 +248,12 @@ module _ (z : HeapSize) (agents : ℕ) (W : List ℕ) (vs : List View) (s : IsSo
   -- every kind
   kind_kept : (e : StepKind) (names : List ℕ) → MayCome v e
       → KeepsRule z agents W (set W (place_of z e) (word_left (access_of e) (get_or W (place_of z e) 0))) (set vs j (learned (view_after v e (get_or W (place_of z e) 0)) names))
-  kind_kept (load_counter k) names may = same_word (counter_at k) (set vs j (learned (loaded_counter v k (get_or W (counter_at k) 0)) names)) (then_learns W (loaded_counter v k (get_or W (counter_at k) 0)) names live (counter_kept k))
+  kind_kept (load_counter k) names may = same_word (counter_at k) (set vs j
+      (learned (loaded_counter v k (get_or W (counter_at k) 0)) names)) (then_learns W (loaded_counter v k (get_or W (counter_at k) 0)) names
+      live (counter_kept k))
   kind_kept (claim k a want) names may = let x : ℕ = get_or W (counter_at k) 0 in
-      then_learns (set W (counter_at k) (cond (eqb x a) (a + want) x)) (cond (eqb x a) (won_claim v k a want) (loaded_counter v k x)) names (claim_live v k a want x (eqb x a) ∙ live) (claim_by k a want (eqb x a) may (eqb-true x a))
+      then_learns (set W (counter_at k) (cond (eqb x a) (a + want) x)) (cond (eqb x a) (won_claim v k a want) (loaded_counter v k x)) names
+      (claim_live v k a want x (eqb x a) ∙ live) (claim_by k a want (eqb x a) may (eqb-true x a))
   kind_kept (store_word c n) names may = then_learns (set W (content_at z c) n) (stored_word v c n) names live (word_stored c n may)
   kind_kept (store_length i n) names may = then_learns (set W (length_at z i) n) (stored_length v i n) names live (length_stored i n may)
   kind_kept (birth i f) names may = birth_kept i f names may

@@ -1,5 +1,40 @@
 -- What a view's data justify is right.
-use Rattle.std.proofs.Common.{◌≡◌, ◌≢◌, ℕ, zero, suc, ◌+◌, ◌<◌, ◌≤◌, ◌⊎◌, inl, inr, ⊎_elim, Bool, true, false, cond, List, [], ◌∷◌, ◌++◌, take, drop, length, sym, refl, ap, ◌∙◌, subst, arith, eqb, eqb-true, Option, Some, None}
+use Rattle.std.proofs.Common.{
+  ◌≡◌,
+  ◌≢◌,
+  ℕ,
+  zero,
+  suc,
+  ◌+◌,
+  ◌<◌,
+  ◌≤◌,
+  ◌⊎◌,
+  inl,
+  inr,
+  ⊎_elim,
+  Bool,
+  true,
+  false,
+  cond,
+  List,
+  [],
+  ◌∷◌,
+  ◌++◌,
+  take,
+  drop,
+  length,
+  sym,
+  refl,
+  ap,
+  ◌∙◌,
+  subst,
+  arith,
+  eqb,
+  eqb-true,
+  Option,
+  Some,
+  None,
+}
 use Rattle.std.specs.Prelude.{◌&&◌, unwrap_or, is_some}
 use mathlib.Core.Logic.{dite}
 use native.Mathlib.Decide.{ℕ_discrete}
@@ -97,7 +132,9 @@ module _ (z : HeapSize) (W : List ℕ) (vs : List View) (stand : (i : ℕ) → I
       (λ ne. words_right (suc start) n t.1 c (omega arith) (omega arith))
 
   flat_right : (i : ℕ) (us : List ℕ) (o : Option Form) (n : Option ℕ) → get v.forms i ≡ o → get v.lengths i ≡ n → by_flat v i o n ≡ Some us → Right i us
-  flat_right i us (Some (Flat wide start fixed)) (Some n) is l e = let t = if_some (all_frozen v start (words_over wide n)) (Some (span (frozen_word v) wide start 0 n)) us e in let f = k.of_forms i (Flat wide start fixed) is in
+  flat_right i us (Some (Flat wide start fixed)) (Some n) is l e =
+      let t = if_some (all_frozen v start (words_over wide n)) (Some (span (frozen_word v) wide start 0 n)) us e in
+      let f = k.of_forms i (Flat wide start fixed) is in
       let size : length_word z W i ≡ n = (k.of_lengths i n l).1 in let shown : span (frozen_word v) wide start 0 n ≡ us = cc in
       (f.born, f.shows.0 ∙ (ap (λ (m : ℕ). span (content z W) wide start 0 m) size ∙ (sym (flat_same (frozen_word v) (content z W) wide start n (words_right start (words_over wide n) t.0)) ∙ shown)))
   flat_right i us (Some (Flat wide start fixed)) None is l e = absurd (cc)
@@ -117,9 +154,11 @@ module _ (z : HeapSize) (W : List ℕ) (vs : List View) (stand : (i : ℕ) → I
       (either_way _ _ us h))
       (either_way _ _ us e)
 
-  learned_one : (m : FinMap nat_cmp (List ℕ)) (i : ℕ) (o : Option (List ℕ)) → ((us : List ℕ) → o ≡ Some us → Right i us) → ((q : ℕ) (us : List ℕ) → Has m q us → Right q us) → (q : ℕ) (us : List ℕ) → Has (learn_one m i o) q us → Right q us
+  learned_one : (m : FinMap nat_cmp (List ℕ)) (i : ℕ) (o : Option (List ℕ)) → ((us : List ℕ) → o ≡ Some us →
+      Right i us) → ((q : ℕ) (us : List ℕ) → Has m q us → Right q us) → (q : ℕ) (us : List ℕ) → Has (learn_one m i o) q us → Right q us
   learned_one m i None f g q us h = g q us h
-  learned_one m i (Some ws) f g q us h = ⊎_elim (λ (t : (q ≡ i) × (ws ≡ us)). let r = f ws refl in subst (λ (x : ℕ). Right x us) (sym t.0) (r.0, r.1 ∙ t.1)) (λ (t : (q ≢ i) × Has m q us). g q us t.1) (has_insert m i q ws us h)
+  learned_one m i (Some ws) f g q us h = ⊎_elim (λ (t : (q ≡ i) × (ws ≡ us)). let r = f ws refl in subst (λ (x : ℕ). Right x us) (sym t.0)
+      (r.0, r.1 ∙ t.1)) (λ (t : (q ≢ i) × Has m q us). g q us t.1) (has_insert m i q ws us h)
 
   learned_into : (names : List ℕ) (m : FinMap nat_cmp (List ℕ)) → ((q : ℕ) (us : List ℕ) → Has m q us → Right q us) → (q : ℕ) (us : List ℕ) → Has (learn_into (justified v) m names) q us → Right q us
   learned_into [] m g q us h = g q us h

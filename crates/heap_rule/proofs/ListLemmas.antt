@@ -49,7 +49,8 @@ total_set f (x ∷ xs) zero v w e l m = let a : of_live f w ≡ f w = of_live_tr
     let c : total f (w ∷ xs) ≡ of_live f w + total f xs = sum_by-cons (of_live f) w xs in let d : total f (x ∷ xs) ≡ of_live f x + total f xs = sum_by-cons (of_live f) x xs in
     sums (total f (w ∷ xs)) (f v) (total f (x ∷ xs)) (f w) (of_live f w) (of_live f x) (total f xs) (total f xs) c d (omega arith)
 total_set f (x ∷ xs) (suc j) v w e l m = let h : total f (set xs j w) + f v ≡ total f xs + f w = total_set f xs j v w e l m in
-    sums (total f (x ∷ set xs j w)) (f v) (total f (x ∷ xs)) (f w) (of_live f x) (of_live f x) (total f (set xs j w)) (total f xs) (sum_by-cons (of_live f) x (set xs j w)) (sum_by-cons (of_live f) x xs) (omega arith)
+    sums (total f (x ∷ set xs j w)) (f v) (total f (x ∷ xs)) (f w) (of_live f x) (of_live f x) (total f (set xs j w)) (total f xs)
+    (sum_by-cons (of_live f) x (set xs j w)) (sum_by-cons (of_live f) x xs) (omega arith)
 
 module _ {A : Type 0} where
   pub at_get : (xs : List A) (j : ℕ) (x : A) → slice_get xs j ≡ Some x → At xs j x

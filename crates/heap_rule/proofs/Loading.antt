@@ -45,15 +45,36 @@ module _ (z : HeapSize) (W : List ℕ) (vs : List View) (stand : (i : ℕ) → I
   pub stands_shows : (i : ℕ) (f : Form) → form_of (form z W i) ≡ Some f → StandsAs z W vs i f → Shows z W vs i f
   stands_shows i Unborn e s = s
   stands_shows i (Flat wide start fixed) e s = (step_at i (Flat wide start fixed) e, s.0, s.1, s.2, s.3)
-  stands_shows i (Cons wide left right) e s = (s.2, s.3, step_at i (Cons wide left right) e ∙ if_both [] [] (units_of z W) left right (nat_lt left i) (nat_lt right i) (lt-ltb left i s.0) (lt-ltb right i s.1), s.0, s.1, s.4, s.5, s.6, s.7)
-  stands_shows i (Sliced wide parent offset) e s = (s.1, s.2, step_at i (Sliced wide parent offset) e ∙ ap (λ (us : List ℕ). take (length_word z W i) (drop offset us)) (solid_is parent s.1 s.2), s.3, s.0, s.4, s.5)
+  stands_shows i (Cons wide left right) e s = (
+    s.2,
+    s.3,
+    step_at i (Cons wide left right) e ∙ if_both [] [] (units_of z W) left right
+        (nat_lt left i) (nat_lt right i) (lt-ltb left i s.0) (lt-ltb right i s.1),
+    s.0,
+    s.1,
+    s.4,
+    s.5,
+    s.6,
+    s.7,
+  )
+  stands_shows i (Sliced wide parent offset) e s = (
+    s.1,
+    s.2,
+    step_at i (Sliced wide parent offset) e ∙ ap
+        (λ (us : List ℕ). take (length_word z W i) (drop offset us)) (solid_is parent s.1 s.2),
+    s.3,
+    s.0,
+    s.4,
+    s.5,
+  )
   stands_shows i (Thin target) e s = (s.0, s.2, s.1)
 
   -- the ids that a standing form names are born
   names_born : (i : ℕ) (f : Form) → StandsAs z W vs i f → (m : FinMap nat_cmp (Unit {0})) → ((q : ℕ) → HasKey m q → IsBorn z W q) → (q : ℕ) → HasKey (met_ids m f) q → IsBorn z W q
   names_born i Unborn s m h q k = absurd s
   names_born i (Flat wide start fixed) s m h q k = h q k
-  names_born i (Cons wide left right) s m h q k = ⊎_elim (λ e. subst (IsBorn z W) (sym e) s.3) (λ k'. ⊎_elim (λ e. subst (IsBorn z W) (sym e) s.2) (h q) (key_insert m left q tt k')) (key_insert (insert m left tt) right q tt k)
+  names_born i (Cons wide left right) s m h q k = ⊎_elim (λ e. subst (IsBorn z W) (sym e) s.3)
+      (λ k'. ⊎_elim (λ e. subst (IsBorn z W) (sym e) s.2) (h q) (key_insert m left q tt k')) (key_insert (insert m left tt) right q tt k)
   names_born i (Sliced wide parent offset) s m h q k = ⊎_elim (λ e. subst (IsBorn z W) (sym e) s.1) (h q) (key_insert m parent q tt k)
   names_born i (Thin target) s m h q k = ⊎_elim (λ e. subst (IsBorn z W) (sym e) s.0) (h q) (key_insert m target q tt k)
 
@@ -61,7 +82,8 @@ module _ (z : HeapSize) (W : List ℕ) (vs : List View) (stand : (i : ℕ) → I
   knows_loaded v k i b f e s = record {
     of_met = names_born i f s v.met k.of_met;
     of_units = k.of_units;
-    of_forms = λ q g h. ⊎_elim (λ (t : (q ≡ i) × (f ≡ g)). subst (λ (y : ℕ × Form). KnowsForm z W vs y.0 y.1) (λ d. (sym t.0 d, t.1 d)) record { born = b; now = f; decodes = e; later = inl refl; shows = stands_shows i f e s })
+    of_forms = λ q g h. ⊎_elim (λ (t : (q ≡ i) × (f ≡ g)). subst (λ (y : ℕ × Form). KnowsForm z W vs y.0 y.1)
+        (λ d. (sym t.0 d, t.1 d)) record { born = b; now = f; decodes = e; later = inl refl; shows = stands_shows i f e s })
         (λ (t : (q ≢ i) × Has v.forms q g). k.of_forms q g t.1) (has_insert v.forms i q f g h);
     of_lengths = k.of_lengths;
     of_frozen = k.of_frozen;
@@ -82,7 +104,9 @@ module _ (z : HeapSize) (agents : ℕ) (W : List ℕ) (vs : List View) (s : IsSo
       let same : now.now ≡ f = (let d : Some now.now ≡ Some f = sym now.decodes ∙ st.decodes in cc) in
       let k = knows_loaded z W vs' stand' v (knew z agents W vs s j v at live W w agrees) i b f st.decodes (subst (StandsAs z W vs' i) same now.stands) in
       subst (λ (o : Option Form). IsSound z agents W (set vs j (learned (record (with_form v i o) { form_loads = added_loads v.form_loads 1 }) names))) (sym st.decodes)
-      (unmoved z agents W vs s j v at live w live refl refl refl refl refl refl (knows_learned z W vs' stand' (record (with_form v i (Some f)) { form_loads = added_loads v.form_loads 1 }) k names) (recalled z agents W vs s j v at live W w agrees) (λ u q h. h) (s.lows j v at live))
+      (unmoved z agents W vs s j v at live w live refl refl refl refl refl refl
+      (knows_learned z W vs' stand' (record (with_form v i (Some f)) { form_loads = added_loads v.form_loads 1 }) k names)
+      (recalled z agents W vs s j v at live W w agrees) (λ u q h. h) (s.lows j v at live))
 
   -- what is found decodes
   pub form_found : (i : ℕ) → MayUse v i → (f : Form) × (form_of (form z W i) ≡ Some f)

@@ -39,9 +39,12 @@ inner : (o n offset m : ℕ) (us : List ℕ) → offset ≤ o → o + n ≤ offs
 inner o n offset m us l h = ap (take n) (drop_taken (o - offset) m (m - (o - offset)) (drop offset us) refl)
     ∙ (take_less n (m - (o - offset)) (drop (o - offset) (drop offset us)) (omega arith) ∙ ap (take n) (drop_further (o - offset) offset o us (omega arith)))
 
-within : (o n offset : ℕ) (x : Option (List ℕ)) (us : List ℕ) → part_within o n offset x ≡ Some us → (ws : List ℕ) × (x ≡ Some ws) × (offset ≤ o) × (o + n ≤ offset + length ws) × (us ≡ part (o - offset) n ws)
+within : (o n offset : ℕ) (x : Option (List ℕ)) (us : List ℕ) → part_within o n offset x ≡ Some us → (ws : List ℕ) × (x ≡ Some ws) ×
+    (offset ≤ o) × (o + n ≤ offset + length ws) × (us ≡ part (o - offset) n ws)
 within o n offset None us e = absurd (cc)
-within o n offset (Some ws) us e = let t = if_some (nat_le offset o && nat_le (o + n) (offset + length ws)) (Some (part (o - offset) n ws)) us e in let b = both_true (nat_le offset o) (nat_le (o + n) (offset + length ws)) t.0 in
+within o n offset (Some ws) us e =
+    let t = if_some (nat_le offset o && nat_le (o + n) (offset + length ws)) (Some (part (o - offset) n ws)) us e in
+    let b = both_true (nat_le offset o) (nat_le (o + n) (offset + length ws)) t.0 in
     (ws, refl, grind (arith, b.0), grind (arith, b.1), (cc))
 
 module _ (z : HeapSize) (W : List ℕ) (vs : List View) (stand : (i : ℕ) → IsBorn z W i → IsStanding z W vs i) (v : View) (k : Knows z W vs v) (p o n : ℕ) where

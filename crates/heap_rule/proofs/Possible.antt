@@ -44,7 +44,8 @@ possible_length v p i n us h l = ∥∥₁_elim p (Prim.hlevel props) (λ t. len
 
 -- no string is longer than the greatest length
 short_in : (v : View) → StandsIn v → (i : ℕ) (us : List ℕ) → Has v.units i us → length us ≤ MAX
-short_in v (z, agents, W, vs, j, s, at, live) i us h = let u = (s.knows j v at live).of_units i us h in let st = s.standing i u.0 in let n : length_word z W i ≡ length us = st.length_is ∙ ap length u.1 in
+short_in v (z, agents, W, vs, j, s, at, live) i us h = let u = (s.knows j v at live).of_units i us h in let st = s.standing i u.0 in
+    let n : length_word z W i ≡ length us = st.length_is ∙ ap length u.1 in
     subst (λ (m : ℕ). m ≤ MAX) n st.short
 
 pub possible_short : (v : View) → IsPossible v → (i : ℕ) (us : List ℕ) → Has v.units i us → length us ≤ MAX
@@ -86,13 +87,17 @@ module _ (z : HeapSize) (W : List ℕ) (vs : List View) (v : View) (k : Knows z 
       (λ (t : (wide : Bool) × (parent : ℕ) × Has v.forms s (Sliced wide parent offset) × ((parent ≡ i) ⊎ Has v.forms parent (Thin i))). let shown = (k.of_forms s (Sliced t.0 t.1 offset) t.2).shows in
       let whole : us ≡ take (length_word z W s) (drop offset (units_of z W i)) = sym is ∙ (shown.2 ∙ ap (λ (xs : List ℕ). take (length_word z W s) (drop offset xs)) (same_units t.1 i t.3)) in
       let room : offset + length_word z W s ≤ length (units_of z W i) = subst (λ (xs : List ℕ). offset + length_word z W s ≤ length xs) (same_units t.1 i t.3) shown.3 in
-      let rest = length-drop offset (units_of z W i) in let count : length us ≡ length_word z W s = ap length whole ∙ length-take-le (length_word z W s) (drop offset (units_of z W i)) (omega arith) in omega arith)
+      let rest = length-drop offset (units_of z W i) in
+      let count : length us ≡ length_word z W s = ap length whole ∙ length-take-le (length_word z W s) (drop offset (units_of z W i))
+      (omega arith) in omega arith)
       way
 
 -- what the view has of a word under the Flat to which it leads shows the unit of the string
-unit_in : (v : View) → StandsIn v → (s i offset : ℕ) (wide : Bool) (start : ℕ) (fixed : Bool) (us : List ℕ) (o : ℕ) → LeadsTo v s i offset → Has v.forms i (Flat wide start fixed) → Has v.units s us → o < length us
+unit_in : (v : View) → StandsIn v → (s i offset : ℕ) (wide : Bool) (start : ℕ) (fixed : Bool) (us : List ℕ) (o : ℕ) → LeadsTo v s i offset →
+    Has v.forms i (Flat wide start fixed) → Has v.units s us → o < length us
     → HasKey v.own_words (start + (offset + o) / lane_count wide) ⊎ HasKey v.frozen (start + (offset + o) / lane_count wide) → lane_in (shown_word v) wide start (offset + o) ≡ get_or us o 0
-unit_in v (z, agents, W, vs, j, s, at, live) q i offset wide start fixed us o way f h l has = let k = s.knows j v at live in let u = k.of_units q us h in let form = k.of_forms i (Flat wide start fixed) f in
+unit_in v (z, agents, W, vs, j, s, at, live) q i offset wide start fixed us o way f h l has = let k = s.knows j v at live in
+    let u = k.of_units q us h in let form = k.of_forms i (Flat wide start fixed) f in
     let c : ℕ = start + (offset + o) / lane_count wide in
     let word : shown_word v c ≡ content z W c = shown_by (get v.own_words c) (get v.frozen c) (content z W c) (λ x e. ((s.own_words j v at live).each c x e).1) (λ x e. (k.of_frozen c x e).1) has in
     let n : length_word z W i ≡ length (units_of z W i) = (s.standing i form.born).length_is in let room = led_within z W vs v k q i offset us u.1 way in
@@ -101,7 +106,8 @@ unit_in v (z, agents, W, vs, j, s, at, live) q i offset wide start fixed us o wa
     ∙ sym (led_unit z W vs v k q i offset o us u.1 way l ∙ (ap (λ (xs : List ℕ). get_or xs (offset + o) 0) form.shows.0
     ∙ (span_lane (content z W) wide start 0 (length_word z W i) (offset + o) (omega arith) ∙ ap (λ (x : ℕ). lane_in (content z W) wide start x) plain)))
 
-pub possible_unit : (v : View) → IsPossible v → (s i offset : ℕ) (wide : Bool) (start : ℕ) (fixed : Bool) (us : List ℕ) (o : ℕ) → LeadsTo v s i offset → Has v.forms i (Flat wide start fixed) → Has v.units s us → o < length us
+pub possible_unit : (v : View) → IsPossible v → (s i offset : ℕ) (wide : Bool) (start : ℕ) (fixed : Bool) (us : List ℕ) (o : ℕ) → LeadsTo v
+    s i offset → Has v.forms i (Flat wide start fixed) → Has v.units s us → o < length us
     → HasKey v.own_words (start + (offset + o) / lane_count wide) ⊎ HasKey v.frozen (start + (offset + o) / lane_count wide) → lane_in (shown_word v) wide start (offset + o) ≡ get_or us o 0
 possible_unit v p q i offset wide start fixed us o way f h l has = ∥∥₁_elim p (Prim.hlevel props) (λ t. unit_in v t q i offset wide start fixed us o way f h l has)
 
@@ -113,7 +119,8 @@ lane_there v (z, agents, W, vs, j, s, at, live) i wide start fixed us o f h l ha
     let n : length_word z W i ≡ length us = (s.standing i u.0).length_is ∙ ap length u.1 in
     let spans : us ≡ span (content z W) wide start 0 (length us) = sym u.1 ∙ ((k.of_forms i (Flat wide start fixed) f).shows.0 ∙ ap (λ (m : ℕ). span (content z W) wide start 0 m) n) in
     let plain : 0 + o ≡ o = omega arith in
-    lane_same (shown_word v) (content z W) wide start o word ∙ sym (ap (λ (xs : List ℕ). get_or xs o 0) spans ∙ (span_lane (content z W) wide start 0 (length us) o l ∙ ap (λ (x : ℕ). lane_in (content z W) wide start x) plain))
+    lane_same (shown_word v) (content z W) wide start o word ∙ sym (ap (λ (xs : List ℕ). get_or xs o 0) spans ∙
+    (span_lane (content z W) wide start 0 (length us) o l ∙ ap (λ (x : ℕ). lane_in (content z W) wide start x) plain))
 
 pub possible_lane : (v : View) → IsPossible v → (i : ℕ) (wide : Bool) (start : ℕ) (fixed : Bool) (us : List ℕ) (o : ℕ) → Has v.forms i (Flat wide start fixed) → Has v.units i us → o < length us
     → HasKey v.own_words (start + o / lane_count wide) ⊎ HasKey v.frozen (start + o / lane_count wide) → lane_in (shown_word v) wide start o ≡ get_or us o 0

@@ -1,5 +1,40 @@
 -- The birth of a string that has no words of its own, a Cons or a Sliced, keeps the rule.
-use Rattle.std.proofs.Common.{◌≡◌, ◌≢◌, ℕ, zero, suc, ◌+◌, ◌<◌, ◌≤◌, ◌⊎◌, inl, inr, ⊎_elim, Bool, true, false, List, [], ◌∷◌, ◌++◌, take, drop, length, set, sym, refl, ap, ◌∙◌, subst, arith, Option, Some, get_or-set_other, get_or-set_same, length-set}
+use Rattle.std.proofs.Common.{
+  ◌≡◌,
+  ◌≢◌,
+  ℕ,
+  zero,
+  suc,
+  ◌+◌,
+  ◌<◌,
+  ◌≤◌,
+  ◌⊎◌,
+  inl,
+  inr,
+  ⊎_elim,
+  Bool,
+  true,
+  false,
+  List,
+  [],
+  ◌∷◌,
+  ◌++◌,
+  take,
+  drop,
+  length,
+  set,
+  sym,
+  refl,
+  ap,
+  ◌∙◌,
+  subst,
+  arith,
+  Option,
+  Some,
+  get_or-set_other,
+  get_or-set_same,
+  length-set,
+}
 use Rattle.std.specs.Prelude.{nat_lt, unwrap_or}
 use Rattle.std.proofs.lemmas.Bool.{lt-ltb}
 use mathlib.Core.Logic.{dite}
@@ -150,7 +185,10 @@ module _ (z : HeapSize) (agents : ℕ) (W : List ℕ) (vs : List View) (s : IsSo
           no_content = λ c lo hi. contents c ∙ counted.no_content c (omega arith) hi;
         };
         newborn = newborn;
-        own_ids = record { each = λ q y h. let t = has_remove v.own_ids i q y h in let o = (s.own_ids j v at live).each q y t.1 in let l = o.0 in (omega arith, forms q t.0 ∙ o.1, lengths q ∙ o.2, o.3) };
+        own_ids = record {
+          each = λ q y h. let t = has_remove v.own_ids i q y h in let o = (s.own_ids j v at live).each q y t.1 in
+              let l = o.0 in (omega arith, forms q t.0 ∙ o.1, lengths q ∙ o.2, o.3);
+        };
         own_words = moved_words v.own_words (s.own_words j v at live);
         others_ids = λ q u ne e l. let apart = s.ids_apart j v at live q u e l (λ x'. ne (sym x')) in (
           moved_ids u.own_ids (λ y h same. apart i (key_of v.own_ids i n own) (subst (HasKey u.own_ids) same h)) (s.own_ids q u e l),
@@ -159,10 +197,26 @@ module _ (z : HeapSize) (agents : ℕ) (W : List ℕ) (vs : List View) (s : IsSo
         others_words = λ q u ne e l. (moved_words u.own_words (s.own_words q u e l), s.words_apart j v at live q u e l (λ x'. ne (sym x')));
         knows = record {
           of_met = k.of_met;
-          of_units = λ q xs h. ⊎_elim (λ (t : (q ≡ i) × (us ≡ xs)). (subst (IsBorn z W') (sym t.0) born_now, ap (units_of z W') t.0 ∙ (units_now ∙ t.1))) (λ (t : (q ≢ i) × Has v.units q xs). k.of_units q xs t.1) (has_insert v.units i q us xs h);
-          of_forms = λ q g h. ⊎_elim (λ (t : (q ≡ i) × (f ≡ g)). subst (λ (y : ℕ × Form). KnowsForm z W' vs' y.0 y.1) (λ d. (sym t.0 d, t.1 d)) record { born = born_now; now = f; decodes = decodes; later = inl refl; shows = stands_shows z W' vs' stand_now i f decodes stands })
+          of_units = λ q xs h. ⊎_elim (λ (t : (q ≡ i) × (us ≡ xs)). (
+            subst (IsBorn z W') (sym t.0) born_now,
+            ap (units_of z W') t.0 ∙
+                (units_now ∙ t.1),
+          )) (λ (t : (q ≢ i) × Has v.units q xs). k.of_units q xs t.1) (has_insert v.units i q us xs h);
+          of_forms = λ q g h. ⊎_elim (λ (t : (q ≡ i) × (f ≡ g)). subst (λ (y : ℕ × Form). KnowsForm z W' vs' y.0 y.1)
+              (λ d. (sym t.0 d, t.1 d)) record {
+                born = born_now;
+                now = f;
+                decodes = decodes;
+                later = inl refl;
+                shows = stands_shows z W' vs' stand_now i f decodes stands;
+              })
               (λ (t : (q ≢ i) × Has v.forms q g). k.of_forms q g t.1) (has_insert v.forms i q f g h);
-          of_lengths = λ q m h. ⊎_elim (λ (t : (q ≡ i) × (n ≡ m)). (subst (IsBorn z W') (sym t.0) born_now, ap (λ (y : ℕ). length_word z W' y) t.0 ∙ (length_now ∙ t.1))) (λ (t : (q ≢ i) × Has v.lengths q m). k.of_lengths q m t.1) (has_insert v.lengths i q n m h);
+          of_lengths = λ q m h. ⊎_elim (λ (t : (q ≡ i) × (n ≡ m)). (
+            subst (IsBorn z W') (sym t.0) born_now,
+            ap
+                (λ (y : ℕ). length_word z W' y) t.0 ∙ (length_now ∙ t.1),
+          )) (λ (t : (q ≢ i) × Has v.lengths q m). k.of_lengths q m t.1)
+              (has_insert v.lengths i q n m h);
           of_frozen = k.of_frozen;
           of_slots = k.of_slots;
         };
@@ -223,11 +277,23 @@ module _ (z : HeapSize) (agents : ℕ) (W : List ℕ) (vs : List View) (s : IsSo
     units_are = λ d. unwrap_or (fit.2 d) [] ++ unwrap_or (fit.3 d) []
 
     pub keeps_cons_birth : IsSound z agents (set W (form_at z i) (word_of cons)) (set vs j (born_with v i n cons))
-    keeps_cons_birth = subst (λ (xs : List ℕ). IsSound z agents cons_words (set vs j (record v { own_ids = remove v.own_ids i; units = insert v.units i xs; forms = insert v.forms i cons; lengths = insert v.lengths i n }))) (sym units_are)
+    keeps_cons_birth = subst (λ (xs : List ℕ). IsSound z agents cons_words
+        (set vs j (record v {
+          own_ids = remove v.own_ids i;
+          units = insert v.units i xs;
+          forms = insert v.forms i cons;
+          lengths = insert v.lengths i n;
+        }))) (sym units_are)
         (keeps_rope cons cons_range joint joint_now (length_append fit.0 fit.1 ∙ fit.6) (λ (e : cons ≡ Unborn). absurd (cc)) cons_stands)
 
     pub agrees_cons_birth : Agrees z W vs (set W (form_at z i) (word_of cons)) (set vs j (born_with v i n cons))
-    agrees_cons_birth = subst (λ (xs : List ℕ). Agrees z W vs cons_words (set vs j (record v { own_ids = remove v.own_ids i; units = insert v.units i xs; forms = insert v.forms i cons; lengths = insert v.lengths i n }))) (sym units_are) (agrees_rope cons cons_range joint)
+    agrees_cons_birth = subst (λ (xs : List ℕ). Agrees z W vs cons_words
+        (set vs j (record v {
+          own_ids = remove v.own_ids i;
+          units = insert v.units i xs;
+          forms = insert v.forms i cons;
+          lengths = insert v.lengths i n;
+        }))) (sym units_are) (agrees_rope cons cons_range joint)
 
   -- a Sliced
   module _ (wide : Bool) (parent offset : ℕ) (fits : FormFits v i n (Sliced wide parent offset)) where
@@ -251,13 +317,15 @@ module _ (z : HeapSize) (agents : ℕ) (W : List ℕ) (vs : List View) (s : IsSo
     part_is = shown_part_right z W vs s.standing v (s.knows j v at live) parent offset n piece cut.1
 
     sliced_range : IsInRange sliced
-    sliced_range = let a = fits.0 in let c = inside in let d = s.lawful.1 in let room = part_is.1 in let st = s.standing parent parent_is.0 in let long = st.length_is in let short = st.short in (omega arith, omega arith)
+    sliced_range = let a = fits.0 in let c = inside in let d = s.lawful.1 in let room = part_is.1 in
+        let st = s.standing parent parent_is.0 in let long = st.length_is in let short = st.short in (omega arith, omega arith)
 
     abbrev sliced_words : List ℕ
     sliced_words = W' sliced sliced_range piece
 
     parent_units : solid z sliced_words parent ≡ units_of z W parent
-    parent_units = sym (solid_stays z W vs s.standing sliced_words (vs' sliced sliced_range piece) (agrees_rope sliced sliced_range piece) parent parent_is.0 parent_is.1) ∙ solid_is z W vs s.standing parent parent_is.0 parent_is.1
+    parent_units = sym (solid_stays z W vs s.standing sliced_words (vs' sliced sliced_range piece) (agrees_rope sliced sliced_range piece)
+        parent parent_is.0 parent_is.1) ∙ solid_is z W vs s.standing parent parent_is.0 parent_is.1
 
     piece_now : units_of z sliced_words i ≡ piece
     piece_now = shown_now sliced sliced_range piece ∙ ((λ d. take (length_now sliced sliced_range piece d) (drop offset (parent_units d))) ∙ sym part_is.0)
@@ -270,7 +338,8 @@ module _ (z : HeapSize) (agents : ℕ) (W : List ℕ) (vs : List View) (s : IsSo
       fits.0,
       born_still sliced sliced_range piece parent parent_is.0,
       subst (λ (x : ℕ). IsSolidForm (form_of x)) (sym parent_form) parent_is.1,
-      subst (λ (m : ℕ). offset + m ≤ length (units_of z sliced_words parent)) (sym (length_now sliced sliced_range piece)) (subst (λ (xs : List ℕ). offset + n ≤ length xs) (units_still sliced sliced_range piece parent parent_is.0) part_is.1),
+      subst (λ (m : ℕ). offset + m ≤ length (units_of z sliced_words parent)) (sym (length_now sliced sliced_range piece))
+          (subst (λ (xs : List ℕ). offset + n ≤ length xs) (units_still sliced sliced_range piece parent parent_is.0) part_is.1),
       subst (λ (m : ℕ). 13 ≤ m) (sym (length_now sliced sliced_range piece)) fits.1,
       subst (IsNarrow wide) (sym piece_now) cut.2,
     )
@@ -279,8 +348,20 @@ module _ (z : HeapSize) (agents : ℕ) (W : List ℕ) (vs : List View) (s : IsSo
     piece_is = ap (λ (o : Option (List ℕ)). unwrap_or o []) cut.1
 
     pub keeps_sliced_birth : IsSound z agents (set W (form_at z i) (word_of sliced)) (set vs j (born_with v i n sliced))
-    keeps_sliced_birth = subst (λ (xs : List ℕ). IsSound z agents sliced_words (set vs j (record v { own_ids = remove v.own_ids i; units = insert v.units i xs; forms = insert v.forms i sliced; lengths = insert v.lengths i n }))) (sym piece_is)
+    keeps_sliced_birth = subst (λ (xs : List ℕ). IsSound z agents sliced_words
+        (set vs j (record v {
+          own_ids = remove v.own_ids i;
+          units = insert v.units i xs;
+          forms = insert v.forms i sliced;
+          lengths = insert v.lengths i n;
+        }))) (sym piece_is)
         (keeps_rope sliced sliced_range piece piece_now (ap length part_is.0 ∙ length_part offset n (units_of z W parent) part_is.1) (λ (e : sliced ≡ Unborn). absurd (cc)) sliced_stands)
 
     pub agrees_sliced_birth : Agrees z W vs (set W (form_at z i) (word_of sliced)) (set vs j (born_with v i n sliced))
-    agrees_sliced_birth = subst (λ (xs : List ℕ). Agrees z W vs sliced_words (set vs j (record v { own_ids = remove v.own_ids i; units = insert v.units i xs; forms = insert v.forms i sliced; lengths = insert v.lengths i n }))) (sym piece_is) (agrees_rope sliced sliced_range piece)
+    agrees_sliced_birth = subst (λ (xs : List ℕ). Agrees z W vs sliced_words
+        (set vs j (record v {
+          own_ids = remove v.own_ids i;
+          units = insert v.units i xs;
+          forms = insert v.forms i sliced;
+          lengths = insert v.lengths i n;
+        }))) (sym piece_is) (agrees_rope sliced sliced_range piece)

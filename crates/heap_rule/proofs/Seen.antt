@@ -28,7 +28,8 @@ use Rattle.heap_rule.proofs.Slots.{last_or}
 module _ (z : HeapSize) (agents : ℕ) (W : List ℕ) (vs : List View) (s : IsSound z agents W vs) (j : ℕ) (v : View) (at : At vs j v) (live : v.live ≡ true) where
   -- a flattening or a thinning that is lost
   pub keeps_seen_form : (i : ℕ) (old : Form) → Has v.forms i old → IsSound z agents W (set vs j (seen_form v i (form_of (form z W i))))
-  keeps_seen_form i old has = let b : IsBorn z W i = ((s.knows j v at live).of_forms i old has).born in let st = s.standing i b in let f : Form = st.now in let w : View = seen_form v i (Some f) in let vs' : List View = set vs j w in
+  keeps_seen_form i old has = let b : IsBorn z W i = ((s.knows j v at live).of_forms i old has).born in let st = s.standing i b in
+      let f : Form = st.now in let w : View = seen_form v i (Some f) in let vs' : List View = set vs j w in
       let agrees : Agrees z W vs W vs' = same_words z agents W vs s j v at live w refl in
       let stand' : (q : ℕ) → IsBorn z W q → IsStanding z W vs' q = standing_then z W vs s.standing W vs' agrees in
       let now = stand' i b in
@@ -56,7 +57,8 @@ module _ (z : HeapSize) (agents : ℕ) (W : List ℕ) (vs : List View) (s : IsSo
       of_forms = n.of_forms;
       of_lengths = n.of_lengths;
       of_frozen = n.of_frozen;
-      of_slots = λ l q h. ⊎_elim (λ (t : (l ≡ k) × (i ≡ q)). let r = t.1 in let there : slot z W k ≡ q + 1 = omega arith in (subst (λ (y : ℕ). y < z.slots) (sym t.0) inside, ap (λ (y : ℕ). slot z W y) t.0 ∙ there))
+      of_slots = λ l q h. ⊎_elim (λ (t : (l ≡ k) × (i ≡ q)). let r = t.1 in
+          let there : slot z W k ≡ q + 1 = omega arith in (subst (λ (y : ℕ). y < z.slots) (sym t.0) inside, ap (λ (y : ℕ). slot z W y) t.0 ∙ there))
           (λ (t : (l ≢ k) × Has v.slots l q). n.of_slots l q t.1) (has_insert v.slots k l i q h);
     }
 
@@ -85,8 +87,10 @@ module _ (z : HeapSize) (agents : ℕ) (W : List ℕ) (vs : List View) (s : IsSo
     -- a claim of a slot that is lost
     slot_seen : (x : ℕ) → slot z W k ≡ x → (w : View) → w ≡ with_slot v k x → IsSound z agents W (set vs j w)
     slot_seen zero e w is = subst (λ (y : View). IsSound z agents W (set vs j y)) (sym is) (let agrees : Agrees z W vs W (set vs j v) = same_words z agents W vs s j v at live v refl in
-        unmoved z agents W vs s j v at live v live refl refl refl refl refl refl (knew z agents W vs s j v at live W v agrees) (recalled z agents W vs s j v at live W v agrees) (λ u q h. h) (s.lows j v at live))
-    slot_seen (suc i) e w is = subst (λ (y : View). IsSound z agents W (set vs j y)) (sym is) (let y : View = with_slot v k (suc i) in let agrees : Agrees z W vs W (set vs j y) = same_words z agents W vs s j v at live y refl in
+        unmoved z agents W vs s j v at live v live refl refl refl refl refl refl (knew z agents W vs s j v at live W v agrees)
+        (recalled z agents W vs s j v at live W v agrees) (λ u q h. h) (s.lows j v at live))
+    slot_seen (suc i) e w is = subst (λ (y : View). IsSound z agents W (set vs j y)) (sym is) (let y : View = with_slot v k (suc i) in
+        let agrees : Agrees z W vs W (set vs j y) = same_words z agents W vs s j v at live y refl in
         unmoved z agents W vs s j v at live y live refl refl refl refl refl refl (slot_known (suc i) e (set vs j y) (knew z agents W vs s j v at live W y agrees))
         (λ u q c. let r = s.recalls j v at live u q c in ((r.0.0, slot_kept (suc i) e r.0.0 q r.0.1), r.1)) (λ u q h. h) (s.lows j v at live))
 

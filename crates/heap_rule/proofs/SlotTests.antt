@@ -28,7 +28,8 @@ module _ (v : View) (us : List ℕ) where
   HasOtherLane wide start o = (x : ℕ) × Has v.frozen (start + o / lane_count wide) x × (lane_in (λ _. x) wide start o ≢ slice_index us o)
 
   lane_decides : (wide : Bool) (start o : ℕ) → Decides (other_lane v us wide start o) (HasOtherLane wide start o)
-  lane_decides wide start o = passes_decides _ (λ x. lane_in (λ _. x) wide start o ≢ slice_index us o) (λ x. Decides-not (lane_in (λ _. x) wide start o == slice_index us o) (Decides-eqb _ _)) (get v.frozen (start + o / lane_count wide))
+  lane_decides wide start o = passes_decides _ (λ x. lane_in (λ _. x) wide start o ≢ slice_index us o)
+      (λ x. Decides-not (lane_in (λ _. x) wide start o == slice_index us o) (Decides-eqb _ _)) (get v.frozen (start + o / lane_count wide))
 
   abbrev IsOtherFlat : Form → Type 0
   IsOtherFlat Unborn = ⊥
@@ -39,7 +40,8 @@ module _ (v : View) (us : List ℕ) where
 
   flat_decides : (f : Form) → Decides (other_flat v us f) (IsOtherFlat f)
   flat_decides Unborn = ((λ h. absurd (cc)), (λ h. absurd h))
-  flat_decides (Flat wide start fixed) = Decides-below_or (other_lane v us wide start) (HasOtherLane wide start) (any_below (other_lane v us wide start)) (lane_decides wide start) refl (λ _. refl) (length us)
+  flat_decides (Flat wide start fixed) = Decides-below_or (other_lane v us wide start) (HasOtherLane wide start)
+      (any_below (other_lane v us wide start)) (lane_decides wide start) refl (λ _. refl) (length us)
   flat_decides (Cons wide left right) = ((λ h. absurd (cc)), (λ h. absurd h))
   flat_decides (Sliced wide parent offset) = ((λ h. absurd (cc)), (λ h. absurd h))
   flat_decides (Thin target) = ((λ h. absurd (cc)), (λ h. absurd h))

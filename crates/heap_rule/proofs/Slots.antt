@@ -1,5 +1,47 @@
 -- A claim of a slot that is found free keeps the rule.
-use Rattle.std.proofs.Common.{◌≡◌, ◌≢◌, ℕ, zero, suc, ◌+◌, ◌-◌, ◌*◌, ◌/◌, ◌%◌, ◌<◌, ◌≤◌, ◌⊎◌, inl, inr, ⊎_elim, Bool, true, List, [], ◌∷◌, ◌++◌, append_assoc, length, get_or, set, sym, refl, ap, ◌∙◌, subst, arith, Some, get_or-set_other, get_or-set_same, length-set, mul-le-mul_right, suc-mul, lt_of_not-le, div-add-mod', add-zero}
+use Rattle.std.proofs.Common.{
+  ◌≡◌,
+  ◌≢◌,
+  ℕ,
+  zero,
+  suc,
+  ◌+◌,
+  ◌-◌,
+  ◌*◌,
+  ◌/◌,
+  ◌%◌,
+  ◌<◌,
+  ◌≤◌,
+  ◌⊎◌,
+  inl,
+  inr,
+  ⊎_elim,
+  Bool,
+  true,
+  List,
+  [],
+  ◌∷◌,
+  ◌++◌,
+  append_assoc,
+  length,
+  get_or,
+  set,
+  sym,
+  refl,
+  ap,
+  ◌∙◌,
+  subst,
+  arith,
+  Some,
+  get_or-set_other,
+  get_or-set_same,
+  length-set,
+  mul-le-mul_right,
+  suc-mul,
+  lt_of_not-le,
+  div-add-mod',
+  add-zero,
+}
 use Rattle.std.specs.Prelude.{Contains}
 use Rattle.std.proofs.lemmas.List.Elements.{Contains-push, Contains-append_left}
 use mathlib.Core.Logic.{dite}
@@ -33,7 +75,8 @@ turns : (a b n : ℕ) → a ≤ b → b < a + n → a % n ≡ b % n → Dec (b /
 turns a b n le lt e (yes d) = let m : b / n * n ≤ a / n * n = mul-le-mul_right n d in let p = div-add-mod' a n in let q = div-add-mod' b n in
     let x : ℕ = a / n * n in let y : ℕ = b / n * n in let r : ℕ = b % n in let p' : x + r ≡ a = ap (λ (k : ℕ). x + k) (sym e) ∙ p in let q' : y + r ≡ b = q in let m' : y ≤ x = m in omega arith
 turns a b n le lt e (no d) = let m = further (a / n) (b / n) n (lt_of_not-le d) in let p = div-add-mod' a n in let q = div-add-mod' b n in
-    let x : ℕ = a / n * n in let y : ℕ = b / n * n in let r : ℕ = b % n in let p' : x + r ≡ a = ap (λ (k : ℕ). x + k) (sym e) ∙ p in let q' : y + r ≡ b = q in let m' : x + n ≤ y = m in absurd (omega arith)
+    let x : ℕ = a / n * n in let y : ℕ = b / n * n in let r : ℕ = b % n in let p' : x + r ≡ a = ap (λ (k : ℕ). x + k) (sym e) ∙ p in
+    let q' : y + r ≡ b = q in let m' : x + n ≤ y = m in absurd (omega arith)
 
 -- two slots of one rank are one
 pub rank_one : (u : List ℕ) (n a b : ℕ) → a < n → b < n → rank u n a ≡ rank u n b → a ≡ b
@@ -54,7 +97,8 @@ last_or (a ∷ xs) y x (zero, l, e) = inl (zero, omega arith, e)
 last_or (a ∷ xs) y x (suc k, l, e) = ⊎_elim (λ (t : Contains xs x). let m = t.1 in inl (suc t.0, omega arith, t.2)) (λ t. inr t) (last_or xs y x (k, omega arith, e))
 
 -- what differs by the view differs
-pub differs_right : (z : HeapSize) (agents : ℕ) (W : List ℕ) (vs : List View) (s : IsSound z agents W vs) (v : View) (k : Knows z W vs v) (us : List ℕ) (i : ℕ) → IsBorn z W i → Differs v us i → units_of z W i ≢ us
+pub differs_right : (z : HeapSize) (agents : ℕ) (W : List ℕ) (vs : List View) (s : IsSound z agents W vs) (v : View) (k : Knows
+    z W vs v) (us : List ℕ) (i : ℕ) → IsBorn z W i → Differs v us i → units_of z W i ≢ us
 differs_right z agents W vs s v k us i b d e = ⊎_elim
     (λ (t : (n : ℕ) × Has v.lengths i n × (n ≢ length us)). t.2 (sym (k.of_lengths i t.0 t.1).1 ∙ ((s.standing i b).length_is ∙ ap length e)))
     (λ rest. ⊎_elim
@@ -64,7 +108,9 @@ differs_right z agents W vs s v k us i b d e = ⊎_elim
     let word = (k.of_frozen (start + o / lane_count wide) x t.7).1 in
     let shown : us ≡ span (content z W) wide start 0 (length us) = sym e ∙ (f.shows.0 ∙ ap (λ (m : ℕ). span (content z W) wide start 0 m) n) in
     let zero_plus : 0 + o ≡ o = omega arith in
-    t.8 (lane_same (λ _. x) (content z W) wide start o (sym word) ∙ sym (ap (λ (l : List ℕ). get_or l o 0) shown ∙ (span_at (content z W) wide start 0 (length us) o t.6 ∙ ap (λ (y : ℕ). lane_in (content z W) wide start y) zero_plus))))
+    t.8 (lane_same (λ _. x) (content z W) wide start o (sym word) ∙ sym
+    (ap (λ (l : List ℕ). get_or l o 0) shown ∙ (span_at (content z W) wide start 0 (length us) o t.6 ∙ ap
+    (λ (y : ℕ). lane_in (content z W) wide start y) zero_plus))))
     rest) d
 
 module _ (z : HeapSize) (agents : ℕ) (W : List ℕ) (vs : List View) (s : IsSound z agents W vs) (j : ℕ) (v : View) (at : At vs j v) (live : v.live ≡ true)
@@ -131,7 +177,8 @@ module _ (z : HeapSize) (agents : ℕ) (W : List ℕ) (vs : List View) (s : IsSo
   keeps_slot q t = (t.0, insert_other v.slots k t.0 i (not_here t.0 q t.1) ∙ t.1)
 
   changed : (l q : ℕ) → slot z W l ≡ 0 → slot z W' l ≡ q + 1 → (l ≡ k) × (q ≡ i)
-  changed l q a b = dite (ℕ_discrete l k) (λ e. let t = taken in let c : slot z W' k ≡ q + 1 = ap (λ (y : ℕ). slot z W' y) (sym e) ∙ b in (e, omega arith)) (λ ne. let o = others l ne in absurd (omega arith))
+  changed l q a b = dite (ℕ_discrete l k) (λ e. let t = taken in
+      let c : slot z W' k ≡ q + 1 = ap (λ (y : ℕ). slot z W' y) (sym e) ∙ b in (e, omega arith)) (λ ne. let o = others l ne in absurd (omega arith))
 
   fixed_now : form_of (form z W' i) ≡ Some (Flat wide start true)
   fixed_now = let f = known.of_forms i (Flat wide start true) fixed in ap form_of (forms i) ∙ (f.decodes ∙ ap Some (sym (⊎_elim (λ e. e) (λ l. absurd (false_true l)) f.later)))
@@ -149,7 +196,9 @@ module _ (z : HeapSize) (agents : ℕ) (W : List ℕ) (vs : List View) (s : IsSo
   no_other l t h e same = dite (dec_le (rank us z.slots k) (rank us z.slots l))
       (λ le. dite (ℕ_discrete (rank us z.slots k) (rank us z.slots l))
       (λ is. let one : k ≡ l = rank_one us z.slots k l inside h is in let f : slot z W l ≡ 0 = ap (λ (y : ℕ). slot z W y) (sym one) ∙ free in omega arith)
-      (λ ne. (s.slots l t h e).earlier k inside (subst (λ (u : List ℕ). rank u z.slots k < rank u z.slots l) same (let a : ℕ = rank us z.slots k in let b : ℕ = rank us z.slots l in let le' : a ≤ b = le in let ne' : a ≢ b = ne in let lt : a < b = omega arith in lt)) free))
+      (λ ne. (s.slots l t h e).earlier k inside (subst (λ (u : List ℕ). rank u z.slots k < rank u z.slots l) same
+      (let a : ℕ = rank us z.slots k in let b : ℕ = rank us z.slots l in let le' : a ≤ b = le in let ne' : a ≢ b = ne in
+      let lt : a < b = omega arith in lt)) free))
       (λ gt. let d = before l h (lt_of_not-le gt) in let p = (known.of_slots l d.0 d.1).1 in let is : d.0 ≡ t = omega arith in
       differs_right z agents W vs s v known us d.0 (s.slots l d.0 h p).born d.2 (ap (units_of z W) is ∙ sym same))
 
@@ -175,34 +224,39 @@ module _ (z : HeapSize) (agents : ℕ) (W : List ℕ) (vs : List View) (s : IsSo
       (last_or (history v) (us, i) (u, q) (subst (λ (l : Calls). Contains l (u, q)) (sym (append_assoc v.seen v.mine ((us, i) ∷ []))) c))
 
   pub keeps_took_slot : IsSound z agents W' vs'
-  keeps_took_slot = let kn = knew z agents W vs s j v at live W' w agrees_took_slot in let counted = s.counted in let a = ids_same in let b = words_same in one_view z agents W vs j v W' w s at live record {
-    live = live;
-    agrees = agrees_took_slot;
-    counted = record {
-      long = length-set W (slot_at z k) (i + 1) ∙ counted.long;
-      ids_end = (let h = counted.ids_end in omega arith);
-      words_end = (let h = counted.words_end in omega arith);
-      no_form = λ q lo hi. forms q ∙ counted.no_form q (omega arith) hi;
-      no_length = λ q lo hi. lengths q ∙ counted.no_length q (omega arith) hi;
-      no_content = λ c lo hi. contents c ∙ counted.no_content c (omega arith) hi;
-    };
-    newborn = λ q h. inl (h.0, λ e. h.1 (forms q ∙ e));
-    own_ids = moved_ids v.own_ids (s.own_ids j v at live);
-    own_words = moved_words v.own_words (s.own_words j v at live);
-    others_ids = λ q u ne e l. (moved_ids u.own_ids (s.own_ids q u e l), s.ids_apart j v at live q u e l (λ x'. ne (sym x')));
-    others_words = λ q u ne e l. (moved_words u.own_words (s.own_words q u e l), s.words_apart j v at live q u e l (λ x'. ne (sym x')));
-    knows = record {
-      of_met = kn.of_met;
-      of_units = kn.of_units;
-      of_forms = kn.of_forms;
-      of_lengths = kn.of_lengths;
-      of_frozen = kn.of_frozen;
-      of_slots = λ l q h. ⊎_elim (λ (t : (l ≡ k) × (i ≡ q)). (subst (λ (y : ℕ). y < z.slots) (sym t.0) inside, ap (λ (y : ℕ). slot z W' y) t.0 ∙ (taken ∙ ap (λ (y : ℕ). y + 1) t.1))) (λ (t : (l ≢ k) × Has v.slots l q). kn.of_slots l q t.1) (has_insert v.slots k l i q h);
-    };
-    recalls = recalls;
-    mine = λ u q h. Contains-append_left v.mine ((us, i) ∷ []) (u, q) h;
-    added = added_keep z agents W vs s j v at live w live refl refl W' a b;
-    low = (let q = s.lows j v at live in let q0 = q.0 in let q1 = q.1 in (omega arith, omega arith));
-    member = s.members j v at live;
-    new_slots = new_slots;
-  }
+  keeps_took_slot = let kn = knew z agents W vs s j v at live W' w agrees_took_slot in let counted = s.counted in let a = ids_same in
+      let b = words_same in one_view z agents W vs j v W' w s at live record {
+        live = live;
+        agrees = agrees_took_slot;
+        counted = record {
+          long = length-set W (slot_at z k) (i + 1) ∙ counted.long;
+          ids_end = (let h = counted.ids_end in omega arith);
+          words_end = (let h = counted.words_end in omega arith);
+          no_form = λ q lo hi. forms q ∙ counted.no_form q (omega arith) hi;
+          no_length = λ q lo hi. lengths q ∙ counted.no_length q (omega arith) hi;
+          no_content = λ c lo hi. contents c ∙ counted.no_content c (omega arith) hi;
+        };
+        newborn = λ q h. inl (h.0, λ e. h.1 (forms q ∙ e));
+        own_ids = moved_ids v.own_ids (s.own_ids j v at live);
+        own_words = moved_words v.own_words (s.own_words j v at live);
+        others_ids = λ q u ne e l. (moved_ids u.own_ids (s.own_ids q u e l), s.ids_apart j v at live q u e l (λ x'. ne (sym x')));
+        others_words = λ q u ne e l. (moved_words u.own_words (s.own_words q u e l), s.words_apart j v at live q u e l (λ x'. ne (sym x')));
+        knows = record {
+          of_met = kn.of_met;
+          of_units = kn.of_units;
+          of_forms = kn.of_forms;
+          of_lengths = kn.of_lengths;
+          of_frozen = kn.of_frozen;
+          of_slots = λ l q h. ⊎_elim (λ (t : (l ≡ k) × (i ≡ q)). (
+            subst (λ (y : ℕ). y < z.slots) (sym t.0) inside,
+            ap (λ (y : ℕ). slot z W' y)
+                t.0 ∙ (taken ∙ ap (λ (y : ℕ). y + 1) t.1),
+          )) (λ (t : (l ≢ k) × Has v.slots l q). kn.of_slots l q t.1) (has_insert v.slots k l i q h);
+        };
+        recalls = recalls;
+        mine = λ u q h. Contains-append_left v.mine ((us, i) ∷ []) (u, q) h;
+        added = added_keep z agents W vs s j v at live w live refl refl W' a b;
+        low = (let q = s.lows j v at live in let q0 = q.0 in let q1 = q.1 in (omega arith, omega arith));
+        member = s.members j v at live;
+        new_slots = new_slots;
+      }

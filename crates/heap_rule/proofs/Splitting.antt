@@ -129,7 +129,8 @@ module _ (z : HeapSize) (agents : ℕ) (W : List ℕ) (vs : List View) (s : IsSo
   -- a note changes nothing of which the rule speaks
   pub keeps_noted : (give : ℕ) → IsSound z agents W (set vs j (noted v give))
   keeps_noted give = let w : View = noted v give in let agrees : Agrees z W vs W (set vs j w) = same_words z agents W vs s j v at live w refl in
-      unmoved z agents W vs s j v at live w live refl refl refl refl refl refl (knew z agents W vs s j v at live W w agrees) (recalled z agents W vs s j v at live W w agrees) (λ u q h. h) (s.lows j v at live)
+      unmoved z agents W vs s j v at live w live refl refl refl refl refl refl (knew z agents W vs s j v at live W w agrees)
+      (recalled z agents W vs s j v at live W w agrees) (λ u q h. h) (s.lows j v at live)
 
 -- both views of a splitting are possible, if the one before was
 both_in : (v : View) (give : ℕ) → 1 ≤ give → give < v.share → StandsIn v → StandsIn (left_after_split v give) × StandsIn (right_after_split v give)

@@ -26,7 +26,8 @@ use Rattle.heap_rule.proofs.OneView.{one_view, no_slot}
 pub has_run : {X : Type 0} (m : FinMap nat_cmp X) (k n : ℕ) (d : X) (q : ℕ) (x : X) → Has (with_run m k n d) q x → ((k ≤ q) × (q < k + n) × (d ≡ x)) ⊎ Has m q x
 has_run m k zero d q x h = inr h
 has_run m k (suc n) d q x h = ⊎_elim (λ t. let lo = t.0 in let hi = t.1 in inl (omega arith, omega arith, t.2))
-    (λ t. ⊎_elim (λ (s : (q ≡ k) × (d ≡ x)). let e = s.0 in inl (omega arith, omega arith, s.1)) (λ (s : (q ≢ k) × Has m q x). inr s.1) (has_insert m k q d x t)) (has_run (insert m k d) (suc k) n d q x h)
+    (λ t. ⊎_elim (λ (s : (q ≡ k) × (d ≡ x)). let e = s.0 in inl (omega arith, omega arith, s.1)) (λ (s : (q ≢ k) × Has m q x). inr s.1)
+    (has_insert m k q d x t)) (has_run (insert m k d) (suc k) n d q x h)
 
 pub key_run : {X : Type 0} (m : FinMap nat_cmp X) (k n : ℕ) (d : X) (q : ℕ) → HasKey (with_run m k n d) q → ((k ≤ q) × (q < k + n)) ⊎ HasKey m q
 key_run m k n d q h = let p = has_key (with_run m k n d) q h in ⊎_elim (λ t. inl (t.0, t.1)) (λ t. inr (key_of m q p.0 t)) (has_run m k n d q p.0 p.1)
@@ -86,10 +87,19 @@ module _ (z : HeapSize) (agents : ℕ) (W : List ℕ) (vs : List View) (s : IsSo
   recalled W' w a = recalls_then z W vs s.standing W' (set vs j w) a v (s.knows j v at live) s.slots (s.recalls j v at live)
 
   pub same_words : (w : View) → w.own_words ≡ v.own_words → Agrees z W vs W (set vs j w)
-  same_words w ow = record { ids = omega arith; words = omega arith; forms = λ i h. inl refl; lengths = λ i h. refl; contents = λ c h. refl; slots = λ k h. inl refl; free = free_by w (λ c _ h. subst (λ (m : FinMap nat_cmp ℕ). HasKey m c) ow h) }
+  same_words w ow = record {
+    ids = omega arith;
+    words = omega arith;
+    forms = λ i h. inl refl;
+    lengths = λ i h. refl;
+    contents = λ c h. refl;
+    slots = λ k h. inl refl;
+    free = free_by w (λ c _ h. subst (λ (m : FinMap nat_cmp ℕ). HasKey m c) ow h);
+  }
 
   pub keeps_loaded_counter : (k : Counter) (x : ℕ) → x ≡ get_or W (counter_at k) 0 → IsSound z agents W (set vs j (loaded_counter v k x))
-  keeps_loaded_counter k x e = let w : View = loaded_counter v k x in unmoved w live refl refl refl refl refl refl (knew W w (same_words w refl)) (recalled W w (same_words w refl)) (λ u i h. h) (low_after k x e)
+  keeps_loaded_counter k x e = let w : View = loaded_counter v k x in unmoved w live refl refl refl refl refl refl
+      (knew W w (same_words w refl)) (recalled W w (same_words w refl)) (λ u i h. h) (low_after k x e)
 
   pub sizes_are : v.sizes ≡ z
   sizes_are = (s.members j v at live).1
@@ -126,7 +136,8 @@ module _ (z : HeapSize) (agents : ℕ) (W : List ℕ) (vs : List View) (s : IsSo
 
   pub keeps_stored_word : (c n : ℕ) → HasKey v.own_words c → IsSound z agents (set W (content_at z c) n) (set vs j (stored_word v c n))
   keeps_stored_word c n own = let w : View = stored_word v c n in let W' : List ℕ = set W (content_at z c) n in let p = content_at z c in
-      let counted = s.counted in let long = counted.long in let mine = s.own_words j v at live in let x = has_key v.own_words c own in let below : c < next_word W = (mine.each c x.0 x.1).0 in let ends = counted.words_end in
+      let counted = s.counted in let long = counted.long in let mine = s.own_words j v at live in let x = has_key v.own_words c own in
+      let below : c < next_word W = (mine.each c x.0 x.1).0 in let ends = counted.words_end in
       let ids_same : next_id W' ≡ next_id W = get_or-set_other W p 0 n 0 (λ e. omega arith) in
       let words_same : next_word W' ≡ next_word W = get_or-set_other W p 1 n 0 (λ e. omega arith) in
       let forms : (i : ℕ) → i < z.ids → form z W' i ≡ form z W i = (λ i h. get_or-set_other W p (form_at z i) n 0 (λ e. omega arith)) in
@@ -142,7 +153,10 @@ module _ (z : HeapSize) (agents : ℕ) (W : List ℕ) (vs : List View) (s : IsSo
         slots = λ k h. inl (get_or-set_other W p (2 + k) n 0 (λ e. omega arith));
         free = free_by w (λ d _ h. back d h);
       } in
-      let moved_ids : (m : FinMap nat_cmp ℕ) → OwnsIds z W m → OwnsIds z W' m = (λ m o. record { each = λ i l h. let t = o.each i l h in let b = t.0 in let e = counted.ids_end in (omega arith, forms i (omega arith) ∙ t.1, lengths i (omega arith) ∙ t.2, t.3) }) in
+      let moved_ids : (m : FinMap nat_cmp ℕ) → OwnsIds z W m → OwnsIds z W' m = (λ m o. record {
+        each = λ i l h. let t = o.each i l h in
+            let b = t.0 in let e = counted.ids_end in (omega arith, forms i (omega arith) ∙ t.1, lengths i (omega arith) ∙ t.2, t.3);
+      }) in
       one_view z agents W vs j v W' w s at live record {
         live = live;
         agrees = agrees;
@@ -163,7 +177,10 @@ module _ (z : HeapSize) (agents : ℕ) (W : List ℕ) (vs : List View) (s : IsSo
         };
         others_ids = λ k u ne e l. (moved_ids u.own_ids (s.own_ids k u e l), λ i h g. s.ids_apart j v at live k u e l (λ x'. ne (sym x')) i h g);
         others_words = λ k u ne e l. let apart = s.words_apart j v at live k u e l (λ x'. ne (sym x')) in (
-          record { each = λ d y h. let o = (s.own_words k u e l).each d y h in let lt = o.0 in (omega arith, contents d (λ e'. apart c own (subst (HasKey u.own_words) e' (key_of u.own_words d y h))) ∙ o.1) },
+          record {
+            each = λ d y h. let o = (s.own_words k u e l).each d y h in
+                let lt = o.0 in (omega arith, contents d (λ e'. apart c own (subst (HasKey u.own_words) e' (key_of u.own_words d y h))) ∙ o.1);
+          },
           λ d h g. apart d (back d h) g,
         );
         knows = knew W' w agrees;
@@ -177,7 +194,8 @@ module _ (z : HeapSize) (agents : ℕ) (W : List ℕ) (vs : List View) (s : IsSo
 
   pub keeps_stored_length : (i n : ℕ) → MayStoreLength v i n → IsSound z agents (set W (length_at z i) n) (set vs j (stored_length v i n))
   keeps_stored_length i n may = let own = may.0 in let w : View = stored_length v i n in let W' : List ℕ = set W (length_at z i) n in let p = length_at z i in
-      let counted = s.counted in let long = counted.long in let mine = s.own_ids j v at live in let x = has_key v.own_ids i own in let here = mine.each i x.0 x.1 in let below : i < next_id W = here.0 in let ends = counted.ids_end in
+      let counted = s.counted in let long = counted.long in let mine = s.own_ids j v at live in let x = has_key v.own_ids i own in
+      let here = mine.each i x.0 x.1 in let below : i < next_id W = here.0 in let ends = counted.ids_end in
       let ids_same : next_id W' ≡ next_id W = get_or-set_other W p 0 n 0 (λ e. omega arith) in
       let words_same : next_word W' ≡ next_word W = get_or-set_other W p 1 n 0 (λ e. omega arith) in
       let forms : (k : ℕ) → form z W' k ≡ form z W k = (λ k. get_or-set_other W p (form_at z k) n 0 (λ e. omega arith)) in
@@ -208,12 +226,21 @@ module _ (z : HeapSize) (agents : ℕ) (W : List ℕ) (vs : List View) (s : IsSo
         newborn = λ k b. inl (b.0, λ e. b.1 (forms k ∙ e));
         own_ids = record {
           each = λ k y h. ⊎_elim
-              (λ (t : (k ≡ i) × (n ≡ y)). let e = t.0 in (omega arith, forms k ∙ (ap (λ (q : ℕ). form z W q) e ∙ here.1), ap (λ (q : ℕ). length_word z W' q) e ∙ (get_or-set_same W p n 0 (omega arith) ∙ t.1), subst (λ (q : ℕ). q ≤ MAX) t.1 may.1))
+              (λ (t : (k ≡ i) × (n ≡ y)). let e = t.0 in (
+                omega arith,
+                forms k ∙ (ap (λ (q : ℕ). form z W q) e ∙ here.1),
+                ap
+                    (λ (q : ℕ). length_word z W' q) e ∙ (get_or-set_same W p n 0 (omega arith) ∙ t.1),
+                subst (λ (q : ℕ). q ≤ MAX) t.1 may.1,
+              ))
               (λ (t : (k ≢ i) × Has v.own_ids k y). let o = mine.each k y t.1 in let l = o.0 in (omega arith, forms k ∙ o.1, lengths k t.0 ∙ o.2, o.3)) (has_insert v.own_ids i k n y h);
         };
         own_words = moved_words v.own_words (s.own_words j v at live);
         others_ids = λ k u ne e l. let apart = s.ids_apart j v at live k u e l (λ x'. ne (sym x')) in (
-          record { each = λ q y h. let o = (s.own_ids k u e l).each q y h in let lt = o.0 in (omega arith, forms q ∙ o.1, lengths q (λ e'. apart i own (subst (HasKey u.own_ids) e' (key_of u.own_ids q y h))) ∙ o.2, o.3) },
+          record {
+            each = λ q y h. let o = (s.own_ids k u e l).each q y h in
+                let lt = o.0 in (omega arith, forms q ∙ o.1, lengths q (λ e'. apart i own (subst (HasKey u.own_ids) e' (key_of u.own_ids q y h))) ∙ o.2, o.3);
+          },
           λ q h g. apart q (back q h) g,
         );
         others_words = λ k u ne e l. (moved_words u.own_words (s.own_words k u e l), λ c h g. s.words_apart j v at live k u e l (λ x'. ne (sym x')) c h g);
@@ -243,7 +270,10 @@ module _ (z : HeapSize) (agents : ℕ) (W : List ℕ) (vs : List View) (s : IsSo
   }
 
   claim_ids : (p x : ℕ) (m : FinMap nat_cmp ℕ) → p < 2 → next_id W ≤ next_id (set W p x) → OwnsIds z W m → OwnsIds z (set W p x) m
-  claim_ids p x m l a o = record { each = λ i n h. let t = o.each i n h in let b = t.0 in (omega arith, counter_moved p x l (form_at z i) (omega arith) ∙ t.1, counter_moved p x l (length_at z i) (omega arith) ∙ t.2, t.3) }
+  claim_ids p x m l a o = record {
+    each = λ i n h. let t = o.each i n h in
+        let b = t.0 in (omega arith, counter_moved p x l (form_at z i) (omega arith) ∙ t.1, counter_moved p x l (length_at z i) (omega arith) ∙ t.2, t.3);
+  }
 
   claim_words : (p x : ℕ) (m : FinMap nat_cmp ℕ) → p < 2 → next_word W ≤ next_word (set W p x) → OwnsWords z W m → OwnsWords z (set W p x) m
   claim_words p x m l a o = record { each = λ c n h. let t = o.each c n h in let b = t.0 in (omega arith, counter_moved p x l (content_at z c) (omega arith) ∙ t.1) }
@@ -268,7 +298,8 @@ module _ (z : HeapSize) (agents : ℕ) (W : List ℕ) (vs : List View) (s : IsSo
       (λ c l h. ⊎_elim (λ (t : (a ≤ c) × (c < a + n)). let lo = t.0 in absurd (omega arith)) (λ t. t) (key_run v.own_words a n 0 c h))
 
   -- a claim on a counter that is still where it was seen
-  pub keeps_won_claim : (k : Counter) (at' want : ℕ) → MayClaim v k at' want → at' ≡ get_or W (counter_at k) 0 → IsSound z agents (set W (counter_at k) (at' + want)) (set vs j (won_claim v k at' want))
+  pub keeps_won_claim : (k : Counter) (at' want : ℕ) → MayClaim v k at' want → at' ≡ get_or W (counter_at k) 0 → IsSound z agents
+      (set W (counter_at k) (at' + want)) (set vs j (won_claim v k at' want))
   keeps_won_claim Ids a n may e = let w : View = won_claim v Ids a n in let W' : List ℕ = set W 0 (a + n) in let counted = s.counted in let long = counted.long in let ends = counted.words_end in
       let room : a + n ≤ z.ids = subst (λ (y : HeapSize). a + n ≤ y.ids) sizes_are may.1 in
       let ids_are : next_id W' ≡ a + n = get_or-set_same W 0 (a + n) 0 (omega arith) in let words_are : next_word W' ≡ next_word W = get_or-set_other W 0 1 (a + n) 0 (λ h. omega arith) in
@@ -313,7 +344,8 @@ module _ (z : HeapSize) (agents : ℕ) (W : List ℕ) (vs : List View) (s : IsSo
       let room : a + n ≤ z.words = subst (λ (y : HeapSize). a + n ≤ y.words) sizes_are may.1 in
       let words_are : next_word W' ≡ a + n = get_or-set_same W 1 (a + n) 0 (omega arith) in let ids_are : next_id W' ≡ next_id W = get_or-set_other W 1 0 (a + n) 0 (λ h. omega arith) in
       let grows : next_id W ≤ next_id W' = omega arith in let stays : next_word W ≤ next_word W' = omega arith in
-      let agrees : Agrees z W vs W' (set vs j w) = claim_agrees 1 (a + n) w (omega arith) grows stays (λ c l h. ⊎_elim (λ (t : (a ≤ c) × (c < a + n)). let lo = t.0 in absurd (omega arith)) (λ t. t) (key_run v.own_words a n 0 c h)) in
+      let agrees : Agrees z W vs W' (set vs j w) = claim_agrees 1 (a + n) w (omega arith) grows stays
+      (λ c l h. ⊎_elim (λ (t : (a ≤ c) × (c < a + n)). let lo = t.0 in absurd (omega arith)) (λ t. t) (key_run v.own_words a n 0 c h)) in
       one_view z agents W vs j v W' w s at live record {
         live = live;
         agrees = agrees;
@@ -322,7 +354,12 @@ module _ (z : HeapSize) (agents : ℕ) (W : List ℕ) (vs : List View) (s : IsSo
         own_ids = claim_ids 1 (a + n) v.own_ids (omega arith) grows (s.own_ids j v at live);
         own_words = record {
           each = λ i y h. ⊎_elim
-              (λ (t : (a ≤ i) × (i < a + n) × (0 ≡ y)). let lo = t.0 in let hi = t.1 in (omega arith, counter_moved 1 (a + n) (omega arith) (content_at z i) (omega arith) ∙ (counted.no_content i (omega arith) (omega arith) ∙ t.2)))
+              (λ (t : (a ≤ i) × (i < a + n) × (0 ≡ y)). let lo = t.0 in
+              let hi = t.1 in (
+                omega arith,
+                counter_moved 1 (a + n) (omega arith) (content_at z i) (omega arith) ∙
+                    (counted.no_content i (omega arith) (omega arith) ∙ t.2),
+              ))
               (λ t. (claim_words 1 (a + n) v.own_words (omega arith) stays (s.own_words j v at live)).each i y t) (has_run v.own_words a n 0 i y h);
         };
         others_ids = λ k u ne b l. (claim_ids 1 (a + n) u.own_ids (omega arith) grows (s.own_ids k u b l), s.ids_apart j v at live k u b l (λ x'. ne (sym x')));
@@ -357,8 +394,10 @@ module _ (z : HeapSize) (agents : ℕ) (W : List ℕ) (vs : List View) (s : IsSo
   pub within : IsWithin v
   within = let e = s.counted in let a = e.ids_end in let b = e.words_end in record {
     known = subst (λ (y : HeapSize). (i : ℕ) → MayUse v i → i < y.ids) (sym sizes_are) (λ i h. let l = known_below i h in omega arith);
-    ids = subst (λ (y : HeapSize). (i : ℕ) → HasKey v.own_ids i → i < y.ids) (sym sizes_are) (λ i h. let p = has_key v.own_ids i h in let l = ((s.own_ids j v at live).each i p.0 p.1).0 in omega arith);
-    words = subst (λ (y : HeapSize). (c : ℕ) → HasKey v.own_words c → c < y.words) (sym sizes_are) (λ c h. let p = has_key v.own_words c h in let l = ((s.own_words j v at live).each c p.0 p.1).0 in omega arith);
+    ids = subst (λ (y : HeapSize). (i : ℕ) → HasKey v.own_ids i → i < y.ids) (sym sizes_are) (λ i h. let p = has_key v.own_ids i h in
+        let l = ((s.own_ids j v at live).each i p.0 p.1).0 in omega arith);
+    words = subst (λ (y : HeapSize). (c : ℕ) → HasKey v.own_words c → c < y.words) (sym sizes_are)
+        (λ c h. let p = has_key v.own_words c h in let l = ((s.own_words j v at live).each c p.0 p.1).0 in omega arith);
   }
 
 within_in : (v : View) → StandsIn v → IsWithin v

@@ -1,5 +1,33 @@
 -- A thinning that finds the form it expects keeps the rule: a Thin to a fixed Flat with the same units takes its place.
-use Rattle.std.proofs.Common.{◌≡◌, ◌≢◌, ℕ, ◌+◌, ◌^◌, ◌<◌, ◌≤◌, inl, inr, ⊎_elim, Bool, true, false, List, length, set, sym, refl, ap, ◌∙◌, subst, arith, Option, Some, get_or-set_other, get_or-set_same, length-set}
+use Rattle.std.proofs.Common.{
+  ◌≡◌,
+  ◌≢◌,
+  ℕ,
+  ◌+◌,
+  ◌^◌,
+  ◌<◌,
+  ◌≤◌,
+  inl,
+  inr,
+  ⊎_elim,
+  Bool,
+  true,
+  false,
+  List,
+  length,
+  set,
+  sym,
+  refl,
+  ap,
+  ◌∙◌,
+  subst,
+  arith,
+  Option,
+  Some,
+  get_or-set_other,
+  get_or-set_same,
+  length-set,
+}
 use mathlib.Core.Logic.{dite}
 use native.Mathlib.Decide.{ℕ_discrete}
 use Rattle.std.specs.FinMap.{FinMap, insert}
@@ -51,7 +79,8 @@ thin_later (Cons w a b) t h = absurd h
 thin_later (Thin q) t h = absurd h
 
 module _ (z : HeapSize) (agents : ℕ) (W : List ℕ) (vs : List View) (s : IsSound z agents W vs) (j : ℕ) (v : View) (at : At vs j v) (live : v.live ≡ true)
-    (i t : ℕ) (old : Form) (seen : Has v.forms i old) (can : CanThin old) (hit : form z W i ≡ word_of old) (k : ℕ) (in_slot : Has v.slots k t) (us : List ℕ) (units : Has v.units i us) (target_units : Has v.units t us) where
+    (i t : ℕ) (old : Form) (seen : Has v.forms i old) (can : CanThin old) (hit : form z W
+    i ≡ word_of old) (k : ℕ) (in_slot : Has v.slots k t) (us : List ℕ) (units : Has v.units i us) (target_units : Has v.units t us) where
   abbrev f : Form
   f = Thin t
 
@@ -194,35 +223,43 @@ module _ (z : HeapSize) (agents : ℕ) (W : List ℕ) (vs : List View) (s : IsSo
   moved_words m o = record { each = λ c y h. let r = o.each c y h in let a = words_same in let b = r.0 in (omega arith, contents c ∙ r.1) }
 
   pub keeps_thinning : IsSound z agents W' vs'
-  keeps_thinning = let kn = knew z agents W vs s j v at live W' w agrees_thinning in let counted = s.counted in let a = ids_same in let b = words_same in one_view z agents W vs j v W' w s at live record {
-    live = live;
-    agrees = agrees_thinning;
-    counted = record {
-      long = length-set W (form_at z i) (word_of f) ∙ counted.long;
-      ids_end = (let h = counted.ids_end in omega arith);
-      words_end = (let h = counted.words_end in omega arith);
-      no_form = λ q lo hi. forms q (λ e. let m = (s.standing i known.born).below in omega arith) ∙ counted.no_form q (omega arith) hi;
-      no_length = λ q lo hi. lengths q ∙ counted.no_length q (omega arith) hi;
-      no_content = λ c lo hi. contents c ∙ counted.no_content c (omega arith) hi;
-    };
-    newborn = λ q h. dite (ℕ_discrete q i) (λ e. inr (subst (λ (y : ℕ). IsStanding z W' vs' y) (sym e) standing)) (λ ne. inl (h.0, λ e. h.1 (forms q ne ∙ e)));
-    own_ids = moved_ids v.own_ids (s.own_ids j v at live);
-    own_words = moved_words v.own_words (s.own_words j v at live);
-    others_ids = λ q u ne e l. (moved_ids u.own_ids (s.own_ids q u e l), s.ids_apart j v at live q u e l (λ x'. ne (sym x')));
-    others_words = λ q u ne e l. (moved_words u.own_words (s.own_words q u e l), s.words_apart j v at live q u e l (λ x'. ne (sym x')));
-    knows = record {
-      of_met = kn.of_met;
-      of_units = kn.of_units;
-      of_forms = λ q g h. ⊎_elim (λ (r : (q ≡ i) × (f ≡ g)). subst (λ (y : ℕ × Form). KnowsForm z W' vs' y.0 y.1) (λ d. (sym r.0 d, r.1 d)) record { born = (inside, turned.born); now = f; decodes = decodes; later = inl refl; shows = (target_born, target_units_now ∙ sym units_now, (wide, start, target_now)) })
-          (λ (r : (q ≢ i) × Has v.forms q g). kn.of_forms q g r.1) (has_insert v.forms i q f g h);
-      of_lengths = kn.of_lengths;
-      of_frozen = kn.of_frozen;
-      of_slots = kn.of_slots;
-    };
-    recalls = recalled z agents W vs s j v at live W' w agrees_thinning;
-    mine = λ u q h. h;
-    added = added_keep z agents W vs s j v at live w live refl refl W' a b;
-    low = (let q = s.lows j v at live in let q0 = q.0 in let q1 = q.1 in (omega arith, omega arith));
-    member = s.members j v at live;
-    new_slots = no_slot z W vs W' vs' slots;
-  }
+  keeps_thinning = let kn = knew z agents W vs s j v at live W' w agrees_thinning in let counted = s.counted in let a = ids_same in
+      let b = words_same in one_view z agents W vs j v W' w s at live record {
+        live = live;
+        agrees = agrees_thinning;
+        counted = record {
+          long = length-set W (form_at z i) (word_of f) ∙ counted.long;
+          ids_end = (let h = counted.ids_end in omega arith);
+          words_end = (let h = counted.words_end in omega arith);
+          no_form = λ q lo hi. forms q (λ e. let m = (s.standing i known.born).below in omega arith) ∙ counted.no_form q (omega arith) hi;
+          no_length = λ q lo hi. lengths q ∙ counted.no_length q (omega arith) hi;
+          no_content = λ c lo hi. contents c ∙ counted.no_content c (omega arith) hi;
+        };
+        newborn = λ q h. dite (ℕ_discrete q i) (λ e. inr (subst (λ (y : ℕ). IsStanding z W' vs' y) (sym e) standing)) (λ ne. inl (h.0, λ e. h.1 (forms q ne ∙ e)));
+        own_ids = moved_ids v.own_ids (s.own_ids j v at live);
+        own_words = moved_words v.own_words (s.own_words j v at live);
+        others_ids = λ q u ne e l. (moved_ids u.own_ids (s.own_ids q u e l), s.ids_apart j v at live q u e l (λ x'. ne (sym x')));
+        others_words = λ q u ne e l. (moved_words u.own_words (s.own_words q u e l), s.words_apart j v at live q u e l (λ x'. ne (sym x')));
+        knows = record {
+          of_met = kn.of_met;
+          of_units = kn.of_units;
+          of_forms = λ q g h. ⊎_elim (λ (r : (q ≡ i) × (f ≡ g)). subst (λ (y : ℕ × Form). KnowsForm z W' vs' y.0 y.1)
+              (λ d. (sym r.0 d, r.1 d)) record {
+                born = (inside, turned.born);
+                now = f;
+                decodes = decodes;
+                later = inl refl;
+                shows = (target_born, target_units_now ∙ sym units_now, (wide, start, target_now));
+              })
+              (λ (r : (q ≢ i) × Has v.forms q g). kn.of_forms q g r.1) (has_insert v.forms i q f g h);
+          of_lengths = kn.of_lengths;
+          of_frozen = kn.of_frozen;
+          of_slots = kn.of_slots;
+        };
+        recalls = recalled z agents W vs s j v at live W' w agrees_thinning;
+        mine = λ u q h. h;
+        added = added_keep z agents W vs s j v at live w live refl refl W' a b;
+        low = (let q = s.lows j v at live in let q0 = q.0 in let q1 = q.1 in (omega arith, omega arith));
+        member = s.members j v at live;
+        new_slots = no_slot z W vs W' vs' slots;
+      }

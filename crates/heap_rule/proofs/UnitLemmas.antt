@@ -55,7 +55,8 @@ module _ (F G : ℕ → Shape) (P : ℕ → Type 0) (low : (i : ℕ) → JoinsBe
 pub units_step : (F : ℕ → Shape) → ((i : ℕ) → JoinsBelow i (F i)) → (i : ℕ) → units_in F i ≡ units_by (units_in F) (F i)
 unfolding units_in units_within
 units_step F low i = by_same (λ j. units_within F i j) (units_in F) (F i)
-    (each_joined (λ j. j < i) _ (F i) (λ j l. within_same F F (λ _. Unit {0}) low (λ _ _. refl) (λ k _. each_joined (λ (x : ℕ). x < k) (λ _. Unit {0}) (F k) (λ _ _. tt) (joins_below k (F k) (low k))) i (suc j) j l (omega arith) tt)
+    (each_joined (λ j. j < i) _ (F i) (λ j l. within_same F F (λ _. Unit {0}) low (λ _ _. refl)
+    (λ k _. each_joined (λ (x : ℕ). x < k) (λ _. Unit {0}) (F k) (λ _ _. tt) (joins_below k (F k) (low k))) i (suc j) j l (omega arith) tt)
     (joins_below i (F i) (low i)))
 
 -- a span reads the words from its start on
@@ -75,7 +76,8 @@ lane_word false k n h = omega arith
 
 -- words that agree over the whole of a Flat give the same span
 pub flat_same : (f g : ℕ → ℕ) (wide : Bool) (start n : ℕ) → ((c : ℕ) → start ≤ c → c < start + words_over wide n → f c ≡ g c) → span f wide start 0 n ≡ span g wide start 0 n
-flat_same f g wide start n h = span_same f g wide start 0 n (λ k l. let b : k / lane_count wide < words_over wide n = lane_word wide k n (omega arith) in h (start + k / lane_count wide) (omega arith) (omega arith))
+flat_same f g wide start n h = span_same f g wide start 0 n (λ k l. let b : k / lane_count wide < words_over wide n = lane_word wide k n
+    (omega arith) in h (start + k / lane_count wide) (omega arith) (omega arith))
 
 -- lists that meet the equation of the recursion at the ids with P are the units of these ids
 module _ (F : ℕ → Shape) (g : ℕ → List ℕ) (P : ℕ → Type 0) (low : (i : ℕ) → JoinsBelow i (F i)) (closed : (i : ℕ) → P i → EachJoined P (F i)) (solves : (i : ℕ) → P i → g i ≡ units_by g (F i)) where

@@ -1,5 +1,39 @@
 -- What each call on a text or on the string table is as a step of a store.
-use Rattle.std.proofs.Common.{◌≡◌, ◌∙◌, ℕ, zero, suc, ◌+◌, ◌-◌, ◌<◌, ◌≤◌, ◌⊎◌, ⊎_elim, inl, inr, Bool, true, false, List, [], ◌++◌, drop, length, length-drop, length-take-le, sym, refl, ap, subst, arith, Some, None, Result, Ok, Err}
+use Rattle.std.proofs.Common.{
+  ◌≡◌,
+  ◌∙◌,
+  ℕ,
+  zero,
+  suc,
+  ◌+◌,
+  ◌-◌,
+  ◌<◌,
+  ◌≤◌,
+  ◌⊎◌,
+  ⊎_elim,
+  inl,
+  inr,
+  Bool,
+  true,
+  false,
+  List,
+  [],
+  ◌++◌,
+  drop,
+  length,
+  length-drop,
+  length-take-le,
+  sym,
+  refl,
+  ap,
+  subst,
+  arith,
+  Some,
+  None,
+  Result,
+  Ok,
+  Err,
+}
 use Rattle.std.proofs.lemmas.List.{length-append}
 use mathlib.Core.Logic.{dite}
 use native.Mathlib.Decide.{ℕ_discrete, dec_le}
@@ -62,11 +96,25 @@ honest_text w l t words (text.Words f) h = let a = h.0.0 in let b = h.0.1 in let
 pub told_here : (w : View) (z : HeapSize) (words : ℕ) (f : TextFull) → w.sizes ≡ z → Told w z words f → Told w w.sizes words f
 told_here w z words f e h = subst (λ (y : HeapSize). Told w y words f) (sym e) h
 
-pub step_refused : (v w : View) (l : ℕ) (t : TableId) (words most : ℕ) (f : TextFull) → words ≤ most → IsPossible v → Continues v w → Told w w.sizes words f → IsSpared v w words f → StoreStep (state_by v l t) (state_by w l t) (Some (fault_in_text f)) 1 most
-step_refused v w l t words most (text.Ids f) le p c h s = let a = h.0.0 in let b = s.used_ids in let d = s.used_words in record { grows = grows_continues v w l t p c; honest = honest_text w l t words (text.Ids f) h; within_ids = omega arith; within_words = omega arith }
-step_refused v w l t words most (text.Words f) le p c h s = let b = s.used_ids in let d = s.used_words in record { grows = grows_continues v w l t p c; honest = honest_text w l t words (text.Words f) h; within_ids = omega arith; within_words = omega arith }
+pub step_refused : (v w : View) (l : ℕ) (t : TableId) (words most : ℕ) (f : TextFull) → words ≤ most → IsPossible v → Continues v w → Told w
+    w.sizes words f → IsSpared v w words f → StoreStep (state_by v l t) (state_by w l t) (Some (fault_in_text f)) 1 most
+step_refused v w l t words most (text.Ids f) le p c h s = let a = h.0.0 in let b = s.used_ids in
+    let d = s.used_words in record {
+      grows = grows_continues v w l t p c;
+      honest = honest_text w l t words (text.Ids f) h;
+      within_ids = omega arith;
+      within_words = omega arith;
+    }
+step_refused v w l t words most (text.Words f) le p c h s = let b = s.used_ids in
+    let d = s.used_words in record {
+      grows = grows_continues v w l t p c;
+      honest = honest_text w l t words (text.Words f) h;
+      within_ids = omega arith;
+      within_words = omega arith;
+    }
 
-pub step_used : (v w : View) (l : ℕ) (t : TableId) (ids words i n : ℕ) → ids ≤ i → words ≤ n → IsPossible v → Continues v w → UsesExactly v w ids words → StoreStep (state_by v l t) (state_by w l t) None i n
+pub step_used : (v w : View) (l : ℕ) (t : TableId) (ids words i n : ℕ) → ids ≤ i → words ≤ n → IsPossible v → Continues v w → UsesExactly v
+    w ids words → StoreStep (state_by v l t) (state_by w l t) None i n
 step_used v w l t ids words i n a b p c u = let x = u.0 in let y = u.1 in record { grows = grows_continues v w l t p c; honest = tt; within_ids = omega arith; within_words = omega arith }
 
 pub flat_is : (us : List ℕ) → words_over (texts.is_wide us) (length us) ≡ flat_words us
@@ -74,7 +122,8 @@ flat_is us = ap (λ (b : Bool). words_over b (length us)) (wide_same us)
 
 -- nothing was used
 nothing_used : (v w : View) (l : ℕ) (t : TableId) (i n : ℕ) → IsPossible v → Continues v w → w.used ≡ v.used → StoreStep (state_by v l t) (state_by w l t) None i n
-nothing_used v w l t i n p c u = let x = ap (λ (c : Counters). c.ids) u in let y = ap (λ (c : Counters). c.words) u in record { grows = grows_continues v w l t p c; honest = tt; within_ids = omega arith; within_words = omega arith }
+nothing_used v w l t i n p c u = let x = ap (λ (c : Counters). c.ids) u in
+    let y = ap (λ (c : Counters). c.words) u in record { grows = grows_continues v w l t p c; honest = tt; within_ids = omega arith; within_words = omega arith }
 
 -- a concatenation
 module _ (v w : View) (l : ℕ) (t : TableId) (a b : JsStr) (us vs : List ℕ) (p : IsPossible v) (c : Continues v w) (most : ℕ) where
@@ -88,7 +137,8 @@ module _ (v w : View) (l : ℕ) (t : TableId) (a b : JsStr) (us vs : List ℕ) (
   copied_words = words_over (texts.is_wide (us ++ vs)) (length (us ++ vs))
 
   copy_most : 0 < m → 0 < n → m + n < 13 → copied_words ≤ join_words m n
-  copy_most a b l = subst (λ (k : ℕ). copied_words ≤ k) (sym (join_words_copy m n a b l)) (subst (λ (k : ℕ). words_over (texts.is_wide (us ++ vs)) k ≤ 3) (sym (length-append us vs)) (few_words (texts.is_wide (us ++ vs)) (m + n) l))
+  copy_most a b l = subst (λ (k : ℕ). copied_words ≤ k) (sym (join_words_copy m n a b l))
+      (subst (λ (k : ℕ). words_over (texts.is_wide (us ++ vs)) k ≤ 3) (sym (length-append us vs)) (few_words (texts.is_wide (us ++ vs)) (m + n) l))
 
   -- what is no fault of length has at most so many units
   pub joined_fits : (s : JsStr) → IsJoined v w w.sizes most a b us vs (Ok s) → m + n ≤ most
@@ -113,7 +163,8 @@ module _ (v w : View) (l : ℕ) (t : TableId) (a b : JsStr) (us vs : List ℕ) (
   pub joined_ok : (s : JsStr) → IsJoined v w w.sizes most a b us vs (Ok s) → StoreStep (state_by v l t) (state_by w l t) None (join_ids m n) (join_words m n)
   joined_ok s j = ok_by s m n refl refl (joined_fits s j) j
 
-  err_by : (full : TextFull) (i k : ℕ) → m ≡ i → n ≡ k → m + n ≤ most → IsJoined v w w.sizes most a b us vs (Err (join.Full full)) → StoreStep (state_by v l t) (state_by w l t) (Some (fault_in_text full)) (join_ids m n) (join_words m n)
+  err_by : (full : TextFull) (i k : ℕ) → m ≡ i → n ≡ k → m + n ≤ most → IsJoined v w w.sizes most a b us vs (Err (join.Full full)) →
+      StoreStep (state_by v l t) (state_by w l t) (Some (fault_in_text full)) (join_ids m n) (join_words m n)
   err_by full zero k e f le j = let q = j.left_empty le e in let bad : Err (join.Full full) ≡ Ok q.0 = q.1 in absurd (cc)
   err_by full (suc i) zero e f le j = let q = j.right_empty le (omega arith) f in let bad : Err (join.Full full) ≡ Ok q.0 = q.1 in absurd (cc)
   err_by full (suc i) (suc k) e f le j = let x : 0 < m = omega arith in let y : 0 < n = omega arith in dite (dec_le 13 (m + n))
@@ -138,8 +189,10 @@ module _ (v w : View) (l : ℕ) (t : TableId) (a b : JsStr) (us vs : List ℕ) (
       short_by zero k e f = let q = j.left_empty le e in let bad : Err (join.TooLong x y) ≡ Ok q.0 = q.1 in cc
       short_by (suc i) zero e f = let q = j.right_empty le (omega arith) f in let bad : Err (join.TooLong x y) ≡ Ok q.0 = q.1 in cc
       short_by (suc i) (suc k) e f = dite (dec_le 13 (m + n))
-          (λ long. ⊎_elim (λ q. let bad : Err (join.TooLong x y) ≡ Ok q.0 = q.1 in cc) (λ q. let bad : Err (join.TooLong x y) ≡ Err (join.Full q.0) = q.1 in cc) (j.rope le (omega arith) (omega arith) long))
-          (λ never. ⊎_elim (λ q. let bad : Err (join.TooLong x y) ≡ Ok q.0 = q.1 in cc) (λ q. let bad : Err (join.TooLong x y) ≡ Err (join.Full q.0) = q.1 in cc) (j.short le (omega arith) (omega arith) (omega arith)))
+          (λ long. ⊎_elim (λ q. let bad : Err (join.TooLong x y) ≡ Ok q.0 = q.1 in cc)
+          (λ q. let bad : Err (join.TooLong x y) ≡ Err (join.Full q.0) = q.1 in cc) (j.rope le (omega arith) (omega arith) long))
+          (λ never. ⊎_elim (λ q. let bad : Err (join.TooLong x y) ≡ Ok q.0 = q.1 in cc)
+          (λ q. let bad : Err (join.TooLong x y) ≡ Err (join.Full q.0) = q.1 in cc) (j.short le (omega arith) (omega arith) (omega arith)))
 
   joined_long : (x y : ℕ) → IsJoined v w w.sizes most a b us vs (Err (join.TooLong x y)) → (most < m + n) × (x ≡ m) × (y ≡ n) × (w.used ≡ v.used)
   joined_long x y j = dite (dec_le (m + n) most) (λ le. absurd (joined_short x y le j))
@@ -156,7 +209,8 @@ module _ (v w : View) (l : ℕ) (t : TableId) (a b : JsStr) (us vs : List ℕ) (
   joined_told (join.Full (text.Words f)) j = full_fits (text.Words f) j
 
 -- what a text answers is over the sizes of its heap and within its limit
-pub joined_in : (v w : View) (z : HeapSize) (k most : ℕ) (a b : JsStr) (us vs : List ℕ) (r : Result JsStr JoinFault) → w.sizes ≡ z → k ≡ most → IsJoined v w z k a b us vs r → IsJoined v w w.sizes most a b us vs r
+pub joined_in : (v w : View) (z : HeapSize) (k most : ℕ) (a b : JsStr) (us vs : List ℕ) (r : Result JsStr JoinFault) → w.sizes ≡ z → k ≡
+    most → IsJoined v w z k a b us vs r → IsJoined v w w.sizes most a b us vs r
 joined_in v w z k most a b us vs r sizes same h = subst (λ (y : HeapSize). IsJoined v w y most a b us vs r) (sym sizes) (subst (λ (n : ℕ). IsJoined v w z n a b us vs r) same h)
 
 -- settling a string with the units us
@@ -165,22 +219,32 @@ module _ (v w : View) (l : ℕ) (t : TableId) (i : ℕ) (us : List ℕ) (p : IsP
   settled_by true again h = step_reads v w l t p (again refl)
   settled_by false again h = ⊎_elim
       (λ (r : OnlyLoads v w). step_most v w l t 0 (wide_words (length us)) p r)
-      (λ (q : (wide : Bool) × IsBitOf v i wide × IsFlattened v w i us wide). let words = words_most q.0 (length us) in step_used v w l t 0 (words_over q.0 (length us)) 0 (wide_words (length us)) (omega arith) words p c q.2.used) h
+      (λ (q : (wide : Bool) × IsBitOf v i wide × IsFlattened v w i us wide). let words = words_most q.0 (length us) in step_used v w l t 0
+      (words_over q.0 (length us)) 0 (wide_words (length us)) (omega arith) words p c q.2.used) h
 
   pub settled_step : (IsSeenSettled v i → OnlyLoads v w) → IsSettling v w i us → StoreStep (state_by v l t) (state_by w l t) None 0 (settle_words (is_settled (get v.forms i)) (length us))
   settled_step again h = settled_by (is_settled (get v.forms i)) (λ e. again (test_settled v i e)) h
 
-  words_refused : (words most : ℕ) (full : CounterFull) → words ≤ most → Told w w.sizes words (text.Words full) → IsSpared v w words (text.Words full) → StoreStep (state_by v l t) (state_by w l t) (Some (fault_in_text (text.Words full))) 0 most
-  words_refused words most full le h s = let b = s.used_ids in let d = s.used_words in record { grows = grows_continues v w l t p c; honest = honest_text w l t words (text.Words full) h; within_ids = omega arith; within_words = omega arith }
+  words_refused : (words most : ℕ) (full : CounterFull) → words ≤ most → Told w w.sizes words (text.Words full) → IsSpared v w words
+      (text.Words full) → StoreStep (state_by v l t) (state_by w l t) (Some (fault_in_text (text.Words full))) 0 most
+  words_refused words most full le h s = let b = s.used_ids in
+      let d = s.used_words in record {
+        grows = grows_continues v w l t p c;
+        honest = honest_text w l t words (text.Words full) h;
+        within_ids = omega arith;
+        within_words = omega arith;
+      }
 
-  refused_by : (f : TextFull) (b : Bool) → (b ≡ true → ⊥) → (wide : Bool) × IsBitOf v i wide × IsNoRoom v w w.sizes us f wide → StoreStep (state_by v l t) (state_by w l t) (Some (fault_in_text f)) 0 (settle_words b (length us))
+  refused_by : (f : TextFull) (b : Bool) → (b ≡ true → ⊥) → (wide : Bool) × IsBitOf v i wide × IsNoRoom v w w.sizes us f wide → StoreStep
+      (state_by v l t) (state_by w l t) (Some (fault_in_text f)) 0 (settle_words b (length us))
   refused_by f true never h = absurd (never refl)
   refused_by f false never h = let n : ℕ = words_over h.0 (length us) in let r = h.2 in let is = r.words.1 in
       subst (λ (g : TextFull). StoreStep (state_by v l t) (state_by w l t) (Some (fault_in_text g)) 0 (wide_words (length us))) (sym is)
       (words_refused n (wide_words (length us)) r.words.0 (words_most h.0 (length us)) (subst (Told w w.sizes n) is r.told) (subst (IsSpared v w n) is r.spared))
 
   -- refused for words, where it wasn't settled
-  pub settle_refused : (f : TextFull) → (IsSeenSettled v i → ⊥) → (wide : Bool) × IsBitOf v i wide × IsNoRoom v w w.sizes us f wide → StoreStep (state_by v l t) (state_by w l t) (Some (fault_in_text f)) 0 (settle_words (is_settled (get v.forms i)) (length us))
+  pub settle_refused : (f : TextFull) → (IsSeenSettled v i → ⊥) → (wide : Bool) × IsBitOf v i wide × IsNoRoom v w w.sizes us f wide →
+      StoreStep (state_by v l t) (state_by w l t) (Some (fault_in_text f)) 0 (settle_words (is_settled (get v.forms i)) (length us))
   settle_refused f never h = refused_by f (is_settled (get v.forms i)) (λ e. never (test_settled v i e)) h
 
 -- a part
@@ -204,17 +268,21 @@ module _ (v w : View) (l : ℕ) (t : TableId) (s : JsStr) (us : List ℕ) (from 
       less : (from ≡ 0 → to ≡ length us → ⊥) → from ≡ 0 → to < length us
       less never e = dite (ℕ_discrete to (length us)) (λ f. absurd (never e f)) (λ ne. omega arith)
 
-  whole_ok : (r : JsStr) → from ≡ 0 → to ≡ length us → IsCut v w w.sizes s from to us (Ok r) → StoreStep (state_by v l t) (state_by w l t) None (cut_ids from to (length us)) (cut_words from to (length us))
+  whole_ok : (r : JsStr) → from ≡ 0 → to ≡ length us → IsCut v w w.sizes s from to us (Ok r) → StoreStep (state_by v l t) (state_by w l t)
+      None (cut_ids from to (length us)) (cut_words from to (length us))
   whole_ok r e f j = let q = j.whole e f in nothing_used v w l t (cut_ids from to (length us)) (cut_words from to (length us)) p c q.2.1
 
-  part_ok : (r : JsStr) → (from ≡ 0 → to ≡ length us → ⊥) → IsCut v w w.sizes s from to us (Ok r) → StoreStep (state_by v l t) (state_by w l t) None (cut_ids from to (length us)) (cut_words from to (length us))
+  part_ok : (r : JsStr) → (from ≡ 0 → to ≡ length us → ⊥) → IsCut v w w.sizes s from to us (Ok r) → StoreStep (state_by v l t)
+      (state_by w l t) None (cut_ids from to (length us)) (cut_words from to (length us))
   part_ok r never j = dite (dec_le 13 (to - from))
       (λ long. ⊎_elim
       (λ q. step_used v w l t 1 0 (cut_ids from to (length us)) (cut_words from to (length us)) (let d = cut_ids_one from to (length us) never in omega arith) (omega arith) p c q.2.2)
       (λ q. let bad : Ok r ≡ Err q.0 = q.1 in absurd (cc))
       (j.long (other never) long))
       (λ many. let short : to - from < 13 = omega arith in ⊎_elim
-      (λ q. step_used v w l t 1 cut_size (cut_ids from to (length us)) (cut_words from to (length us)) (let d = cut_ids_one from to (length us) never in omega arith) (let d = cut_words_copy from to (length us) never short in let g = cut_most short in omega arith) p c q.2.2)
+      (λ q. step_used v w l t 1 cut_size (cut_ids from to (length us)) (cut_words from to (length us))
+      (let d = cut_ids_one from to (length us) never in omega arith) (let d = cut_words_copy from to (length us) never short in
+      let g = cut_most short in omega arith) p c q.2.2)
       (λ q. let bad : Ok r ≡ Err q.0 = q.1 in absurd (cc))
       (j.short (other never) short))
 
@@ -226,10 +294,12 @@ module _ (v w : View) (l : ℕ) (t : TableId) (s : JsStr) (us : List ℕ) (from 
 
   refused_part : (full f : TextFull) (n : ℕ) → f ≡ full → (from ≡ 0 → to ≡ length us → ⊥) → n ≤ cut_words from to (length us) → Told w w.sizes n f → IsSpared v w n f
       → StoreStep (state_by v l t) (state_by w l t) (Some (fault_in_text full)) (cut_ids from to (length us)) (cut_words from to (length us))
-  refused_part full f n is never le told spared = subst (λ (one : ℕ). StoreStep (state_by v l t) (state_by w l t) (Some (fault_in_text full)) one (cut_words from to (length us))) (sym (cut_ids_one from to (length us) never))
+  refused_part full f n is never le told spared = subst (λ (one : ℕ). StoreStep (state_by v l t) (state_by w l t)
+      (Some (fault_in_text full)) one (cut_words from to (length us))) (sym (cut_ids_one from to (length us) never))
       (step_refused v w l t n (cut_words from to (length us)) full le p c (subst (Told w w.sizes n) is told) (subst (IsSpared v w n) is spared))
 
-  part_err : (full : TextFull) → (from ≡ 0 → to ≡ length us → ⊥) → IsCut v w w.sizes s from to us (Err full) → StoreStep (state_by v l t) (state_by w l t) (Some (fault_in_text full)) (cut_ids from to (length us)) (cut_words from to (length us))
+  part_err : (full : TextFull) → (from ≡ 0 → to ≡ length us → ⊥) → IsCut v w w.sizes s from to us (Err full) → StoreStep (state_by v l t)
+      (state_by w l t) (Some (fault_in_text full)) (cut_ids from to (length us)) (cut_words from to (length us))
   part_err full never j = dite (dec_le 13 (to - from))
       (λ long. ⊎_elim
       (λ q. let bad : Err full ≡ Ok q.0 = q.1 in absurd (cc))
@@ -237,15 +307,19 @@ module _ (v w : View) (l : ℕ) (t : TableId) (s : JsStr) (us : List ℕ) (from 
       (j.long (other never) long))
       (λ many. let short : to - from < 13 = omega arith in ⊎_elim
       (λ q. let bad : Err full ≡ Ok q.0 = q.1 in absurd (cc))
-      (λ q. let same : Err full ≡ Err q.0 = q.1 in let is : q.0 ≡ full = cc in refused_part full q.0 cut_size is never (let d = cut_words_copy from to (length us) never short in let g = cut_most short in omega arith) q.2.0 q.2.1)
+      (λ q. let same : Err full ≡ Err q.0 = q.1 in
+      let is : q.0 ≡ full = cc in refused_part full q.0 cut_size is never (let d = cut_words_copy from to (length us) never short in
+      let g = cut_most short in omega arith) q.2.0 q.2.1)
       (j.short (other never) short))
 
-  pub cut_err : (full : TextFull) → IsCut v w w.sizes s from to us (Err full) → StoreStep (state_by v l t) (state_by w l t) (Some (fault_in_text full)) (cut_ids from to (length us)) (cut_words from to (length us))
+  pub cut_err : (full : TextFull) → IsCut v w w.sizes s from to us (Err full) → StoreStep (state_by v l t) (state_by w l t)
+      (Some (fault_in_text full)) (cut_ids from to (length us)) (cut_words from to (length us))
   cut_err full j = dite (ℕ_discrete from 0) (λ e. dite (ℕ_discrete to (length us)) (λ f. absurd (whole_err full e f j)) (λ ne. part_err full (λ _ f. ne f) j)) (λ ne. part_err full (λ e _. ne e) j)
 
 -- interning
 honest_table : (v w : View) (us : List ℕ) (plan : HeaderPlan) (l : ℕ) (t : TableId) (f : TableFull) → IsInternRefused v w us plan f → Honest (state_by w l t) (Some (fault_in_table f))
-honest_table v w us plan l t (table.Ids f) h = let full = h.2 in let a = full.0 in let b = full.1 in let c = full.2 in (record { can_fill = refl; past_end = omega arith; end_is = b; at_is = sym h.3 }, a)
+honest_table v w us plan l t (table.Ids f) h = let full = h.2 in let a = full.0 in let b = full.1 in
+    let c = full.2 in (record { can_fill = refl; past_end = omega arith; end_is = b; at_is = sym h.3 }, a)
 honest_table v w us plan l t (table.Words f) h = let full = h.2 in let a = full.0 in let b = full.1 in let c = full.2 in record { can_fill = refl; past_end = omega arith; end_is = b; at_is = sym h.3 }
 honest_table v w us plan l t (table.Slots n) h = (refl, h.0)
 
@@ -256,17 +330,37 @@ left_most v w us plan h = ⊎_elim (λ t. let e = t.0 in let d = t.1 in (omega a
 pub header_most : (v w : View) (id : ℕ) (us : List ℕ) (plan : HeaderPlan) → IsPlan v w id us plan → plan.words ≤ wide_words (length us)
 header_most v w id us plan h = ⊎_elim (λ e. omega arith) (λ t. let e = t.0 in let m = words_most (texts.is_wide us) (length us) in omega arith) (plan_words v w id us plan h)
 
-pub interned_err : (v w : View) (us : List ℕ) (plan : HeaderPlan) (l : ℕ) (t : TableId) (f : TableFull) (most : ℕ) → plan.words ≤ most → IsPossible v → AddsCalls v w [] → IsInternRefused v w us plan f → StoreStep (state_by v l t) (state_by w l t) (Some (fault_in_table f)) 1 most
-interned_err v w us plan l t (table.Ids f) most le p g h = let a = h.0 in let b = h.2.0 in let c = h.1 in record { grows = grows_goes v w [] l t p g; honest = honest_table v w us plan l t (table.Ids f) h; within_ids = omega arith; within_words = omega arith }
-interned_err v w us plan l t (table.Words f) most le p g h = let a = h.0 in let b = h.2.0 in let c = h.1 in record { grows = grows_goes v w [] l t p g; honest = honest_table v w us plan l t (table.Words f) h; within_ids = omega arith; within_words = omega arith }
-interned_err v w us plan l t (table.Slots n) most le p g h = let a = left_most v w us plan h.2 in let b = a.0 in let c = a.1 in record { grows = grows_goes v w [] l t p g; honest = honest_table v w us plan l t (table.Slots n) h; within_ids = omega arith; within_words = omega arith }
+pub interned_err : (v w : View) (us : List ℕ) (plan : HeaderPlan) (l : ℕ) (t : TableId) (f : TableFull) (most : ℕ) → plan.words ≤ most →
+    IsPossible v → AddsCalls v w [] → IsInternRefused v w us plan f → StoreStep (state_by v l t) (state_by w l t) (Some (fault_in_table f)) 1 most
+interned_err v w us plan l t (table.Ids f) most le p g h = let a = h.0 in let b = h.2.0 in
+    let c = h.1 in record {
+      grows = grows_goes v w [] l t p g;
+      honest = honest_table v w us plan l t (table.Ids f) h;
+      within_ids = omega arith;
+      within_words = omega arith;
+    }
+interned_err v w us plan l t (table.Words f) most le p g h = let a = h.0 in let b = h.2.0 in
+    let c = h.1 in record {
+      grows = grows_goes v w [] l t p g;
+      honest = honest_table v w us plan l t (table.Words f) h;
+      within_ids = omega arith;
+      within_words = omega arith;
+    }
+interned_err v w us plan l t (table.Slots n) most le p g h = let a = left_most v w us plan h.2 in let b = a.0 in
+    let c = a.1 in record {
+      grows = grows_goes v w [] l t p g;
+      honest = honest_table v w us plan l t (table.Slots n) h;
+      within_ids = omega arith;
+      within_words = omega arith;
+    }
 
 pub interned_shut : (v w : View) (us : List ℕ) (plan : HeaderPlan) (l : ℕ) (t : TableId) (f : TableFull) → IsInternRefused v w us plan f → SlotsShut (state_by w l t) (Some (fault_in_table f)) us
 interned_shut v w us plan l t (table.Ids f) h = tt
 interned_shut v w us plan l t (table.Words f) h = tt
 interned_shut v w us plan l t (table.Slots n) h = h.1
 
-pub interned_ok : (v w : View) (l : ℕ) (t : TableId) (calls : Calls) (words most : ℕ) → words ≤ most → IsPossible v → AddsCalls v w calls → w.used.ids ≤ v.used.ids + 1 → w.used.words ≤ v.used.words + words → StoreStep (state_by v l t) (state_by w l t) None 1 most
+pub interned_ok : (v w : View) (l : ℕ) (t : TableId) (calls : Calls) (words most : ℕ) → words ≤ most → IsPossible v → AddsCalls v w calls →
+    w.used.ids ≤ v.used.ids + 1 → w.used.words ≤ v.used.words + words → StoreStep (state_by v l t) (state_by w l t) None 1 most
 interned_ok v w l t calls words most le p g u c = record { grows = grows_goes v w calls l t p g; honest = tt; within_ids = omega arith; within_words = omega arith }
 
 -- the plan after a load that left the string settled
@@ -287,4 +381,6 @@ interned_free v w us plan x (table.Slots n) h = tt
 
 -- no slot was loaded
 pub settle_free : (v w : View) (us : List ℕ) (wide : Bool) (f : TextFull) → IsNoRoom v w w.sizes us f wide → w.slot_loads ≡ v.slot_loads → FoundFree v w us (Some (fault_in_text f))
-settle_free v w us wide f h e = let is = h.words.1 in subst (λ (g : TextFull). FoundFree v w us (Some (fault_in_text g))) (sym is) (inr (e, wide, subst (λ (g : TextFull). IsNoRoom v w w.sizes us g wide) is h))
+settle_free v w us wide f h e =
+    let is = h.words.1 in subst (λ (g : TextFull). FoundFree v w us (Some (fault_in_text g))) (sym is)
+    (inr (e, wide, subst (λ (g : TextFull). IsNoRoom v w w.sizes us g wide) is h))

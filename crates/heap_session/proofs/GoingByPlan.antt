@@ -23,5 +23,6 @@ leaves_after v x w us plan (Err f) l h = (h.0, h.1, refused_after v x w us plan 
 goes_after : (v x w : View) (id : ℕ) (us : List ℕ) (r : Result JsStr StoreFault) → IsPossible v → Looks v x → IsSeenLater v x id → IsInternedBy x w id us r → IsInternedBy v w id us r
 goes_after v x w id us r p l later h = (h.0, planned_then v x w id us h.0 later (l.used, l.words) h.1, leaves_after v x w us h.0 r l h.2, again_after v x w us r p l h.3)
 
-pub goes_by_plan : (v x w : View) (id : ℕ) (us : List ℕ) (r : Result JsStr StoreFault) → IsPossible v → (IsSeenSettled v id → OnlyLoads v x) → (IsSeenSettled v id → IsSeenLater v x id) → IsSettling v x id us → IsSeenSettled x id → IsInternedBy x w id us r → GoesByPlan v w id us r
+pub goes_by_plan : (v x w : View) (id : ℕ) (us : List ℕ) (r : Result JsStr StoreFault) → IsPossible v → (IsSeenSettled v id → OnlyLoads v x)
+    → (IsSeenSettled v id → IsSeenLater v x id) → IsSettling v x id us → IsSeenSettled x id → IsInternedBy x w id us r → GoesByPlan v w id us r
 goes_by_plan v x w id us r p reads later settling settled h = (λ before. goes_after v x w id us r p (looks_reads v x (reads before)) (later before) h, inl (x, settling, settled, h))

@@ -45,7 +45,8 @@ cut_ids_one from to n never = ap (λ (x : Bool). if x then 0 else 1) (part_by fr
 
 -- a short part is copied
 pub cut_words_copy : (from to n : ℕ) → (from ≡ 0 → to ≡ n → ⊥) → to - from < 13 → cut_words from to n ≡ 3
-cut_words_copy from to n never l = ap (λ (x : Bool). if x then 0 else if nat_lt (to - from) 13 then 3 else 0) (part_by from to n never) ∙ ap (λ (x : Bool). if x then 3 else 0) (lt-ltb (to - from) 13 l)
+cut_words_copy from to n never l = ap (λ (x : Bool). if x then 0 else if nat_lt (to - from) 13 then 3 else 0) (part_by from to n never) ∙ ap
+    (λ (x : Bool). if x then 3 else 0) (lt-ltb (to - from) 13 l)
 
 -- settling is a part of interning
 pub settle_part : (b : Bool) (n : ℕ) → settle_words b n + wide_words n ≤ intern_words b n

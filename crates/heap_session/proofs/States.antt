@@ -70,7 +70,8 @@ module _ (v w : View) (k : KeepsKnown v w) where
   shut_same p z u h = (shut_exactly w u w.sizes.slots).1 (λ l m. shut_kept v w p k u l ((shut_exactly v u v.sizes.slots).0 h l (subst (λ (y : HeapSize). l < y.slots) z m)))
 
 module _ (v w : View) (l : ℕ) (t : TableId) (p : IsPossible v) (k : KeepsKnown v w) (z : w.sizes ≡ v.sizes) (a : w.agents ≡ v.agents) (s : w.share ≡ v.share) (se : w.seen ≡ v.seen) where
-  pub grows_by : v.used.ids ≤ w.used.ids → v.used.words ≤ w.used.words → v.low.ids ≤ w.low.ids → v.low.words ≤ w.low.words → ((u : List ℕ) (i : ℕ) → Contains (history v) (u, i) → Contains (history w) (u, i)) → Grows (state_by v l t) (state_by w l t)
+  pub grows_by : v.used.ids ≤ w.used.ids → v.used.words ≤ w.used.words → v.low.ids ≤ w.low.ids →
+      v.low.words ≤ w.low.words → ((u : List ℕ) (i : ℕ) → Contains (history v) (u, i) → Contains (history w) (u, i)) → Grows (state_by v l t) (state_by w l t)
   grows_by ui uw li lw h = record {
     known = known_same v w k;
     settled = settled_same v w k;
@@ -99,12 +100,14 @@ pub history_continues : (v w : View) → Continues v w → history w ≡ history
 history_continues v w c = λ i. c.seen i ++ c.mine i
 
 pub step_reads : (v w : View) (l : ℕ) (t : TableId) → IsPossible v → OnlyLoads v w → StoreStep (state_by v l t) (state_by w l t) None 0 0
-step_reads v w l t p r = let ui = ap (λ (n : Counters). n.ids) r.used in let uw = ap (λ (n : Counters). n.words) r.used in let li = ap (λ (n : Counters). n.ids) r.low in let lw = ap (λ (n : Counters). n.words) r.low in record {
-  grows = grows_by v w l t p r.known r.sizes r.agents r.share r.seen (omega arith) (omega arith) (omega arith) (omega arith) (λ u i h. subst (λ (h : Calls). Contains h (u, i)) (sym (history_reads v w r)) h);
-  honest = tt;
-  within_ids = omega arith;
-  within_words = omega arith;
-}
+step_reads v w l t p r = let ui = ap (λ (n : Counters). n.ids) r.used in let uw = ap (λ (n : Counters). n.words) r.used in
+    let li = ap (λ (n : Counters). n.ids) r.low in let lw = ap (λ (n : Counters). n.words) r.low in record {
+      grows = grows_by v w l t p r.known r.sizes r.agents r.share r.seen (omega arith) (omega arith) (omega arith) (omega arith)
+          (λ u i h. subst (λ (h : Calls). Contains h (u, i)) (sym (history_reads v w r)) h);
+      honest = tt;
+      within_ids = omega arith;
+      within_words = omega arith;
+    }
 
 -- a call on the string table
 pub history_goes : (v w : View) (calls : Calls) → AddsCalls v w calls → history w ≡ history v ++ calls
@@ -119,7 +122,8 @@ pub step_at : (v w : View) (l : ℕ) (t u : TableId) (f : Option StoreFault) (i 
 step_at v w l t u f i n e h = subst (λ (x : TableId). StoreStep (state_by v l t) (state_by w l x) f i n) (sym e) h
 
 -- a call that leaves the history, and doesn't find the string table full
-pub uses_at : (v w : View) (l : ℕ) (t u : TableId) (f : Option StoreFault) (i n : ℕ) → u ≡ t → history w ≡ history v → NeverSlots f → StoreStep (state_by v l t) (state_by w l t) f i n → Uses (state_by v l t) (state_by w l u) f i n
+pub uses_at : (v w : View) (l : ℕ) (t u : TableId) (f : Option StoreFault) (i n : ℕ) → u ≡ t → history w ≡ history v → NeverSlots f →
+    StoreStep (state_by v l t) (state_by w l t) f i n → Uses (state_by v l t) (state_by w l u) f i n
 uses_at v w l t u f i n e h never s = record { step = step_at v w l t u f i n e s; no_slots = never; history = h }
 
 -- nothing was used, and more might have been
@@ -134,5 +138,6 @@ pub history_looks : (v w : View) → Looks v w → history w ≡ history v
 history_looks v w k = history_goes v w [] k.goes ∙ append-nil (history v)
 
 -- a call is entered, and nothing used
-pub found_step : (v w : View) (calls : Calls) (l : ℕ) (t : TableId) → IsPossible v → AddsCalls v w calls → w.used.ids ≡ v.used.ids → w.used.words ≡ v.used.words → StoreStep (state_by v l t) (state_by w l t) None 0 0
+pub found_step : (v w : View) (calls : Calls) (l : ℕ) (t : TableId) → IsPossible v → AddsCalls v w calls → w.used.ids ≡ v.used.ids →
+    w.used.words ≡ v.used.words → StoreStep (state_by v l t) (state_by w l t) None 0 0
 found_step v w calls l t p g e d = record { grows = grows_goes v w calls l t p g; honest = tt; within_ids = omega arith; within_words = omega arith }

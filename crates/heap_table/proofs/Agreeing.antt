@@ -73,18 +73,31 @@ module _ (z : HeapSize) (W : List ℕ) where
   seen_form vs q x now k e = let some_same : Some k.now ≡ Some now = sym k.decodes ∙ e in let same : k.now ≡ now = cc in subst (λ (g : Form). IsSeen g x) same k.later
 
   -- two views that are right of the same words
-  module _ (vs vs' : List View) (u w : View) (ku : Knows z W vs u) (kw : Knows z W vs' w) (iu : OwnsIds z W u.own_ids) (iw : OwnsIds z W w.own_ids) (ou : OwnsWords z W u.own_words) (ow : OwnsWords z W w.own_words) (keys : HasKeys u w) where
+  module _ (vs vs' : List View) (u w : View) (ku : Knows z W vs u) (kw : Knows
+      z W vs' w) (iu : OwnsIds z W u.own_ids) (iw : OwnsIds z W w.own_ids) (ou : OwnsWords z W u.own_words) (ow : OwnsWords z W w.own_words) (keys : HasKeys
+      u w) where
     test_passes : ((q : ℕ) (x : Form) → Has u.forms q x → (y : Form) × Has w.forms q y × (fits_form x y ≡ true)) → has_all u w ≡ true
     test_passes forms =
-        and_from _ _ (fits_same bytes_eq u.units w.units bytes_decides (one_value (λ i us. IsBorn z W i × (units_of z W i ≡ us)) (λ q x y p r. sym p.1 ∙ r.1) u.units w.units ku.of_units kw.of_units keys.units))
-        (and_from _ _ (fits_same same_number u.lengths w.lengths same_number_decides (one_value (λ i n. IsBorn z W i × (length_word z W i ≡ n)) (λ q x y p r. sym p.1 ∙ r.1) u.lengths w.lengths ku.of_lengths kw.of_lengths keys.lengths))
+        and_from _ _ (fits_same bytes_eq u.units w.units bytes_decides
+        (one_value (λ i us. IsBorn z W i × (units_of z W i ≡ us)) (λ q x y p r. sym p.1 ∙ r.1) u.units w.units ku.of_units kw.of_units keys.units))
+        (and_from _ _ (fits_same same_number u.lengths w.lengths same_number_decides
+        (one_value (λ i n. IsBorn z W i × (length_word z W i ≡ n)) (λ q x y p r. sym p.1 ∙ r.1) u.lengths w.lengths ku.of_lengths kw.of_lengths keys.lengths))
         (and_from _ _ (fits_true fits_form u.forms w.forms forms)
-        (and_from _ _ (fits_same same_number u.frozen w.frozen same_number_decides (one_value (λ c x. content z W c ≡ x) (λ q x y p r. sym p ∙ r) u.frozen w.frozen (λ q x h. (ku.of_frozen q x h).1) (λ q x h. (kw.of_frozen q x h).1) keys.frozen))
-        (and_from _ _ (fits_same same_number u.slots w.slots same_number_decides (one_value (λ k i. slot z W k ≡ i + 1) (λ q x y p r. omega arith) u.slots w.slots (λ q x h. (ku.of_slots q x h).1) (λ q x h. (kw.of_slots q x h).1) keys.slots))
-        (and_from _ _ (fits_same same_number u.own_ids w.own_ids same_number_decides (one_value (λ i n. length_word z W i ≡ n) (λ q x y p r. sym p ∙ r) u.own_ids w.own_ids (λ q x h. (iu.each q x h).2) (λ q x h. (iw.each q x h).2) keys.own_ids))
-        (fits_same same_number u.own_words w.own_words same_number_decides (one_value (λ c x. content z W c ≡ x) (λ q x y p r. sym p ∙ r) u.own_words w.own_words (λ q x h. (ou.each q x h).1) (λ q x h. (ow.each q x h).1) keys.own_words)))))))
+        (and_from _ _ (fits_same same_number u.frozen w.frozen same_number_decides
+        (one_value (λ c x. content z W c ≡ x) (λ q x y p r. sym p ∙ r) u.frozen w.frozen (λ q x h. (ku.of_frozen q x h).1)
+        (λ q x h. (kw.of_frozen q x h).1) keys.frozen))
+        (and_from _ _ (fits_same same_number u.slots w.slots same_number_decides
+        (one_value (λ k i. slot z W k ≡ i + 1) (λ q x y p r. omega arith) u.slots w.slots (λ q x h. (ku.of_slots q x h).1)
+        (λ q x h. (kw.of_slots q x h).1) keys.slots))
+        (and_from _ _ (fits_same same_number u.own_ids w.own_ids same_number_decides
+        (one_value (λ i n. length_word z W i ≡ n) (λ q x y p r. sym p ∙ r) u.own_ids w.own_ids (λ q x h. (iu.each q x h).2)
+        (λ q x h. (iw.each q x h).2) keys.own_ids))
+        (fits_same same_number u.own_words w.own_words same_number_decides
+        (one_value (λ c x. content z W c ≡ x) (λ q x y p r. sym p ∙ r) u.own_words w.own_words (λ q x h. (ou.each q x h).1)
+        (λ q x h. (ow.each q x h).1) keys.own_words)))))))
 
-module _ (z : HeapSize) (agents : ℕ) (W : List ℕ) (vs : List View) (s : IsSound z agents W vs) (alike : AreSeenAlike vs) (j o : ℕ) (v b : View) (ne : j ≢ o) (at : At vs j v) (live : v.live ≡ true) (at_other : At vs o b) (live_other : b.live ≡ true) where
+module _ (z : HeapSize) (agents : ℕ) (W : List ℕ) (vs : List View) (s : IsSound z agents W vs) (alike : AreSeenAlike vs) (j o : ℕ)
+    (v b : View) (ne : j ≢ o) (at : At vs j v) (live : v.live ≡ true) (at_other : At vs o b) (live_other : b.live ≡ true) where
   abbrev w : View
   w = joined_view v b
 
@@ -98,12 +111,14 @@ module _ (z : HeapSize) (agents : ℕ) (W : List ℕ) (vs : List View) (s : IsSo
   here = set_else (set vs j w) o j spent ne ∙ set_there vs j w v at
 
   own_stays : has_all v w ≡ true
-  own_stays = test_passes z W vs vs' v w (s.knows j v at live) (kept.knows j w here live) (s.own_ids j v at live) (kept.own_ids j w here live) (s.own_words j v at live) (kept.own_words j w here live) (keys_stay v b)
+  own_stays = test_passes z W vs vs' v w (s.knows j v at live) (kept.knows j w here live) (s.own_ids j v at live)
+      (kept.own_ids j w here live) (s.own_words j v at live) (kept.own_words j w here live) (keys_stay v b)
       (λ q x h. let k = (s.knows j v at live).of_forms q x h in lower_fits v.forms b.forms q k.now (now_born z agents W vs s q k.now k.born k.decodes) x h k.later
       (λ g c. seen_form z W vs q g k.now ((s.knows o b at_other live_other).of_forms q g c) k.decodes))
 
   other_comes : has_all b w ≡ true
-  other_comes = test_passes z W vs vs' b w (s.knows o b at_other live_other) (kept.knows j w here live) (s.own_ids o b at_other live_other) (kept.own_ids j w here live) (s.own_words o b at_other live_other) (kept.own_words j w here live) (keys_come v b)
+  other_comes = test_passes z W vs vs' b w (s.knows o b at_other live_other) (kept.knows j w here live) (s.own_ids o b at_other live_other)
+      (kept.own_ids j w here live) (s.own_words o b at_other live_other) (kept.own_words j w here live) (keys_come v b)
       (λ q x h. let k = (s.knows o b at_other live_other).of_forms q x h in upper_fits v.forms b.forms q k.now (now_born z agents W vs s q k.now k.born k.decodes) x h k.later
       (λ f c. (seen_form z W vs q f k.now ((s.knows j v at live).of_forms q f c) k.decodes, alike j v at live o b at_other live_other q f x c h)))
 

@@ -84,7 +84,8 @@ IsAlike vs i f = EachLive vs (λ _ u. (g : Form) → Has u.forms i g → AreOfOn
 module _ (vs : List View) (h : AreSeenAlike vs) (j : ℕ) (v : View) (at : At vs j v) (live : v.live ≡ true) where
   -- each form of the new view is one that it had, or is alike
   pub alike_set : (w : View) → ((i : ℕ) (f : Form) → Has w.forms i f → Has v.forms i f ⊎ IsAlike vs i f) → AreSeenAlike (set vs j w)
-  alike_set w new = let one : (i : ℕ) (f : Form) → Has w.forms i f → IsAlike vs i f = (λ i f e. ⊎_elim (λ (o : Has v.forms i f). λ k u a l g c. h j v at live k u a l i f g o c) (λ (o : IsAlike vs i f). o) (new i f e)) in
+  alike_set w new = let one : (i : ℕ) (f : Form) → Has w.forms i f → IsAlike vs i f = (λ i f e. ⊎_elim
+      (λ (o : Has v.forms i f). λ k u a l g c. h j v at live k u a l i f g o c) (λ (o : IsAlike vs i f). o) (new i f e)) in
       each_set (λ _ x. EachLive (set vs j w) (λ _ y. (i : ℕ) (f g : Form) → Has x.forms i f → Has y.forms i g → AreOfOneLine f g)) vs j w
       (each_set (λ _ y. (i : ℕ) (f g : Form) → Has w.forms i f → Has y.forms i g → AreOfOneLine f g) vs j w
       (λ i f g e c. let same : Some f ≡ Some g = sym e ∙ c in let is : f ≡ g = cc in subst (AreOfOneLine f) is (line_self f))
@@ -97,16 +98,19 @@ module _ (vs : List View) (h : AreSeenAlike vs) (j : ℕ) (v : View) (at : At vs
   alike_same w e = alike_set w (λ i f c. inl (subst (λ (m : FinMap nat_cmp Form). Has m i f) e c))
 
   pub alike_put : (w : View) (i : ℕ) (f : Form) → w.forms ≡ insert v.forms i f → IsAlike vs i f → AreSeenAlike (set vs j w)
-  alike_put w i f e new = alike_set w (λ q g c. ⊎_elim (λ (t : (q ≡ i) × (f ≡ g)). inr (subst (λ (y : ℕ × Form). IsAlike vs y.0 y.1) (λ d. (sym t.0 d, t.1 d)) new)) (λ (t : (q ≢ i) × Has v.forms q g). inl t.1)
+  alike_put w i f e new = alike_set w (λ q g c. ⊎_elim (λ (t : (q ≡ i) × (f ≡ g)). inr
+      (subst (λ (y : ℕ × Form). IsAlike vs y.0 y.1) (λ d. (sym t.0 d, t.1 d)) new)) (λ (t : (q ≢ i) × Has v.forms q g). inl t.1)
       (has_insert v.forms i q f g (subst (λ (m : FinMap nat_cmp Form). Has m q g) e c)))
 
   pub alike_split : (left right : View) → left.forms ≡ v.forms → right.forms ≡ v.forms → AreSeenAlike (set vs j left ++ right ∷ [])
   alike_split left right same alike = let one : List View = set vs j left in let old = alike_same left same in
-      let with_v : EachLive one (λ _ u. (i : ℕ) (f g : Form) → Has v.forms i f → Has u.forms i g → AreOfOneLine f g) = each_set (λ _ u. (i : ℕ) (f g : Form) → Has v.forms i f → Has u.forms i g → AreOfOneLine f g) vs j left
+      let with_v : EachLive one (λ _ u. (i : ℕ) (f g : Form) → Has v.forms i f → Has u.forms i g → AreOfOneLine f g) = each_set
+      (λ _ u. (i : ℕ) (f g : Form) → Has v.forms i f → Has u.forms i g → AreOfOneLine f g) vs j left
       (λ i f g a b. h j v at live j v at live i f g a (subst (λ (m : FinMap nat_cmp Form). Has m i g) same b)) (λ k u ne a l. h j v at live k u a l) in
       let back : (i : ℕ) (f : Form) → Has right.forms i f → Has v.forms i f = (λ i f c. subst (λ (m : FinMap nat_cmp Form). Has m i f) alike c) in
       each_snoc (λ _ x. EachLive (one ++ right ∷ []) (λ _ y. (i : ℕ) (f g : Form) → Has x.forms i f → Has y.forms i g → AreOfOneLine f g)) one right
-      (λ k u a l. each_snoc (λ _ y. (i : ℕ) (f g : Form) → Has u.forms i f → Has y.forms i g → AreOfOneLine f g) one right (old k u a l) (λ i f g e c. line_back g f (with_v k u a l i g f (back i g c) e)))
+      (λ k u a l. each_snoc (λ _ y. (i : ℕ) (f g : Form) → Has u.forms i f → Has y.forms i g → AreOfOneLine f g) one right (old k u a l)
+      (λ i f g e c. line_back g f (with_v k u a l i g f (back i g c) e)))
       (each_snoc (λ _ y. (i : ℕ) (f g : Form) → Has right.forms i f → Has y.forms i g → AreOfOneLine f g) one right
       (λ k u a l i f g e c. with_v k u a l i f g (back i f e) c)
       (λ i f g e c. h j v at live j v at live i f g (back i f e) (back i g c)))
@@ -121,11 +125,13 @@ module _ (vs : List View) (h : AreSeenAlike vs) (j : ℕ) (v : View) (at : At vs
 
   pub alike_joined : (o : ℕ) (b : View) → At vs o b → b.live ≡ true → AreSeenAlike (set (set vs j (joined_view v b)) o spent)
   alike_joined o b at' live' = let w : View = joined_view v b in
-      let one = alike_set w (λ i f e. inr (laid_has later_form (IsAlike vs) (one_of (IsAlike vs)) v.forms b.forms (λ q x c k u a l g d. h j v at live k u a l q x g c d) (λ q x c k u a l g d. h o b at' live' k u a l q x g c d) i f e)) in
+      let one = alike_set w (λ i f e. inr (laid_has later_form (IsAlike vs) (one_of (IsAlike vs)) v.forms b.forms
+      (λ q x c k u a l g d. h j v at live k u a l q x g c d) (λ q x c k u a l g d. h o b at' live' k u a l q x g c d) i f e)) in
       λ k x a l q y c m. one k x (gone k x a l) l q y (gone q y c m) m
     where
       gone : (k : ℕ) (x : View) → At (set (set vs j (joined_view v b)) o spent) k x → x.live ≡ true → At (set vs j (joined_view v b)) k x
-      gone k x a l = ⊎_elim (λ (t : (k ≡ o) × (spent ≡ x)). absurd (let dead : false ≡ true = ap (λ (y : View). y.live) t.1 ∙ l in cc)) (λ (t : (k ≢ o) × At (set vs j (joined_view v b)) k x). t.1) (at_set (set vs j (joined_view v b)) o k spent x a)
+      gone k x a l = ⊎_elim (λ (t : (k ≡ o) × (spent ≡ x)). absurd (let dead : false ≡ true = ap (λ (y : View). y.live) t.1 ∙ l in cc))
+          (λ (t : (k ≢ o) × At (set vs j (joined_view v b)) k x). t.1) (at_set (set vs j (joined_view v b)) o k spent x a)
 
 module _ (z : HeapSize) (agents : ℕ) (W : List ℕ) (vs : List View) (s : IsSound z agents W vs) where
   -- the form that stands
@@ -147,7 +153,8 @@ module _ (z : HeapSize) (agents : ℕ) (W : List ℕ) (vs : List View) (s : IsSo
     alike_seen i None e w same = alike_same vs h j v at live w same
     alike_seen i (Some g) e w same = alike_put vs h j v at live w i g same (alike_now i g (sym e))
 
-    flat_by : (i : ℕ) (new : Form) → IsAlike vs i new → (x n : ℕ) → form z W i ≡ x → (b : Bool) → AreSeenAlike (set vs j (learned_all (cond b (record (freeze_form v n new) { forms = insert v.forms i new }) (seen_form v i (form_of x)))))
+    flat_by : (i : ℕ) (new : Form) → IsAlike vs i new → (x n : ℕ) → form z W i ≡ x → (b : Bool) → AreSeenAlike
+        (set vs j (learned_all (cond b (record (freeze_form v n new) { forms = insert v.forms i new }) (seen_form v i (form_of x)))))
     flat_by i new alike x n e true = alike_put vs h j v at live (learned_all (record (freeze_form v n new) { forms = insert v.forms i new })) i new refl alike
     flat_by i new alike x n e false = alike_seen i (form_of x) (ap form_of (sym e)) (learned_all (seen_form v i (form_of x))) refl
 
@@ -163,5 +170,6 @@ module _ (z : HeapSize) (agents : ℕ) (W : List ℕ) (vs : List View) (s : IsSo
 
 -- the first view has seen nothing
 pub alike_first : (v : View) → v.forms ≡ empty → AreSeenAlike (v ∷ [])
-alike_first v e zero u a l q x b m i f g c d = let is : v ≡ u = some-injective v u a in absurd (nothing_has i f (subst (λ (y : FinMap nat_cmp Form). Has y i f) (ap (λ (y : View). y.forms) (sym is) ∙ e) c))
+alike_first v e zero u a l q x b m i f g c d =
+    let is : v ≡ u = some-injective v u a in absurd (nothing_has i f (subst (λ (y : FinMap nat_cmp Form). Has y i f) (ap (λ (y : View). y.forms) (sym is) ∙ e) c))
 alike_first v e (suc k) u a l q x b m i f g c d = absurd (some-ne-none u (sym a))

@@ -1,5 +1,39 @@
 -- Each step of the table keeps the rule.
-use Rattle.std.proofs.Common.{◌≡◌, ◌≢◌, ℕ, zero, suc, [], ◌∷◌, ◌+◌, ◌^◌, ◌<◌, ◌≤◌, ⊎_elim, ◌⊎◌, eqb, List, length, get_or, set, sym, refl, ap, ◌∙◌, subst, arith, eq-eqb, ne_eqb, cond, Bool, true, false, Option, Some, None}
+use Rattle.std.proofs.Common.{
+  ◌≡◌,
+  ◌≢◌,
+  ℕ,
+  zero,
+  suc,
+  [],
+  ◌∷◌,
+  ◌+◌,
+  ◌^◌,
+  ◌<◌,
+  ◌≤◌,
+  ⊎_elim,
+  ◌⊎◌,
+  eqb,
+  List,
+  length,
+  get_or,
+  set,
+  sym,
+  refl,
+  ap,
+  ◌∙◌,
+  subst,
+  arith,
+  eq-eqb,
+  ne_eqb,
+  cond,
+  Bool,
+  true,
+  false,
+  Option,
+  Some,
+  None,
+}
 use Rattle.std.specs.Prelude.{unwrap_or, is_some}
 use Rattle.std.proofs.lemmas.List.{set-get_or}
 use mathlib.Core.Option.{none, some, some-injective}
@@ -51,7 +85,27 @@ use Rattle.heap_table.specs.Taken.{taken}
 use Rattle.heap_table.proofs.Agreeing.{both_agree, taken_is}
 use Rattle.heap_table.proofs.Alike.{IsAlike, alike_flattened, alike_joined, alike_now, alike_put, alike_same, alike_split, alike_thinned, alike_unborn, now_born}
 use Rattle.heap_table.proofs.Stay.{known_form, known_length, known_word, known_birth, known_flattened, known_thinned, known_slot, known_took}
-use Rattle.heap_table.specs.Plays.{Looked, Noted, Sat, FoundCounter, LoadedCounter, Claimed, StoredWord, StoredLength, GaveBirth, FlattenedForm, ThinnedForm, LoadedForm, LoadedLength, LoadedWord, SawSlot, TookSlot, FoundForm, FoundSlot, StaysSound}
+use Rattle.heap_table.specs.Plays.{
+  Looked,
+  Noted,
+  Sat,
+  FoundCounter,
+  LoadedCounter,
+  Claimed,
+  StoredWord,
+  StoredLength,
+  GaveBirth,
+  FlattenedForm,
+  ThinnedForm,
+  LoadedForm,
+  LoadedLength,
+  LoadedWord,
+  SawSlot,
+  TookSlot,
+  FoundForm,
+  FoundSlot,
+  StaysSound,
+}
 use Rattle.heap_table.specs.Agents.{Belongs}
 use Rattle.heap_table.specs.Known.{KeepsKnown}
 use Rattle.heap_table.specs.declared.agent.Agent.{Agent}
@@ -143,7 +197,10 @@ frozen_same v n (Sliced wide parent offset) = (refl, refl, refl)
 frozen_same v n (Thin target) = (refl, refl, refl)
 
 flattened_same : (v : View) (i : ℕ) (old new : Form) (x : ℕ) → IsSameAgent v (flattened v i old new x)
-flattened_same v i old new x = flat_same v (record (freeze_form v (length (unwrap_or (get v.units i) [])) new) { forms = insert v.forms i new }) i (form_of x) (eqb x (word_of old)) (frozen_same v (length (unwrap_or (get v.units i) [])) new)
+flattened_same v i old new x = flat_same v (record (freeze_form v (length (unwrap_or (get v.units i) [])) new) {
+  forms = insert v.forms i
+      new;
+}) i (form_of x) (eqb x (word_of old)) (frozen_same v (length (unwrap_or (get v.units i) [])) new)
 
 thinned_same : (v : View) (i t : ℕ) (old : Form) (x : ℕ) → IsSameAgent v (thinned v i old t x)
 thinned_same v i t old x = seen_same v i (cond (eqb x (word_of old)) (Some (Thin t)) (form_of x))
@@ -158,7 +215,8 @@ flat_alike vs v i old (Sliced a b c) may = absurd may
 flat_alike vs v i old (Thin a) may = absurd may
 
 -- a counter counts what each agent claimed
-used_within : (z : HeapSize) (agents : ℕ) (W : List ℕ) (vs : List View) → IsSound z agents W vs → (j : ℕ) (v : View) → get_elem? vs j ≡ some v → v.live ≡ true → (k : Counter) → counter_value v.used k ≤ get_or W (counter_at k) 0
+used_within : (z : HeapSize) (agents : ℕ) (W : List ℕ) (vs : List View) → IsSound z agents W vs → (j : ℕ) (v : View) → get_elem? vs j ≡ some
+    v → v.live ≡ true → (k : Counter) → counter_value v.used k ≤ get_or W (counter_at k) 0
 used_within z agents W vs s j v at live Ids = let a = part_of (λ u. u.used.ids) vs j v at live in let b = s.added.ids in omega arith
 used_within z agents W vs s j v at live Words = let a = part_of (λ u. u.used.words) vs j v at live in let b = s.added.words in omega arith
 
@@ -193,13 +251,24 @@ module _ (key : HeapKey) (slots id : ℕ) (me : Sat) (live : me.0.live ≡ true)
         keeps,
         tt,
         subst (λ (y : HeapSize). Holds (set s.words (content_at y c) n) (set s.views id w)) (sym same) (kept, alike_same s.views b id me.0 at live w refl),
-        (record { slots = refl; sizes = refl; live = refl; share = refl; possible = after_possible s at (set s.words (content_at key.size c) n) w live kept }, λ d e. let is : c ≡ d = one_content me.0.sizes c d e in ap (λ (y : ℕ). stored_word me.0 y n) is),
+        (
+          record {
+            slots = refl;
+            sizes = refl;
+            live = refl;
+            share = refl;
+            possible = after_possible s at (set s.words (content_at key.size c) n) w live kept;
+          },
+          λ d e. let is : c ≡ d = one_content me.0.sizes
+              c d e in ap (λ (y : ℕ). stored_word me.0 y n) is,
+        ),
       )
 
   pub loads_form : (i : ℕ) → MayUse me.0 i → Allows (KeepsHeap key) slots id me (form_at me.0.sizes i) (λ n. n) (LoadedForm (step slots (form_at me.0.sizes i) 0 0 none) me)
   loads_form i known s (h, b) _ at _ = let z : HeapSize = me.0.sizes in let x : ℕ = get_or s.words (form_at z i) 0 in let w : View = learned_all (loaded_form me.0 i x) in
       let same : z ≡ key.size = sizes_are key.size key.agents s.words s.views h id me.0 at live in
-      let kept : IsSound key.size key.agents s.words (set s.views id w) = subst (λ (y : HeapSize). IsSound key.size key.agents s.words (set s.views id (learned_all (loaded_form me.0 i (get_or s.words (form_at y i) 0))))) (sym same)
+      let kept : IsSound key.size key.agents s.words (set s.views id w) = subst
+      (λ (y : HeapSize). IsSound key.size key.agents s.words (set s.views id (learned_all (loaded_form me.0 i (get_or s.words (form_at y i) 0))))) (sym same)
       (keeps_loaded_form key.size key.agents s.words s.views h id me.0 at live i known (all_named (entries (loaded_form me.0 i (get_or s.words (form_at key.size i) 0)).forms))) in
       let spelt = form_found key.size key.agents s.words s.views h id me.0 at live i known in
       let found : form_of x ≡ Some spelt.0 = ap (λ (y : HeapSize). form_of (get_or s.words (form_at y i) 0)) same ∙ spelt.1 in
@@ -216,9 +285,12 @@ module _ (key : HeapKey) (slots id : ℕ) (me : Sat) (live : me.0.live ≡ true)
           λ d e. let is : i ≡ d = one_form z i d e in subst (λ (y : ℕ). (w ≡ learned_all (loaded_form me.0 y x)) × FoundForm me.0 y x) is (
             refl,
             record {
-              later = λ f now t e'. let k = (h.knows id me.0 at live).of_forms i f t in let d : Some k.now ≡ Some now = sym k.decodes ∙ (ap (λ (y : HeapSize). form_of (get_or s.words (form_at y i) 0)) (sym same) ∙ e') in let same' : k.now ≡ now = cc in
+              later = λ f now t e'. let k = (h.knows id me.0 at live).of_forms i f t in
+                  let d : Some k.now ≡ Some now = sym k.decodes ∙ (ap (λ (y : HeapSize). form_of (get_or s.words (form_at y i) 0)) (sym same)
+                  ∙ e') in let same' : k.now ≡ now = cc in
                   subst (λ (y : Form). (f ≡ y) ⊎ IsLater f y) same' k.later;
-              solid = λ j wide offset t. subst (λ (y : HeapSize). IsSolidForm (form_of (get_or s.words (form_at y i) 0))) (sym same) ((h.knows id me.0 at live).of_forms j (Sliced wide i offset) t).shows.1;
+              solid = λ j wide offset t. subst (λ (y : HeapSize). IsSolidForm (form_of (get_or s.words (form_at y i) 0))) (sym same)
+                  ((h.knows id me.0 at live).of_forms j (Sliced wide i offset) t).shows.1;
             },
           ),
         ),
@@ -230,24 +302,52 @@ module _ (key : HeapKey) (slots id : ℕ) (me : Sat) (live : me.0.live ≡ true)
     keeps,
     tt,
     a_load (counter_at k) s w (keeps_loaded_counter key.size key.agents s.words s.views h id me.0 at live k x refl, alike_same s.views b id me.0 at live w refl),
-    (record { slots = refl; sizes = refl; live = refl; share = refl; possible = after_possible s at s.words w live (keeps_loaded_counter key.size key.agents s.words s.views h id me.0 at live k x refl) }, λ l e. subst (λ (q : Counter). (w ≡ loaded_counter me.0 q x) × FoundCounter me.0 q x) (one_place k l e) (refl, found k s h at)),
+    (
+      record {
+        slots = refl;
+        sizes = refl;
+        live = refl;
+        share = refl;
+        possible = after_possible s at s.words w live
+            (keeps_loaded_counter key.size key.agents s.words s.views h id me.0 at live k x refl);
+      },
+      λ l e. subst
+          (λ (q : Counter). (w ≡ loaded_counter me.0 q x) × FoundCounter me.0 q x) (one_place k l e) (refl, found k s h at),
+    ),
   )
 
   -- a claim, whether it is won or lost
-  claim_keeps : (k : Counter) (a want : ℕ) → MayClaim me.0 k a want → (s : State (Unit {0}) View) → IsSound key.size key.agents s.words s.views → get_elem? s.views id ≡ some me.0 → (x : ℕ) → x ≡ get_or s.words (counter_at k) 0 → Dec (x ≡ a)
+  claim_keeps : (k : Counter) (a want : ℕ) → MayClaim me.0 k a want → (s : State (Unit {0}) View) → IsSound key.size key.agents s.words
+      s.views → get_elem? s.views id ≡ some me.0 → (x : ℕ) → x ≡ get_or s.words (counter_at k) 0 → Dec (x ≡ a)
       → IsSound key.size key.agents (set s.words (counter_at k) (either (eqb x a) (a + want) x)) (set s.views id (claimed me.0 k a want x))
-  claim_keeps k a want may s h at x is (yes hit) = subst (λ b. IsSound key.size key.agents (set s.words (counter_at k) (either b (a + want) x)) (set s.views id (cond b (won_claim me.0 k a want) (loaded_counter me.0 k x)))) (sym (eq-eqb x a hit))
+  claim_keeps k a want may s h at x is (yes hit) = subst (λ b. IsSound key.size key.agents
+      (set s.words (counter_at k) (either b (a + want) x)) (set s.views id (cond b (won_claim me.0 k a want) (loaded_counter me.0 k x)))) (sym (eq-eqb x a hit))
       (keeps_won_claim key.size key.agents s.words s.views h id me.0 at live k a want may (sym hit ∙ is))
-  claim_keeps k a want may s h at x is (no miss) = subst (λ b. IsSound key.size key.agents (set s.words (counter_at k) (either b (a + want) x)) (set s.views id (cond b (won_claim me.0 k a want) (loaded_counter me.0 k x)))) (sym (ne_eqb x a miss))
-      (subst (λ (ws : List ℕ). IsSound key.size key.agents ws (set s.views id (loaded_counter me.0 k x))) (sym (ap (set s.words (counter_at k)) is ∙ set-get_or s.words (counter_at k) 0)) (keeps_loaded_counter key.size key.agents s.words s.views h id me.0 at live k x is))
+  claim_keeps k a want may s h at x is (no miss) = subst (λ b. IsSound key.size key.agents
+      (set s.words (counter_at k) (either b (a + want) x)) (set s.views id (cond b (won_claim me.0 k a want) (loaded_counter me.0 k x)))) (sym (ne_eqb x a miss))
+      (subst (λ (ws : List ℕ). IsSound key.size key.agents ws (set s.views id (loaded_counter me.0 k x)))
+      (sym (ap (set s.words (counter_at k)) is ∙ set-get_or s.words (counter_at k) 0))
+      (keeps_loaded_counter key.size key.agents s.words s.views h id me.0 at live k x is))
 
-  pub claims : (k : Counter) (a want : ℕ) → MayClaim me.0 k a want → Allows (KeepsHeap key) slots id me (counter_at k) (λ n. either (eqb n a) (a + want) n) (Claimed (step slots (counter_at k) a (a + want) none) me)
+  pub claims : (k : Counter) (a want : ℕ) → MayClaim me.0 k a want → Allows (KeepsHeap key) slots id me (counter_at k)
+      (λ n. either (eqb n a) (a + want) n) (Claimed (step slots (counter_at k) a (a + want) none) me)
   claims k a want may s (h, b) _ at _ = let x : ℕ = get_or s.words (counter_at k) 0 in let w : View = claimed me.0 k a want x in (
     w,
     keeps,
     tt,
     (claim_keeps k a want may s h at x refl (ℕ_discrete x a), alike_same s.views b id me.0 at live w (claimed_same me.0 k a want x).3),
-    (let t = claimed_same me.0 k a want x in record { slots = refl; sizes = t.0; live = t.1; share = t.2; possible = after_possible s at (set s.words (counter_at k) (either (eqb x a) (a + want) x)) w (t.1 ∙ live) (claim_keeps k a want may s h at x refl (ℕ_discrete x a)) }, λ l m e f. subst (λ (q : Counter × ℕ). (w ≡ claimed me.0 q.0 a q.1 x) × FoundCounter me.0 q.0 x) (λ i. (one_place k l e i, one_want a want m f i)) (refl, found k s h at)),
+    (
+      let t = claimed_same me.0 k a want x in record {
+        slots = refl;
+        sizes = t.0;
+        live = t.1;
+        share = t.2;
+        possible = after_possible s at (set s.words (counter_at k) (either (eqb x a) (a + want) x)) w (t.1 ∙ live)
+            (claim_keeps k a want may s h at x refl (ℕ_discrete x a));
+      },
+      λ l m e f. subst
+          (λ (q : Counter × ℕ). (w ≡ claimed me.0 q.0 a q.1 x) × FoundCounter me.0 q.0 x) (λ i. (one_place k l e i, one_want a want m f i)) (refl, found k s h at),
+    ),
   )
 
   pub stores_length : (i n : ℕ) → MayStoreLength me.0 i n → Allows (KeepsHeap key) slots id me (length_at me.0.sizes i) (λ _. n) (λ _. StoredLength (step slots (length_at me.0.sizes i) n 0 none) me n)
@@ -258,7 +358,17 @@ module _ (key : HeapKey) (slots id : ℕ) (me : Sat) (live : me.0.live ≡ true)
         keeps,
         tt,
         subst (λ (y : HeapSize). Holds (set s.words (length_at y i) n) (set s.views id w)) (sym same) (kept, alike_same s.views b id me.0 at live w refl),
-        (record { slots = refl; sizes = refl; live = refl; share = refl; possible = after_possible s at (set s.words (length_at key.size i) n) w live kept }, λ d e. let is : i ≡ d = one_length me.0.sizes i d e in ap (λ (y : ℕ). stored_length me.0 y n) is),
+        (
+          record {
+            slots = refl;
+            sizes = refl;
+            live = refl;
+            share = refl;
+            possible = after_possible s at (set s.words (length_at key.size i) n) w live kept;
+          },
+          λ d e. let is : i ≡ d = one_length me.0.sizes i
+              d e in ap (λ (y : ℕ). stored_length me.0 y n) is,
+        ),
       )
 
   -- a birth
@@ -268,11 +378,16 @@ module _ (key : HeapKey) (slots id : ℕ) (me : Sat) (live : me.0.live ≡ true)
       let same : me.0.sizes ≡ z = sizes_are key.size key.agents s.words s.views h id me.0 at live in
       let as_born : born_with me.0 i n f ≡ w = ap (λ (o : Option ℕ). born_with me.0 i (unwrap_or o 0) f) (sym own) in
       let kept : IsSound key.size key.agents (set s.words (form_at z i) (word_of f)) (set s.views id w) =
-      subst (λ (y : View). IsSound key.size key.agents (set s.words (form_at z i) (word_of f)) (set s.views id y)) as_born (birth_by key.size key.agents s.words s.views h id me.0 at live i n f own fits).0 in (
+      subst (λ (y : View). IsSound key.size key.agents (set s.words (form_at z i) (word_of f)) (set s.views id y)) as_born
+      (birth_by key.size key.agents s.words s.views h id me.0 at live i n f own fits).0 in (
         w,
         keeps,
         tt,
-        subst (λ (y : HeapSize). Holds (set s.words (form_at y i) (word_of f)) (set s.views id w)) (sym same) (kept, alike_put s.views b id me.0 at live w i f refl (alike_unborn key.size key.agents s.words s.views h i f ((h.own_ids id me.0 at live).each i n own).1)),
+        subst (λ (y : HeapSize). Holds (set s.words (form_at y i) (word_of f)) (set s.views id w)) (sym same) (
+          kept,
+          alike_put s.views b id me.0 at live w i f refl (alike_unborn key.size key.agents s.words s.views h i f
+              ((h.own_ids id me.0 at live).each i n own).1),
+        ),
         (
           record { slots = refl; sizes = t.0; live = t.1; share = t.2; possible = after_possible s at (set s.words (form_at z i) (word_of f)) w (t.1 ∙ live) kept },
           known_birth z key.agents s.words s.views h id me.0 at live i f (key_of me.0.own_ids i n own),
@@ -280,11 +395,13 @@ module _ (key : HeapKey) (slots id : ℕ) (me : Sat) (live : me.0.live ≡ true)
         ),
       )
 
-  pub bears : (i : ℕ) (f : Form) → IsInRange f → MayBear me.0 i f → Allows (KeepsHeap key) slots id me (form_at me.0.sizes i) (λ _. word_of f) (λ _. GaveBirth (step slots (form_at me.0.sizes i) (word_of f) 0 none) me (word_of f))
+  pub bears : (i : ℕ) (f : Form) → IsInRange f → MayBear me.0 i f → Allows (KeepsHeap key) slots id me (form_at me.0.sizes i)
+      (λ _. word_of f) (λ _. GaveBirth (step slots (form_at me.0.sizes i) (word_of f) 0 none) me (word_of f))
   bears i f range (n, own, fits) = bears_form i n f range own fits
 
   -- what is learned comes on top of a step that changed no word
-  then_learned : (s : State (Unit {0}) View) → get_elem? s.views id ≡ some me.0 → (w : View) → w.live ≡ true → IsSound key.size key.agents s.words (set s.views id w) → IsSound key.size key.agents s.words (set s.views id (learned_all w))
+  then_learned : (s : State (Unit {0}) View) → get_elem? s.views id ≡ some me.0 → (w : View) → w.live ≡ true → IsSound key.size key.agents
+      s.words (set s.views id w) → IsSound key.size key.agents s.words (set s.views id (learned_all w))
   then_learned s at w l h = subst (λ (vs : List View). IsSound key.size key.agents s.words vs) (set_twice s.views id w (learned_all w))
       (keeps_learned key.size key.agents s.words (set s.views id w) h id w (set_there s.views id w me.0 at) l (all_named (entries w.forms)))
 
@@ -292,18 +409,30 @@ module _ (key : HeapKey) (slots id : ℕ) (me : Sat) (live : me.0.live ≡ true)
   loads_length i known s (h, b) _ at _ = let z : HeapSize = me.0.sizes in let x : ℕ = get_or s.words (length_at z i) 0 in let w : View = learned_all (loaded_length me.0 i x) in
       let same : z ≡ key.size = sizes_are key.size key.agents s.words s.views h id me.0 at live in
       let kept : IsSound key.size key.agents s.words (set s.views id w) = then_learned s at (loaded_length me.0 i x) live
-      (subst (λ (y : HeapSize). IsSound key.size key.agents s.words (set s.views id (loaded_length me.0 i (get_or s.words (length_at y i) 0)))) (sym same) (keeps_loaded_length key.size key.agents s.words s.views h id me.0 at live i known)) in
-      let short : x ≤ MAX = subst (λ (y : HeapSize). get_or s.words (length_at y i) 0 ≤ MAX) (sym same) (h.standing i (known_born key.size key.agents s.words s.views h id me.0 at live i known)).short in (
+      (subst (λ (y : HeapSize). IsSound key.size key.agents s.words (set s.views id
+      (loaded_length me.0 i (get_or s.words (length_at y i) 0)))) (sym same)
+      (keeps_loaded_length key.size key.agents s.words s.views h id me.0 at live i known)) in
+      let short : x ≤ MAX = subst (λ (y : HeapSize). get_or s.words (length_at y i) 0 ≤ MAX) (sym same)
+      (h.standing i (known_born key.size key.agents s.words s.views h id me.0 at live i known)).short in (
         w,
         keeps,
         tt,
         a_load (length_at z i) s w (kept, alike_same s.views b id me.0 at live w refl),
-        (record { slots = refl; sizes = refl; live = refl; share = refl; possible = after_possible s at s.words w live kept }, known_length key.size key.agents s.words s.views h id me.0 at live i x (ap (λ (y : HeapSize). get_or s.words (length_at y i) 0) (sym same)) kept, short, refl, λ d e. let is : i ≡ d = one_length z i d e in ap (λ (y : ℕ). learned_all (loaded_length me.0 y x)) is),
+        (
+          record { slots = refl; sizes = refl; live = refl; share = refl; possible = after_possible s at s.words w live kept },
+          known_length
+              key.size key.agents s.words s.views h id me.0 at live i x (ap (λ (y : HeapSize). get_or s.words (length_at y i) 0) (sym same)) kept,
+          short,
+          refl,
+          λ d e. let is : i ≡ d = one_length z i d e in ap (λ (y : ℕ). learned_all (loaded_length me.0 y x)) is,
+        ),
       )
 
   -- what the view has for the word afterwards is what was found
   word_shown : (c x : ℕ) (own : Option ℕ) → get me.0.own_words c ≡ own → ((y : ℕ) → Has me.0.own_words c y → y ≡ x) → x ≡ shown_word (loaded_word me.0 c x) c
-  word_shown c x (Some y) e found = sym (ap (λ (o : Option ℕ). shown_word (cond (is_some o) me.0 (record me.0 { frozen = insert me.0.frozen c x })) c) e ∙ (ap (λ (o : Option ℕ). unwrap_or o (unwrap_or (get me.0.frozen c) 0)) e ∙ found y e))
+  word_shown c x (Some y) e found = sym (ap (λ (o : Option ℕ). shown_word
+      (cond (is_some o) me.0 (record me.0 { frozen = insert me.0.frozen c x })) c) e ∙
+      (ap (λ (o : Option ℕ). unwrap_or o (unwrap_or (get me.0.frozen c) 0)) e ∙ found y e))
   word_shown c x None e found = sym (ap (λ (o : Option ℕ). shown_word (cond (is_some o) me.0 (record me.0 { frozen = insert me.0.frozen c x })) c) e
       ∙ (ap (λ (o : Option ℕ). unwrap_or o (unwrap_or (get (insert me.0.frozen c x) c) 0)) e ∙ ap (λ (o : Option ℕ). unwrap_or o 0) (insert_same me.0.frozen c x)))
 
@@ -315,7 +444,8 @@ module _ (key : HeapKey) (slots id : ℕ) (me : Sat) (live : me.0.live ≡ true)
   loads_word c may s (h, b) _ at _ = let z : HeapSize = me.0.sizes in let x : ℕ = get_or s.words (content_at z c) 0 in let v : View = loaded_word me.0 c x in let w : View = learned_all v in
       let same : z ≡ key.size = sizes_are key.size key.agents s.words s.views h id me.0 at live in let t = word_same c x (contains_key me.0.own_words c) in
       let kept : IsSound key.size key.agents s.words (set s.views id w) = then_learned s at v (t.1 ∙ live)
-      (subst (λ (y : HeapSize). IsSound key.size key.agents s.words (set s.views id (loaded_word me.0 c (get_or s.words (content_at y c) 0)))) (sym same) (keeps_loaded_word key.size key.agents s.words s.views h id me.0 at live c may)) in
+      (subst (λ (y : HeapSize). IsSound key.size key.agents s.words (set s.views id
+      (loaded_word me.0 c (get_or s.words (content_at y c) 0)))) (sym same) (keeps_loaded_word key.size key.agents s.words s.views h id me.0 at live c may)) in
       let found : (y : ℕ) → Has me.0.own_words c y → y ≡ x = (λ y o. sym (ap (λ (q : HeapSize). get_or s.words (content_at q c) 0) same ∙ ((h.own_words id me.0 at live).each c y o).1)) in (
         w,
         keeps,
@@ -330,7 +460,8 @@ module _ (key : HeapKey) (slots id : ℕ) (me : Sat) (live : me.0.live ≡ true)
       )
 
   -- the word of a slot
-  slot_found : (s : State (Unit {0}) View) → IsSound key.size key.agents s.words s.views → get_elem? s.views id ≡ some me.0 → (k : ℕ) → k < key.size.slots → FoundSlot me.0 k (get_or s.words (slot_at key.size k) 0)
+  slot_found : (s : State (Unit {0}) View) → IsSound key.size key.agents s.words s.views → get_elem? s.views id ≡ some me.0 → (k : ℕ) → k <
+      key.size.slots → FoundSlot me.0 k (get_or s.words (slot_at key.size k) 0)
   slot_found s h at k inside = record {
     within = λ i e. subst (λ (y : HeapSize). i < y.ids) (sym (sizes_are key.size key.agents s.words s.views h id me.0 at live)) (h.slots k i inside e).born.0;
     again = λ i g. ((h.knows id me.0 at live).of_slots k i g).1;
@@ -339,7 +470,8 @@ module _ (key : HeapKey) (slots id : ℕ) (me : Sat) (live : me.0.live ≡ true)
 
   pub sees_slot : (entry : View → ℕ → Option (List ℕ)) (k : ℕ) → k < me.0.sizes.slots → MayEnter me.0 k (entry me.0 k)
       → Allows (KeepsHeap key) slots id me (slot_at me.0.sizes k) (λ n. n) (SawSlot entry (step slots (slot_at me.0.sizes k) 0 0 none) me)
-  sees_slot entry k inside may s (h, b) _ at _ = let z : HeapSize = key.size in let x : ℕ = get_or s.words (slot_at z k) 0 in let v : View = loaded_slot me.0 k (entry me.0 k) x in let w : View = learned_all v in
+  sees_slot entry k inside may s (h, b) _ at _ = let z : HeapSize = key.size in let x : ℕ = get_or s.words (slot_at z k) 0 in
+      let v : View = loaded_slot me.0 k (entry me.0 k) x in let w : View = learned_all v in
       let same : me.0.sizes ≡ z = sizes_are z key.agents s.words s.views h id me.0 at live in let t = slot_same me.0 k (entry me.0 k) x in
       let within : k < z.slots = subst (λ (y : HeapSize). k < y.slots) same inside in
       let kept : IsSound z key.agents s.words (set s.views id w) = then_learned s at v (t.1 ∙ live) (keeps_loaded_slot z key.agents s.words s.views h id me.0 at live k within (entry me.0 k) may) in (
@@ -355,11 +487,14 @@ module _ (key : HeapKey) (slots id : ℕ) (me : Sat) (live : me.0.live ≡ true)
         ),
       )
 
-  pub takes_slot : (k i : ℕ) → MayTakeSlot me.0 k i → Allows (KeepsHeap key) slots id me (slot_at me.0.sizes k) (λ n. either (eqb n 0) (i + 1) n) (TookSlot (step slots (slot_at me.0.sizes k) 0 (i + 1) none) me)
-  takes_slot k i may s (h, b) _ at _ = let z : HeapSize = key.size in let x : ℕ = get_or s.words (slot_at z k) 0 in let v : View = took_slot me.0 k i x in let w : View = learned_all v in let n : ℕ = either (eqb x 0) (i + 1) x in
+  pub takes_slot : (k i : ℕ) → MayTakeSlot me.0 k i → Allows (KeepsHeap key) slots id me (slot_at me.0.sizes k)
+      (λ n. either (eqb n 0) (i + 1) n) (TookSlot (step slots (slot_at me.0.sizes k) 0 (i + 1) none) me)
+  takes_slot k i may s (h, b) _ at _ = let z : HeapSize = key.size in let x : ℕ = get_or s.words (slot_at z k) 0 in
+      let v : View = took_slot me.0 k i x in let w : View = learned_all v in let n : ℕ = either (eqb x 0) (i + 1) x in
       let same : me.0.sizes ≡ z = sizes_are z key.agents s.words s.views h id me.0 at live in let t = took_same me.0 k i x in
       let within : k < z.slots = subst (λ (y : HeapSize). k < y.slots) same may.0 in
-      let all = subst (λ (y : ℕ). KeepsRule z key.agents s.words (set s.words (slot_at z k) y) (set s.views id w)) (cond_either (eqb x 0) (i + 1) x) (take_by z key.agents s.words s.views h id me.0 at live k i (all_named (entries v.forms)) x within may refl) in (
+      let all = subst (λ (y : ℕ). KeepsRule z key.agents s.words (set s.words (slot_at z k) y) (set s.views id w))
+      (cond_either (eqb x 0) (i + 1) x) (take_by z key.agents s.words s.views h id me.0 at live k i (all_named (entries v.forms)) x within may refl) in (
         w,
         keeps,
         tt,
@@ -375,14 +510,16 @@ module _ (key : HeapKey) (slots id : ℕ) (me : Sat) (live : me.0.live ≡ true)
 
   -- a flattening, whether it is won or lost
   pub flattens : (i : ℕ) (old new : Form) → IsInRange old → IsInRange new → MayFlatten me.0 i old new
-      → Allows (KeepsHeap key) slots id me (form_at me.0.sizes i) (λ n. either (eqb n (word_of old)) (word_of new) n) (FlattenedForm (step slots (form_at me.0.sizes i) (word_of old) (word_of new) none) me)
+      → Allows (KeepsHeap key) slots id me (form_at me.0.sizes i) (λ n. either (eqb n (word_of old)) (word_of new) n)
+      (FlattenedForm (step slots (form_at me.0.sizes i) (word_of old) (word_of new) none) me)
   flattens i old new old_range range may s (h, b) _ at _ = let z : HeapSize = me.0.sizes in let X : HeapSize → ℕ = λ y. get_or s.words (form_at y i) 0 in let x : ℕ = X z in
       let v : View = flattened me.0 i old new x in let w : View = learned_all v in let t = flattened_same me.0 i old new x in
       let N : HeapSize → ℕ = λ y. either (eqb (X y) (word_of old)) (word_of new) (X y) in let W' : List ℕ = set s.words (form_at z i) (N z) in
       let same : z ≡ key.size = sizes_are key.size key.agents s.words s.views h id me.0 at live in
       let all : KeepsRule key.size key.agents s.words W' (set s.views id w) =
       subst (λ (y : HeapSize). KeepsRule key.size key.agents s.words (set s.words (form_at y i) (N y)) (set s.views id (learned_all (flattened me.0 i old new (X y))))) (sym same)
-      (subst (λ (y : ℕ). KeepsRule key.size key.agents s.words (set s.words (form_at key.size i) y) (set s.views id (learned_all (flattened me.0 i old new (X key.size))))) (cond_either (eqb (X key.size) (word_of old)) (word_of new) (X key.size))
+      (subst (λ (y : ℕ). KeepsRule key.size key.agents s.words (set s.words (form_at key.size i) y)
+      (set s.views id (learned_all (flattened me.0 i old new (X key.size))))) (cond_either (eqb (X key.size) (word_of old)) (word_of new) (X key.size))
       (kinds_keep key.size key.agents s.words s.views id me.0 (flatten i old new) (all_named (entries (flattened me.0 i old new (X key.size)).forms)) h at live may)) in
       let k = known_flattened key.size key.agents s.words s.views h id me.0 at live W' (λ q c. (all.1 q c).1) i old new may x (ap X (sym same)) all.0 in (
         w,
@@ -399,14 +536,16 @@ module _ (key : HeapKey) (slots id : ℕ) (me : Sat) (live : me.0.live ≡ true)
 
   -- a thinning, whether it is won or lost
   pub thins : (i t : ℕ) (old : Form) → IsInRange old → t < 2 ^ 29 → MayThin me.0 i old t
-      → Allows (KeepsHeap key) slots id me (form_at me.0.sizes i) (λ n. either (eqb n (word_of old)) (word_of (Thin t)) n) (ThinnedForm (step slots (form_at me.0.sizes i) (word_of old) (word_of (Thin t)) none) me)
+      → Allows (KeepsHeap key) slots id me (form_at me.0.sizes i) (λ n. either (eqb n (word_of old)) (word_of (Thin t)) n)
+      (ThinnedForm (step slots (form_at me.0.sizes i) (word_of old) (word_of (Thin t)) none) me)
   thins i t old old_range small may s (h, b) _ at _ = let z : HeapSize = me.0.sizes in let X : HeapSize → ℕ = λ y. get_or s.words (form_at y i) 0 in let x : ℕ = X z in
       let v : View = thinned me.0 i old t x in let w : View = learned_all v in let same_agent = thinned_same me.0 i t old x in
       let N : HeapSize → ℕ = λ y. either (eqb (X y) (word_of old)) (word_of (Thin t)) (X y) in let W' : List ℕ = set s.words (form_at z i) (N z) in
       let same : z ≡ key.size = sizes_are key.size key.agents s.words s.views h id me.0 at live in
       let all : KeepsRule key.size key.agents s.words W' (set s.views id w) =
       subst (λ (y : HeapSize). KeepsRule key.size key.agents s.words (set s.words (form_at y i) (N y)) (set s.views id (learned_all (thinned me.0 i old t (X y))))) (sym same)
-      (subst (λ (y : ℕ). KeepsRule key.size key.agents s.words (set s.words (form_at key.size i) y) (set s.views id (learned_all (thinned me.0 i old t (X key.size))))) (cond_either (eqb (X key.size) (word_of old)) (word_of (Thin t)) (X key.size))
+      (subst (λ (y : ℕ). KeepsRule key.size key.agents s.words (set s.words (form_at key.size i) y)
+      (set s.views id (learned_all (thinned me.0 i old t (X key.size))))) (cond_either (eqb (X key.size) (word_of old)) (word_of (Thin t)) (X key.size))
       (kinds_keep key.size key.agents s.words s.views id me.0 (thin i old t) (all_named (entries (thinned me.0 i old t (X key.size)).forms)) h at live may)) in
       let k = known_thinned key.size key.agents s.words s.views h id me.0 at live W' (λ q c. (all.1 q c).1) i t old may x (ap X (sym same)) all.0 in (
         w,
@@ -438,7 +577,8 @@ module _ (key : HeapKey) (slots id : ℕ) (me : Sat) (live : me.0.live ≡ true)
 
   -- a load that changes no view
   pub looks : key.agents ≤ 64 → Allows (KeepsHeap key) slots id me 0 (λ n. n) (Looked (step slots 0 0 0 none) me)
-  looks few s (h, b) _ at _ = let same : set s.views id me.0 ≡ s.views = set_same s.views id me.0 at in let kept : IsSound key.size key.agents s.words (set s.views id me.0) = subst (λ (vs : List View). IsSound key.size key.agents s.words vs) (sym same) h in
+  looks few s (h, b) _ at _ = let same : set s.views id me.0 ≡ s.views = set_same s.views id me.0 at in
+      let kept : IsSound key.size key.agents s.words (set s.views id me.0) = subst (λ (vs : List View). IsSound key.size key.agents s.words vs) (sym same) h in
       let l = share_within key.size key.agents s.words s.views h id me.0 at live in (
         me.0,
         keeps,
@@ -448,14 +588,19 @@ module _ (key : HeapKey) (slots id : ℕ) (me : Sat) (live : me.0.live ≡ true)
       )
 
 pub joins : (key : HeapKey) (id other : ℕ) (v b : View) → v.live ≡ true → b.live ≡ true → Joins (KeepsHeap key) id v other b (taken v b) spent
-joins key id other v b live live' s (h, alike) at ne at' = let apart : id ≢ other = (λ e. ne (sym e)) in let at_other : get_elem? s.views other ≡ some b = sym (set_else s.views id other (taken v b) ne) ∙ at' in
+joins key id other v b live live' s (h, alike) at ne at' = let apart : id ≢ other = (λ e. ne (sym e)) in
+    let at_other : get_elem? s.views other ≡ some b = sym (set_else s.views id other (taken v b) ne) ∙ at' in
     let same : taken v b ≡ joined_view v b = taken_is v b (both_agree key.size key.agents s.words s.views h alike id other v b apart at live at_other live') in (
-      subst (λ (w : View). IsSound key.size key.agents s.words (set (set s.views id w) other spent)) (sym same) (keeps_joined key.size key.agents s.words s.views h id other v b apart at live at_other live'),
+      subst (λ (w : View). IsSound key.size key.agents s.words (set (set s.views id w) other spent)) (sym same)
+          (keeps_joined key.size key.agents s.words s.views h id other v b apart at live at_other live'),
       subst (λ (w : View). AreSeenAlike (set (set s.views id w) other spent)) (sym same) (alike_joined s.views alike id v at live other b at_other live'),
     )
 
 pub splits : (key : HeapKey) (id : ℕ) (v : View) → v.live ≡ true → 1 ≤ v.giving → v.giving < v.share → Splits (KeepsHeap key) id v (left_after_split v v.giving) (right_after_split v v.giving)
-splits key id v live some_give less s (h, b) at = (keeps_split key.size key.agents s.words s.views h id v at live v.giving some_give less, alike_split s.views b id v at live (left_after_split v v.giving) (right_after_split v v.giving) refl refl)
+splits key id v live some_give less s (h, b) at = (
+  keeps_split key.size key.agents s.words s.views h id v at live v.giving some_give less,
+  alike_split s.views b id v at live (left_after_split v v.giving) (right_after_split v v.giving) refl refl,
+)
 
 pub end_small : (z : HeapSize) (k : Counter) → IsLawfulSize z → end_of z k < 2 ^ 29
 end_small z Ids h = h.1

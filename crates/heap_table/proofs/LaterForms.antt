@@ -45,7 +45,8 @@ over_now : (now x : Form) → IsSeen now x → later_form (Some now) x ≡ now
 over_now now x h = ap (λ b. cond b x now) (⊎_elim (λ (e : x ≡ now). ap (is_later now) e ∙ not_self now) (λ (l : IsLater x now). not_back now x l) h)
 
 now_over : (now f : Form) → IsSeen now f → later_form (Some f) now ≡ now
-now_over now f h = ⊎_elim (λ (e : f ≡ now). subst (λ (y : Form). cond (is_later y now) now y ≡ now) (sym e) (ap (λ b. cond b now now) (not_self now))) (λ (l : IsLater f now). ap (λ b. cond b now f) l) h
+now_over now f h = ⊎_elim (λ (e : f ≡ now). subst (λ (y : Form). cond (is_later y now) now y ≡ now) (sym e)
+    (ap (λ b. cond b now now) (not_self now))) (λ (l : IsLater f now). ap (λ b. cond b now f) l) h
 
 -- a form that was seen fits the later one of two that were
 fits_lower : (f g now : Form) → IsSeen now f → IsSeen now g → (now ≡ Unborn → ⊥) → fits_form f (later_form (Some f) g) ≡ true
@@ -126,7 +127,8 @@ module _ (upper : FinMap nat_cmp Form) (q : ℕ) where
     some_at : (ks : List ℕ) (m : FinMap nat_cmp Form) → list_any (eq_by_cmp nat_cmp q) ks ≡ true → Has (laid_at later_form m upper ks) q (later_form (get m q) x)
     some_at [] m h = absurd (false_true h)
     some_at (k ∷ ks) m h = dite (ℕ_discrete q k)
-        (λ is. stays_at ks (put_if_some later_form m k (get upper k)) (later_form (get m q) x) (subst (λ (r : ℕ). get (put_if_some later_form m r (get upper r)) q ≡ Some (later_form (get m q) x)) is (put_here m x e)) (again (get m q) x))
+        (λ is. stays_at ks (put_if_some later_form m k (get upper k)) (later_form (get m q) x)
+        (subst (λ (r : ℕ). get (put_if_some later_form m r (get upper r)) q ≡ Some (later_form (get m q) x)) is (put_here m x e)) (again (get m q) x))
         (λ ne. let other = put_else m k (get upper k) ne in subst (λ (o : Option Form). Has (laid_at later_form m upper (k ∷ ks)) q (later_form o x)) other
         (some_at ks (put_if_some later_form m k (get upper k)) (or_rest (eq_by_cmp nat_cmp q k) (list_any (eq_by_cmp nat_cmp q) ks) (unsigned_tied q k ∙ ne_eqb q k ne) h)))
 
@@ -146,11 +148,26 @@ module _ (m upper : FinMap nat_cmp Form) (q : ℕ) (now : Form) (born : now ≡ 
         where
           lone : fits_form f f ≡ true
           lone = ap (fits_form f) (sym (ap (λ b. cond b f f) (not_self f))) ∙ fits_lower f f now p p born
-      with_upper (Some g) e = (later_form (Some f) g, subst (λ (o : Option Form). Has (laid_over later_form m upper) q (later_form o g)) h (laid_some upper q g e m), fits_lower f g now p (seen g e) born)
+      with_upper (Some g) e = (
+        later_form (Some f) g,
+        subst (λ (o : Option Form). Has (laid_over later_form m upper) q (later_form o g)) h
+            (laid_some upper q g e m),
+        fits_lower f g now p (seen g e) born,
+      )
 
   pub upper_fits : (g : Form) → Has upper q g → IsSeen now g → ((f : Form) → Has m q f → IsSeen now f × AreOfOneLine f g) → (y : Form) × Has (laid_over later_form m upper) q y × (fits_form g y ≡ true)
   upper_fits g h p seen = with_lower (get m q) refl
     where
       with_lower : (o : Option Form) → get m q ≡ o → (y : Form) × Has (laid_over later_form m upper) q y × (fits_form g y ≡ true)
-      with_lower None e = (g, subst (λ (o : Option Form). Has (laid_over later_form m upper) q (later_form o g)) e (laid_some upper q g h m), subst (λ (y : Form). fits_form g y ≡ true) (ap (λ b. cond b g g) (not_self g)) (fits_lower g g now p p born))
-      with_lower (Some f) e = (later_form (Some f) g, subst (λ (o : Option Form). Has (laid_over later_form m upper) q (later_form o g)) e (laid_some upper q g h m), fits_upper f g now (seen f e).0 p (seen f e).1 born)
+      with_lower None e = (
+        g,
+        subst (λ (o : Option Form). Has (laid_over later_form m upper) q (later_form o g)) e
+            (laid_some upper q g h m),
+        subst (λ (y : Form). fits_form g y ≡ true) (ap (λ b. cond b g g) (not_self g)) (fits_lower g g now p p born),
+      )
+      with_lower (Some f) e = (
+        later_form (Some f) g,
+        subst (λ (o : Option Form). Has (laid_over later_form m upper) q (later_form o g)) e
+            (laid_some upper q g h m),
+        fits_upper f g now (seen f e).0 p (seen f e).1 born,
+      )

@@ -1,5 +1,37 @@
 -- What an agent knew stays known over a step.
-use Rattle.std.proofs.Common.{◌≡◌, ◌≢◌, ℕ, zero, suc, ◌+◌, ◌<◌, ◌⊎◌, inl, inr, ⊎_elim, Bool, true, false, cond, List, [], ◌∷◌, length, set, sym, refl, ap, ◌∙◌, subst, arith, eqb, eq-eqb, Option, Some, None}
+use Rattle.std.proofs.Common.{
+  ◌≡◌,
+  ◌≢◌,
+  ℕ,
+  zero,
+  suc,
+  ◌+◌,
+  ◌<◌,
+  ◌⊎◌,
+  inl,
+  inr,
+  ⊎_elim,
+  Bool,
+  true,
+  false,
+  cond,
+  List,
+  [],
+  ◌∷◌,
+  length,
+  set,
+  sym,
+  refl,
+  ap,
+  ◌∙◌,
+  subst,
+  arith,
+  eqb,
+  eq-eqb,
+  Option,
+  Some,
+  None,
+}
 use Rattle.std.specs.Prelude.{unwrap_or}
 use mathlib.Core.Logic.{dite}
 use native.Mathlib.Decide.{ℕ_discrete}
@@ -109,7 +141,8 @@ module _ (z : HeapSize) (agents : ℕ) (W : List ℕ) (vs : List View) (s : IsSo
   KeepsUnits W' = (q : ℕ) → IsBorn z W q → units_of z W' q ≡ units_of z W q
 
   -- so two sound views, before and after it, agree on an id's units
-  units_over : (W' : List ℕ) → KeepsUnits W' → (w : View) → w.live ≡ true → IsSound z agents W' (set vs j w) → ((q : ℕ) → HasKey v.units q → HasKey w.units q) → (i : ℕ) (us : List ℕ) → Has v.units i us → Has w.units i us
+  units_over : (W' : List ℕ) → KeepsUnits W' → (w : View) → w.live ≡ true → IsSound z agents W'
+      (set vs j w) → ((q : ℕ) → HasKey v.units q → HasKey w.units q) → (i : ℕ) (us : List ℕ) → Has v.units i us → Has w.units i us
   units_over W' same w l kept keys i us h = let p = has_key w.units i (keys i (key_of v.units i us h)) in let a = (s.knows j v at live).of_units i us h in
       let b = ((kept.knows j w (set_there vs j w v at) l).of_units i p.0 p.1).1 in p.1 ∙ ap Some (sym b ∙ (same i a.0 ∙ a.1))
 
@@ -126,7 +159,8 @@ module _ (z : HeapSize) (agents : ℕ) (W : List ℕ) (vs : List View) (s : IsSo
   known_form_by i (Some g) f n spelt found kept = let w : View = record (with_form v i (Some g)) { form_loads = n } in let is : g ≡ f = cc in
       let there : (q : ℕ) → q ≡ i → get (insert v.forms i g) q ≡ Some g = (λ q e. ap (get (insert v.forms i g)) e ∙ insert_same v.forms i g) in
       let way : (q : ℕ) (x : Form) → Has v.forms q x → q ≡ i → (x ≡ g) ⊎ IsLater x g = (λ q x h e. let k = (s.knows j v at live).of_forms q x h in
-      let now : k.now ≡ g = (let d : Some k.now ≡ Some f = sym k.decodes ∙ (ap (λ (y : ℕ). form_of (form z W y)) e ∙ found) in cc) in subst (λ (y : Form). (x ≡ y) ⊎ IsLater x y) now k.later) in record {
+      let now : k.now ≡ g = (let d : Some k.now ≡ Some f = sym k.decodes ∙ (ap (λ (y : ℕ). form_of (form z W y)) e ∙ found) in cc) in subst
+      (λ (y : Form). (x ≡ y) ⊎ IsLater x y) now k.later) in record {
         units = units_stay (learned_all w) live kept (with_learned v.units (justified w) (all_named (entries w.forms)) refl);
         lengths = λ q m h. h;
         flats = λ q wide start h. dite (ℕ_discrete q i)
@@ -143,14 +177,16 @@ module _ (z : HeapSize) (agents : ℕ) (W : List ℕ) (vs : List View) (s : IsSo
         slots = λ k q h. h;
       }
 
-  pub known_form : (i x : ℕ) (f : Form) → form_of x ≡ Some f → form_of (form z W i) ≡ Some f → IsSound z agents W (set vs j (learned_all (loaded_form v i x))) → KeepsKnown v (learned_all (loaded_form v i x))
+  pub known_form : (i x : ℕ) (f : Form) → form_of x ≡ Some f → form_of (form z W i) ≡ Some f → IsSound z agents W
+      (set vs j (learned_all (loaded_form v i x))) → KeepsKnown v (learned_all (loaded_form v i x))
   known_form i x f spelt found kept = known_form_by i (form_of x) f (added_loads v.form_loads 1) spelt found kept
 
   pub known_length : (i x : ℕ) → length_word z W i ≡ x → IsSound z agents W (set vs j (learned_all (loaded_length v i x))) → KeepsKnown v (learned_all (loaded_length v i x))
   known_length i x is kept = let w : View = loaded_length v i x in record {
     units = units_stay (learned_all w) live kept (with_learned v.units (justified w) (all_named (entries w.forms)) refl);
     lengths = λ q n h. dite (ℕ_discrete q i)
-        (λ (e : q ≡ i). let n_is : n ≡ x = sym ((s.knows j v at live).of_lengths q n h).1 ∙ (ap (length_word z W) e ∙ is) in ap (get (insert v.lengths i x)) e ∙ (insert_same v.lengths i x ∙ ap Some (sym n_is)))
+        (λ (e : q ≡ i). let n_is : n ≡ x = sym ((s.knows j v at live).of_lengths q n h).1 ∙ (ap (length_word z W) e ∙ is) in ap
+        (get (insert v.lengths i x)) e ∙ (insert_same v.lengths i x ∙ ap Some (sym n_is)))
         (λ ne. insert_other v.lengths i q x ne ∙ h);
     flats = λ q wide start h. h;
     thins = λ q t h. h;
@@ -160,7 +196,9 @@ module _ (z : HeapSize) (agents : ℕ) (W : List ℕ) (vs : List View) (s : IsSo
     slots = λ k q h. h;
   }
 
-  known_word_by : (b : Bool) (c x : ℕ) → content z W c ≡ x → IsSound z agents W (set vs j (learned_all (cond b v (record v { frozen = insert v.frozen c x })))) → KeepsKnown v (learned_all (cond b v (record v { frozen = insert v.frozen c x })))
+  known_word_by : (b : Bool) (c x : ℕ) → content z W c ≡ x → IsSound z agents W
+      (set vs j (learned_all (cond b v (record v { frozen = insert v.frozen c x })))) → KeepsKnown v
+      (learned_all (cond b v (record v { frozen = insert v.frozen c x })))
   known_word_by true c x is kept = record {
     units = units_stay (learned_all v) live kept (with_learned v.units (justified v) (all_named (entries v.forms)) refl);
     lengths = λ q n h. h;
@@ -178,7 +216,8 @@ module _ (z : HeapSize) (agents : ℕ) (W : List ℕ) (vs : List View) (s : IsSo
     thins = λ q t h. h;
     settled = λ q h. h;
     frozen = λ q y h. dite (ℕ_discrete q c)
-        (λ (e : q ≡ c). let y_is : y ≡ x = sym ((s.knows j v at live).of_frozen q y h).1 ∙ (ap (content z W) e ∙ is) in ap (get (insert v.frozen c x)) e ∙ (insert_same v.frozen c x ∙ ap Some (sym y_is)))
+        (λ (e : q ≡ c). let y_is : y ≡ x = sym ((s.knows j v at live).of_frozen q y h).1 ∙ (ap (content z W) e ∙ is) in ap
+        (get (insert v.frozen c x)) e ∙ (insert_same v.frozen c x ∙ ap Some (sym y_is)))
         (λ ne. insert_other v.frozen c q x ne ∙ h);
     known = λ q h. ⊎_elim (λ (t : HasKey v.units q). inl (with_learned v.units (justified w) (all_named (entries w.forms)) refl q t)) (λ (t : HasKey v.met q). inr t) h;
     slots = λ k q h. h;
@@ -199,7 +238,8 @@ module _ (z : HeapSize) (agents : ℕ) (W : List ℕ) (vs : List View) (s : IsSo
         thins = λ q t h. insert_other v.forms i q f (other q (k.of_forms q (Thin t) h).born) ∙ h;
         settled = λ q h. (h.0, insert_other v.forms i q f (other q (k.of_forms q h.0 h.1).born) ∙ h.1, h.2);
         frozen = frozen;
-        known = λ q h. ⊎_elim (λ (t : HasKey v.units q). inl (key_stays v.units i q (units_for v n f) t)) (λ (t : HasKey v.met q). inr (subst (λ (m : FinMap nat_cmp (Unit {0})). HasKey m q) (sym met) t)) h;
+        known = λ q h. ⊎_elim (λ (t : HasKey v.units q). inl (key_stays v.units i q (units_for v n f) t))
+            (λ (t : HasKey v.met q). inr (subst (λ (m : FinMap nat_cmp (Unit {0})). HasKey m q) (sym met) t)) h;
         slots = λ c q h. subst (λ (m : FinMap nat_cmp ℕ). Has m c q) (sym slots) h;
       }
 
@@ -208,14 +248,17 @@ module _ (z : HeapSize) (agents : ℕ) (W : List ℕ) (vs : List View) (s : IsSo
   frozen_stay start n c x h = run_stays v.own_words v.frozen start n c x (((s.knows j v at live).of_frozen c x h).0.free j v at live) h
 
   pub known_birth : (i : ℕ) (f : Form) → HasKey v.own_ids i → KeepsKnown v (born v i f)
-  known_birth i (Flat wide start fixed) own = let n : ℕ = unwrap_or (get v.own_ids i) 0 in known_born i n (Flat wide start fixed) (freeze v start (words_over wide n)) own refl refl (frozen_stay start (words_over wide n))
+  known_birth i (Flat wide start fixed) own =
+      let n : ℕ = unwrap_or (get v.own_ids i) 0 in known_born i n (Flat wide start fixed) (freeze v start (words_over wide n)) own refl refl
+      (frozen_stay start (words_over wide n))
   known_birth i (Cons wide left right) own = known_born i (unwrap_or (get v.own_ids i) 0) (Cons wide left right) v own refl refl (λ c x h. h)
   known_birth i (Sliced wide parent offset) own = known_born i (unwrap_or (get v.own_ids i) 0) (Sliced wide parent offset) v own refl refl (λ c x h. h)
   known_birth i (Thin target) own = known_born i (unwrap_or (get v.own_ids i) 0) (Thin target) v own refl refl (λ c x h. h)
   known_birth i Unborn own = known_born i (unwrap_or (get v.own_ids i) 0) Unborn v own refl refl (λ c x h. h)
 
   -- a step on a slot changes what the view has of slots and of met ids, and what it learns
-  known_with : (W' : List ℕ) → KeepsUnits W' → (w : View) → w.live ≡ true → w.units ≡ v.units → w.lengths ≡ v.lengths → w.forms ≡ v.forms → w.frozen ≡ v.frozen → ((q : ℕ) → HasKey v.met q → HasKey w.met q)
+  known_with : (W' : List ℕ) → KeepsUnits W' → (w : View) → w.live ≡ true → w.units ≡ v.units → w.lengths ≡ v.lengths → w.forms ≡ v.forms →
+      w.frozen ≡ v.frozen → ((q : ℕ) → HasKey v.met q → HasKey w.met q)
       → ((k q : ℕ) → Has v.slots k q → Has w.slots k q) → IsSound z agents W' (set vs j (learned_all w)) → KeepsKnown v (learned_all w)
   known_with W' same w l units lengths forms frozen met slots kept = let keys = with_learned w.units (justified w) (all_named (entries w.forms)) units in record {
     units = units_over W' same (learned_all w) l kept keys;
@@ -228,23 +271,29 @@ module _ (z : HeapSize) (agents : ℕ) (W : List ℕ) (vs : List View) (s : IsSo
     slots = slots;
   }
 
-  pub known_slot : (k : ℕ) → k < z.slots → (entry : Option (List ℕ)) (x : ℕ) → slot z W k ≡ x → IsSound z agents W (set vs j (learned_all (loaded_slot v k entry x))) → KeepsKnown v (learned_all (loaded_slot v k entry x))
+  pub known_slot : (k : ℕ) → k < z.slots → (entry : Option (List ℕ)) (x : ℕ) → slot z W k ≡ x → IsSound z agents W
+      (set vs j (learned_all (loaded_slot v k entry x))) → KeepsKnown v (learned_all (loaded_slot v k entry x))
   known_slot k inside entry zero e kept = known_with W (λ q b. refl) (loaded_slot v k entry zero) live refl refl refl refl (λ q h. h) (λ l q h. h) kept
-  known_slot k inside entry (suc i) e kept = known_with W (λ q b. refl) (loaded_slot v k entry (suc i)) live refl refl refl refl (λ q h. key_stays v.met i q tt h) (slot_kept z agents W vs s j v at live k inside (suc i) e) kept
+  known_slot k inside entry (suc i) e kept = known_with W (λ q b. refl) (loaded_slot v k entry (suc i)) live refl refl refl refl
+      (λ q h. key_stays v.met i q tt h) (slot_kept z agents W vs s j v at live k inside (suc i) e) kept
 
-  pub known_took : (W' : List ℕ) → KeepsUnits W' → (k i : ℕ) → k < z.slots → (x : ℕ) → slot z W k ≡ x → IsSound z agents W' (set vs j (learned_all (took_slot v k i x))) → KeepsKnown v (learned_all (took_slot v k i x))
+  pub known_took : (W' : List ℕ) → KeepsUnits W' → (k i : ℕ) → k < z.slots → (x : ℕ) → slot z W k ≡ x → IsSound z agents W'
+      (set vs j (learned_all (took_slot v k i x))) → KeepsKnown v (learned_all (took_slot v k i x))
   known_took W' same k i inside zero e kept = known_with W' same (took_slot v k i zero) live refl refl refl refl (λ q h. h)
       (λ l q h. insert_other v.slots k l i (λ (t : l ≡ k). let o : slot z W k ≡ q + 1 = ap (slot z W) (sym t) ∙ ((s.knows j v at live).of_slots l q h).1 in omega arith) ∙ h) kept
-  known_took W' same k i inside (suc x) e kept = known_with W' same (with_slot v k (suc x)) live refl refl refl refl (λ q h. key_stays v.met x q tt h) (slot_kept z agents W vs s j v at live k inside (suc x) e) kept
+  known_took W' same k i inside (suc x) e kept = known_with W' same (with_slot v k (suc x)) live refl refl refl refl
+      (λ q h. key_stays v.met x q tt h) (slot_kept z agents W vs s j v at live k inside (suc x) e) kept
 
   -- where a form was seen that may still change, another stands, which is no Cons if that one was none
-  module _ (W' : List ℕ) (same : KeepsUnits W') (i : ℕ) (old : Form) (seen : Has v.forms i old) (moves : (wide : Bool) (start : ℕ) → old ≡ Flat wide start true → ⊥) (thinner : (t : ℕ) → old ≡ Thin t → ⊥) where
+  module _ (W' : List ℕ) (same : KeepsUnits W') (i : ℕ) (old : Form) (seen : Has v.forms i old) (moves : (wide : Bool) (start : ℕ) → old ≡
+      Flat wide start true → ⊥) (thinner : (t : ℕ) → old ≡ Thin t → ⊥) where
     other_form : (g : Form) (q : ℕ) (f : Form) → (old ≡ f → ⊥) → Has v.forms q f → Has (insert v.forms i g) q f
     other_form g q f n h = dite (ℕ_discrete q i)
         (λ (e : q ≡ i). let alike : Some f ≡ Some old = sym h ∙ (ap (get v.forms) e ∙ seen) in let is : old ≡ f = cc in absurd (n is))
         (λ ne. insert_other v.forms i q g ne ∙ h)
 
-    pub known_moved : (g : Form) → ((IsCons old → ⊥) → IsCons g → ⊥) → (w : View) → w.live ≡ true → w.units ≡ v.units → w.lengths ≡ v.lengths → w.forms ≡ insert v.forms i g → w.met ≡ v.met → w.slots ≡ v.slots
+    pub known_moved : (g : Form) → ((IsCons old → ⊥) → IsCons g → ⊥) → (w : View) → w.live ≡ true → w.units ≡ v.units → w.lengths ≡
+        v.lengths → w.forms ≡ insert v.forms i g → w.met ≡ v.met → w.slots ≡ v.slots
         → ((c x : ℕ) → Has v.frozen c x → Has w.frozen c x) → IsSound z agents W' (set vs j (learned_all w)) → KeepsKnown v (learned_all w)
     known_moved g settles w l units lengths forms met slots frozen kept = let keys = with_learned w.units (justified w) (all_named (entries w.forms)) units in
         let stays : (q : ℕ) (f : Form) → (old ≡ f → ⊥) → Has v.forms q f → Has w.forms q f = (λ q f n h. subst (λ (m : FinMap nat_cmp Form). Has m q f) (sym forms) (other_form g q f n h)) in record {
@@ -285,17 +334,22 @@ module _ (z : HeapSize) (agents : ℕ) (W : List ℕ) (vs : List View) (s : IsSo
   known_flat : (W' : List ℕ) → KeepsUnits W' → (i : ℕ) (old : Form) → Has v.forms i old → IsCons old → (wide : Bool) (start n : ℕ) (b : Bool) → (b ≡ false → form z W i ≢ word_of old)
       → let w : View = cond b (record (freeze v start n) { forms = insert v.forms i (Flat wide start false) }) (seen_form v i (form_of (form z W i))) in
       IsSound z agents W' (set vs j (learned_all w)) → KeepsKnown v (learned_all w) × IsSeenSettled (learned_all w) i
-  known_flat W' same i old seen cons wide start n true ne kept = let f : Form = Flat wide start false in
-      (known_moved W' same i old seen (no_fixed old cons) (no_thin old cons) f (λ a c. c) (record (freeze v start n) { forms = insert v.forms i f }) live refl refl refl refl refl (frozen_stay start n) kept, (f, insert_same v.forms i f, λ c. c))
+  known_flat W' same i old seen cons wide start n true ne kept = let f : Form = Flat wide start false in (
+    known_moved W' same i old seen (no_fixed old cons) (no_thin old cons) f (λ a c. c)
+        (record (freeze v start n) { forms = insert v.forms i f }) live refl refl refl refl refl (frozen_stay start n) kept,
+    (f, insert_same v.forms i f, λ c. c),
+  )
   known_flat W' same i old seen cons wide start n false ne kept = let t = known_lost W' same i old seen (no_fixed old cons) (no_thin old cons) (form_of (form z W i)) refl (ne refl) kept in
       (t.0, (t.1.0, t.1.1, λ c. no_cons_later old t.1.0 t.1.2 c))
 
-  pub known_flattened : (W' : List ℕ) → KeepsUnits W' → (i : ℕ) (old new : Form) → MayFlatten v i old new → (x : ℕ) → form z W i ≡ x → IsSound z agents W' (set vs j (learned_all (flattened v i old new x)))
+  pub known_flattened : (W' : List ℕ) → KeepsUnits W' → (i : ℕ) (old new : Form) → MayFlatten v i old new → (x : ℕ) → form z W i ≡ x →
+      IsSound z agents W' (set vs j (learned_all (flattened v i old new x)))
       → KeepsKnown v (learned_all (flattened v i old new x)) × IsSeenSettled (learned_all (flattened v i old new x)) i
   known_flattened W' same i old (Flat wide start false) may x e kept = let n : ℕ = words_over wide (length (unwrap_or (get v.units i) [])) in
       let P : ℕ → Type 0 = λ y. let w : View = cond (eqb y (word_of old)) (record (freeze v start n) { forms = insert v.forms i (Flat wide start false) }) (seen_form v i (form_of y)) in
       IsSound z agents W' (set vs j (learned_all w)) → KeepsKnown v (learned_all w) × IsSeenSettled (learned_all w) i in
-      subst P e (known_flat W' same i old may.0 may.1 wide start n (eqb (form z W i) (word_of old)) (λ miss hit. let yes : eqb (form z W i) (word_of old) ≡ true = eq-eqb (form z W i) (word_of old) hit in cc)) kept
+      subst P e (known_flat W' same i old may.0 may.1 wide start n (eqb (form z W i) (word_of old))
+      (λ miss hit. let yes : eqb (form z W i) (word_of old) ≡ true = eq-eqb (form z W i) (word_of old) hit in cc)) kept
   known_flattened W' same i old (Flat wide start true) may x e kept = absurd may
   known_flattened W' same i old Unborn may x e kept = absurd may
   known_flattened W' same i old (Cons a b c) may x e kept = absurd may
@@ -311,7 +365,8 @@ module _ (z : HeapSize) (agents : ℕ) (W : List ℕ) (vs : List View) (s : IsSo
 
   -- thinning; b says whether the form was found
   known_thin : (W' : List ℕ) → KeepsUnits W' → (i t : ℕ) (old : Form) → MayThin v i old t → (b : Bool) → (b ≡ false → form z W i ≢ word_of old)
-      → let w : View = seen_form v i (cond b (Some (Thin t)) (form_of (form z W i))) in IsSound z agents W' (set vs j (learned_all w)) → KeepsKnown v (learned_all w) × Has (learned_all w).forms i (Thin t)
+      → let w : View = seen_form v i (cond b (Some (Thin t)) (form_of (form z W i))) in IsSound z agents W' (set vs j (learned_all w)) →
+      KeepsKnown v (learned_all w) × Has (learned_all w).forms i (Thin t)
   known_thin W' same i t old may true ne kept = (
     known_moved W' same i old may.0 (can_fixed old may.1) (can_thin old may.1) (Thin t) (λ a c. c) (seen_form v i (Some (Thin t))) live refl refl refl refl refl (λ c x h. h) kept,
     insert_same v.forms i (Thin t),
@@ -324,5 +379,6 @@ module _ (z : HeapSize) (agents : ℕ) (W : List ℕ) (vs : List View) (s : IsSo
   pub known_thinned : (W' : List ℕ) → KeepsUnits W' → (i t : ℕ) (old : Form) → MayThin v i old t → (x : ℕ) → form z W i ≡ x → IsSound z agents W' (set vs j (learned_all (thinned v i old t x)))
       → KeepsKnown v (learned_all (thinned v i old t x)) × Has (learned_all (thinned v i old t x)).forms i (Thin t)
   known_thinned W' same i t old may x e kept =
-      let P : ℕ → Type 0 = λ y. let w : View = seen_form v i (cond (eqb y (word_of old)) (Some (Thin t)) (form_of y)) in IsSound z agents W' (set vs j (learned_all w)) → KeepsKnown v (learned_all w) × Has (learned_all w).forms i (Thin t) in
+      let P : ℕ → Type 0 = λ y. let w : View = seen_form v i (cond (eqb y (word_of old)) (Some (Thin t)) (form_of y)) in IsSound z agents W'
+      (set vs j (learned_all w)) → KeepsKnown v (learned_all w) × Has (learned_all w).forms i (Thin t) in
       subst P e (known_thin W' same i t old may (eqb (form z W i) (word_of old)) (λ miss hit. let yes : eqb (form z W i) (word_of old) ≡ true = eq-eqb (form z W i) (word_of old) hit in cc)) kept

@@ -27,11 +27,13 @@ module _ (v w : View) (z : HeapSize) where
           subst (λ (y : JsStr). Has w.units y.id ((x ∷ us) ++ [])) (sym is) (subst (Has w.units a.id) (sym (append-nil (x ∷ us))) k)
       fitting (x ∷ us) (y ∷ vs) h k l m = dite (dec_le MIN_CONS (length (x ∷ us) + length (y ∷ vs)))
           (λ n. ⊎_elim
-          (λ (c : (s : JsStr) × (Ok t ≡ Ok s) × IsRope v w a b s ((x ∷ us) ++ y ∷ vs)). let same : t ≡ c.0 = (let o = c.1 in cc) in subst (λ (q : JsStr). Has w.units q.id ((x ∷ us) ++ y ∷ vs)) (sym same) c.2.0)
+          (λ (c : (s : JsStr) × (Ok t ≡ Ok s) × IsRope v w a b s ((x ∷ us) ++ y ∷ vs)). let same : t ≡ c.0 = (let o = c.1 in cc) in subst
+          (λ (q : JsStr). Has w.units q.id ((x ∷ us) ++ y ∷ vs)) (sym same) c.2.0)
           (λ c. let o = c.1 in absurd (cc))
           (h.rope m (omega arith) (omega arith) n))
           (λ n. ⊎_elim
-          (λ (c : (s : JsStr) × (Ok t ≡ Ok s) × IsCopy v w s ((x ∷ us) ++ y ∷ vs)). let same : t ≡ c.0 = (let o = c.1 in cc) in subst (λ (q : JsStr). Has w.units q.id ((x ∷ us) ++ y ∷ vs)) (sym same) c.2.0)
+          (λ (c : (s : JsStr) × (Ok t ≡ Ok s) × IsCopy v w s ((x ∷ us) ++ y ∷ vs)). let same : t ≡ c.0 = (let o = c.1 in cc) in subst
+          (λ (q : JsStr). Has w.units q.id ((x ∷ us) ++ y ∷ vs)) (sym same) c.2.0)
           (λ c. let o = c.1 in absurd (cc))
           (h.short m (omega arith) (omega arith) (omega arith)))
 
@@ -52,7 +54,8 @@ module _ (v w : View) (z : HeapSize) where
       (λ l. part_units s t from (part from (to - from) us) (Ok t) refl (h.long other l))
       (λ l. copied_units t (part from (to - from) us) (Ok t) refl (h.short other (omega arith)))
 
-  pub cut_units : (s t : JsStr) (from to : ℕ) (us : List ℕ) → IsCut v w z s from to us (Ok t) → Has w.units s.id us → IsSeenSettled w s.id → from ≤ to → to ≤ length us → Has w.units t.id (part from (to - from) us) × IsSeenSettled w t.id
+  pub cut_units : (s t : JsStr) (from to : ℕ) (us : List ℕ) → IsCut v w z s from to us (Ok t) → Has w.units s.id us → IsSeenSettled w s.id →
+      from ≤ to → to ≤ length us → Has w.units t.id (part from (to - from) us) × IsSeenSettled w t.id
   cut_units s t from to us h k settled l m = dite (ℕ_discrete from 0)
       (λ (e : from ≡ 0). dite (ℕ_discrete to (length us))
       (λ f. let g = h.whole e f in let is : t ≡ s = (let same : t ≡ g.0 = (let o = g.1 in cc) in same ∙ g.2.0) in
@@ -61,11 +64,13 @@ module _ (v w : View) (z : HeapSize) where
       (λ ne. other_units s t from to us h (inr (omega arith))))
       (λ ne. other_units s t from to us h (inl (omega arith)))
 
-  pub cut_all : (s : JsStr) (from to : ℕ) (r : Result JsStr TextFull) → ((us : List ℕ) → Has v.units s.id us → IsCut v w z s from to us r × Has w.units s.id us × (from ≤ to) × (to ≤ length us)) → IsSeenSettled w s.id
+  pub cut_all : (s : JsStr) (from to : ℕ) (r : Result JsStr TextFull) → ((us : List ℕ) → Has v.units s.id us → IsCut v w z s from to us r ×
+      Has w.units s.id us × (from ≤ to) × (to ≤ length us)) → IsSeenSettled w s.id
       → IfOk r (λ t. (us : List ℕ) → Has v.units s.id us → Has w.units t.id (part from (to - from) us))
   cut_all s from to (Ok t) f settled = λ us h. let q = f us h in (cut_units s t from to us q.0 q.1 settled q.2 q.3).0
   cut_all s from to (Err e) f settled = tt
 
-  pub cut_settled : (s : JsStr) (from to : ℕ) (us : List ℕ) (r : Result JsStr TextFull) → IsCut v w z s from to us r → Has w.units s.id us → from ≤ to → to ≤ length us → IsSeenSettled w s.id → IfOk r (λ t. IsSeenSettled w t.id)
+  pub cut_settled : (s : JsStr) (from to : ℕ) (us : List ℕ) (r : Result JsStr TextFull) → IsCut v w z s from to us r → Has w.units s.id us →
+      from ≤ to → to ≤ length us → IsSeenSettled w s.id → IfOk r (λ t. IsSeenSettled w t.id)
   cut_settled s from to us (Ok t) c h l m settled = (cut_units s t from to us c h settled l m).1
   cut_settled s from to us (Err e) c h l m settled = tt

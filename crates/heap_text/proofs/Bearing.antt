@@ -48,7 +48,8 @@ module _ (v : View) (wide : Bool) (start : ℕ) (us : List ℕ) (h : IsWritten v
   pub written_fits : (i : ℕ) → FormFits v i (length us) (Flat wide start false)
   written_fits i = (
     h.small,
-    (λ c lo hi. let e : start + (c - start) ≡ c = omega arith in let t = h.words.each (c - start) (omega arith) in inl (subst (HasKey v.own_words) e (key_of v.own_words (start + (c - start)) t.0 t.1))),
+    (λ c lo hi. let e : start + (c - start) ≡ c = omega arith in
+        let t = h.words.each (c - start) (omega arith) in inl (subst (HasKey v.own_words) e (key_of v.own_words (start + (c - start)) t.0 t.1))),
     (λ o lo hi. written_lane o hi ∙ get_or_past us o 0 lo),
     h.empty,
   )
@@ -69,4 +70,18 @@ pub born_form : (v : View) (i : ℕ) (wide : Bool) (start : ℕ) → Has (born v
 born_form v i wide start = insert_same v.forms i (Flat wide start false)
 
 pub continues_born : (v : View) (i : ℕ) (wide : Bool) (start : ℕ) → KeepsKnown v (born v i (Flat wide start false)) → Continues v (born v i (Flat wide start false))
-continues_born v i wide start k = record { known = k; sizes = refl; agents = refl; live = refl; share = refl; ids_used = omega arith; words_used = omega arith; ids_low = omega arith; words_low = omega arith; slots = refl; seen = refl; mine = refl; slot_loads = refl }
+continues_born v i wide start k = record {
+  known = k;
+  sizes = refl;
+  agents = refl;
+  live = refl;
+  share = refl;
+  ids_used = omega arith;
+  words_used = omega arith;
+  ids_low = omega arith;
+  words_low = omega arith;
+  slots = refl;
+  seen = refl;
+  mine = refl;
+  slot_loads = refl;
+}

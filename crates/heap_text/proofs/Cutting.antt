@@ -33,7 +33,8 @@ both_true true b e f = f
 both_true false b e f = absurd (cc)
 
 within_told : (o n offset : ℕ) (us : List ℕ) → offset ≤ o → o + n ≤ offset + length us → part_within o n offset (Some us) ≡ Some (part (o - offset) n us)
-within_told o n offset us l m = ap (λ (b : Bool). cond b (Some (part (o - offset) n us)) None) (both_true (nat_le offset o) (nat_le (o + n) (offset + length us)) (le-leb offset o l) (le-leb (o + n) (offset + length us) m))
+within_told o n offset us l m = ap (λ (b : Bool). cond b (Some (part (o - offset) n us)) None)
+    (both_true (nat_le offset o) (nat_le (o + n) (offset + length us)) (le-leb offset o l) (le-leb (o + n) (offset + length us) m))
 
 module _ (v : View) (s from n : ℕ) (us : List ℕ) (units : Has v.units s us) (room : from + n ≤ length us) where
   -- the string itself shows its part
@@ -48,7 +49,8 @@ module _ (v : View) (s from n : ℕ) (us : List ℕ) (units : Has v.units s us) 
       let told : part_by v parent o n s (get v.forms s) ≡ Some (part (o - offset) n us) = ap (part_by v parent o n s) f
       ∙ (ap (λ (b : Bool). cond b (part_within o n offset (get v.units s)) None) (eq-eqb parent parent refl)
       ∙ (ap (part_within o n offset) units ∙ within_told o n offset us (omega arith) (omega arith))) in
-      let t = first_at (λ j. part_by v parent o n j (get v.forms j)) s (keys v.forms) (part (o - offset) n us) (sym (contains_key-keys v.forms s) ∙ key_of v.forms s (Sliced wide parent offset) f) told in
+      let t = first_at (λ j. part_by v parent o n j (get v.forms j)) s (keys v.forms) (part (o - offset) n us)
+      (sym (contains_key-keys v.forms s) ∙ key_of v.forms s (Sliced wide parent offset) f) told in
       first_two (part_within o n 0 (get v.units parent)) (first_in (λ j. part_by v parent o n j (get v.forms j)) (keys v.forms)) (λ none. t)
 
   own_right : StandsIn v → (y : List ℕ) → shown_part v s (0 + from) n ≡ Some y → y ≡ part from n us
@@ -56,7 +58,8 @@ module _ (v : View) (s from n : ℕ) (us : List ℕ) (units : Has v.units s us) 
       (shown_part_right z W vs st.standing v k s (0 + from) n y e).0 ∙ (λ i. part (plain i) n (a.1 i))
 
   led_right : StandsIn v → (wide : Bool) (parent offset : ℕ) → Has v.forms s (Sliced wide parent offset) → (y : List ℕ) → shown_part v parent (offset + from) n ≡ Some y → y ≡ part from n us
-  led_right (z, agents, W, vs, j, st, at, live) wide parent offset f y e = let k = st.knows j v at live in let a = k.of_units s us units in let sh = (k.of_forms s (Sliced wide parent offset) f).shows in
+  led_right (z, agents, W, vs, j, st, at, live) wide parent offset f y e = let k = st.knows j v at live in let a = k.of_units s us units in
+      let sh = (k.of_forms s (Sliced wide parent offset) f).shows in
       let m : ℕ = length_word z W s in let size : m ≡ length us = (st.standing s a.0).length_is ∙ ap length a.1 in let P : List ℕ = units_of z W parent in
       let whole : us ≡ part offset m P = sym a.1 ∙ sh.2 in
       (shown_part_right z W vs st.standing v k parent (offset + from) n y e).0 ∙ sym (ap (part from n) whole ∙ part_part offset m from n P sh.3 (omega arith))
@@ -96,7 +99,8 @@ pub narrow_part : (wide : Bool) (from n : ℕ) (us : List ℕ) → IsNarrow wide
 narrow_part true from n us h = tt
 narrow_part false from n us h = All-take (λ (u : ℕ). u < 256) n (drop from us) (All-drop (λ (u : ℕ). u < 256) from us h)
 
-pub born_part : (v : View) (i n : ℕ) (wide : Bool) (parent offset : ℕ) (us : List ℕ) → Has v.own_ids i n → shown_part v parent offset n ≡ Some us → Has (born v i (Sliced wide parent offset)).units i us
+pub born_part : (v : View) (i n : ℕ) (wide : Bool) (parent offset : ℕ) (us : List ℕ) → Has v.own_ids i n → shown_part v parent offset n ≡
+    Some us → Has (born v i (Sliced wide parent offset)).units i us
 born_part v i n wide parent offset us own told = insert_same v.units i (units_for v (unwrap_or (get v.own_ids i) 0) (Sliced wide parent offset))
     ∙ (ap (λ (o : Option ℕ). Some (unwrap_or (shown_part v parent offset (unwrap_or o 0)) [])) own ∙ ap (λ (o : Option (List ℕ)). Some (unwrap_or o [])) told)
 
@@ -107,7 +111,21 @@ pub sliced_other : (v : View) (i q : ℕ) (wide : Bool) (parent offset : ℕ) (f
 sliced_other v i q wide parent offset f less h = insert_other v.forms i q (Sliced wide parent offset) (λ e. absurd (omega arith)) ∙ h
 
 pub continues_part : (v : View) (i : ℕ) (wide : Bool) (parent offset : ℕ) → KeepsKnown v (born v i (Sliced wide parent offset)) → Continues v (born v i (Sliced wide parent offset))
-continues_part v i wide parent offset k = record { known = k; sizes = refl; agents = refl; live = refl; share = refl; ids_used = omega arith; words_used = omega arith; ids_low = omega arith; words_low = omega arith; slots = refl; seen = refl; mine = refl; slot_loads = refl }
+continues_part v i wide parent offset k = record {
+  known = k;
+  sizes = refl;
+  agents = refl;
+  live = refl;
+  share = refl;
+  ids_used = omega arith;
+  words_used = omega arith;
+  ids_low = omega arith;
+  words_low = omega arith;
+  slots = refl;
+  seen = refl;
+  mine = refl;
+  slot_loads = refl;
+}
 
 pub offset_small : (f : Form) → IsInRange f → offset_of f < 2 ^ 29
 offset_small Unborn h = omega arith

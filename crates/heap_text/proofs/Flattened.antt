@@ -1,5 +1,39 @@
 -- Own words that were filled with the units of a Cons, and what the compare-exchange that flattens it leaves.
-use Rattle.std.proofs.Common.{◌≡◌, ◌≢◌, ℕ, zero, suc, ◌+◌, ◌*◌, ◌/◌, ◌<◌, ◌≤◌, ◌==◌, ◌⊎◌, inl, inr, Bool, true, false, cond, List, [], length, get_or, refl, ap, sym, subst, ◌∙◌, arith, eq-eqb, ne_eqb, Option, Some, None}
+use Rattle.std.proofs.Common.{
+  ◌≡◌,
+  ◌≢◌,
+  ℕ,
+  zero,
+  suc,
+  ◌+◌,
+  ◌*◌,
+  ◌/◌,
+  ◌<◌,
+  ◌≤◌,
+  ◌==◌,
+  ◌⊎◌,
+  inl,
+  inr,
+  Bool,
+  true,
+  false,
+  cond,
+  List,
+  [],
+  length,
+  get_or,
+  refl,
+  ap,
+  sym,
+  subst,
+  ◌∙◌,
+  arith,
+  eq-eqb,
+  ne_eqb,
+  Option,
+  Some,
+  None,
+}
 use Rattle.std.specs.Prelude.{unwrap_or}
 use Rattle.std.proofs.lemmas.Grind.{same_number_lists}
 use Rattle.std.specs.FinMap.{FinMap, get, insert, remove}
@@ -40,8 +74,10 @@ module _ (v : View) (before : FinMap nat_cmp ℕ) (wide : Bool) (start : ℕ) (u
       (λ k l. let n = length_span (shown_word v) wide start 0 (length us) in let l' : k < length us = omega arith in let m : 0 + k < length us = omega arith in
       span_lane (shown_word v) wide start 0 (length us) k l' ∙ (shown_lane (0 + k) (lane_there wide (length us) (0 + k) m) ∙ f.inside k l'))
 
-  pub filled_zeros : ((q : ℕ) → q < words_over wide (length us) → Has before (start + q) 0) → (o : ℕ) → length us ≤ o → o < words_over wide (length us) * lane_count wide → lane_in (shown_word v) wide start o ≡ 0
-  filled_zeros none o lo hi = shown_lane o hi ∙ (f.above o (omega arith) ∙ zero_lane (own_word before) wide start o (ap (λ (x : Option ℕ). unwrap_or x 0) (none (o / lane_count wide) (word_inside wide (length us) o hi))))
+  pub filled_zeros : ((q : ℕ) → q < words_over wide (length us) → Has before (start + q) 0) → (o : ℕ) → length us ≤ o → o < words_over wide
+      (length us) * lane_count wide → lane_in (shown_word v) wide start o ≡ 0
+  filled_zeros none o lo hi = shown_lane o hi ∙ (f.above o (omega arith) ∙ zero_lane (own_word before) wide start o
+      (ap (λ (x : Option ℕ). unwrap_or x 0) (none (o / lane_count wide) (word_inside wide (length us) o hi))))
 
 key_without : (m : FinMap nat_cmp ℕ) (c n q : ℕ) → q < c → HasKey m q → HasKey (without_run m c n) q
 key_without m c zero q l h = h
@@ -62,7 +98,21 @@ module _ (v : View) (i n : ℕ) (wide : Bool) (start : ℕ) where
 
   moving_by : (b : Bool) (o : Option Form) → KeepsKnown v (learned_all (moved b o)) → IsMoving v (learned_all (moved b o)) start
   moving_by true o k = record {
-    continues = record { known = k; sizes = refl; agents = refl; live = refl; share = refl; ids_used = omega arith; words_used = omega arith; ids_low = omega arith; words_low = omega arith; slots = refl; seen = refl; mine = refl; slot_loads = refl };
+    continues = record {
+      known = k;
+      sizes = refl;
+      agents = refl;
+      live = refl;
+      share = refl;
+      ids_used = omega arith;
+      words_used = omega arith;
+      ids_low = omega arith;
+      words_low = omega arith;
+      slots = refl;
+      seen = refl;
+      mine = refl;
+      slot_loads = refl;
+    };
     used = refl;
     own_ids = refl;
     loads = refl;
@@ -70,7 +120,21 @@ module _ (v : View) (i n : ℕ) (wide : Bool) (start : ℕ) where
     below = λ c x l h. without_other v.own_words start (words_over wide n) c x (λ k m e. omega arith) h;
   }
   moving_by false None k = record {
-    continues = record { known = k; sizes = refl; agents = refl; live = refl; share = refl; ids_used = omega arith; words_used = omega arith; ids_low = omega arith; words_low = omega arith; slots = refl; seen = refl; mine = refl; slot_loads = refl };
+    continues = record {
+      known = k;
+      sizes = refl;
+      agents = refl;
+      live = refl;
+      share = refl;
+      ids_used = omega arith;
+      words_used = omega arith;
+      ids_low = omega arith;
+      words_low = omega arith;
+      slots = refl;
+      seen = refl;
+      mine = refl;
+      slot_loads = refl;
+    };
     used = refl;
     own_ids = refl;
     loads = refl;
@@ -78,7 +142,21 @@ module _ (v : View) (i n : ℕ) (wide : Bool) (start : ℕ) where
     below = λ c x l h. h;
   }
   moving_by false (Some f) k = record {
-    continues = record { known = k; sizes = refl; agents = refl; live = refl; share = refl; ids_used = omega arith; words_used = omega arith; ids_low = omega arith; words_low = omega arith; slots = refl; seen = refl; mine = refl; slot_loads = refl };
+    continues = record {
+      known = k;
+      sizes = refl;
+      agents = refl;
+      live = refl;
+      share = refl;
+      ids_used = omega arith;
+      words_used = omega arith;
+      ids_low = omega arith;
+      words_low = omega arith;
+      slots = refl;
+      seen = refl;
+      mine = refl;
+      slot_loads = refl;
+    };
     used = refl;
     own_ids = refl;
     loads = refl;
@@ -103,10 +181,12 @@ module _ (v w : View) (i : ℕ) (old : Form) (wide : Bool) (start x : ℕ) (e : 
   lost_own ne = ap (λ (u : View). u.own_words) e ∙ lost_by v i (length (unwrap_or (get v.units i) [])) wide start (x == word_of old) (form_of x) (ne_eqb x (word_of old) ne)
 
   won_form : x ≡ word_of old → Has w.forms i (Flat wide start false)
-  won_form is = subst (λ (u : View). Has u.forms i (Flat wide start false)) (sym e) (won_by v i (length (unwrap_or (get v.units i) [])) wide start (x == word_of old) (form_of x) (eq-eqb x (word_of old) is))
+  won_form is = subst (λ (u : View). Has u.forms i (Flat wide start false)) (sym e)
+      (won_by v i (length (unwrap_or (get v.units i) [])) wide start (x == word_of old) (form_of x) (eq-eqb x (word_of old) is))
 
 -- the Flat stands, or the words are own still
-pub won_or_lost : (v w : View) (i : ℕ) (old : Form) (wide : Bool) (start n : ℕ) (s : Step) → IsMoved old s → w ≡ learned_all (flattened v i old (Flat wide start false) (header_found old s)) → ((q : ℕ) → q < n → HasKey v.own_words (start + q))
+pub won_or_lost : (v w : View) (i : ℕ) (old : Form) (wide : Bool) (start n : ℕ) (s : Step) → IsMoved old s → w ≡ learned_all
+    (flattened v i old (Flat wide start false) (header_found old s)) → ((q : ℕ) → q < n → HasKey v.own_words (start + q))
     → Has w.forms i (Flat wide start false) ⊎ ((q : ℕ) → q < n → HasKey w.own_words (start + q))
 won_or_lost v w i old wide start n Won m e own = inl (won_form v w i old wide start (word_of old) e refl)
 won_or_lost v w i old wide start n (Lost x) m e own = inr (λ q l. subst (λ (k : FinMap nat_cmp ℕ). HasKey k (start + q)) (sym (lost_own v w i old wide start x e m)) (own q l))

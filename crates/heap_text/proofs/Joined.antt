@@ -15,7 +15,8 @@ some_words true n l = omega arith
 some_words false n l = omega arith
 
 -- both sides, one after the other, are the whole
-pub both_filled : (wide : Bool) (start : ℕ) (a b c : ℕ → ℕ) (us ls rs : List ℕ) (m : ℕ) → IsBoth us ls rs m (length us) → IsFilled wide start a b 0 m (λ k. get_or ls k 0) → IsFilled wide start b c m (length us - m) (λ k. get_or rs k 0)
+pub both_filled : (wide : Bool) (start : ℕ) (a b c : ℕ → ℕ) (us ls rs : List ℕ) (m : ℕ) → IsBoth us ls rs m (length us) → IsFilled wide
+    start a b 0 m (λ k. get_or ls k 0) → IsFilled wide start b c m (length us - m) (λ k. get_or rs k 0)
     → IsFilled wide start a c 0 (length us) (λ k. get_or us k 0)
 both_filled wide start a b c us ls rs m h f g = let sum : m + (length us - m) ≡ length us = omega (arith, h.right_some) in let plain : m ≡ 0 + m = omega arith in
     subst (λ (n : ℕ). IsFilled wide start a c 0 n (λ k. get_or us k 0)) sum

@@ -88,7 +88,21 @@ pub born_other : (v : View) (i q : ℕ) (wide : Bool) (l r : ℕ) (f : Form) →
 born_other v i q wide l r f less h = insert_other v.forms i q (Cons wide l r) (λ e. absurd (omega arith)) ∙ h
 
 pub continues_rope : (v : View) (i : ℕ) (wide : Bool) (l r : ℕ) → KeepsKnown v (born v i (Cons wide l r)) → Continues v (born v i (Cons wide l r))
-continues_rope v i wide l r k = record { known = k; sizes = refl; agents = refl; live = refl; share = refl; ids_used = omega arith; words_used = omega arith; ids_low = omega arith; words_low = omega arith; slots = refl; seen = refl; mine = refl; slot_loads = refl }
+continues_rope v i wide l r k = record {
+  known = k;
+  sizes = refl;
+  agents = refl;
+  live = refl;
+  share = refl;
+  ids_used = omega arith;
+  words_used = omega arith;
+  ids_low = omega arith;
+  words_low = omega arith;
+  slots = refl;
+  seen = refl;
+  mine = refl;
+  slot_loads = refl;
+}
 
 -- what a call answers within the call that joins
 abbrev pub lifted : Result JsStr TextFull → Result JsStr JoinFault

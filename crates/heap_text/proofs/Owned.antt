@@ -54,7 +54,8 @@ module _ (v u : View) (id n : ℕ) (kept : KeepsOwn v u) where
       let long : count ≡ n = ap (λ (o : Option ℕ). unwrap_or o 0) (insert_same u.own_ids id n) in record {
         ids = but_id;
         words = λ c x side h. without_other u.own_words start (words_over wide count) c x
-            (λ k l e. let m : k < words_over wide n = subst (λ (m : ℕ). k < words_over wide m) long l in ⊎_elim (λ low. absurd (omega (arith, low, e))) (λ high. absurd (omega (arith, high, e, m))) side) (kept.words c x h);
+            (λ k l e. let m : k < words_over wide n = subst (λ (m : ℕ). k < words_over wide m) long l in ⊎_elim
+            (λ low. absurd (omega (arith, low, e))) (λ high. absurd (omega (arith, high, e, m))) side) (kept.words c x h);
       }
 
   pub but_rope : (wide : Bool) (l r : ℕ) → KeepsOwnBut v (born (stored_length u id n) id (Cons wide l r)) id 0 0
@@ -81,7 +82,8 @@ own_born v w x z id start n kept e above but fresh = record {
 }
 
 -- Content words above all own ones were claimed and written, and became those of a Flat or stayed the agent's own.
-pub own_moved : (v w f x : View) (start want : ℕ) → w ≡ won_claim v Words start want → ((c : ℕ) → HasKey v.own_words c → c < start) → f.own_ids ≡ w.own_ids → KeepsBelow start w f → x.own_ids ≡ f.own_ids → KeepsBelow start f x → KeepsOwn v x
+pub own_moved : (v w f x : View) (start want : ℕ) → w ≡ won_claim v Words start want → ((c : ℕ) → HasKey v.own_words c → c < start) →
+    f.own_ids ≡ w.own_ids → KeepsBelow start w f → x.own_ids ≡ f.own_ids → KeepsBelow start f x → KeepsOwn v x
 own_moved v w f x start want e above ids filled same moved = record {
   ids = λ i n h. subst (λ (m : FinMap nat_cmp ℕ). Has m i n) (sym (same ∙ (ids ∙ ap (λ (y : View). y.own_ids) e))) h;
   words = λ c y h. let low = above c (key_of v.own_words c y h) in

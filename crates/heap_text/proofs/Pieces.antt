@@ -87,7 +87,14 @@ spared_after v u w words words' f r e h = let a : u.used.words ≡ v.used.words 
   used_words = omega arith;
   own_ids = h.own_ids ∙ r.own_ids;
   own_words = λ c k. h.own_words c (subst (λ (m : FinMap nat_cmp ℕ). HasKey m c) (sym r.own_words) k);
-  claimed = (h.claimed.0, h.claimed.1, h.claimed.2 ∙ ap (λ (n : ℕ). n + h.claimed.1) a, h.claimed.3, λ q l k. h.claimed.4 q l (subst (λ (m : FinMap nat_cmp ℕ). HasKey m (h.claimed.0 + q)) (sym r.own_words) k));
+  claimed = (
+    h.claimed.0,
+    h.claimed.1,
+    h.claimed.2 ∙ ap (λ (n : ℕ). n + h.claimed.1) a,
+    h.claimed.3,
+    λ q l k. h.claimed.4 q l
+        (subst (λ (m : FinMap nat_cmp ℕ). HasKey m (h.claimed.0 + q)) (sym r.own_words) k),
+  );
 }
 
 -- a call refused for words, which claimed none; and one refused for an id, which keeps the words that it wrote
@@ -101,15 +108,18 @@ spared_words v u w words end f r full a b c k = let e = full.0 in spared_after v
   claimed = (0, 0, (omega arith), (λ q l. absurd (omega arith)), (λ q l k. absurd (omega arith)));
 }
 
-pub spared_ids : (v u w x : View) (start words at : ℕ) (f : CounterFull) → OnlyLoads v u → x ≡ loaded_counter w counter.Ids at → w.used.ids ≡ u.used.ids → w.used.words ≡ u.used.words + words → w.own_ids ≡ u.own_ids
-    → ((c : ℕ) → HasKey u.own_words c → HasKey w.own_words c) → ((q : ℕ) → q < words → HasKey w.own_words (start + q)) → ((q : ℕ) → q < words → HasKey u.own_words (start + q) → ⊥) → IsSpared v x words (Ids f)
-spared_ids v u w x start words at f r e a b c k own fresh = subst (λ (y : View). IsSpared v y words (Ids f)) (sym e) (spared_after v u (loaded_counter w counter.Ids at) words words (Ids f) r refl record {
-  used_ids = a;
-  used_words = omega arith;
-  own_ids = c;
-  own_words = k;
-  claimed = (start, words, b, own, fresh);
-})
+pub spared_ids : (v u w x : View) (start words at : ℕ) (f : CounterFull) → OnlyLoads v u → x ≡ loaded_counter w counter.Ids at → w.used.ids
+    ≡ u.used.ids → w.used.words ≡ u.used.words + words → w.own_ids ≡ u.own_ids
+    → ((c : ℕ) → HasKey u.own_words c → HasKey w.own_words c) → ((q : ℕ) → q < words → HasKey w.own_words (start + q)) → ((q : ℕ) → q <
+    words → HasKey u.own_words (start + q) → ⊥) → IsSpared v x words (Ids f)
+spared_ids v u w x start words at f r e a b c k own fresh = subst (λ (y : View). IsSpared v y words (Ids f)) (sym e)
+    (spared_after v u (loaded_counter w counter.Ids at) words words (Ids f) r refl record {
+      used_ids = a;
+      used_words = omega arith;
+      own_ids = c;
+      own_words = k;
+      claimed = (start, words, b, own, fresh);
+    })
 
 -- the answer of a copy, after loads
 pub copy_answer : (v w x : View) (z : HeapSize) (r : Result JsStr TextFull) (xs us : List ℕ) (n : ℕ) → xs ≡ us → words_over (is_wide xs) n ≡ words_over (is_wide us) (length us) → OnlyLoads v w

@@ -33,7 +33,8 @@ same_bit seen wide l r left right f is h = ⊎_elim
     (λ (e : Cons seen l r ≡ f). let same : Cons seen l r ≡ Cons wide left right = e ∙ is in cc)
     (λ (k : IsLater (Cons seen l r) f). let never : IsLater (Cons seen l r) (Cons wide left right) = subst (IsLater (Cons seen l r)) is k in absurd (cc)) h
 
-pub sides_of : (b x : View) (i left right m : ℕ) (us : List ℕ) → KeepsKnown b x → (left < i) × (right < i) → HasKey b.units left × HasKey b.units right → IsBoth us (units_at b left) (units_at b right) m (length us) → HasSides x i us
+pub sides_of : (b x : View) (i left right m : ℕ) (us : List ℕ) → KeepsKnown b x → (left < i) × (right < i) → HasKey b.units left × HasKey
+    b.units right → IsBoth us (units_at b left) (units_at b right) m (length us) → HasSides x i us
 sides_of b x i left right m us k below known both = let e = both.left_count in let e' = both.right_count in let s = both.left_some in let s' = both.right_some in record {
   left = left;
   right = right;

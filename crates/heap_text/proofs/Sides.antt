@@ -1,5 +1,38 @@
 -- The sides of a Cons: their units are learned by the length of the left one, and both joined are the units of the Cons.
-use Rattle.std.proofs.Common.{◌≡◌, ℕ, ◌+◌, ◌<◌, ◌≤◌, ◌==◌, ◌⊎◌, inl, inr, ⊎_elim, Bool, true, false, cond, List, [], ◌∷◌, ◌++◌, length, take, drop, sym, refl, ap, ◌∙◌, subst, arith, eq-eqb, ne_eqb, Option, Some, None}
+use Rattle.std.proofs.Common.{
+  ◌≡◌,
+  ℕ,
+  ◌+◌,
+  ◌<◌,
+  ◌≤◌,
+  ◌==◌,
+  ◌⊎◌,
+  inl,
+  inr,
+  ⊎_elim,
+  Bool,
+  true,
+  false,
+  cond,
+  List,
+  [],
+  ◌∷◌,
+  ◌++◌,
+  length,
+  take,
+  drop,
+  sym,
+  refl,
+  ap,
+  ◌∙◌,
+  subst,
+  arith,
+  eq-eqb,
+  ne_eqb,
+  Option,
+  Some,
+  None,
+}
 use Rattle.std.proofs.lemmas.List.{length-append}
 use Rattle.std.proofs.Math.Logic.{∥∥₁_elim}
 use Rattle.std.proofs.Props.{props}
@@ -34,7 +67,8 @@ in_right i (n ∷ a) b h = inr (in_right i a b h)
 named_sides : (es : List (ℕ × Form)) (i : ℕ) (wide : Bool) (l r : ℕ) → find nat_cmp i es ≡ Some (Cons wide l r) → IsIn l (all_named es) × IsIn r (all_named es)
 named_sides [] i wide l r h = absurd (cc)
 named_sides (e ∷ es) i wide l r h = dite (ℕ_discrete i e.0)
-    (λ (is : i ≡ e.0). let here : Some e.1 ≡ Some (Cons wide l r) = sym (ap (λ b. cond b (Some e.1) (find nat_cmp i es)) (unsigned_tied i e.0 ∙ eq-eqb i e.0 is)) ∙ h in let form : e.1 ≡ Cons wide l r = cc in
+    (λ (is : i ≡ e.0). let here : Some e.1 ≡ Some (Cons wide l r) = sym
+    (ap (λ b. cond b (Some e.1) (find nat_cmp i es)) (unsigned_tied i e.0 ∙ eq-eqb i e.0 is)) ∙ h in let form : e.1 ≡ Cons wide l r = cc in
     subst (λ (f : Form). IsIn l (named_by (e.0, f) ++ all_named es) × IsIn r (named_by (e.0, f) ++ all_named es)) (sym form) (inl refl, inr (inl refl)))
     (λ ne. let t = named_sides es i wide l r (sym (ap (λ b. cond b (Some e.1) (find nat_cmp i es)) (unsigned_tied i e.0 ∙ ne_eqb i e.0 ne)) ∙ h) in
     (in_right l (named_by e) (all_named es) t.0, in_right r (named_by e) (all_named es) t.1))
@@ -108,7 +142,8 @@ long_in v (z, agents, W, vs, j, s, at, live) i wide l r us f u = let k = s.knows
 pub possible_cons : (v : View) → IsPossible v → (i : ℕ) (wide : Bool) (l r : ℕ) (us : List ℕ) → Has v.forms i (Cons wide l r) → Has v.units i us → 13 ≤ length us
 possible_cons v p i wide l r us f u = ∥∥₁_elim p (Prim.hlevel props) (λ t. long_in v t i wide l r us f u)
 
-both_in : (v : View) → StandsIn v → (i : ℕ) (wide : Bool) (l r : ℕ) (us ls rs : List ℕ) (m : ℕ) → Has v.forms i (Cons wide l r) → Has v.units i us → Has v.units l ls → Has v.units r rs → Has v.lengths l m → IsBoth us ls rs m (length us)
+both_in : (v : View) → StandsIn v → (i : ℕ) (wide : Bool) (l r : ℕ) (us ls rs : List ℕ) (m : ℕ) → Has v.forms i (Cons wide l r) → Has
+    v.units i us → Has v.units l ls → Has v.units r rs → Has v.lengths l m → IsBoth us ls rs m (length us)
 both_in v (z, agents, W, vs, j, s, at, live) i wide l r us ls rs m f u a b n = let k = s.knows j v at live in let h = (k.of_forms i (Cons wide l r) f).shows in
     let ui = (k.of_units i us u).1 in let ul = (k.of_units l ls a).1 in let born = (k.of_units l ls a).0 in let ur = (k.of_units r rs b).1 in
     let both : us ≡ ls ++ rs = sym ui ∙ (h.2 ∙ (λ d. ul d ++ ur d)) in
@@ -123,7 +158,8 @@ both_in v (z, agents, W, vs, j, s, at, live) i wide l r us ls rs m f u a b n = l
     }
 
 -- the units of its sides, joined
-pub possible_both : (v : View) → IsPossible v → (i : ℕ) (wide : Bool) (l r : ℕ) (us ls rs : List ℕ) (m : ℕ) → Has v.forms i (Cons wide l r) → Has v.units i us → Has v.units l ls → Has v.units r rs → Has v.lengths l m → IsBoth us ls rs m (length us)
+pub possible_both : (v : View) → IsPossible v → (i : ℕ) (wide : Bool) (l r : ℕ) (us ls rs : List ℕ) (m : ℕ) → Has v.forms i (Cons wide l r)
+    → Has v.units i us → Has v.units l ls → Has v.units r rs → Has v.lengths l m → IsBoth us ls rs m (length us)
 possible_both v p i wide l r us ls rs m f u a b n = ∥∥₁_elim p (Prim.hlevel props) (λ t. both_in v t i wide l r us ls rs m f u a b n)
 
 -- the units that a view has

@@ -23,14 +23,18 @@ module _ (wide : Bool) (start : ℕ) (first : ℕ → ℕ) (at0 n0 : ℕ) (us0 :
   both_here a k i b = let same = units_kept u f id a.known k in
       subst (λ (x : ℕ). IsBoth (units_at u id) (units_at g left) (units_at g right) m x) i.count (subst (λ (us : List ℕ). IsBoth us (units_at g left) (units_at g right) m (length us)) same b)
 
-  pub turn_left : OnlyLoads u f → OnlyLoads f g → HasKey g.units right → KeepsKnown g h → IsFilling wide start first (own_word u.own_words) at0 n0 us0 at n (units_at u id) → IsBoth (units_at u id) (units_at g left) (units_at g right) m n
-      → IsFilled wide start (own_word g.own_words) (own_word h.own_words) at m (λ k. get_or (units_at g left) k 0) → IsFilling wide start first (own_word h.own_words) at0 n0 us0 (at + m) (n - m) (units_at h right)
+  pub turn_left : OnlyLoads u f → OnlyLoads f g → HasKey g.units right → KeepsKnown g h → IsFilling wide start first (own_word u.own_words)
+      at0 n0 us0 at n (units_at u id) → IsBoth (units_at u id) (units_at g left) (units_at g right) m n
+      → IsFilled wide start (own_word g.own_words) (own_word h.own_words) at m (λ k. get_or (units_at g left) k 0) → IsFilling wide start
+      first (own_word h.own_words) at0 n0 us0 (at + m) (n - m) (units_at h right)
   turn_left a b k c i both done = subst (λ (us : List ℕ). IsFilling wide start first (own_word h.own_words) at0 n0 us0 (at + m) (n - m) us) (sym (units_kept g h right c k))
       (filled_left wide start first (own_word u.own_words) (own_word h.own_words) at0 n0 us0 at n (units_at u id) (units_at g left) (units_at g right) m i both
       (subst (λ (w : ℕ → ℕ). IsFilled wide start w (own_word h.own_words) at m (λ k. get_or (units_at g left) k 0)) (same_own a b) done))
 
-  pub turn_right : OnlyLoads u f → OnlyLoads f g → HasKey g.units left → KeepsKnown g h → IsFilling wide start first (own_word u.own_words) at0 n0 us0 at n (units_at u id) → IsBoth (units_at u id) (units_at g left) (units_at g right) m n
-      → IsFilled wide start (own_word g.own_words) (own_word h.own_words) (at + m) (n - m) (λ k. get_or (units_at g right) k 0) → IsFilling wide start first (own_word h.own_words) at0 n0 us0 at m (units_at h left)
+  pub turn_right : OnlyLoads u f → OnlyLoads f g → HasKey g.units left → KeepsKnown g h → IsFilling wide start first (own_word u.own_words)
+      at0 n0 us0 at n (units_at u id) → IsBoth (units_at u id) (units_at g left) (units_at g right) m n
+      → IsFilled wide start (own_word g.own_words) (own_word h.own_words) (at + m) (n - m) (λ k. get_or (units_at g right) k 0) → IsFilling
+      wide start first (own_word h.own_words) at0 n0 us0 at m (units_at h left)
   turn_right a b k c i both done = subst (λ (us : List ℕ). IsFilling wide start first (own_word h.own_words) at0 n0 us0 at m us) (sym (units_kept g h left c k))
       (filled_right wide start first (own_word u.own_words) (own_word h.own_words) at0 n0 us0 at n (units_at u id) (units_at g left) (units_at g right) m i both
       (subst (λ (w : ℕ → ℕ). IsFilled wide start w (own_word h.own_words) (at + m) (n - m) (λ k. get_or (units_at g right) k 0)) (same_own a b) done))

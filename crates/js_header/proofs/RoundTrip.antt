@@ -32,7 +32,8 @@ bit_back false = refl
 
 fields_packed : (t : ℕ) (w x : Bool) (a b : ℕ) → t < 8 → a < 2 ^ 29 → b < 2 ^ 29 → form_by_tag (packed t w x a b) ≡ built t (bit w) (bit x) a b
 fields_packed t w x a b l h k = let p = bit_small w in let q = bit_small x in
-    λ i. built (tag_of t (bit w) (bit x) a b l p q i) (wide_of t (bit w) (bit x) a b l p q i) (fixed_of t (bit w) (bit x) a b l p q i) (first_of t (bit w) (bit x) a b l p q h i) (second_of t (bit w) (bit x) a b l p q h k i)
+    λ i. built (tag_of t (bit w) (bit x) a b l p q i) (wide_of t (bit w) (bit x) a b l p q i) (fixed_of t (bit w) (bit x) a b l p q i)
+    (first_of t (bit w) (bit x) a b l p q h i) (second_of t (bit w) (bit x) a b l p q h k i)
 
 fields_word : (f : Form) → IsInRange f → form_by_tag (word_of f) ≡ f
 fields_word Unborn h = refl

@@ -50,5 +50,17 @@ first_failed e a b bs cs w = record { all = tt; calm = tt; prefix = prefix_first
 
 -- the first of two was written, and the second is tried
 pub then_second : {E : Type 0} (r : Result Unit E) (a b c : SinkState) (bs cs : List ℕ) → WritesAll {E = E} (Ok tt) a b bs → WritesAll r b c cs → WritesAll r a c (bs ++ cs)
-then_second (Ok done) a b c bs cs v w = record { all = Appends-trans a.taken b.taken c.taken bs cs v.all w.all; calm = w.calm ∙ v.calm; prefix = tt; once = tt; counted = omega (arith, v.counted, w.counted) }
-then_second (Err e) a b c bs cs v w = record { all = tt; calm = tt; prefix = prefix_second a b c bs cs v.all w.prefix; once = w.once ∙ ap next_count v.calm; counted = omega (arith, v.counted, w.counted) }
+then_second (Ok done) a b c bs cs v w = record {
+  all = Appends-trans a.taken b.taken c.taken bs cs v.all w.all;
+  calm = w.calm ∙ v.calm;
+  prefix = tt;
+  once = tt;
+  counted = omega (arith, v.counted, w.counted);
+}
+then_second (Err e) a b c bs cs v w = record {
+  all = tt;
+  calm = tt;
+  prefix = prefix_second a b c bs cs v.all w.prefix;
+  once = w.once ∙ ap next_count v.calm;
+  counted = omega (arith, v.counted, w.counted);
+}

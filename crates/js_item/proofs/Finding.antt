@@ -26,7 +26,8 @@ if_false false o p e f = ap one_on f
 
 module _ {R : Type 0} (is : R → Bool) where
   -- one more member whose key isn't so
-  pub place_more : (ms : List (Member R)) (i : ℕ) (m : Member R) → i < length ms → m ≡ get_or ms i m → place_by is (fields_of (take i ms)) ≡ None → is m.key ≡ false → place_by is (fields_of (take (suc i) ms)) ≡ None
+  pub place_more : (ms : List (Member R)) (i : ℕ) (m : Member R) → i < length ms → m ≡ get_or ms i m → place_by is (fields_of (take i ms)) ≡
+      None → is m.key ≡ false → place_by is (fields_of (take (suc i) ms)) ≡ None
   place_more [] i m h e o b = absurd (omega arith)
   place_more (n ∷ ms) zero m h e o b = let same : is n.key ≡ false = ap (λ (p : Member R). is p.key) (sym e) ∙ b in if_false (is n.key) None None same refl
   place_more (n ∷ ms) (suc i) m h e o b =
@@ -34,7 +35,8 @@ module _ {R : Type 0} (is : R → Bool) where
       if_false (is n.key) (place_by is (fields_of (take (suc i) ms))) None head.0 (place_more ms i m (omega arith) e head.1 b)
 
   -- the first one whose key is so
-  pub place_here : (ms : List (Member R)) (i : ℕ) (m : Member R) → i < length ms → m ≡ get_or ms i m → place_by is (fields_of (take i ms)) ≡ None → is m.key ≡ true → place_by is (fields_of ms) ≡ Some i
+  pub place_here : (ms : List (Member R)) (i : ℕ) (m : Member R) → i < length ms → m ≡ get_or ms i m → place_by is (fields_of (take i ms)) ≡
+      None → is m.key ≡ true → place_by is (fields_of ms) ≡ Some i
   place_here [] i m h e o b = absurd (omega arith)
   place_here (n ∷ ms) zero m h e o b = let same : is n.key ≡ true = ap (λ (p : Member R). is p.key) (sym e) ∙ b in if_true (is n.key) (place_by is (fields_of ms)) same
   place_here (n ∷ ms) (suc i) m h e o b =
@@ -59,13 +61,15 @@ same_is true u w h = sym ((bytes_eq-Decides u w).1 (h.0 refl))
 same_is false u w h = sym (false_unless (bytes_eq u w) (λ e. h.1 ((bytes_eq-Decides u w).0 e)))
 
 -- what `same` answered in a store that had grown
-pub told_units : {F R : Type 0} (a b : State F) (name : R → ℕ) (g : Grows a b) (key r : R) (t : Bool) → KeyFine (strings_of a) (name key) → KeyFine (strings_of a) (name r) → (IsTrue t ↔ (text b (name r) ≡ text b (name key))) → has_units a name (text a (name key)) r ≡ t
+pub told_units : {F R : Type 0} (a b : State F) (name : R → ℕ) (g : Grows a b) (key r : R) (t : Bool) → KeyFine (strings_of a) (name key) →
+    KeyFine (strings_of a) (name r) → (IsTrue t ↔ (text b (name r) ≡ text b (name key))) → has_units a name (text a (name key)) r ≡ t
 told_units a b name g key r t k l e =
     let s : t ≡ bytes_eq (text b (name r)) (text b (name key)) = same_is t (text b (name r)) (text b (name key)) e in
     cc (text_still g (name key) k.known, text_still g (name r) l.known)
 
 -- a member that has the key is the first one that has it, since keys differ
-no_key_at : {R : Type 0} (s : KnownStrings) (name : R → ℕ) (u : List ℕ) (ms : List (Member R)) (i : ℕ) (m : Member R) → i < length ms → m ≡ get_or ms i m → NoKey s name u (fields_of ms) → units_at s (name m.key) ≡ u → ⊥
+no_key_at : {R : Type 0} (s : KnownStrings) (name : R → ℕ) (u : List ℕ) (ms : List (Member R)) (i : ℕ) (m : Member R) → i < length ms → m ≡
+    get_or ms i m → NoKey s name u (fields_of ms) → units_at s (name m.key) ≡ u → ⊥
 no_key_at s name u [] i m h e k = absurd (omega arith)
 no_key_at s name u (n ∷ ms) zero m h e k = let P : Member _ → Type 0 = λ p. units_at s (name p.key) ≡ u → ⊥ in subst P (sym e) k.0
 no_key_at s name u (n ∷ ms) (suc i) m h e k = no_key_at s name u ms i m (omega arith) e k.1
@@ -98,7 +102,8 @@ module _ {F R : Type 0} (a : State F) (name : R → ℕ) (fs : Fields R) (ms : L
       let Q : Member R → Type 0 = λ q. KeyFine (strings_of a) (name q.key) in
       subst Q there (keys_at (strings_of a) name ms i m within there (subst P (sym are) keys))
 
-  pub place_there : (key : R) (t : Bool) → KeysDiffer (strings_of a) name fs → (IsTrue t ↔ (text a (name (get_or ms i m).key) ≡ text a (name key))) → t ≡ true → place_by (has_units a name (text a (name key))) fs ≡ Some i
+  pub place_there : (key : R) (t : Bool) → KeysDiffer (strings_of a) name fs →
+      (IsTrue t ↔ (text a (name (get_or ms i m).key) ≡ text a (name key))) → t ≡ true → place_by (has_units a name (text a (name key))) fs ≡ Some i
   place_there key t differ e y =
       let P : Fields R → Type 0 = λ f. KeysDiffer (strings_of a) name f in
       let u = text a (name key) in
@@ -156,7 +161,8 @@ module _ {R : Type 0} (is : R → Bool) where
 
   pub put_there : (key : R) (value : Content R) (fs : Fields R) (i : ℕ) → place_by is fs ≡ Some i → with_value i value fs ≡ put_by is key value fs
   put_there key value no_fields i e = cc
-  put_there key value (field k v rest) i e = elim (one_back (is k) (place_by is rest) i e) [ inl h ↦ rw (h.0, h.1) refl | inr h ↦ rw (h.0, h.1.1) (ap (λ fs. field k v fs) (put_there key value rest h.1.0 h.1.2)) ]
+  put_there key value (field k v rest) i e = elim (one_back (is k) (place_by is rest) i e)
+      [ inl h ↦ rw (h.0, h.1) refl | inr h ↦ rw (h.0, h.1.1) (ap (λ fs. field k v fs) (put_there key value rest h.1.0 h.1.2)) ]
 
   pub put_last : (key : R) (value : Content R) (fs : Fields R) → place_by is fs ≡ None → add key value fs ≡ put_by is key value fs
   put_last key value no_fields e = refl

@@ -22,7 +22,8 @@ module _ {R : Type 0} where
   fields_take ms i m h e = rw add-one (fields_to ms i m h e)
 
   -- copies of the first members, and of one more
-  pub copy_turn : (cs ds ms : List (Member R)) (i : ℕ) (m : Member R) (v : Item R) → i < length ms → m ≡ get_or ms i m → fields_of cs ≡ fields_of (take i ms) → content_of v ≡ content_of m.value → ds ≡ cs ++ record m { value = v } ∷ [] → fields_of ds ≡ fields_of (take (i + 1) ms)
+  pub copy_turn : (cs ds ms : List (Member R)) (i : ℕ) (m : Member R) (v : Item R) → i < length ms → m ≡ get_or ms i m → fields_of cs ≡
+      fields_of (take i ms) → content_of v ≡ content_of m.value → ds ≡ cs ++ record m { value = v } ∷ [] → fields_of ds ≡ fields_of (take (i + 1) ms)
   copy_turn cs ds ms i m v h e done value made =
       let last : fields_of (take (i + 1) ms) ≡ add m.key (content_of m.value) (fields_of (take i ms)) = fields_take ms i m h e in
       let front : fields_of (cs ++ record m { value = v } ∷ []) ≡ add m.key (content_of v) (fields_of cs) = fields_push cs (record m { value = v }) in
@@ -35,7 +36,8 @@ module _ {R : Type 0} where
   count_at (n ∷ ms) (suc i) m h e = omega (arith, count_at ms i m (omega arith) e)
 
   -- a member's value in the place of another
-  pub fields_replace : (ms : List (Member R)) (i : ℕ) (m : Member R) (v : Item R) → i < length ms → m ≡ get_or ms i m → fields_of (slice_set ms i (record m { value = v })) ≡ with_value i (content_of v) (fields_of ms)
+  pub fields_replace : (ms : List (Member R)) (i : ℕ) (m : Member R) (v : Item R) → i < length ms → m ≡ get_or ms i m → fields_of
+      (slice_set ms i (record m { value = v })) ≡ with_value i (content_of v) (fields_of ms)
   fields_replace [] i m v h e = absurd (omega arith)
   fields_replace (n ∷ ms) zero m v h e = let same : m ≡ n = e in cc
   fields_replace (n ∷ ms) (suc i) m v h e = ap (λ fs. field n.key (content_of n.value) fs) (fields_replace ms i m v (omega arith) e)

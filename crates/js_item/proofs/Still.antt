@@ -39,7 +39,8 @@ module _ {F : Type 0} (a b : State F) (g : Grows a b) where
     no_key_still u (field key value rest) k h = (λ e. h.0 (sym (text_still g (name key) k.0.known) ∙ e), no_key_still u rest k.1 h.1)
 
     -- the same of the units of a key
-    no_other_still : (key : R) (fs : Fields R) → KeyFine (strings_of a) (name key) → KeysFine (strings_of a) name fs → NoKey (strings_of a) name (units_at (strings_of a) (name key)) fs → NoKey (strings_of b) name (units_at (strings_of b) (name key)) fs
+    no_other_still : (key : R) (fs : Fields R) → KeyFine (strings_of a) (name key) → KeysFine (strings_of a) name fs → NoKey (strings_of a)
+        name (units_at (strings_of a) (name key)) fs → NoKey (strings_of b) name (units_at (strings_of b) (name key)) fs
     no_other_still key fs l k h = subst (λ (u : List ℕ). NoKey (strings_of b) name u fs) (sym (text_still g (name key) l.known)) (no_key_still (units_at (strings_of a) (name key)) fs k h)
 
     mutual
@@ -55,7 +56,12 @@ module _ {F : Type 0} (a b : State F) (g : Grows a b) where
 
       pub fine_fields_still : (fs : Fields R) → FineFields (strings_of a) name fs → FineFields (strings_of b) name fs
       fine_fields_still no_fields h = tt
-      fine_fields_still (field key value rest) h = (key_still (name key) h.0, fine_of_still value h.1, fine_fields_still rest h.2, no_other_still key rest h.0 (fine_keys (strings_of a) name rest h.2) h.3)
+      fine_fields_still (field key value rest) h = (
+        key_still (name key) h.0,
+        fine_of_still value h.1,
+        fine_fields_still rest h.2,
+        no_other_still key rest h.0 (fine_keys (strings_of a) name rest h.2) h.3,
+      )
 
     pub fine_still : (v : Item R) → IsFine a name v → IsFine b name v
     fine_still v h = fine_of_still (content_of v) h
@@ -131,7 +137,8 @@ module _ {R : Type 0} (s : KnownStrings) (name : R → ℕ) where
         (λ n. (h.0, h.1, fine_put rest h.2, no_key_put named key value (units_at s (name l)) rest (apart (units_at s (name l)) (units_at s (name key)) n) h.3))
 
 -- an object gs that is fs with a member put in, or fs itself, in a store that has grown
-module _ {F R : Type 0} (a b : State F) (g : Grows a b) (name : R → ℕ) (key : R) (value : Content R) (k : KeyFine (strings_of a) (name key)) (fs gs : Fields R) (keys : KeysFine (strings_of a) name fs) where
+module _ {F R : Type 0} (a b : State F) (g : Grows a b) (name : R → ℕ) (key : R) (value : Content R) (k : KeyFine (strings_of a) (name key))
+    (fs gs : Fields R) (keys : KeysFine (strings_of a) name fs) where
   abbrev with_member : Fields R
   with_member = put_by (names_key a name key) key value fs
 
@@ -169,5 +176,6 @@ key_made s n u h k t e =
     }
 
 -- what is fine in a store is so in one that differs from it in counters and in its frame alone: this holds by computation
-pub fine_beside : {F R : Type 0} (s : State F) (f : F) (name : R → ℕ) (vs : List (Item R)) → Every (λ v. IsFine s name v) vs → Every (λ v. IsFine (record s { used_ids = 0; used_words = 0; frame = f }) name v) vs
+pub fine_beside : {F R : Type 0} (s : State F) (f : F) (name : R → ℕ) (vs : List (Item R)) → Every (λ v. IsFine s name v) vs → Every
+    (λ v. IsFine (record s { used_ids = 0; used_words = 0; frame = f }) name v) vs
 fine_beside s f name vs h = h

@@ -94,10 +94,12 @@ halves n (suc j) h l =
     (j, refl, omega (arith, e))
 
 -- what doubling uses where the half was refused, and where it was made
-pub half_use : {F : Type 0} {a b : State F} {f : Option StoreFault} (n : ℕ) → 2 ≤ n → ((k : ℕ) → n / 2 < 2 ^ (k + 1) → Uses a b f (2 * k) (6 * k)) → (k : ℕ) → n < 2 ^ (k + 1) → Uses a b f (2 * k) (6 * k)
+pub half_use : {F : Type 0} {a b : State F} {f : Option StoreFault} (n : ℕ) →
+    2 ≤ n → ((k : ℕ) → n / 2 < 2 ^ (k + 1) → Uses a b f (2 * k) (6 * k)) → (k : ℕ) → n < 2 ^ (k + 1) → Uses a b f (2 * k) (6 * k)
 half_use n h s k l = let j = halves n k h l in uses_within (s j.0 j.2) (omega (arith, j.1)) (omega (arith, j.1))
 
-pub whole_use : {F : Type 0} {a b c : State F} {f : Option StoreFault} (n : ℕ) → 2 ≤ n → ((k : ℕ) → n / 2 < 2 ^ (k + 1) → Uses a b None (2 * k) (6 * k)) → Uses b c f 2 6 → (k : ℕ) → n < 2 ^ (k + 1) → Uses a c f (2 * k) (6 * k)
+pub whole_use : {F : Type 0} {a b c : State F} {f : Option StoreFault} (n : ℕ) →
+    2 ≤ n → ((k : ℕ) → n / 2 < 2 ^ (k + 1) → Uses a b None (2 * k) (6 * k)) → Uses b c f 2 6 → (k : ℕ) → n < 2 ^ (k + 1) → Uses a c f (2 * k) (6 * k)
 whole_use n h s t k l = let j = halves n k h l in uses_after (s j.0 j.2) t (omega (arith, j.1)) (omega (arith, j.1))
 
 -- the string is the same behind the half

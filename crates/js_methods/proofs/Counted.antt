@@ -39,7 +39,8 @@ module _ {F : Type 0} (a b : State F) (s n : ℕ) (count : Num) (known : IsKnown
   pub itself : length (text a s) ≡ 0 → NamesUnits b s (repeat_of (text a s) count)
   itself h = has_still first.step.grows s (text a s) (known_has a s known) ∙ ap Some (none_repeated (copies count) (text a s) h)
 
-  pub copies_use : (c : State F) (f : Option StoreFault) (m : ℕ) → m ≡ length (text a s) * n → m ≤ b.limit → b.limit ≤ 536870888 → 1 ≤ length (text a s) → ((k : ℕ) → n < 2 ^ (k + 1) → Uses b c f (2 * k) (6 * k)) → Uses a c f repeat_used_ids repeat_used_words
+  pub copies_use : (c : State F) (f : Option StoreFault) (m : ℕ) → m ≡ length (text a s) * n → m ≤ b.limit → b.limit ≤ 536870888 → 1 ≤
+      length (text a s) → ((k : ℕ) → n < 2 ^ (k + 1) → Uses b c f (2 * k) (6 * k)) → Uses a c f repeat_used_ids repeat_used_words
   copies_use c f m e l h some t =
       let few : n * 1 ≤ n * length (text a s) = mul-le-mul_left n some in
       uses_after first (t 28 (omega (arith, few, e, l, h))) (omega arith) (omega arith)

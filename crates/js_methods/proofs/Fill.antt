@@ -55,7 +55,8 @@ module _ {F : Type 0} (a b : State F) (s n size : ℕ) (known : IsKnown a s) (is
 
   pub repeats_value : (c : State F) (r : ℕ) → n % size ≡ 0 → NamesUnits c r (repeat (n / size) (text b s)) → NamesUnits c r (filling (text a s) n)
   repeats_value c r z k =
-      let none : repeat (n / size) (text a s) ++ take (n % size) (text a s) ≡ repeat (n / size) (text a s) = ap (λ i. repeat (n / size) (text a s) ++ take i (text a s)) z ∙ append-nil (repeat (n / size) (text a s)) in
+      let none : repeat (n / size) (text a s) ++ take (n % size) (text a s) ≡ repeat (n / size) (text a s) = ap
+      (λ i. repeat (n / size) (text a s) ++ take i (text a s)) z ∙ append-nil (repeat (n / size) (text a s)) in
       k ∙ ap Some (ap (λ (v : List ℕ). repeat (n / size) v) kept ∙ sym (fill ∙ none))
 
   pub repeats_use : (c : State F) (t : Option StoreFault) → n < 4294967296 → ((k : ℕ) → n / size < 2 ^ (k + 1) → Uses b c t (2 * k) (6 * k)) → Uses a c t 62 186

@@ -27,7 +27,8 @@ filled_by : (n : ℕ) (f : List ℕ) → 1 ≤ length (filling f n) → 1 ≤ le
 filled_by n [] h = absurd (omega (arith, none_filled n [] refl))
 filled_by n (x ∷ xs) h = omega arith
 
-module _ {F : Type 0} (a b : State F) (s t most room : ℕ) (known : IsKnown a s) (filler_known : IsKnown a t) (first : Uses a b None 0 0) (is : room ≡ length (filling (text a t) (most - length (text a s)))) (some : 1 ≤ room) where
+module _ {F : Type 0} (a b : State F) (s t most room : ℕ) (known : IsKnown a s) (filler_known : IsKnown a t) (first : Uses a
+    b None 0 0) (is : room ≡ length (filling (text a t) (most - length (text a s)))) (some : 1 ≤ room) where
   kept : text b t ≡ text a t
   kept = text_still first.step.grows t filler_known
 

@@ -45,7 +45,8 @@ module _ {X : Type 0} (f : X → ℕ) where
 
   insert_most : (es : List (ℕ × X)) (n : ℕ) (x : X) → pairs_total (insert_entry nat_cmp es n x) ≤ f x + pairs_total es
   insert_most [] n x = omega arith
-  insert_most (e ∷ es) n x = match_most (nat_cmp n e.0) ((n, x) ∷ e ∷ es) ((e.0, x) ∷ es) (e ∷ insert_entry nat_cmp es n x) (f x + pairs_total (e ∷ es)) (omega arith) (omega arith) (omega (arith, insert_most es n x))
+  insert_most (e ∷ es) n x = match_most (nat_cmp n e.0) ((n, x) ∷ e ∷ es) ((e.0, x) ∷ es) (e ∷ insert_entry nat_cmp es n x)
+      (f x + pairs_total (e ∷ es)) (omega arith) (omega arith) (omega (arith, insert_most es n x))
 
   enter_most : (o : Option ℕ) (x : X) (es : List (ℕ × X)) → pairs_total (index_entered o x es) + total (put_off o x []) ≤ f x + pairs_total es
   enter_most (Some n) x es = omega (arith, insert_most es n x)
@@ -78,7 +79,8 @@ module _ {R : Type 0} where
   unfolding lent_weight
   lent_weighs index fs ms e = omega (arith, ap (total weight) e, ordered_most weight index (key_values fs), entries_weigh fs)
 
-  pub weight_turn : (ms : List (Bor (Member R))) (i : ℕ) (m : Bor (Member R)) → i < length ms → m ≡ get_or ms i m → lent_weight (drop i ms) ≡ count_in (content_of m.now.value) + 1 + lent_weight (drop (i + 1) ms)
+  pub weight_turn : (ms : List (Bor (Member R))) (i : ℕ) (m : Bor (Member R)) → i < length ms → m ≡ get_or ms i m → lent_weight (drop i ms)
+      ≡ count_in (content_of m.now.value) + 1 + lent_weight (drop (i + 1) ms)
   unfolding lent_weight
   weight_turn ms i m h e = rw (drop_at ms i m h e) refl
 
@@ -105,7 +107,8 @@ module _ {F R : Type 0} (a b d : State F) (name : R → ℕ) (g : Grows a b) (h 
   here : EntryFine (strings_of a) name (count fs) (lent_entry m)
   here = lent_fine (strings_of a) name (index_in a name) fs ms i m fine order within there
 
-  pub len_shown : (n l key value : ℕ) → is_shown (content_of m.now.value) ≡ true → key ≡ length (quoted (text_of b (name m.now.key))) → value ≡ length (text_json (says d name) (content_of m.now.value)) → l ≡ n + (2 + key + value)
+  pub len_shown : (n l key value : ℕ) → is_shown (content_of m.now.value) ≡ true → key ≡ length (quoted (text_of b (name m.now.key))) →
+      value ≡ length (text_json (says d name) (content_of m.now.value)) → l ≡ n + (2 + key + value)
       → l + units_of (lent_shown (says a name) (drop (i + 1) ms)) ≡ n + units_of (lent_shown (says a name) (drop i ms))
   len_shown n l key value o k v e =
       let q = quoted (text_of a (name m.now.key)) in
@@ -127,11 +130,13 @@ module _ {F R : Type 0} (a b d : State F) (name : R → ℕ) (g : Grows a b) (h 
     pub most_skipped : n + 158456325028528675187087900672 * lent_weight (drop (i + 1) ms) ≤ 1 + 158456325028528675187087900672 * lent_weight ms
     most_skipped = omega (arith, weight_turn ms i m within there, before)
 
-    pub len_fits : (key value : ℕ) → count fs ≤ 65536 → key ≤ 3221225330 → value + 8589934592 ≤ 158456325028528675187087900672 * (count_in (content_of m.now.value) + 1) → n + (2 + key + value) < 340282366920938463463374607431768211456
+    pub len_fits : (key value : ℕ) → count fs ≤ 65536 → key ≤ 3221225330 → value + 8589934592 ≤ 158456325028528675187087900672 *
+        (count_in (content_of m.now.value) + 1) → n + (2 + key + value) < 340282366920938463463374607431768211456
     len_fits key value many k v = omega (arith, weight_turn ms i m within there, before, lent_weighs (index_in a name) fs ms order, many, k, v)
 
 -- all members were seen
-module _ {R : Type 0} (say : R → List ℕ) (fs : Fields R) (ms : List (Bor (Member R))) (i n : ℕ) (order : map lent_entry ms ≡ ordered (λ e. index_of_key (say e.0)) (key_values fs)) (all : length ms ≤ i)
+module _ {R : Type 0} (say : R → List ℕ) (fs : Fields R) (ms : List (Bor (Member R)))
+    (i n : ℕ) (order : map lent_entry ms ≡ ordered (λ e. index_of_key (say e.0)) (key_values fs)) (all : length ms ≤ i)
     (counted : n + units_of (lent_shown say (drop i ms)) ≡ 1 + units_of (lent_shown say ms)) where
   whole : n ≡ 1 + units_of (lent_shown say ms)
   whole = omega (arith, counted, ap (λ (q : List (Bor (Member R))). units_of (lent_shown say q)) (drop_all ms i all))

@@ -60,14 +60,17 @@ module _ {X Y : Type 0} (see : X → Y) where
   see_values (e ∷ es) = ap (λ r. see e.1 ∷ r) (see_values es)
 
   -- one more element
-  pub indexes_turn : (index : Y → Option ℕ) (x : X) (y : Y) (o : Option ℕ) (es fs : List (ℕ × X)) (ys zs : List Y) → see x ≡ y → o ≡ index y → seen_pairs es ≡ indexes index ys [] → fs ≡ index_entered o x es → zs ≡ ys ++ y ∷ [] → seen_pairs fs ≡ indexes index zs []
+  pub indexes_turn : (index : Y → Option ℕ) (x : X) (y : Y) (o : Option ℕ) (es fs : List (ℕ × X)) (ys zs : List Y) → see x ≡ y → o ≡ index y
+      → seen_pairs es ≡ indexes index ys [] → fs ≡ index_entered o x es → zs ≡ ys ++ y ∷ [] → seen_pairs fs ≡ indexes index zs []
   indexes_turn index x y o es fs ys zs s i e f z = cc (ap seen_pairs f, see_entered o x es, indexes_push index ys y [], ap (λ q. indexes index q []) z)
 
-  pub others_turn : (index : Y → Option ℕ) (x : X) (y : Y) (o : Option ℕ) (ks ls : List X) (ys zs : List Y) → see x ≡ y → o ≡ index y → map see ks ≡ others index ys → ls ≡ ks ++ put_off o x [] → zs ≡ ys ++ y ∷ [] → map see ls ≡ others index zs
+  pub others_turn : (index : Y → Option ℕ) (x : X) (y : Y) (o : Option ℕ) (ks ls : List X) (ys zs : List Y) → see x ≡ y → o ≡ index y → map
+      see ks ≡ others index ys → ls ≡ ks ++ put_off o x [] → zs ≡ ys ++ y ∷ [] → map see ls ≡ others index zs
   others_turn index x y o ks ls ys zs s i k l z = cc (ap (map see) l, see_both ks (put_off o x []), see_put o x [], others_push index ys y, ap (others index) z)
 
   -- all elements
-  pub ordered_end : (index : Y → Option ℕ) (es : List (ℕ × X)) (ks ls : List X) (ys : List Y) → seen_pairs es ≡ indexes index ys [] → map see ks ≡ others index ys → ls ≡ ks → map see (values_of es ++ ls) ≡ ordered index ys
+  pub ordered_end : (index : Y → Option ℕ) (es : List (ℕ × X)) (ks ls : List X) (ys : List Y) → seen_pairs es ≡ indexes index ys [] → map
+      see ks ≡ others index ys → ls ≡ ks → map see (values_of es ++ ls) ≡ ordered index ys
   ordered_end index es ks ls ys e k l = cc (see_both (values_of es) ls, see_values es, ap values_of e)
 
   -- the order is that of what is seen
@@ -80,7 +83,8 @@ module _ {X Y : Type 0} (see : X → Y) where
   others_seen index (x ∷ xs) = see_put (index (see x)) x (others (λ q. index (see q)) xs) ∙ ap (λ r. put_off (index (see x)) (see x) r) (others_seen index xs)
 
   pub ordered_seen : (index : Y → Option ℕ) (xs : List X) → map see (ordered (λ x. index (see x)) xs) ≡ ordered index (map see xs)
-  ordered_seen index xs = ordered_end index (indexes (λ x. index (see x)) xs []) (others (λ x. index (see x)) xs) (others (λ x. index (see x)) xs) (map see xs) (indexes_seen index xs []) (others_seen index xs) refl
+  ordered_seen index xs = ordered_end index (indexes (λ x. index (see x)) xs []) (others (λ x. index (see x)) xs)
+      (others (λ x. index (see x)) xs) (map see xs) (indexes_seen index xs []) (others_seen index xs) refl
 
 -- what holds of each element holds of each in the order
 module _ {X : Type 0} (P : X → Type 0) where

@@ -1,5 +1,36 @@
 -- Elements whose indexes differ have one order, and `ordered` gives it.
-use Rattle.std.proofs.Common.{inl, inr, arith, ◌≡◌, ℕ, zero, suc, ◌+◌, ◌<◌, ◌≤◌, cond, true, false, Option, Some, None, List, [], ◌∷◌, ◌++◌, map, filter, length, get_or, refl, sym, ap, subst, ◌∙◌, Bool}
+use Rattle.std.proofs.Common.{
+  inl,
+  inr,
+  arith,
+  ◌≡◌,
+  ℕ,
+  zero,
+  suc,
+  ◌+◌,
+  ◌<◌,
+  ◌≤◌,
+  cond,
+  true,
+  false,
+  Option,
+  Some,
+  None,
+  List,
+  [],
+  ◌∷◌,
+  ◌++◌,
+  map,
+  filter,
+  length,
+  get_or,
+  refl,
+  sym,
+  ap,
+  subst,
+  ◌∙◌,
+  Bool,
+}
 use Rattle.std.specs.Prelude.{◌⊎◌, IsSome, Contains, bytes_eq}
 use Rattle.std.specs.Option.{is_none}
 use Rattle.std.specs.List.{IsDistinct, AllByRecursion}
@@ -103,7 +134,9 @@ module _ {X : Type 0} (index : X → Option ℕ) where
   fresh_insert (e ∷ es) m n x h k = fresh_match (nat_cmp n e.0) m ((n, x) ∷ e ∷ es) ((e.0, x) ∷ es) (e ∷ insert_entry nat_cmp es n x) (h, k) k (k.0, fresh_insert es m n x h k.1)
 
   -- an entry that is put in where its number is fresh
-  from_match : (o : Ordering) (least n : ℕ) (x : X) (e : ℕ × X) (es fs : List (ℕ × X)) → MatchOrdering o (n < e.0) (n ≡ e.0) (e.0 < n) → (e.0 ≡ n → ⊥) → index x ≡ Some n → least ≤ n → EntriesFrom least (e ∷ es) → (e.0 + 1 ≤ n → EntriesFrom (e.0 + 1) fs) → EntriesFrom least (match_ordering o ((n, x) ∷ e ∷ es) ((e.0, x) ∷ es) (e ∷ fs))
+  from_match : (o : Ordering) (least n : ℕ) (x : X) (e : ℕ × X) (es fs : List (ℕ × X)) → MatchOrdering o (n < e.0) (n ≡ e.0) (e.0 < n) →
+      (e.0 ≡ n → ⊥) → index x ≡ Some n → least ≤ n → EntriesFrom least (e ∷ es) → (e.0 + 1 ≤ n → EntriesFrom (e.0 + 1) fs) → EntriesFrom least
+      (match_ordering o ((n, x) ∷ e ∷ es) ((e.0, x) ∷ es) (e ∷ fs))
   from_match Less least n x e es fs r f i l h k = (i, l, (h.0, omega (arith, r), h.2))
   from_match Equal least n x e es fs r f i l h k = absurd (f (sym r))
   from_match Greater least n x e es fs r f i l h k = (h.0, h.1, k (omega (arith, r)))
@@ -113,7 +146,9 @@ module _ {X : Type 0} (index : X → Option ℕ) where
   from_insert (e ∷ es) least n x i l f h = from_match (nat_cmp n e.0) least n x e es (insert_entry nat_cmp es n x) (ranks n e.0) f.0 i l h (λ m. from_insert es (e.0 + 1) n x i m f.1 h.2)
 
   -- the elements are that one and those before
-  into_match : (o : Ordering) (n : ℕ) (x y : X) (e : ℕ × X) (es fs : List (ℕ × X)) → MatchOrdering o (n < e.0) (n ≡ e.0) (e.0 < n) → (e.0 ≡ n → ⊥) → (x ≡ y) ⊎ In y (values_of (e ∷ es)) → ((x ≡ y) ⊎ In y (values_of es) → In y (values_of fs)) → In y (values_of (match_ordering o ((n, x) ∷ e ∷ es) ((e.0, x) ∷ es) (e ∷ fs)))
+  into_match : (o : Ordering) (n : ℕ) (x y : X) (e : ℕ × X) (es fs : List (ℕ × X)) → MatchOrdering o (n < e.0) (n ≡ e.0) (e.0 < n) →
+      (e.0 ≡ n → ⊥) → (x ≡ y) ⊎ In y (values_of (e ∷ es)) → ((x ≡ y) ⊎ In y (values_of es) → In y (values_of fs)) → In y
+      (values_of (match_ordering o ((n, x) ∷ e ∷ es) ((e.0, x) ∷ es) (e ∷ fs)))
   into_match Less n x y e es fs r f h k = h
   into_match Equal n x y e es fs r f h k = absurd (f (sym r))
   into_match Greater n x y e es fs r f (inl h) k = inr (k (inl h))
@@ -124,7 +159,9 @@ module _ {X : Type 0} (index : X → Option ℕ) where
   into_insert [] n x y f h = h
   into_insert (e ∷ es) n x y f h = into_match (nat_cmp n e.0) n x y e es (insert_entry nat_cmp es n x) (ranks n e.0) f.0 h (into_insert es n x y f.1)
 
-  out_match : (o : Ordering) (n : ℕ) (x y : X) (e : ℕ × X) (es fs : List (ℕ × X)) → In y (values_of (match_ordering o ((n, x) ∷ e ∷ es) ((e.0, x) ∷ es) (e ∷ fs))) → (In y (values_of fs) → (x ≡ y) ⊎ In y (values_of es)) → (x ≡ y) ⊎ In y (values_of (e ∷ es))
+  out_match : (o : Ordering) (n : ℕ) (x y : X) (e : ℕ × X) (es fs : List (ℕ × X)) → In y
+      (values_of (match_ordering o ((n, x) ∷ e ∷ es) ((e.0, x) ∷ es) (e ∷ fs))) → (In y (values_of fs) → (x ≡ y) ⊎ In y (values_of es)) →
+      (x ≡ y) ⊎ In y (values_of (e ∷ es))
   out_match Less n x y e es fs h k = h
   out_match Equal n x y e es fs (inl h) k = inl h
   out_match Equal n x y e es fs (inr h) k = inr (inr h)
@@ -287,7 +324,8 @@ module _ {F R : Type 0} (s : State F) (name : R → ℕ) where
   pub members_order : (fs : Fields R) (ms : List (R × Content R)) → ms ≡ ordered (index_in s name) (key_values fs) → KeysDiffer (strings_of s) name fs → IsTheOrder (index_in s name) (key_values fs) ms
   members_order fs ms e d = subst (IsTheOrder (index_in s name) (key_values fs)) (sym e) (the_order (index_in s name) (key_values fs) (members_differ fs d))
 
-  pub members_in_order : (fs : Fields R) (ms : List (R × Content R)) → ms ≡ ordered (index_in s name) (key_values fs) → KeysDiffer (strings_of s) name fs → IsInOrder (index_in s name) (key_values fs) ms
+  pub members_in_order : (fs : Fields R) (ms : List (R × Content R)) → ms ≡ ordered (index_in s name) (key_values fs) → KeysDiffer
+      (strings_of s) name fs → IsInOrder (index_in s name) (key_values fs) ms
   members_in_order fs ms e d = (members_order fs ms e d).in_order
 
 -- what holds of each element in the order holds of each one

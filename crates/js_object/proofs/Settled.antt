@@ -64,14 +64,18 @@ module _ {F R : Type 0} (a : State F) (name : R → ℕ) (fs : Fields R) (ms : L
   module _ (i : ℕ) (m : Bor (Member R)) (within : i < length ms) (there : m ≡ get_or ms i m) where
     value_fine : (d : State F) → Grows a d → FineFields (strings_of a) name fs → FineOf (strings_of d) name (content_of m.now.value)
     value_fine d g h =
-        let every : Every (λ e. FineOf (strings_of a) name e.1) (map lent_entry ms) = subst (Every (λ e. FineOf (strings_of a) name e.1)) (sym order) (every_ordered (λ e. FineOf (strings_of a) name e.1) (index_in a name) (key_values fs) (entries_values fs h)) in
+        let every : Every (λ e. FineOf (strings_of a) name e.1) (map lent_entry ms) = subst (Every (λ e. FineOf (strings_of a) name e.1))
+        (sym order) (every_ordered (λ e. FineOf (strings_of a) name e.1) (index_in a name) (key_values fs) (entries_values fs h)) in
         fine_of_still a d g name (content_of m.now.value) (lent_at (strings_of a) name (λ e. FineOf (strings_of a) name e.1) ms i m within there every)
 
     -- one more that is told, and one that isn't
-    pub lent_told : (b d e : State F) → Grows a d → Grows b e → (FineFields (strings_of a) name fs → SettledLent name b (take i ms)) → (FineOf (strings_of d) name (content_of m.now.value) → SettledIn e name (content_of m.now.value)) → FineFields (strings_of a) name fs → SettledLent name e (take (i + 1) ms)
+    pub lent_told : (b d e : State F) → Grows a d → Grows b e → (FineFields (strings_of a) name fs → SettledLent name b (take i ms)) →
+        (FineOf (strings_of d) name (content_of m.now.value) → SettledIn e name (content_of m.now.value)) → FineFields (strings_of a) name fs
+        → SettledLent name e (take (i + 1) ms)
     lent_told b d e g k before here h = every_more (λ q. SettledIn e name (content_of q.now.value)) ms i m within there (lent_still b e (take i ms) k (before h)) (here (value_fine d g h))
 
-    pub lent_passed : (b : State F) → is_shown (content_of m.now.value) ≡ false → (FineFields (strings_of a) name fs → SettledLent name b (take i ms)) → FineFields (strings_of a) name fs → SettledLent name b (take (i + 1) ms)
+    pub lent_passed : (b : State F) → is_shown (content_of m.now.value) ≡ false →
+        (FineFields (strings_of a) name fs → SettledLent name b (take i ms)) → FineFields (strings_of a) name fs → SettledLent name b (take (i + 1) ms)
     lent_passed b o before h = every_more (λ q. SettledIn b name (content_of q.now.value)) ms i m within there (before h) (unshown_settled b name (content_of m.now.value) o)
 
   lent_entries : (b : State F) (ns : List (Bor (Member R))) → SettledLent name b ns → Every (λ e. SettledIn b name e.1) (map lent_entry ns)
@@ -83,9 +87,11 @@ module _ {F R : Type 0} (a : State F) (name : R → ℕ) (fs : Fields R) (ms : L
   settled_entries b (field key value rest) h = (h.0, settled_entries b rest h.1)
 
   -- all of them
-  pub lent_end : (b : State F) (i : ℕ) → length ms ≤ i → i ≤ length ms → (FineFields (strings_of a) name fs → SettledLent name b (take i ms)) → FineFields (strings_of a) name fs → SettledFields b name fs
+  pub lent_end : (b : State F) (i : ℕ) → length ms ≤ i → i ≤ length ms →
+      (FineFields (strings_of a) name fs → SettledLent name b (take i ms)) → FineFields (strings_of a) name fs → SettledFields b name fs
   lent_end b i l k all h =
       let count : i ≡ length ms = omega (arith, l, k) in
       let whole : take i ms ≡ ms = ap (λ n. take n ms) count ∙ take-length ms in
       let each : Every (λ e. SettledIn b name e.1) (map lent_entry ms) = lent_entries b ms (subst (SettledLent name b) whole (all h)) in
-      settled_entries b fs (every_in_order (λ e. SettledIn b name e.1) (index_in a name) (key_values fs) (map lent_entry ms) (members_in_order a name fs (map lent_entry ms) order (fine_differ (strings_of a) name fs h)) each)
+      settled_entries b fs (every_in_order (λ e. SettledIn b name e.1) (index_in a name) (key_values fs) (map lent_entry ms)
+      (members_in_order a name fs (map lent_entry ms) order (fine_differ (strings_of a) name fs h)) each)

@@ -46,11 +46,13 @@ module _ {R : Type 0} (say : R → List ℕ) where
 
   pub json_ordered : (fs : Fields R) (ms : List (Bor (Member R))) → map lent_entry ms ≡ ordered (λ e. index_of_key (say e.0)) (key_values fs) → braced 0x7B (lent_shown ms) ≡ json_of say fs
   json_ordered fs ms e =
-      let order : map part (ordered (λ e. index_of_key (say e.0)) (key_values fs)) ≡ ordered part_index (json_members say fs) = ordered_seen part part_index (key_values fs) ∙ ap (ordered part_index) (sym (parts_are fs)) in
+      let order : map part (ordered (λ e. index_of_key (say e.0)) (key_values fs)) ≡ ordered part_index (json_members say fs) = ordered_seen
+      part part_index (key_values fs) ∙ ap (ordered part_index) (sym (parts_are fs)) in
       braced_is (lent_shown ms) ∙ ap (λ es. 0x7B ∷ delimited (λ u. u) 0x2C 0x7D (shown es)) (ap (map part) e ∙ order)
 
   -- a member that is left out, and one that is shown
-  pub skip_turn : (t : List ℕ) (sep : ℕ) (ms : List (Bor (Member R))) (i : ℕ) (m : Bor (Member R)) → i < length ms → m ≡ get_or ms i m → is_shown (content_of m.now.value) ≡ false → t ++ braced sep (lent_shown (drop (i + 1) ms)) ≡ t ++ braced sep (lent_shown (drop i ms))
+  pub skip_turn : (t : List ℕ) (sep : ℕ) (ms : List (Bor (Member R))) (i : ℕ) (m : Bor (Member R)) → i < length ms → m ≡ get_or ms i m →
+      is_shown (content_of m.now.value) ≡ false → t ++ braced sep (lent_shown (drop (i + 1) ms)) ≡ t ++ braced sep (lent_shown (drop i ms))
   skip_turn t sep ms i m h e o = rw (drop_at ms i m h e, o) refl
 
   pub show_turn : (t t1 t2 : List ℕ) (sep : ℕ) (ms : List (Bor (Member R))) (i : ℕ) (m : Bor (Member R)) → i < length ms → m ≡ get_or ms i m → is_shown (content_of m.now.value) ≡ true
@@ -59,7 +61,8 @@ module _ {R : Type 0} (say : R → List ℕ) where
   show_turn t t1 t2 sep ms i m h e o k v =
       let rest = braced 0x2C (lent_shown (drop (i + 1) ms)) in
       let split : lent_shown (drop i ms) ≡ (quoted (say m.now.key) ++ 0x3A ∷ text_json say (content_of m.now.value)) ∷ lent_shown (drop (i + 1) ms) = rw (drop_at ms i m h e, o) refl in
-      ap (λ u. u ++ rest) (v ∙ ap (λ u. u ++ text_json say (content_of m.now.value)) k) ∙ glue t (quoted (say m.now.key)) (text_json say (content_of m.now.value)) rest sep ∙ ap (λ us. t ++ braced sep us) (sym split)
+      ap (λ u. u ++ rest) (v ∙ ap (λ u. u ++ text_json say (content_of m.now.value)) k) ∙ glue t (quoted (say m.now.key))
+      (text_json say (content_of m.now.value)) rest sep ∙ ap (λ us. t ++ braced sep us) (sym split)
 
 -- the texts stay while the store grows
 module _ {F R : Type 0} (a b : State F) (name : R → ℕ) (g : Grows a b) where
@@ -95,9 +98,12 @@ module _ {R : Type 0} (s : KnownStrings) (name : R → ℕ) where
   lent_at P (n ∷ ms) zero m h e k = let Q : Bor (Member R) → Type 0 = λ q. P (lent_entry q) in subst Q (sym e) k.0
   lent_at P (n ∷ ms) (suc i) m h e k = lent_at P ms i m (omega arith) e k.1
 
-  pub lent_fine : (index : R × Content R → Option ℕ) (fs : Fields R) (ms : List (Bor (Member R))) (i : ℕ) (m : Bor (Member R)) → ReadableFields s name fs → map lent_entry ms ≡ ordered index (key_values fs) → i < length ms → m ≡ get_or ms i m → EntryFine s name (count fs) (lent_entry m)
+  pub lent_fine : (index : R × Content R → Option ℕ) (fs : Fields R) (ms : List (Bor (Member R))) (i : ℕ) (m : Bor (Member R)) →
+      ReadableFields s name fs → map lent_entry ms ≡ ordered index (key_values fs) → i < length ms → m ≡ get_or ms i m → EntryFine s name
+      (count fs) (lent_entry m)
   lent_fine index fs ms i m h e l p =
-      let every : Every (EntryFine s name (count fs)) (ordered index (key_values fs)) = every_ordered (EntryFine s name (count fs)) index (key_values fs) (entries_fine (count fs) fs (omega arith) h) in
+      let every : Every (EntryFine s name (count fs)) (ordered index (key_values fs)) = every_ordered (EntryFine s name (count fs)) index
+      (key_values fs) (entries_fine (count fs) fs (omega arith) h) in
       lent_at (EntryFine s name (count fs)) ms i m l p (subst (Every (EntryFine s name (count fs))) (sym e) every)
 
 -- a turn of the loop over the members of the object fs, in their order, at the state a when it began and b within it
@@ -121,7 +127,8 @@ module _ {F R : Type 0} (a b : State F) (name : R → ℕ) (g : Grows a b) (fs :
   pub item_smaller : count_in (content_of m.now.value) < count fs
   item_smaller = here.2
 
-  pub turn_shown : (d : State F) → Grows a d → (t t1 t2 : List ℕ) (sep : ℕ) → is_shown (content_of m.now.value) ≡ true → t1 ≡ t ++ (sep ∷ quoted (text_of b (name m.now.key)) ++ 0x3A ∷ []) → t2 ≡ t1 ++ text_json (says d name) (content_of m.now.value)
+  pub turn_shown : (d : State F) → Grows a d → (t t1 t2 : List ℕ) (sep : ℕ) → is_shown (content_of m.now.value) ≡ true → t1 ≡ t ++
+      (sep ∷ quoted (text_of b (name m.now.key)) ++ 0x3A ∷ []) → t2 ≡ t1 ++ text_json (says d name) (content_of m.now.value)
       → t2 ++ braced 0x2C (lent_shown (says a name) (drop (i + 1) ms)) ≡ t ++ braced sep (lent_shown (says a name) (drop i ms))
   turn_shown d h t t1 t2 sep o k v =
       show_turn (says a name) t t1 t2 sep ms i m within there o
@@ -135,7 +142,8 @@ drop_all [] (suc i) h = refl
 drop_all (x ∷ xs) zero h = absurd (omega arith)
 drop_all (x ∷ xs) (suc i) h = drop_all xs i (omega arith)
 
-pub json_end : {R : Type 0} (say : R → List ℕ) (fs : Fields R) (ms : List (Bor (Member R))) (i : ℕ) (t u v : List ℕ) (sep : ℕ) → map lent_entry ms ≡ ordered (λ e. index_of_key (say e.0)) (key_values fs) → length ms ≤ i
+pub json_end : {R : Type 0} (say : R → List ℕ) (fs : Fields R) (ms : List (Bor (Member R))) (i : ℕ) (t u v : List ℕ) (sep : ℕ) → map
+    lent_entry ms ≡ ordered (λ e. index_of_key (say e.0)) (key_values fs) → length ms ≤ i
     → u ++ braced sep (lent_shown say (drop i ms)) ≡ t ++ braced 0x7B (lent_shown say ms) → v ≡ u ++ closed sep → v ≡ t ++ json_of say fs
 json_end say fs ms i t u v sep order l e f =
     let none : braced sep (lent_shown say (drop i ms)) ≡ closed sep = ap (λ (q : List (Bor (Member _))). braced sep (lent_shown say q)) (drop_all ms i l) in

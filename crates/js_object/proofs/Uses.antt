@@ -61,12 +61,14 @@ module _ {F R : Type 0} (s : State F) (name : R → ℕ) where
   unfolding lent_settle
   lent_settles index fs ms e = omega (arith, ap (total settle_entry) e, ordered_most settle_entry index (key_values fs), entries_settle fs)
 
-  pub settle_turn : (ms : List (Bor (Member R))) (i : ℕ) (m : Bor (Member R)) → i < length ms → m ≡ get_or ms i m → lent_settle (drop i ms) ≡ settle_in s name (content_of m.now.value) + lent_settle (drop (i + 1) ms)
+  pub settle_turn : (ms : List (Bor (Member R))) (i : ℕ) (m : Bor (Member R)) → i < length ms → m ≡ get_or ms i m → lent_settle (drop i ms)
+      ≡ settle_in s name (content_of m.now.value) + lent_settle (drop (i + 1) ms)
   unfolding lent_settle
   settle_turn ms i m h e = rw (drop_at ms i m h e) refl
 
 -- what came after the turns before: so much was left to use at b, and the whole is x, at most y
-pub used_then : {F : Type 0} (a b d : State F) (f : Option StoreFault) (x y z w : ℕ) → Grows a b → b.used_ids ≤ a.used_ids → b.used_words + z ≤ a.used_words + x → StoreStep b d f 0 w → w ≤ z → x ≤ y → StoreStep a d f 0 y
+pub used_then : {F : Type 0} (a b d : State F) (f : Option StoreFault) (x y z w : ℕ) → Grows a b → b.used_ids ≤ a.used_ids → b.used_words +
+    z ≤ a.used_words + x → StoreStep b d f 0 w → w ≤ z → x ≤ y → StoreStep a d f 0 y
 used_then a b d f x y z w g i u s h k = record {
   grows = grows_trans g s.grows;
   honest = s.honest;
@@ -91,17 +93,28 @@ module _ {F R : Type 0} (a b d : State F) (name : R → ℕ) (g : Grows a b) (h 
   item_uses e f s t = used_then a d e f (lent_settle a name ms) (settle_fields a name fs) (lent_settle a name (drop i ms)) (settle_in d name (content_of m.now.value)) h
       (omega (arith, s.within_ids, ids)) (omega (arith, s.within_words, words)) t value_most most
 
-  pub words_shown : (e : State F) → StoreStep b d None 0 0 → StoreStep d e None 0 (settle_in d name (content_of m.now.value)) → (e.used_ids ≤ a.used_ids) × (e.used_words + lent_settle a name (drop (i + 1) ms) ≤ a.used_words + lent_settle a name ms)
+  pub words_shown : (e : State F) → StoreStep b d None 0 0 → StoreStep d e None 0 (settle_in d name (content_of m.now.value)) →
+      (e.used_ids ≤ a.used_ids) × (e.used_words + lent_settle a name (drop (i + 1) ms) ≤ a.used_words + lent_settle a name ms)
   words_shown e s t = (
     omega (arith, s.within_ids, t.within_ids, ids),
-    omega (arith, s.within_words, t.within_words, words, settle_turn a name ms i m within there, settle_in_still a d name h (content_of m.now.value) (item_fine a d name h fs fine ms order i m within there)),
+    omega (
+      arith,
+      s.within_words,
+      t.within_words,
+      words,
+      settle_turn a name ms i m within there,
+      settle_in_still a d name h
+          (content_of m.now.value) (item_fine a d name h fs fine ms order i m within there),
+    ),
   )
 
   pub words_skipped : b.used_words + lent_settle a name (drop (i + 1) ms) ≤ a.used_words + lent_settle a name ms
   words_skipped = omega (arith, words, settle_turn a name ms i m within there)
 
 -- all members were seen
-pub all_uses : {F R : Type 0} (a b : State F) (name : R → ℕ) (fs : Fields R) (ms : List (Bor (Member R))) (n : ℕ) → map lent_entry ms ≡ ordered (index_in a name) (key_values fs) → Grows a b → b.used_ids ≤ a.used_ids → b.used_words + n ≤ a.used_words + lent_settle a name ms → StoreStep a b None 0 (settle_fields a name fs)
+pub all_uses : {F R : Type 0} (a b : State F) (name : R → ℕ) (fs : Fields R) (ms : List (Bor (Member R))) (n : ℕ) → map lent_entry ms ≡
+    ordered (index_in a name) (key_values fs) → Grows a b → b.used_ids ≤ a.used_ids → b.used_words + n ≤ a.used_words + lent_settle a name ms
+    → StoreStep a b None 0 (settle_fields a name fs)
 all_uses a b name fs ms n order g i u = record {
   grows = g;
   honest = tt;

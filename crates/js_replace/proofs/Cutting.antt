@@ -1,5 +1,39 @@
 -- The parts of a string, one after another.
-use Rattle.std.proofs.Common.{arith, ◌≡◌, ℕ, zero, suc, ◌+◌, ◌-◌, ◌<◌, ◌≤◌, min, max, List, [], ◌∷◌, ◌++◌, length, length-append, refl, ap, sym, ◌∙◌, subst, take, drop, get_or, append_assoc, append-nil, cond, Bool, true, false, inl, inr}
+use Rattle.std.proofs.Common.{
+  arith,
+  ◌≡◌,
+  ℕ,
+  zero,
+  suc,
+  ◌+◌,
+  ◌-◌,
+  ◌<◌,
+  ◌≤◌,
+  min,
+  max,
+  List,
+  [],
+  ◌∷◌,
+  ◌++◌,
+  length,
+  length-append,
+  refl,
+  ap,
+  sym,
+  ◌∙◌,
+  subst,
+  take,
+  drop,
+  get_or,
+  append_assoc,
+  append-nil,
+  cond,
+  Bool,
+  true,
+  false,
+  inl,
+  inr,
+}
 use Rattle.std.specs.Prelude.{Option, Some, None, slice_range, nat_lt, if◌then◌else◌}
 use Rattle.std.proofs.lemmas.List.{get_or_default, map-append, length-map, length-take, length-drop, take_all}
 use Rattle.std.proofs.lemmas.Bool.Decides.{leb_tells}
@@ -30,7 +64,8 @@ pub cut_copy : (from to n : ℕ) → cut_words from to n ≤ copy_words (to - fr
 cut_copy from to n = by_bool (is_whole from to n) 0 (if nat_lt (to - from) 13 then 3 else 0) (copy_words (to - from)) (omega arith) (short_copy (nat_lt (to - from) 13) (wide_words (to - from)))
 
 module _ {F R : Type 0} (name : R → ℕ) where
-  pub texts_push : (a b : State F) (rs qs : List R) (r : R) (u : List ℕ) → Grows a b → AllKnown a name rs → NamesUnits b (name r) u → qs ≡ rs ++ r ∷ [] → known_texts b name qs ≡ known_texts a name rs ++ u ∷ []
+  pub texts_push : (a b : State F) (rs qs : List R) (r : R) (u : List ℕ) → Grows a b → AllKnown a name rs → NamesUnits b (name r) u → qs ≡
+      rs ++ r ∷ [] → known_texts b name qs ≡ known_texts a name rs ++ u ∷ []
   texts_push a b rs qs r u g k h e =
       ap (known_texts b name) e ∙ map-append (λ q. text b (name q)) rs (r ∷ [])
       ∙ ap (λ t. t ++ text b (name r) ∷ []) (texts_still name a b rs g k)
@@ -49,7 +84,9 @@ copies_append : (us vs : List (List ℕ)) → copies_words (us ++ vs) ≡ copies
 copies_append [] vs = omega arith
 copies_append (u ∷ us) vs = omega (arith, copies_append us vs)
 
-pub turn_step : {F : Type 0} {a b c : State F} {f : Option StoreFault} (n : ℕ) (done : List (List ℕ)) (part : List ℕ) (left whole : List (List ℕ)) → n ≡ length part → done ++ part ∷ left ≡ whole → StoreStep a b None (length done) (copies_words done) → StoreStep b c f 1 (copy_words n) → StoreStep a c f (length whole) (copies_words whole)
+pub turn_step : {F : Type 0} {a b c : State F} {f : Option StoreFault} (n : ℕ) (done : List (List ℕ)) (part : List ℕ)
+    (left whole : List (List ℕ)) → n ≡ length part → done ++ part ∷ left ≡ whole → StoreStep a b None (length done) (copies_words done) →
+    StoreStep b c f 1 (copy_words n) → StoreStep a c f (length whole) (copies_words whole)
 turn_step n done part left whole h e s t =
     let count = ap length (sym e) ∙ length-append done (part ∷ left) in
     let words = ap copies_words (sym e) ∙ copies_append done (part ∷ left) in
@@ -86,7 +123,8 @@ singles_end u limit i h = nil_of (take (limit - i) (singles (drop i u))) (omega 
 one_part : (n m : ℕ) (done left rest whole : List (List ℕ)) (p : List ℕ) → 0 < n → m ≡ n - 1 → left ≡ p ∷ rest → done ++ take n left ≡ whole → done ++ p ∷ take m rest ≡ whole
 one_part n m done left rest whole p h e f k = ap (λ t. done ++ t) (sym (ap (take n) f ∙ take_more n m p rest h e)) ∙ k
 
-pub more_parts : (n m : ℕ) (done more left rest whole : List (List ℕ)) (p : List ℕ) → 0 < n → m ≡ n - 1 → left ≡ p ∷ rest → more ≡ done ++ p ∷ [] → done ++ take n left ≡ whole → more ++ take m rest ≡ whole
+pub more_parts : (n m : ℕ) (done more left rest whole : List (List ℕ)) (p : List ℕ) → 0 < n → m ≡ n - 1 → left ≡ p ∷ rest → more ≡ done ++ p
+    ∷ [] → done ++ take n left ≡ whole → more ++ take m rest ≡ whole
 more_parts n m done more left rest whole p h e f g k = ap (λ t. t ++ take m rest) g ∙ append_assoc done (p ∷ []) (take m rest) ∙ one_part n m done left rest whole p h e f k
 
 pub no_more : (done left whole : List (List ℕ)) → left ≡ [] → done ++ left ≡ whole → done ≡ whole
@@ -94,10 +132,12 @@ no_more done left whole h k = sym (append-nil done) ∙ ap (λ t. done ++ t) (sy
 
 -- a turn of a loop over parts: what it used whether it ends or is refused, and what it leaves
 module _ {F : Type 0} {a b c : State F} {f : Option StoreFault} (size n m : ℕ) (done left rest whole : List (List ℕ)) (p : List ℕ) where
-  pub refused : size ≡ length p → 0 < n → m ≡ n - 1 → left ≡ p ∷ rest → done ++ take n left ≡ whole → StoreStep a b None (length done) (copies_words done) → StoreStep b c f 1 (copy_words size) → StoreStep a c f (length whole) (copies_words whole)
+  pub refused : size ≡ length p → 0 < n → m ≡ n - 1 → left ≡ p ∷ rest → done ++ take n left ≡ whole → StoreStep a b None (length done)
+      (copies_words done) → StoreStep b c f 1 (copy_words size) → StoreStep a c f (length whole) (copies_words whole)
   refused h l e g k s t = turn_step size done p (take m rest) whole h (one_part n m done left rest whole p l e g k) s t
 
-  pub answered : (more : List (List ℕ)) → size ≡ length p → more ≡ done ++ p ∷ [] → StoreStep a b None (length done) (copies_words done) → StoreStep b c f 1 (copy_words size) → StoreStep a c f (length more) (copies_words more)
+  pub answered : (more : List (List ℕ)) → size ≡ length p → more ≡ done ++ p ∷ [] → StoreStep a b None (length done) (copies_words done) →
+      StoreStep b c f 1 (copy_words size) → StoreStep a c f (length more) (copies_words more)
   answered more h g s t = turn_step size done p [] more h (sym g) s t
 
 -- Pieces between places.
@@ -105,10 +145,12 @@ module _ {F : Type 0} {a b c : State F} {f : Option StoreFault} (size n m : ℕ)
 place_front : (ks : List ℕ) (i : ℕ) → i < length ks → drop i ks ≡ get_or ks i 0 ∷ drop (i + 1) ks
 place_front ks i h = drop_at ks i (get_or ks i 0) h (get_or_default ks i 0 (get_or ks i 0) h)
 
-pub piece_turn : (u : List ℕ) (size from : ℕ) (ks : List ℕ) (i : ℕ) → i < length ks → pieces u size from (drop i ks) ≡ slice_range u from (get_or ks i 0) ∷ pieces u size (get_or ks i 0 + size) (drop (i + 1) ks)
+pub piece_turn : (u : List ℕ) (size from : ℕ) (ks : List ℕ) (i : ℕ) → i < length ks → pieces u size from (drop i ks) ≡ slice_range u from
+    (get_or ks i 0) ∷ pieces u size (get_or ks i 0 + size) (drop (i + 1) ks)
 piece_turn u size from ks i h = ap (λ q. pieces u size from q) (place_front ks i h)
 
-pub order_turn : (len size from : ℕ) (ks : List ℕ) (i : ℕ) → i < length ks → InOrder len size from (drop i ks) → (from ≤ get_or ks i 0) × (get_or ks i 0 + size ≤ len) × InOrder len size (get_or ks i 0 + size) (drop (i + 1) ks)
+pub order_turn : (len size from : ℕ) (ks : List ℕ) (i : ℕ) → i < length ks → InOrder len size from (drop i ks) → (from ≤ get_or ks i 0) ×
+    (get_or ks i 0 + size ≤ len) × InOrder len size (get_or ks i 0 + size) (drop (i + 1) ks)
 order_turn len size from ks i h o = subst (λ (q : List ℕ). InOrder len size from q) (place_front ks i h) o
 
 pub last_piece : (u : List ℕ) (size from : ℕ) (ks : List ℕ) (i : ℕ) → length ks ≤ i → from ≤ length u → pieces u size from (drop i ks) ≡ slice_range u from (length u) ∷ []
@@ -125,7 +167,11 @@ last_order len size from ks i h o =
 
 -- The parts by the cases of `split`.
 
-by_place : (o : Option ℕ) (l m : ℕ) (u w : List ℕ) (size from : ℕ) → ((k : ℕ) → take l (pieces u size (k + size) (first_matches l u w (k + max 1 (length w)))) ≡ take l (pieces u size (k + size) (first_matches m u w (k + max 1 (length w))))) → take (suc l) (pieces u size from (and_on o (λ k. first_matches l u w (k + max 1 (length w))))) ≡ take (suc l) (pieces u size from (and_on o (λ k. first_matches m u w (k + max 1 (length w)))))
+by_place : (o : Option ℕ) (l m : ℕ) (u w : List ℕ) (size from : ℕ) → ((k : ℕ) → take l
+    (pieces u size (k + size) (first_matches l u w (k + max 1 (length w)))) ≡ take l
+    (pieces u size (k + size) (first_matches m u w (k + max 1 (length w))))) → take (suc l)
+    (pieces u size from (and_on o (λ k. first_matches l u w (k + max 1 (length w))))) ≡ take (suc l)
+    (pieces u size from (and_on o (λ k. first_matches m u w (k + max 1 (length w)))))
 by_place None l m u w size from h = refl
 by_place (Some k) l m u w size from h = ap (λ t. slice_range u from k ∷ t) (h k)
 

@@ -33,7 +33,9 @@ next_turn (suc n) u w from k h e =
     let less : suc n - 1 ≡ n = omega arith in
     ap (λ o. and_on o (λ j. first_matches n u w (j + max 1 (length w)))) e ∙ ap (λ m. k ∷ first_matches m u w (k + max 1 (length w))) (sym less)
 
-by_place : (o : Option ℕ) (n : ℕ) (u w : List ℕ) (end from : ℕ) → first u w from ≡ o → end ≤ from → end ≤ length u → ((k : ℕ) → o ≡ Some k → InOrder (length u) (length w) (k + length w) (first_matches n u w (k + max 1 (length w)))) → InOrder (length u) (length w) end (and_on o (λ k. first_matches n u w (k + max 1 (length w))))
+by_place : (o : Option ℕ) (n : ℕ) (u w : List ℕ) (end from : ℕ) → first u w from ≡ o → end ≤ from → end
+    ≤ length u → ((k : ℕ) → o ≡ Some k → InOrder (length u) (length w) (k + length w) (first_matches n u w (k + max 1 (length w)))) → InOrder
+    (length u) (length w) end (and_on o (λ k. first_matches n u w (k + max 1 (length w))))
 by_place None n u w end from e h l more = l
 by_place (Some k) n u w end from e h l more =
     let f = found u w from k e in
@@ -65,7 +67,8 @@ next_in u v w x from o p q e = ap (λ y. first y w from) (sym p) ∙ ap (λ y. f
 pub found_all : (n : ℕ) (u v w x ks whole : List ℕ) (from : ℕ) → 0 < n → v ≡ u → x ≡ w → None ≡ first v x from → ks ++ first_matches n u w from ≡ whole → ks ≡ whole
 found_all n u v w x ks whole from h p q e k = sym (append-nil ks) ∙ ap (λ y. ks ++ y) (sym (last_turn n u w from h (next_in u v w x from None p q e))) ∙ k
 
-pub found_more : (n m : ℕ) (u v w x ks more whole : List ℕ) (from k after : ℕ) → 0 < n → m ≡ n - 1 → v ≡ u → x ≡ w → Some k ≡ first v x from → after ≡ k + max 1 (length w) → more ≡ ks ++ k ∷ [] → ks ++ first_matches n u w from ≡ whole → more ++ first_matches m u w after ≡ whole
+pub found_more : (n m : ℕ) (u v w x ks more whole : List ℕ) (from k after : ℕ) → 0 < n → m ≡ n - 1 → v ≡ u → x ≡ w → Some k ≡ first v x from
+    → after ≡ k + max 1 (length w) → more ≡ ks ++ k ∷ [] → ks ++ first_matches n u w from ≡ whole → more ++ first_matches m u w after ≡ whole
 found_more n m u v w x ks more whole from k after h d p q e a g b =
     let left = first_matches (n - 1) u w (k + max 1 (length w)) in
     let turn = next_turn n u w from k h (next_in u v w x from (Some k) p q e) in
@@ -81,7 +84,9 @@ found_room u v w x from k p q e = (found u w from k (next_in u v w x from (Some 
 
 -- The places are those of the definition by the least place.
 
-by_least : (o : Option ℕ) (n : ℕ) (u w : List ℕ) (from : ℕ) → first u w from ≡ o → ((k : ℕ) → o ≡ Some k → AreMatches u w (k + max 1 (length w)) (first_matches n u w (k + max 1 (length w)))) → AreMatches u w from (and_on o (λ k. first_matches n u w (k + max 1 (length w))))
+by_least : (o : Option ℕ) (n : ℕ) (u w : List ℕ) (from : ℕ) → first u w
+    from ≡ o → ((k : ℕ) → o ≡ Some k → AreMatches u w (k + max 1 (length w)) (first_matches n u w (k + max 1 (length w)))) → AreMatches u w
+    from (and_on o (λ k. first_matches n u w (k + max 1 (length w))))
 by_least None n u w from e h = e
 by_least (Some k) n u w from e h = (e, h k refl)
 

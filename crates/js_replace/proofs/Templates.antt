@@ -43,7 +43,8 @@ module _ (u : List ℕ) (at : ℕ) (w : List ℕ) where
       ∙ ap (λ q. q ∷ substituted (y ∷ t) u at w) (sym one)
       ∙ ap (λ q. c ∷ substituted q u at w) (sym e)
 
-  pub reference_left : (t s v : List ℕ) (c d : ℕ) (r : List ℕ) → s ≡ drop 1 t → v ≡ drop 1 s → Some c ≡ slice_get t 0 → Some d ≡ slice_get s 0 → front_reference c d u at w ≡ Some r → substituted t u at w ≡ r ++ substituted v u at w
+  pub reference_left : (t s v : List ℕ) (c d : ℕ) (r : List ℕ) → s ≡ drop 1 t → v ≡ drop 1 s → Some c ≡ slice_get t 0 → Some d ≡ slice_get s
+      0 → front_reference c d u at w ≡ Some r → substituted t u at w ≡ r ++ substituted v u at w
   reference_left [] s v c d r e f h k n = absurd (cc)
   reference_left (x ∷ []) s v c d r e f h k n = let none : slice_get s 0 ≡ None = ap (λ q. slice_get q 0) e in absurd (cc)
   reference_left (x ∷ y ∷ t) s v c d r e f h k n =

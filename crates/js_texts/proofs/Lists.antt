@@ -1,5 +1,38 @@
 -- The strings of a list, one after another.
-use Rattle.std.proofs.Common.{arith, add-one, drop-cons, ◌≡◌, ℕ, zero, suc, ◌+◌, ◌≤◌, ◌<◌, Bool, true, false, IsTrue, List, [], ◌∷◌, map, refl, subst, ap, sym, ◌∙◌, length, get_or, take, drop, ◌-◌, Result, Ok, Err, Some}
+use Rattle.std.proofs.Common.{
+  arith,
+  add-one,
+  drop-cons,
+  ◌≡◌,
+  ℕ,
+  zero,
+  suc,
+  ◌+◌,
+  ◌≤◌,
+  ◌<◌,
+  Bool,
+  true,
+  false,
+  IsTrue,
+  List,
+  [],
+  ◌∷◌,
+  map,
+  refl,
+  subst,
+  ap,
+  sym,
+  ◌∙◌,
+  length,
+  get_or,
+  take,
+  drop,
+  ◌-◌,
+  Result,
+  Ok,
+  Err,
+  Some,
+}
 use Rattle.std.proofs.Math.Seq.{take-length}
 use Rattle.std.proofs.lemmas.List.{length-drop}
 use Rattle.std.proofs.lemmas.Option.{slice_get-get_or}
@@ -61,13 +94,15 @@ module _ {F R : Type 0} (name : R → ℕ) where
   pub settle_still : (a b : State F) (rs : List R) → Grows a b → AllKnown a name rs → settle_most b name rs ≤ settle_most a name rs
   settle_still a b [] g h = omega arith
   settle_still a b (r ∷ rs) g h =
-      let one : settle_words (b.settled (name r)) (length (text a (name r))) ≤ settle_words (a.settled (name r)) (length (text a (name r))) = settle_falls (a.settled (name r)) (b.settled (name r)) (length (text a (name r))) (g.settled (name r)) in
+      let one : settle_words (b.settled (name r)) (length (text a (name r))) ≤ settle_words (a.settled (name r))
+      (length (text a (name r))) = settle_falls (a.settled (name r)) (b.settled (name r)) (length (text a (name r))) (g.settled (name r)) in
       let same : text b (name r) ≡ text a (name r) = text_still g (name r) h.0 in
       let rest : settle_most b name rs ≤ settle_most a name rs = settle_still a b rs g h.1 in
       rw same (omega (arith, one, rest))
 
   -- what settling the first string takes, and then the others
-  pub settle_front : (b c : State F) (rs : List R) (i : ℕ) (r : R) → i < length rs → r ≡ get_or rs i r → Grows b c → AllKnown b name rs → settle_words (b.settled (name r)) (length (text b (name r))) + settle_most c name (drop (i + 1) rs) ≤ settle_most b name (drop i rs)
+  pub settle_front : (b c : State F) (rs : List R) (i : ℕ) (r : R) → i < length rs → r ≡ get_or rs i r → Grows b c → AllKnown b name rs →
+      settle_words (b.settled (name r)) (length (text b (name r))) + settle_most c name (drop (i + 1) rs) ≤ settle_most b name (drop i rs)
   settle_front b c rs i r l p g h =
       let still : settle_most c name (drop (i + 1) rs) ≤ settle_most b name (drop (i + 1) rs) = settle_still b c (drop (i + 1) rs) g (every_drop _ rs (i + 1) h) in
       rw (drop_at rs i r l p) (omega (arith, still))
@@ -84,5 +119,6 @@ module _ {F R : Type 0} (name : R → ℕ) where
   all_settled_still a b rs g h = every_map (λ r k. g.settled (name r) k) rs h
 
   -- one more string is settled beside those before it
-  pub settled_turn : (b c : State F) (rs : List R) (i : ℕ) (r : R) → i < length rs → r ≡ get_or rs i r → Grows b c → AllSettled b name (take i rs) → IsSettled c (name r) → AllSettled c name (take (i + 1) rs)
+  pub settled_turn : (b c : State F) (rs : List R) (i : ℕ) (r : R) → i < length rs → r ≡ get_or rs i r → Grows b c → AllSettled b name
+      (take i rs) → IsSettled c (name r) → AllSettled c name (take (i + 1) rs)
   settled_turn b c rs i r l p g h s = every_more (λ q. IsSettled c (name q)) rs i r l p (all_settled_still b c (take i rs) g h) s

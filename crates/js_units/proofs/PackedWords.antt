@@ -30,7 +30,8 @@ next_lane false (suc (suc (suc (suc (suc (suc zero)))))) word unit l m = let e :
 next_lane false (suc (suc (suc (suc (suc (suc (suc k))))))) word unit l m = absurd (omega arith)
 
 -- a word of so many lanes, with one more, is one of 64 bits
-pub one_more : (wide : Bool) (d word unit : ℕ) → d < lane_count wide → word < lane_base wide ^ d → unit < lane_base wide → (word * lane_base wide + unit < lane_base wide ^ suc d) × (word * lane_base wide + unit < 2 ^ 64)
+pub one_more : (wide : Bool) (d word unit : ℕ) → d < lane_count wide → word < lane_base wide ^ d → unit < lane_base wide →
+    (word * lane_base wide + unit < lane_base wide ^ suc d) × (word * lane_base wide + unit < 2 ^ 64)
 one_more true zero word unit d w u = let a : word * 65536 + unit < 65536 = omega arith in let b : word * 65536 + unit < 2 ^ 64 = omega arith in (a, b)
 one_more true (suc zero) word unit d w u = let a : word * 65536 + unit < 4294967296 = omega arith in let b : word * 65536 + unit < 2 ^ 64 = omega arith in (a, b)
 one_more true (suc (suc zero)) word unit d w u = let a : word * 65536 + unit < 281474976710656 = omega arith in let b : word * 65536 + unit < 2 ^ 64 = omega arith in (a, b)
@@ -92,7 +93,8 @@ pub fits_of : (wide : Bool) (us : List ℕ) → wide ≡ is_wide us → wide ≡
 fits_of wide us e f k l = narrow_unit us k (sym e ∙ f)
 
 -- the lanes of a word of a string are numbered by 32 bits
-pub lanes_small : (wide : Bool) (n at k : ℕ) → n ≤ 536870888 → at < words_over wide n → k < lane_count wide → (at * lane_count wide + (lane_count wide - 1 - k) < 2 ^ 32) × (at * lane_count wide < 2 ^ 32)
+pub lanes_small : (wide : Bool) (n at k : ℕ) → n ≤ 536870888 → at < words_over wide n → k < lane_count wide →
+    (at * lane_count wide + (lane_count wide - 1 - k) < 2 ^ 32) × (at * lane_count wide < 2 ^ 32)
 lanes_small true n at k s l m = (omega arith, omega arith)
 lanes_small false n at k s l m = (omega arith, omega arith)
 

@@ -28,11 +28,16 @@ decoded_turn hold (u ∷ us) p h l =
     ap (λ o. after_part o (λ n. decoded_behind hold n us)) h ∙ ap (uri_after p.taken p.units) (passed hold (p.taken - 1) us ∙ ap (λ vs. decoded vs hold) (taken_one p.taken u us l))
 
 -- the length, or the place, of the units ws, of which us are left, and then vs
-pub length_turn : (hold : ℕ → Bool) (ws us vs : List ℕ) (p : DecodedPart) (n len : ℕ) → measure (decoded ws hold) ≡ counted (length ws - length us) len (measure (decoded us hold)) → Some p ≡ first_part hold us → 1 ≤ p.taken → vs ≡ drop p.taken us → length us ≡ p.taken + length vs → length us ≤ length ws → n ≡ length p.units → measure (decoded ws hold) ≡ counted (length ws - length vs) (len + n) (measure (decoded vs hold))
+pub length_turn : (hold : ℕ → Bool) (ws us vs : List ℕ) (p : DecodedPart) (n len : ℕ) → measure (decoded ws hold) ≡ counted
+    (length ws - length us) len (measure (decoded us hold)) → Some p ≡ first_part hold us → 1 ≤ p.taken → vs ≡ drop p.taken us → length us ≡
+    p.taken + length vs → length us ≤ length ws → n ≡ length p.units → measure (decoded ws hold) ≡ counted (length ws - length vs) (len + n)
+    (measure (decoded vs hold))
 length_turn hold ws us vs p n len h q l e m k f =
     let at : ℕ = length ws - length us in
     let more : at + p.taken ≡ length ws - length vs = omega arith in
-    h ∙ ap (λ r. counted at len (measure r)) (decoded_turn hold us p (sym q) l ∙ ap (λ ys. after_some p.taken (Some p.units) (decoded ys hold)) (sym e)) ∙ counted_turn (Some p.units) (decoded vs hold) at p.taken len n (ap Some f) ∙ ap (λ a. counted a (len + n) (measure (decoded vs hold))) more
+    h ∙ ap (λ r. counted at len (measure r)) (decoded_turn hold us p (sym q) l ∙ ap
+    (λ ys. after_some p.taken (Some p.units) (decoded ys hold)) (sym e)) ∙ counted_turn (Some p.units) (decoded vs hold) at p.taken len n
+    (ap Some f) ∙ ap (λ a. counted a (len + n) (measure (decoded vs hold))) more
 
 -- what is written of the units us, of which none is malformed
 pub rest_is_ok : (hold : ℕ → Bool) (us vs : List ℕ) (p : DecodedPart) → Some p ≡ first_part hold us → 1 ≤ p.taken → vs ≡ drop p.taken us → IsOk (decoded us hold) → IsOk (decoded vs hold)
@@ -40,7 +45,8 @@ rest_is_ok hold us vs p q l e h =
     let ok = written_rest (Some p.units) (decoded (drop p.taken us) hold) p.taken (subst (λ (r : UriOutcome). IsOk r) (decoded_turn hold us p (sym q) l) h) in
     subst (λ (ys : List ℕ). IsOk (decoded ys hold)) (sym e) ok
 
-pub units_turn : (hold : ℕ → Bool) (t m l us vs : List ℕ) (p : DecodedPart) → Some p ≡ first_part hold us → 1 ≤ p.taken → vs ≡ drop p.taken us → IsOk (decoded us hold) → m ≡ t ++ p.units → t ++ units (decoded us hold) ≡ l → m ++ units (decoded vs hold) ≡ l
+pub units_turn : (hold : ℕ → Bool) (t m l us vs : List ℕ) (p : DecodedPart) → Some p ≡ first_part hold us → 1 ≤ p.taken → vs ≡ drop p.taken
+    us → IsOk (decoded us hold) → m ≡ t ++ p.units → t ++ units (decoded us hold) ≡ l → m ++ units (decoded vs hold) ≡ l
 units_turn hold t m l us vs p q n d h e f =
     let turn = decoded_turn hold us p (sym q) n in
     let rest : List ℕ = units (decoded (drop p.taken us) hold) in

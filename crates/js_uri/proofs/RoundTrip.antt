@@ -1,5 +1,39 @@
 -- Decoding what encoding made.
-use Rattle.std.proofs.Common.{◌≡◌, ℕ, zero, suc, ◌+◌, ◌-◌, ◌*◌, ◌/◌, ◌%◌, ◌<◌, ◌≤◌, List, [], ◌∷◌, ◌++◌, length, drop, Bool, true, false, Option, Some, None, Ok, Err, arith, refl, ap, sym, ◌∙◌, inl, inr, All}
+use Rattle.std.proofs.Common.{
+  ◌≡◌,
+  ℕ,
+  zero,
+  suc,
+  ◌+◌,
+  ◌-◌,
+  ◌*◌,
+  ◌/◌,
+  ◌%◌,
+  ◌<◌,
+  ◌≤◌,
+  List,
+  [],
+  ◌∷◌,
+  ◌++◌,
+  length,
+  drop,
+  Bool,
+  true,
+  false,
+  Option,
+  Some,
+  None,
+  Ok,
+  Err,
+  arith,
+  refl,
+  ap,
+  sym,
+  ◌∙◌,
+  inl,
+  inr,
+  All,
+}
 use Rattle.std.specs.Prelude.{◌&&◌, ◌||◌, ◌==◌, nat_eq, nat_lt, if◌then◌else◌, encode_utf8, bytes_eq, flat_map}
 use Rattle.std.specs.List.{list_all}
 use Rattle.std.proofs.lemmas.Bool.{cases_eq, cases_lt, cases_Bool, and_parts, and_from, not-true, eqb-true, ne_eqb, lt-ltb, le-ltb, ltb-true, leb-true, cond-true, cond-false}
@@ -9,7 +43,25 @@ use Rattle.js_units.specs.Text.{is_lead, is_trail, pair_value, points, utf16_of}
 use Rattle.js_uri.specs.Outcome.{UriOutcome, uri_after, after_some, uri_and_then}
 use Rattle.js_uri.specs.Sets.{no_hold}
 use Rattle.js_uri.specs.Encoding.{upper_hex, escape, escapes, encoded_point, encoded_points}
-use Rattle.js_uri.specs.Decoding.{DecodedPart, digit, byte_of, escaped_byte, cons_bytes, escaped_bytes, sequence_len, bits, is_scalar, spelled_by, utf8_point, ascii_part, point_part, escaped_part, after_part, decoded_behind, decoded}
+use Rattle.js_uri.specs.Decoding.{
+  DecodedPart,
+  digit,
+  byte_of,
+  escaped_byte,
+  cons_bytes,
+  escaped_bytes,
+  sequence_len,
+  bits,
+  is_scalar,
+  spelled_by,
+  utf8_point,
+  ascii_part,
+  point_part,
+  escaped_part,
+  after_part,
+  decoded_behind,
+  decoded,
+}
 use Rattle.js_uri.specs.Decoding.{first_part}
 use Rattle.js_uri.specs.Laws.{Undoes}
 use Rattle.js_uri.proofs.Escapes.{length-escapes}
@@ -148,7 +200,8 @@ ascii_back c w x h e =
     let small : c < 256 = omega arith in
     let narrow : c < 0x10000 = omega arith in
     let p : DecodedPart = record { units = c ∷ []; taken = 3 } in
-    let part : first_part no_hold us ≡ Some p = ap (escaped_part no_hold us) (byte_back c w small) ∙ cond-true (nat_lt c 0x80) (Some p) (point_part (sequence_len c) (utf8_point (escaped_bytes (sequence_len c) us))) (lt-ltb c 0x80 h) in
+    let part : first_part no_hold us ≡ Some p = ap (escaped_part no_hold us) (byte_back c w small) ∙ cond-true (nat_lt c 0x80) (Some p)
+    (point_part (sequence_len c) (utf8_point (escaped_bytes (sequence_len c) us))) (lt-ltb c 0x80 h) in
     ap (λ l. decoded (flat_map escape l ++ w) no_hold) (encode_ascii c h)
     ∙ decoded_turn no_hold us p part (omega arith)
     ∙ ap (after_some 3 (Some (c ∷ []))) e
@@ -157,7 +210,8 @@ ascii_back c w x h e =
 -- a unit, and a code point, that stands for itself
 stands : (u : ℕ) (w x : List ℕ) → (u ≡ 0x25 → ⊥) → decoded w no_hold ≡ Ok x → decoded (u ∷ w) no_hold ≡ Ok (u ∷ x)
 stands u w x n e =
-    ap (λ o. after_part o (λ k. decoded_behind no_hold k w)) (cond-false (u == 0x25) (escaped_part no_hold (u ∷ w) (escaped_byte (u ∷ w))) (Some (record { units = u ∷ []; taken = 1 })) (ne_eqb u 0x25 n))
+    ap (λ o. after_part o (λ k. decoded_behind no_hold k w)) (cond-false (u == 0x25) (escaped_part no_hold (u ∷ w) (escaped_byte (u ∷ w)))
+    (Some (record { units = u ∷ []; taken = 1 })) (ne_eqb u 0x25 n))
     ∙ ap (uri_after 1 (u ∷ [])) e
 
 kept_back : (c : ℕ) (w x : List ℕ) → c < 0x110000 → (c ≡ 0x25 → ⊥) → decoded w no_hold ≡ Ok x → decoded (utf16_of c ++ w) no_hold ≡ Ok (utf16_of c ++ x)
@@ -188,7 +242,8 @@ escaped_back c w x s h e = elim (cases_lt c 128) [
 abbrev back : List ℕ → UriOutcome
 back vs = decoded vs no_hold
 
-turn_back : (keep : ℕ → Bool) (n c : ℕ) (r : UriOutcome) (x : List ℕ) → keep 0x25 ≡ false → is_scalar c ≡ true → uri_and_then r back ≡ Ok x → uri_and_then (after_some n (encoded_point keep c) r) back ≡ Ok (utf16_of c ++ x)
+turn_back : (keep : ℕ → Bool) (n c : ℕ) (r : UriOutcome) (x : List ℕ) → keep 0x25 ≡ false → is_scalar c ≡ true → uri_and_then r back ≡ Ok x
+    → uri_and_then (after_some n (encoded_point keep c) r) back ≡ Ok (utf16_of c ++ x)
 turn_back keep n c (Err k) x f s h = cc
 turn_back keep n c (Ok w) x f s h =
     let parts = and_parts _ _ s in
@@ -225,7 +280,8 @@ pair_units u v h k =
     let trail : 0xDC00 + ((u - 0xD800) * 0x400 + (v - 0xDC00) + 0x10000 - 0x10000) % 0x400 ≡ v = omega arith in
     cond-false (nat_lt c 0x10000) _ _ (le-ltb c 0x10000 large) ∙ ap (λ l. l ∷ (0xDC00 + (c - 0x10000) % 0x400) ∷ []) lead ∙ ap (λ l. u ∷ l ∷ []) trail
 
-units_by : (b : Bool) (c u v : ℕ) (cs ds us : List ℕ) → (b ≡ true → utf16_of c ≡ u ∷ v ∷ []) → flat_map utf16_of cs ≡ us → utf16_of u ≡ u ∷ [] → flat_map utf16_of ds ≡ v ∷ us → flat_map utf16_of (if b then c ∷ cs else u ∷ ds) ≡ u ∷ v ∷ us
+units_by : (b : Bool) (c u v : ℕ) (cs ds us : List ℕ) → (b ≡ true → utf16_of c ≡ u ∷ v ∷ []) → flat_map utf16_of cs ≡ us → utf16_of u ≡ u ∷
+    [] → flat_map utf16_of ds ≡ v ∷ us → flat_map utf16_of (if b then c ∷ cs else u ∷ ds) ≡ u ∷ v ∷ us
 units_by true c u v cs ds us p h o k = ap (λ l. l ++ flat_map utf16_of cs) (p refl) ∙ ap (λ l. u ∷ v ∷ l) h
 units_by false c u v cs ds us p h o k = ap (λ l. l ++ flat_map utf16_of ds) o ∙ ap (λ l. u ∷ l) k
 
@@ -237,7 +293,8 @@ units_back [] h = refl
 units_back (u ∷ []) h = ap (λ l. l ++ []) (one_unit u (h zero 0 (omega arith)))
 units_back (u ∷ v ∷ us) h =
     let pair = λ (b : (is_lead u && is_trail v) ≡ true). let p = and_parts _ _ b in pair_units u v p.0 p.1 in
-    units_by (is_lead u && is_trail v) (pair_value u v) u v (points us) (points (v ∷ us)) us pair (units_back us (behind v us (behind u (v ∷ us) h))) (one_unit u (h zero 0 (omega arith))) (units_back (v ∷ us) (behind u (v ∷ us) h))
+    units_by (is_lead u && is_trail v) (pair_value u v) u v (points us) (points (v ∷ us)) us pair
+    (units_back us (behind v us (behind u (v ∷ us) h))) (one_unit u (h zero 0 (omega arith))) (units_back (v ∷ us) (behind u (v ∷ us) h))
 
 pub undone : (keep : ℕ → Bool) → keep 0x25 ≡ false → Undoes keep
 undone keep f = λ us h s. points_back keep (points us) f s ∙ ap Ok (units_back us h)

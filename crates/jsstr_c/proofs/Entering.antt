@@ -19,7 +19,8 @@ refused (Words f) e = omega (arith, e)
 refused (Slots n) e = omega (arith, e)
 
 module _ (x y : Held) (s : ℕ) (same : IsSame x y) (marks : KeepsMarks x y) (known : KeepsKnown (view_by x) (view_by y)) (calls : KeepsCalls (view_by x) (view_by y)) where
-  enters_as : (t : Result ℕ TableFull) → MarksAnswer x y t → ((us : List ℕ) → Has (view_by x).units s us → (plan : HeaderPlan) × IsPlan (view_by x) (view_by y) s us plan × IsInternAnswer (view_by x) (view_by y) us plan t)
+  enters_as : (t : Result ℕ TableFull) → MarksAnswer x y t → ((us : List ℕ) → Has (view_by x).units s us → (plan : HeaderPlan) × IsPlan
+      (view_by x) (view_by y) s us plan × IsInternAnswer (view_by x) (view_by y) us plan t)
       → IfOk t (λ i. IsForwarded (view_by y) s i) → Enters (Some x) (Some y) s (table_answer t)
   enters_as (Ok i) marked interns forwards = record {
     same = same;

@@ -57,7 +57,13 @@ module _ (v w x : View) (r : OnlyLoads v w) (forms : w.forms ≡ v.forms) where
     used_words = subst (λ (c : Counters). x.used.words + text_words_wanted f ≤ c.words + n) r.used a.used_words;
     own_ids = a.own_ids ∙ r.own_ids;
     own_words = λ c k. a.own_words c (subst (λ (m : FinMap nat_cmp ℕ). HasKey m c) (sym r.own_words) k);
-    claimed = (a.claimed.0, a.claimed.1, subst (λ (c : Counters). x.used.words ≡ c.words + a.claimed.1) r.used a.claimed.2, a.claimed.3, λ q l k. a.claimed.4 q l (subst (λ (m : FinMap nat_cmp ℕ). HasKey m (a.claimed.0 + q)) (sym r.own_words) k));
+    claimed = (
+      a.claimed.0,
+      a.claimed.1,
+      subst (λ (c : Counters). x.used.words ≡ c.words + a.claimed.1) r.used a.claimed.2,
+      a.claimed.3,
+      λ q l k. a.claimed.4 q l (subst (λ (m : FinMap nat_cmp ℕ). HasKey m (a.claimed.0 + q)) (sym r.own_words) k),
+    );
   }
 
   no_room_before : (z : HeapSize) (us : List ℕ) (f : TextFull) (wide : Bool) → IsNoRoom w x z us f wide → IsNoRoom v x z us f wide
@@ -85,7 +91,11 @@ one_knows (Some x) None s a = absurd a
 one_knows (Some x) (Some y) s a = a.known
 
 pub looks_trans : (o p q : Option Held) → OnlyLooks o p → OnlyLooks p q → OnlyLooks o q
-looks_trans o p q a b = record { leaves = goes_trans o p q a.leaves b.leaves; loads = reads_trans (handle_view o) (handle_view p) (handle_view q) a.loads b.loads; marks = none_trans o p q a.marks b.marks }
+looks_trans o p q a b = record {
+  leaves = goes_trans o p q a.leaves b.leaves;
+  loads = reads_trans (handle_view o) (handle_view p) (handle_view q) a.loads b.loads;
+  marks = none_trans o p q a.marks b.marks;
+}
 
 pub measures_trans : (o p q : Option Held) → Measures o p → Measures p q → Measures o q
 measures_trans o p q a b = record { looks = looks_trans o p q a.looks b.looks; forms = (b.forms.0 ∙ a.forms.0, b.forms.1 ∙ a.forms.1) }

@@ -65,7 +65,11 @@ module _ (o m : Option Held) (a b r : ℕ) (pair : SettlesPair o m a b r) where
 
   known_both : r ≡ 0 → ¬ (HandleKnows o a × HandleKnows o b) → ⊥
   known_both e n = let s = pair.done e in let same = pair.unknown n in
-      n (subst (λ (x : Option Held). HandleKnows x a) same (goes_knows s.0 m a s.2.leaves (one_knows o s.0 a s.1.marks)), subst (λ (x : Option Held). HandleKnows x b) same (one_knows s.0 m b s.2.marks))
+      n (
+        subst (λ (x : Option Held). HandleKnows x a) same (goes_knows s.0 m a s.2.leaves (one_knows o s.0 a s.1.marks)),
+        subst
+            (λ (x : Option Held). HandleKnows x b) same (one_knows s.0 m b s.2.marks),
+      )
 
   pub seeks_on : (p : Option Held) (status : ℕ) (nothing : Type 0) (tells : List ℕ → List ℕ → Type 0) → r ≡ 0 → Searches m p → status ≢ 9 → status ≢ 4
       → ((us vs : List ℕ) → Has (handle_view m).units a us → Has (handle_view m).units b vs → tells us vs) → SeeksSettled o p a b status nothing tells
@@ -95,7 +99,12 @@ pair_before o m p a b status g ka kb s = record {
 
 -- a condition failed
 pub never : (o m : Option Held) (s : ℕ) (r : JsAnswer) → r ≡ bad_argument → Looked o m → (¬ (HandleKnows o s) → m ≡ o) → SettlesFirst o m s r
-never o m s r is looked unknown = subst (SettlesFirst o m s) (sym is) record { unknown = unknown; bad = λ e. (refl, looked); refused = λ nb nd. absurd (nb refl); done = λ (e : 9 ≡ 0). absurd (omega (arith, e)) }
+never o m s r is looked unknown = subst (SettlesFirst o m s) (sym is) record {
+  unknown = unknown;
+  bad = λ e. (refl, looked);
+  refused = λ nb nd. absurd (nb refl);
+  done = λ (e : 9 ≡ 0). absurd (omega (arith, e));
+}
 
 -- a condition held
 pub then_settled : (o m p : Option Held) (s : ℕ) (r : JsAnswer) → Looked o m → HandleKnows o s → r.status ≢ 9 → (r.status ≡ 0 → (r ≡ done s) × Settles m p s)

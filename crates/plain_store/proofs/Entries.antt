@@ -20,7 +20,10 @@ module _ {K : Type 0} (units : K → List ℕ) where
   put_entry : (es : List (K × ℕ)) (k : K) (v : ℕ) → by_units units (insert_entry (λ x y. slice_cmp nat_cmp (units x) (units y)) es k v) ≡ put (slice_cmp nat_cmp) (units k) v (by_units units es)
   put_entry [] k v = refl
   put_entry (e ∷ es) k v =
-      elim (slice_cmp nat_cmp (units k) (units e.0)) as (λ o. by_units units (match_ordering o ((k, v) ∷ e ∷ es) ((e.0, v) ∷ es) (e ∷ insert_entry (λ x y. slice_cmp nat_cmp (units x) (units y)) es k v)) ≡ by_order o ((units k, v) ∷ by_units units (e ∷ es)) ((units e.0, v) ∷ by_units units es) ((units e.0, e.1) ∷ put (slice_cmp nat_cmp) (units k) v (by_units units es))) [
+      elim (slice_cmp nat_cmp (units k) (units e.0)) as (λ o. by_units units
+      (match_ordering o ((k, v) ∷ e ∷ es) ((e.0, v) ∷ es) (e ∷ insert_entry (λ x y. slice_cmp nat_cmp (units x) (units y)) es k v)) ≡
+      by_order o ((units k, v) ∷ by_units units (e ∷ es)) ((units e.0, v) ∷ by_units units es)
+      ((units e.0, e.1) ∷ put (slice_cmp nat_cmp) (units k) v (by_units units es))) [
         | Less ↦ refl
         | Equal ↦ refl
         | Greater ↦ ap (λ r. (units e.0, e.1) ∷ r) (put_entry es k v)

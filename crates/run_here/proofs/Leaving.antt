@@ -61,7 +61,8 @@ module _ (a b : State SessionFrame) (script : Script) (o : Outcome) (index : o.i
       ∙ ap (λ (e : List (Binding (Item JsStr))). (meaning (tree_of script) (bounds_seen a number (bounds_of e)) a.limit).bindings.top) none
 
 -- A prelude was evaluated from no bindings, and a script behind it.
-module _ (a b c : State SessionFrame) (prelude script : Script) (first o : Outcome) (index : o.index ≡ 0) (env after : List (Binding (Item JsStr))) (unused : IsUnused a) (g : Grows a b) (h : Grows b c)
+module _ (a b c : State SessionFrame) (prelude script : Script) (first o : Outcome) (index : o.index ≡ 0)
+    (env after : List (Binding (Item JsStr))) (unused : IsUnused a) (g : Grows a b) (h : Grows b c)
     (one : Evaluates a b [] first.lines (bounds_seen b number (bounds_of env)) first.end (meaning (tree_of prelude) [] a.limit)) (done : first.end ≡ Done)
     (two : Evaluates b c [] o.lines (bounds_seen c number (bounds_of after)) o.end (meaning (tree_of script) (bounds_seen b number (bounds_of env)) b.limit)) where
   pub ran_behind : HaveRunFrom a c (Some (tree_of prelude)) (tree_of script ∷ []) (Some first) (o ∷ [])
@@ -77,7 +78,9 @@ module _ (a b c : State SessionFrame) (prelude script : Script) (first o : Outco
 -- A prelude alone was evaluated, which didn't end Done.
 pub ran_stopped : (a b : State SessionFrame) (prelude : Script) (trees : List Tree) (first : Outcome) (after : List (Bound Val)) (os : List Outcome) → IsUnused a → Grows a b
     → Evaluates a b [] first.lines after first.end (meaning (tree_of prelude) [] a.limit) → (first.end ≡ Done → ⊥) → os ≡ [] → HaveRunFrom a b (Some (tree_of prelude)) trees (Some first) os
-ran_stopped a b prelude trees first after os unused g ev never none = subst (λ (x : List Outcome). HaveRunFrom a b (Some (tree_of prelude)) trees (Some first) x) (sym none) (have_stopped a b prelude first after unused g ev trees never)
+ran_stopped a b prelude trees first after os unused g ev never none = subst
+    (λ (x : List Outcome). HaveRunFrom a b (Some (tree_of prelude)) trees (Some first) x) (sym none)
+    (have_stopped a b prelude first after unused g ev trees never)
 
 -- the reading of both counters changes no string
 pub left_total : (s : State SessionFrame) (m : Flow) (bounds : List (Bound (Item JsStr))) (os : List Outcome) → HasLeft s m bounds os → HasLeft (total_by s) m bounds os

@@ -50,7 +50,13 @@ module _ (v : View) (start word id : ℕ) where
   eight_fits fixed l = (
     8,
     insert_same (insert v.own_ids id 0) id 8,
-    (l, (λ c a b. inl (let e : start ≡ c = omega arith in subst (λ (x : ℕ). HasKey y.own_words x) e (key_of y.own_words start word word_there))), (λ o a b. absurd (omega arith)), (λ e. absurd (omega arith))),
+    (
+      l,
+      (λ c a b. inl (let e : start ≡ c = omega arith in subst (λ (x : ℕ). HasKey y.own_words x) e
+          (key_of y.own_words start word word_there))),
+      (λ o a b. absurd (omega arith)),
+      (λ e. absurd (omega arith)),
+    ),
   )
 
   pub eight_units : (fixed : Bool) → Has (born (ready v start word id) id (Flat false start fixed)).units id (bytes_of word)
@@ -84,7 +90,8 @@ abbrev pub laid : View → ℕ → ℕ → ℕ → View
 laid v start a b = stored_word (stored_word (won_claim v Words start 2) start a) (start + 1) b
 
 pub first_claimed : (v : View) (start : ℕ) → HasKey (won_claim v Words start 2).own_words start
-first_claimed v start = let m : FinMap nat_cmp ℕ = insert v.own_words start 0 in key_of (insert m (suc start) 0) start 0 (insert_other m (suc start) start 0 (λ e. omega arith) ∙ insert_same v.own_words start 0)
+first_claimed v start = let m : FinMap nat_cmp ℕ = insert v.own_words start 0 in key_of (insert m (suc start) 0) start 0
+    (insert_other m (suc start) start 0 (λ e. omega arith) ∙ insert_same v.own_words start 0)
 
 pub second_claimed : (v : View) (start a : ℕ) → HasKey (stored_word (won_claim v Words start 2) start a).own_words (start + 1)
 second_claimed v start a = let m : FinMap nat_cmp ℕ = insert v.own_words start 0 in let e : start + 1 ≡ suc start = omega arith in
@@ -128,7 +135,8 @@ seen_own v i (Some f) = refl
 pub lost_own : (v w : View) (i : ℕ) (old new : Form) (s : Step) → IsMoved old s → IsLost s → w ≡ learned_all (flattened v i old new (header_found old s)) → w.own_words ≡ v.own_words
 lost_own v w i old new Won m l e = absurd l
 lost_own v w i old new (Lost x) m l e = ap (λ (y : View). y.own_words) e
-    ∙ (ap (λ (t : Bool). (cond t (record (freeze_form v (length (unwrap_or (get v.units i) [])) new) { forms = insert v.forms i new }) (seen_form v i (form_of x))).own_words) (ne_eqb x (word_of old) m)
+    ∙ (ap (λ (t : Bool). (cond t (record (freeze_form v (length (unwrap_or (get v.units i) [])) new) { forms = insert v.forms i new })
+    (seen_form v i (form_of x))).own_words) (ne_eqb x (word_of old) m)
     ∙ seen_own v i (form_of x))
 
 -- a table with one slot has no slot before it
@@ -139,5 +147,6 @@ may_take v id start us one form units = let n : ℕ = v.sizes.slots in (
   (us, units, (λ j l r. let first : j ≡ 0 = omega arith in let less : rank us n 0 < rank us n 0 = subst (λ (q : ℕ). rank us n q < rank us n 0) first r in absurd (omega arith))),
 )
 
-pub may_thin : (v : View) (id start t : ℕ) (us : List ℕ) → Has v.forms id (Flat false start false) → Has v.units id us → Has v.units t us → (k : ℕ) → Has v.slots k t → MayThin v id (Flat false start false) t
+pub may_thin : (v : View) (id start t : ℕ) (us : List ℕ) → Has v.forms id (Flat false start false) → Has v.units id us → Has
+    v.units t us → (k : ℕ) → Has v.slots k t → MayThin v id (Flat false start false) t
 may_thin v id start t us form units target k there = (form, tt, (k, there), (us, units, target))

@@ -61,7 +61,8 @@ played_on a b h n w ids g p = record {
 }
 
 -- one string more
-pub played_more : (a : State SessionFrame) (h : Heap) (n : ℕ) (w : Bool) (ids more : List ℕ) (s : ℕ) → ((i : ℕ) → Contains more i → Contains ids i ⊎ (i ≡ s)) → IsKnown a s → IsPlayed a h n w ids → IsPlayed a h n w more
+pub played_more : (a : State SessionFrame) (h : Heap) (n : ℕ) (w : Bool)
+    (ids more : List ℕ) (s : ℕ) → ((i : ℕ) → Contains more i → Contains ids i ⊎ (i ≡ s)) → IsKnown a s → IsPlayed a h n w ids → IsPlayed a h n w more
 played_more a h n w ids more s some known p = record {
   known = λ i c. ⊎_elim (λ (d : Contains ids i). p.known i d) (λ (e : i ≡ s). subst (λ (j : ℕ). IsKnown a j) (sym e) known) (some i c);
   of = p.of;
@@ -100,7 +101,8 @@ module _ (v l r a b : State SessionFrame) (give : ℕ) (left : l ≡ giver_after
 no_one : (i : ℕ) → Contains [] i → ⊥
 no_one i h = absurd (omega (arith, h))
 
-pub played_put : (a b : State SessionFrame) (h : Heap) (n : ℕ) (w : Bool) (ids more : List ℕ) (s : ℕ) → GoesOn a b → IsPlayed a h n w ids → ((i : ℕ) → Contains more i → Contains ids i ⊎ (i ≡ s)) → IsKnown b s → IsPlayed b h n w more
+pub played_put : (a b : State SessionFrame) (h : Heap) (n : ℕ) (w : Bool) (ids more : List ℕ) (s : ℕ) → GoesOn a b → IsPlayed a h
+    n w ids → ((i : ℕ) → Contains more i → Contains ids i ⊎ (i ≡ s)) → IsKnown b s → IsPlayed b h n w more
 played_put a b h n w ids more s g p some known = played_more b h n w ids more s some known (played_on a b h n w ids g p)
 
 -- the agent of a session, on a text
@@ -109,11 +111,14 @@ played_there v u l t h n w ids e p = subst (λ (x : View). there.IsPlayed x n id
 
 -- the strings are known to both of two sessions
 pub played_left : (v l : State SessionFrame) (h : Heap) (n : ℕ) (w : Bool) (ids : List ℕ) → l ≡ giver_after v 1 → IsPlayed v h n w ids → IsPlayed l h n false ids
-played_left v l h n w ids e p = subst (λ (s : State SessionFrame). IsPlayed s h n false ids) (sym e) record { known = p.known; of = p.of; agents_are = p.agents_are; whole_is = λ f. absurd (cc); none_seen = λ f. absurd (cc) }
+played_left v l h n w ids e p = subst (λ (s : State SessionFrame). IsPlayed s h n false ids)
+    (sym e) record { known = p.known; of = p.of; agents_are = p.agents_are; whole_is = λ f. absurd (cc); none_seen = λ f. absurd (cc) }
 
-pub played_right : (v r : State SessionFrame) (h : Heap) (n : ℕ) (w : Bool) (more none lent ids : List ℕ) → r ≡ right_by v 1 → none ≡ [] → lent ≡ ids → ((i : ℕ) → Contains more i → Contains none i ⊎ Contains lent i) → IsPlayed v h n w ids → IsPlayed r h n false more
+pub played_right : (v r : State SessionFrame) (h : Heap) (n : ℕ) (w : Bool) (more none lent ids : List ℕ) → r ≡ right_by v 1 → none ≡ [] →
+    lent ≡ ids → ((i : ℕ) → Contains more i → Contains none i ⊎ Contains lent i) → IsPlayed v h n w ids → IsPlayed r h n false more
 played_right v r h n w more none lent ids e d f some p = subst (λ (s : State SessionFrame). IsPlayed s h n false more) (sym e) record {
-  known = λ i c. ⊎_elim (λ (x : Contains none i). absurd (no_one i (subst (λ (l : List ℕ). Contains l i) d x))) (λ (x : Contains lent i). p.known i (subst (λ (l : List ℕ). Contains l i) f x)) (some i c);
+  known = λ i c. ⊎_elim (λ (x : Contains none i). absurd (no_one i (subst (λ (l : List ℕ). Contains l i) d x)))
+      (λ (x : Contains lent i). p.known i (subst (λ (l : List ℕ). Contains l i) f x)) (some i c);
   of = p.of;
   agents_are = p.agents_are;
   whole_is = λ g. absurd (cc);
@@ -121,7 +126,8 @@ played_right v r h n w more none lent ids e d f some p = subst (λ (s : State Se
 }
 
 -- two sessions that become one
-pub played_joined : (a b c : State SessionFrame) (h k : Heap) (n m : ℕ) (w x : Bool) (ids lent others more : List ℕ) → MayJoinSession a b → IsSessionJoined a b c → a.frame.share + b.frame.share ≡ a.frame.agents → length a.frame.seen ≡ 0 → IsPlayed a h n w ids → IsPlayed b k m x others
+pub played_joined : (a b c : State SessionFrame) (h k : Heap) (n m : ℕ) (w x : Bool) (ids lent others more : List ℕ) → MayJoinSession a b →
+    IsSessionJoined a b c → a.frame.share + b.frame.share ≡ a.frame.agents → length a.frame.seen ≡ 0 → IsPlayed a h n w ids → IsPlayed b k m x others
     → lent ≡ others → ((i : ℕ) → Contains more i → Contains ids i ⊎ Contains lent i) → IsPlayed c h n true more
 played_joined a b c h k n m w x ids lent others more may j all none p q e some = record {
   known = λ i d. ⊎_elim (λ (y : Contains ids i). subst (λ (o : Option (List ℕ)). IsSome o) (sym (j.known i (p.known i y))) (p.known i y))
@@ -137,5 +143,6 @@ none_again v l r a s g = ap (λ (f : SessionFrame). length f.seen) (g.frame ∙ 
 
 -- what the two have together is the whole share again
 pub all_again : (v l r a b : State SessionFrame) → IsSplit v l r → GoesOn l a → GoesOn r b → a.frame.share + b.frame.share ≡ a.frame.agents
-all_again v l r a b s g h = let p = ap (λ (f : SessionFrame). f.share) (g.frame ∙ ap (λ (x : State SessionFrame). x.frame) s.left) in let q = ap (λ (f : SessionFrame). f.share) (h.frame ∙ ap (λ (x : State SessionFrame). x.frame) s.right) in
+all_again v l r a b s g h = let p = ap (λ (f : SessionFrame). f.share) (g.frame ∙ ap (λ (x : State SessionFrame). x.frame) s.left) in
+    let q = ap (λ (f : SessionFrame). f.share) (h.frame ∙ ap (λ (x : State SessionFrame). x.frame) s.right) in
     let m = ap (λ (f : SessionFrame). f.agents) (g.frame ∙ ap (λ (x : State SessionFrame). x.frame) s.left) in let w = s.whole in let t = s.two in omega arith

@@ -125,14 +125,16 @@ played_right v n ids p = record { known = p.known; agents_are = p.agents_are }
 -- some of the strings
 pub played_some : (v : View) (n : ℕ) (more none lent ids : List ℕ) → none ≡ [] → lent ≡ ids → ((i : ℕ) → Contains more i → Contains none i ⊎ Contains lent i) → IsPlayed v n ids → IsPlayed v n more
 played_some v n more none lent ids e f some p = record {
-  known = λ i h. ⊎_elim (λ (d : Contains none i). absurd (no_one i (subst (λ (l : List ℕ). Contains l i) e d))) (λ (d : Contains lent i). p.known i (subst (λ (l : List ℕ). Contains l i) f d)) (some i h);
+  known = λ i h. ⊎_elim (λ (d : Contains none i). absurd (no_one i (subst (λ (l : List ℕ). Contains l i) e d)))
+      (λ (d : Contains lent i). p.known i (subst (λ (l : List ℕ). Contains l i) f d)) (some i h);
   agents_are = p.agents_are;
 }
 
 -- a part of a known string is known
 pub cut_known : (v w : View) (i from count : ℕ) (r : Result JsStr TextFull) (us : List ℕ) → Has v.units i us
     → IfOk r (λ t. (vs : List ℕ) → Has v.units i vs → Has w.units t.id (part from count vs)) → IfOk r (λ t. HasKey w.units t.id)
-cut_known v w i from count r us h u = ok_then r (λ t. (vs : List ℕ) → Has v.units i vs → Has w.units t.id (part from count vs)) (λ t. HasKey w.units t.id) (λ t k. key_of w.units t.id (part from count us) (k us h)) u
+cut_known v w i from count r us h u = ok_then r (λ t. (vs : List ℕ) → Has v.units i vs → Has w.units t.id (part from count vs))
+    (λ t. HasKey w.units t.id) (λ t k. key_of w.units t.id (part from count us) (k us h)) u
 
 -- what a string is interned as is known
 pub answer_known : (v w : View) (us : List ℕ) (plan : HeaderPlan) (r : Result ℕ TableFull) → IsInternAnswer v w us plan r → IfOk r (λ i. HasKey w.units i)

@@ -28,14 +28,16 @@ wide_fits v start word id l = (
   insert_same (insert v.own_ids id 0) id 4,
   (
     l,
-    (λ c a b. inl (let e : start ≡ c = omega arith in subst (λ (x : ℕ). HasKey (insert (insert v.own_words start 0) start word) x) e (key_of (insert (insert v.own_words start 0) start word) start word (insert_same (insert v.own_words start 0) start word)))),
+    (λ c a b. inl (let e : start ≡ c = omega arith in subst (λ (x : ℕ). HasKey (insert (insert v.own_words start 0) start word) x) e
+        (key_of (insert (insert v.own_words start 0) start word) start word (insert_same (insert v.own_words start 0) start word)))),
     (λ o a b. absurd (omega arith)),
     (λ e. absurd (omega arith)),
   ),
 )
 
 pub wide_known : (v : View) (id : ℕ) (f : Form) → HasKey (born v id f).units id
-wide_known v id f = key_of (insert v.units id (units_for v (unwrap_or (get v.own_ids id) 0) f)) id (units_for v (unwrap_or (get v.own_ids id) 0) f) (insert_same v.units id (units_for v (unwrap_or (get v.own_ids id) 0) f))
+wide_known v id f = key_of (insert v.units id (units_for v (unwrap_or (get v.own_ids id) 0) f)) id
+    (units_for v (unwrap_or (get v.own_ids id) 0) f) (insert_same v.units id (units_for v (unwrap_or (get v.own_ids id) 0) f))
 
 pub wide_settled : (v : View) (id start : ℕ) → IsSeenSettled (born v id (Flat true start false)) id
 wide_settled v id start = (Flat true start false, insert_same v.forms id (Flat true start false), λ x. x)

@@ -18,7 +18,8 @@ returns-then-is_empty c = let run = c.ascii_run-run in let rest = c.loop-rest.re
     read_all c.args.encoding c.args.bytes.now behind _ (c.loop-rest.count + run.result) m (none_left behind c.is_empty-in-loop-rest.result c.is_empty-in-loop-rest.ensures c.if-is_empty.true)
 
 pub overflow_add-count-in-Some : goal.overflow_add-count-in-Some
-overflow_add-count-in-Some c = let run = c.ascii_run-run in let rest = c.loop-rest.rest.now in let behind = take (length rest - run.result) (drop run.result rest) in let p = c.in-Some in let n = c.units_for-count.result in
+overflow_add-count-in-Some c = let run = c.ascii_run-run in let rest = c.loop-rest.rest.now in
+    let behind = take (length rest - run.result) (drop run.result rest) in let p = c.in-Some in let n = c.units_for-count.result in
     let m = read_run c.args.encoding c.args.bytes.now rest c.loop-rest.lead c.leads.result c.loop-rest.count run.result c.loop-rest.invariant run.ensures.within run.ensures.ascii c.leads.ensures in
     let k = read_more c.args.encoding c.args.bytes.now behind c.leads.result (c.loop-rest.count + run.result) m p.after.now p.point n p.ensures.0 p.ensures.1 c.units_for-count.ensures in
     omega (arith, read_most _ _ _ _ (c.loop-rest.count + run.result + n) k, c.requires)
@@ -28,7 +29,8 @@ loop-rest-smaller c = let run = c.ascii_run-run.result in let rest = c.loop-rest
     let less = shorter_by p.point behind p.after.now p.ensures.1 in let k : length p.after.now < length rest = omega (arith, less, no_longer run rest) in k
 
 pub loop-rest-preserved : goal.loop-rest-preserved
-loop-rest-preserved c = let run = c.ascii_run-run in let rest = c.loop-rest.rest.now in let behind = take (length rest - run.result) (drop run.result rest) in let p = c.in-Some in let n = c.units_for-count.result in
+loop-rest-preserved c = let run = c.ascii_run-run in let rest = c.loop-rest.rest.now in
+    let behind = take (length rest - run.result) (drop run.result rest) in let p = c.in-Some in let n = c.units_for-count.result in
     let m = read_run c.args.encoding c.args.bytes.now rest c.loop-rest.lead c.leads.result c.loop-rest.count run.result c.loop-rest.invariant run.ensures.within run.ensures.ascii c.leads.ensures in
     subst (λ (b : Bool). HasRead c.args.encoding c.args.bytes.now p.after.now b (c.loop-rest.count + run.result + n)) (sym c.begins_pair-lead.ensures)
     (read_more c.args.encoding c.args.bytes.now behind c.leads.result (c.loop-rest.count + run.result) m p.after.now p.point n p.ensures.0 p.ensures.1 c.units_for-count.ensures)

@@ -1,7 +1,12 @@
 use Rattle.std.proofs.Common.{arith}
 use Rattle.heap_bytes.proofs.PointBytes.{by_size, spells_four}
 use Rattle.heap_bytes.proofs.decoding.split_four.Goals as goal
-use Rattle.heap_bytes.proofs.decoding.split_four.Goals.{then-bytes-lt4-via-then-bytes-lt4, then-bytes-lt4-via-else-bytes-lt4+then-not-continues, then-bytes-lt4-via-else-bytes-lt4+else-not-continues+then-not-continues-2, then-bytes-lt4-via-else-bytes-lt4+else-not-continues+else-not-continues-2+then-not-continues-3}
+use Rattle.heap_bytes.proofs.decoding.split_four.Goals.{
+  then-bytes-lt4-via-then-bytes-lt4,
+  then-bytes-lt4-via-else-bytes-lt4+then-not-continues,
+  then-bytes-lt4-via-else-bytes-lt4+else-not-continues+then-not-continues-2,
+  then-bytes-lt4-via-else-bytes-lt4+else-not-continues+else-not-continues-2+then-not-continues-3,
+}
 use Rattle.heap_bytes.proofs.decoding.split_four.Goals.{then-front-lt16-via-then-front-lt16, then-front-lt16-via-else-front-lt16+then-front-ge272}
 
 pub returns-then-bytes-lt4 : goal.returns-then-bytes-lt4
@@ -11,7 +16,8 @@ returns-then-bytes-lt4 c = λ d rest small e. let low = c.requires.first.0 in
       | then-bytes-lt4-via-then-bytes-lt4 w ↦ omega (arith, h.1, w.if-bytes-lt4.true)
       | then-bytes-lt4-via-else-bytes-lt4+then-not-continues w ↦ w.continues.ensures.outside w.if-not-continues.true (omega (arith, h.3), omega (arith, h.3))
       | then-bytes-lt4-via-else-bytes-lt4+else-not-continues+then-not-continues-2 w ↦ w.continues-else-not-continues.ensures.outside w.if-not-continues-2.true (omega (arith, h.4), omega (arith, h.4))
-      | then-bytes-lt4-via-else-bytes-lt4+else-not-continues+else-not-continues-2+then-not-continues-3 w ↦ w.continues-else-not-continues-2.ensures.outside w.if-not-continues-3.true (omega (arith, h.5), omega (arith, h.5))
+      | then-bytes-lt4-via-else-bytes-lt4+else-not-continues+else-not-continues-2+then-not-continues-3 w ↦
+          w.continues-else-not-continues-2.ensures.outside w.if-not-continues-3.true (omega (arith, h.5), omega (arith, h.5))
     ])
 
 pub returns-then-front-lt16 : goal.returns-then-front-lt16

@@ -18,7 +18,8 @@ loop-room-smaller c = let p = c.in-Some in let rest = c.loop-room.rest.now in le
     let less = shorter_by p.point (take (length rest - run) (drop run rest)) p.after.now p.ensures.1 in let k : length p.after.now < length rest = omega (arith, less, no_longer run rest) in k
 
 pub loop-room-preserved : goal.loop-room-preserved
-loop-room-preserved c = let p = c.in-Some in let i = c.loop-room.invariant in let e = c.put_point-count.ensures in let f = c.put_ascii-run.ensures in let run = c.put_ascii-run.result in let rest = c.loop-room.rest.now in
+loop-room-preserved c = let p = c.in-Some in let i = c.loop-room.invariant in let e = c.put_point-count.ensures in
+    let f = c.put_ascii-run.ensures in let run = c.put_ascii-run.result in let rest = c.loop-room.rest.now in
     let behind = take (length rest - run) (drop run rest) in let at = c.loop-room.count + run in let room = c.put_ascii-run.new.room in
     let k = read_rest p.point p.after.now behind p.ensures.0 p.ensures.1 (behind_run rest run f.within.0 f.ascii i.read) in let full = c.if-room-count-lt2.false in let within = f.within.1 in record {
       more = omega (arith, e.more.0, i.more);

@@ -45,19 +45,23 @@ copy_lanes-requires-clause-fits g c e k l = let us : List ℕ = units_of c.args.
 
 pub loop-count-smaller : goal.loop-count-smaller
 loop-count-smaller g c = let p = c.in-Some.ensures in
-    let k : length (units_of c.in-Some.after) < length (units_of c.loop-count.rest) = fewer_left c.split_front.new.room (units_of c.loop-count.rest) (units_of c.in-Some.after) c.in-Some.count p.some p.most p.split in k
+    let k : length (units_of c.in-Some.after) < length (units_of c.loop-count.rest) = fewer_left c.split_front.new.room
+    (units_of c.loop-count.rest) (units_of c.in-Some.after) c.in-Some.count p.some p.most p.split in k
 
 pub loop-count-preserved : goal.loop-count-preserved
 loop-count-preserved g c = let v : View = c.args.reader.now.agent.seat.me.0 in let u : View = c.loop-count.reader.agent.seat.me.0 in let w : View = c.copy_lanes.new.self.agent.seat.me.0 in
-    let us : List ℕ = units_of c.args.source.now in let p = c.in-Some.ensures in let i = c.loop-count.invariant in let e = c.copy_lanes.ensures in let done = c.loop-count.done in let count = c.in-Some.count in
+    let us : List ℕ = units_of c.args.source.now in let p = c.in-Some.ensures in let i = c.loop-count.invariant in
+    let e = c.copy_lanes.ensures in let done = c.loop-count.done in let count = c.in-Some.count in
     let room = c.split_front.new.room in let vs : List ℕ = units_of c.loop-count.rest in let ws : List ℕ = units_of c.in-Some.after in let wide = c.args.to.wide in let start = c.args.to.start in
-    let next : IsFilled wide start (own_word u.own_words) (own_word w.own_words) (0 + done) count (λ k. get_or us (done + k) 0) = filled_as wide start (own_word u.own_words) (own_word w.own_words) done count (λ k. get_or (take count room) k 0) (λ k. get_or us (done + k) 0)
+    let next : IsFilled wide start (own_word u.own_words) (own_word w.own_words) (0 + done) count (λ k. get_or us (done + k) 0) = filled_as
+    wide start (own_word u.own_words) (own_word w.own_words) done count (λ k. get_or (take count room) k 0) (λ k. get_or us (done + k) 0)
     (piece_unit us room vs ws done count i.left p.most p.split) e.filled in record {
       long = c.split_front.auto.room ∙ i.long;
       heap = e.writes.heap ∙ i.heap;
       writes = writes_trans v u w i.writes e.writes.view;
       below = λ q y l h. e.below q y l (i.below q y l h);
-      above = λ q y l h. let more = words_more wide (done + count) (length us) (piece_within us room vs ws done count i.left p.most p.split i.within) in e.above q y (omega (arith, l, more)) (i.above q y l h);
+      above = λ q y l h. let more = words_more wide (done + count) (length us)
+          (piece_within us room vs ws done count i.left p.most p.split i.within) in e.above q y (omega (arith, l, more)) (i.above q y l h);
       forms = forms_trans v u w i.forms e.forms;
       filled = filled_on wide start (own_word v.own_words) (own_word u.own_words) (own_word w.own_words) 0 done count (λ k. get_or us k 0) i.filled next;
       within = piece_within us room vs ws done count i.left p.most p.split i.within;
@@ -66,11 +70,12 @@ loop-count-preserved g c = let v : View = c.args.reader.now.agent.seat.me.0 in l
     }
 
 pub returns : goal.returns
-returns g c = let v : View = c.args.reader.now.agent.seat.me.0 in let u : View = c.loop-count.reader.agent.seat.me.0 in let us : List ℕ = units_of c.args.source.now in let i = c.loop-count.invariant in record {
-  writes = record { heap = i.heap; view = i.writes };
-  below = i.below;
-  above = i.above;
-  forms = i.forms;
-  filled = subst (λ (n : ℕ). IsFilled c.args.to.wide c.args.to.start (own_word v.own_words) (own_word u.own_words) 0 n (λ k. get_or us k 0))
-      (all_done us (units_of c.loop-count.rest) c.loop-count.done i.left c.in_default.ensures i.within) i.filled;
-}
+returns g c = let v : View = c.args.reader.now.agent.seat.me.0 in let u : View = c.loop-count.reader.agent.seat.me.0 in
+    let us : List ℕ = units_of c.args.source.now in let i = c.loop-count.invariant in record {
+      writes = record { heap = i.heap; view = i.writes };
+      below = i.below;
+      above = i.above;
+      forms = i.forms;
+      filled = subst (λ (n : ℕ). IsFilled c.args.to.wide c.args.to.start (own_word v.own_words) (own_word u.own_words) 0 n (λ k. get_or us k 0))
+          (all_done us (units_of c.loop-count.rest) c.loop-count.done i.left c.in_default.ensures i.within) i.filled;
+    }

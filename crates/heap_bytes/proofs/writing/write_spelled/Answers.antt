@@ -35,10 +35,12 @@ returns-clause-own_words g c q h = let v : View = c.args.reader.now.agent.seat.m
 
 pub returns-clause-ok : goal.returns-clause-ok
 returns-clause-ok g c = let v : View = c.args.reader.now.agent.seat.me.0 in let x : View = c.spell_at.new.reader.agent.seat.me.0 in
-    let start = c.in_ok-start.start in let want = c.words_for-want.result in let e = c.in_ok-start.ensures in let f = c.spell_at.ensures in let us : List ℕ = units_of c.args.source.now in let wide = c.args.wide in
+    let start = c.in_ok-start.start in let want = c.words_for-want.result in let e = c.in_ok-start.ensures in let f = c.spell_at.ensures in
+    let us : List ℕ = units_of c.args.source.now in let wide = c.args.wide in
     let words : want ≡ words_over wide (length us) = c.words_for-want.ensures ∙ ap (words_over wide) (sym c.requires.count) in
     let some : 0 < words_over wide (length us) = omega (arith, words, c.if-want-eq0.false) in
-    let own : HasKey x.own_words (start + 0) = f.writes.view.own_words (start + 0) (subst (λ (y : View). HasKey y.own_words (start + 0)) (sym e.view) (run_keys v.own_words start want 0 0 (omega (arith, some, words)))) in
+    let own : HasKey x.own_words (start + 0) = f.writes.view.own_words (start + 0)
+    (subst (λ (y : View). HasKey y.own_words (start + 0)) (sym e.view) (run_keys v.own_words start want 0 0 (omega (arith, some, words)))) in
     let p = c.spell_at.new.reader.belongs.5 in let a = (possible_within x p).words (start + 0) own in let b = (possible_lawful x p).3 in
     let small : start < 2 ^ 29 = omega (arith, a, b) in (
       record { small = small; words = subst (λ (n : ℕ). AreWords x wide start us (words_over wide n)) (sym c.requires.count) f.written; empty = λ none. absurd (no_words wide (length us) some none) },
@@ -46,7 +48,8 @@ returns-clause-ok g c = let v : View = c.args.reader.now.agent.seat.me.0 in let 
     )
 
 pub returns-clause-forms : goal.returns-clause-forms
-returns-clause-forms g c = let v : View = c.args.reader.now.agent.seat.me.0 in let w : View = c.claim_words.new.self.seat.me.0 in let x : View = c.spell_at.new.reader.agent.seat.me.0 in let e = c.in_ok-start.ensures in
+returns-clause-forms g c = let v : View = c.args.reader.now.agent.seat.me.0 in let w : View = c.claim_words.new.self.seat.me.0 in
+    let x : View = c.spell_at.new.reader.agent.seat.me.0 in let e = c.in_ok-start.ensures in
     forms_trans v w x (ap (λ (y : View). y.forms) e.view, ap (λ (y : View). y.form_loads) e.view) c.spell_at.ensures.forms
 
 pub returns-clause-stays : goal.returns-clause-stays

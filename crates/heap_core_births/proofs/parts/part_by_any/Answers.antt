@@ -10,9 +10,13 @@ pub loop-other-init : goal.loop-other-init
 loop-other-init c = seek_start (part_by c.args.view.now c.args.p c.args.o c.args.n) c.args.view.now.forms c.into_iter-other-iterator.result (search rules) c.iter-other-items.ensures.found
 
 pub loop-other-preserved : goal.loop-other-preserved
-loop-other-preserved c = seek_next (part_by c.args.view.now c.args.p c.args.o c.args.n) c.args.view.now.forms c.loop-other.other-iterator c.next.new.self c.in-Some.other.now c.in-Some.form.now (rest_more deref_pair c.loop-other.other-iterator c.next.new.self c.next.result (c.in-Some.other, c.in-Some.form) c.in-Some.is c.next.ensures.steps)
+loop-other-preserved c = seek_next (part_by c.args.view.now c.args.p c.args.o c.args.n) c.args.view.now.forms c.loop-other.other-iterator
+    c.next.new.self c.in-Some.other.now c.in-Some.form.now (rest_more deref_pair c.loop-other.other-iterator c.next.new.self c.next.result
+    (c.in-Some.other, c.in-Some.form) c.in-Some.is c.next.ensures.steps)
     (sym c.part_by.ensures ∙ ap option_copied c.in_default.is) c.loop-other.invariant
 
 pub returns-in-Some-part_by : goal.returns-in-Some-part_by
-returns-in-Some-part_by c = seek_hit (part_by c.args.view.now c.args.p c.args.o c.args.n) c.args.view.now.forms c.loop-other.other-iterator c.next.new.self c.in-Some.other.now c.in-Some.form.now c.in-Some-part_by.units.now (rest_more deref_pair c.loop-other.other-iterator c.next.new.self c.next.result (c.in-Some.other, c.in-Some.form) c.in-Some.is c.next.ensures.steps)
+returns-in-Some-part_by c = seek_hit (part_by c.args.view.now c.args.p c.args.o c.args.n) c.args.view.now.forms c.loop-other.other-iterator
+    c.next.new.self c.in-Some.other.now c.in-Some.form.now c.in-Some-part_by.units.now
+    (rest_more deref_pair c.loop-other.other-iterator c.next.new.self c.next.result (c.in-Some.other, c.in-Some.form) c.in-Some.is c.next.ensures.steps)
     (sym c.part_by.ensures ∙ ap option_copied c.in-Some-part_by.is) c.loop-other.invariant

@@ -10,5 +10,7 @@ pub loop-other-init : goal.loop-other-init
 loop-other-init c = seek_start (by_cons c.args.view.now c.args.id) c.args.view.now.forms c.into_iter-other-iterator.result (search rules) c.iter-other-items.ensures.found
 
 pub loop-other-preserved : goal.loop-other-preserved
-loop-other-preserved c = seek_next (by_cons c.args.view.now c.args.id) c.args.view.now.forms c.loop-other.other-iterator c.next.new.self c.in-Some.other.now c.in-Some.form.now (rest_more deref_pair c.loop-other.other-iterator c.next.new.self c.next.result (c.in-Some.other, c.in-Some.form) c.in-Some.is c.next.ensures.steps)
+loop-other-preserved c = seek_next (by_cons c.args.view.now c.args.id) c.args.view.now.forms c.loop-other.other-iterator c.next.new.self
+    c.in-Some.other.now c.in-Some.form.now (rest_more deref_pair c.loop-other.other-iterator c.next.new.self c.next.result
+    (c.in-Some.other, c.in-Some.form) c.in-Some.is c.next.ensures.steps)
     (sym c.by_cons.ensures ∙ ap option_copied c.in_default.is) c.loop-other.invariant

@@ -6,6 +6,7 @@ use Rattle.heap_core_views.proofs.learning.frozen_span.Goals as goal
 
 pub lanes-preserved : goal.lanes-preserved
 lanes-preserved c = (
-  span_step (frozen_word c.args.view.now) c.args.wide c.args.start c.lanes.o c.args.n c.frozen_lane.result c.lanes.units c.push.new.self (span (frozen_word c.args.view.now) c.args.wide c.args.start 0 c.args.n) (omega arith) c.lanes.invariant.0 (search rules) c.frozen_lane.ensures,
+  span_step (frozen_word c.args.view.now) c.args.wide c.args.start c.lanes.o c.args.n c.frozen_lane.result c.lanes.units c.push.new.self
+      (span (frozen_word c.args.view.now) c.args.wide c.args.start 0 c.args.n) (omega arith) c.lanes.invariant.0 (search rules) c.frozen_lane.ensures,
   omega arith,
 )

@@ -8,7 +8,10 @@ use Rattle.heap_example.proofs.greeting.greetings.Goals as goal
 pub read-requires : goal.read-requires
 read-requires g c = let made = rw c.in_ok-one.was at c.greet_both-one.ensures.first in
     let hello = subst (λ (v : View). Has v.units c.in_ok-hello.hello.id c.args.hello.now) (sym c.split-right.ensures.left) c.in_ok-hello.ensures.units in
-    record { known = key_of c.join.new.self.reader.agent.seat.me.0.units c.in_ok-one.field-0.id (c.args.hello.now ++ c.args.first.now) (c.join.ensures.known.0.units c.in_ok-one.field-0.id (c.args.hello.now ++ c.args.first.now) (made c.args.hello.now hello)) }
+    record {
+      known = key_of c.join.new.self.reader.agent.seat.me.0.units c.in_ok-one.field-0.id (c.args.hello.now ++ c.args.first.now)
+          (c.join.ensures.known.0.units c.in_ok-one.field-0.id (c.args.hello.now ++ c.args.first.now) (made c.args.hello.now hello));
+    }
 
 pub read-requires-2 : goal.read-requires-2
 read-requires-2 g c = let made = rw c.in_ok-other.was at c.greet_both-one.ensures.second in let id = c.in_ok-other.field-0.id in let all = c.args.hello.now ++ c.args.second.now in
@@ -23,4 +26,5 @@ returns-clause-first g c = let made = rw c.in_ok-one.was at c.greet_both-one.ens
 pub returns-clause-second : goal.returns-clause-second
 returns-clause-second g c = let made = rw c.in_ok-other.was at c.greet_both-one.ensures.second in let id = c.in_ok-other.field-0.id in let all = c.args.hello.now ++ c.args.second.now in
     let hello = subst (λ (v : View). Has v.units c.in_ok-hello.hello.id c.args.hello.now) (sym c.split-right.ensures.right) c.in_ok-hello.ensures.units in
-    one_list c.read.new.text.reader.agent.seat.me.0.units id c.in_ok-second.second.items all c.in_ok-second.ensures.units (c.read.ensures.known.units id all (c.join.ensures.known.1.units id all (made c.args.hello.now hello)))
+    one_list c.read.new.text.reader.agent.seat.me.0.units id c.in_ok-second.second.items all c.in_ok-second.ensures.units
+    (c.read.ensures.known.units id all (c.join.ensures.known.1.units id all (made c.args.hello.now hello)))

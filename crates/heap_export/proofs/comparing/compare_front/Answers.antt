@@ -20,7 +20,8 @@ loop-i-preserved g c = let v = view_of c.args.text.now.reader.agent in let m = v
 }
 
 pub returns-then-ne-clause-loads : goal.returns-then-ne-clause-loads
-returns-then-ne-clause-loads g c = loads_on (view_of c.args.text.now.reader.agent) (view_of c.loop-i.text.reader.agent) (view_of c.unit.new.text.reader.agent) c.loop-i.invariant.loads c.unit.ensures.loads
+returns-then-ne-clause-loads g c = loads_on (view_of c.args.text.now.reader.agent) (view_of c.loop-i.text.reader.agent)
+    (view_of c.unit.new.text.reader.agent) c.loop-i.invariant.loads c.unit.ensures.loads
 
 pub returns-then-ne-clause-order : goal.returns-then-ne-clause-order
 returns-then-ne-clause-order g c us h = let v = view_of c.args.text.now.reader.agent in let m = view_of c.loop-i.text.reader.agent in let inv = c.loop-i.invariant in

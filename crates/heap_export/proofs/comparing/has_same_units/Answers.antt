@@ -11,7 +11,8 @@ returns-then-len-size-clause-reads g c = reads_trans _ _ _ c.len-size.ensures.re
 pub returns-then-len-size-clause-same : goal.returns-then-len-size-clause-same
 returns-then-len-size-clause-same g c us vs h k = let a = c.len-size.ensures.reads.known.units in let b = c.len.ensures.reads.known.units in let front = c.compare_fronts in
     let e = c.len-size.ensures.length us h in let f = c.len.ensures.length vs (a c.args.b.id vs k) in
-    let o = whole_order us vs c.len-size.result front.result (sym e) (sym f ∙ c.if-len-size.true) (front.ensures.order us vs (b c.args.a.id us (a c.args.a.id us h)) (b c.args.b.id vs (a c.args.b.id vs k))) in
+    let o = whole_order us vs c.len-size.result front.result (sym e) (sym f ∙ c.if-len-size.true)
+    (front.ensures.order us vs (b c.args.a.id us (a c.args.a.id us h)) (b c.args.b.id vs (a c.args.b.id vs k))) in
     let t = is_same us vs front.result o in let q = told_equal front.result in
     (λ r. t.0 (q.0 (sym c.eq.ensures ∙ r)), λ r. c.eq.ensures ∙ q.1 (t.1 r))
 

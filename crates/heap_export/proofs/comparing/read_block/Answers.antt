@@ -8,7 +8,8 @@ pub read_in-requires-clause-window : goal.read_in-requires-clause-window
 read_in-requires-clause-window g c = let u = has_key (view_of c.args.text.now.reader.agent).units c.args.s.id c.requires.known in (u.0, (c.window-window.ensures.shows u.0 u.1).0)
 
 pub read_in-requires-clause-within : goal.read_in-requires-clause-within
-read_in-requires-clause-within g c = let u = has_key (view_of c.args.text.now.reader.agent).units c.args.s.id c.requires.known in let e = (c.window-window.ensures.shows u.0 u.1).1 in let l = c.requires.long u.0 u.1 in omega arith
+read_in-requires-clause-within g c = let u = has_key (view_of c.args.text.now.reader.agent).units c.args.s.id c.requires.known in
+    let e = (c.window-window.ensures.shows u.0 u.1).1 in let l = c.requires.long u.0 u.1 in omega arith
 
 pub returns-clause-reads : goal.returns-clause-reads
 returns-clause-reads g c = reads_trans _ _ _ c.window-window.ensures.reads c.read_in.ensures.reads

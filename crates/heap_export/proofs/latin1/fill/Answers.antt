@@ -6,7 +6,8 @@ use Rattle.heap_export.proofs.Windows.{loads_on, still_shown, window_len, window
 use Rattle.heap_export.proofs.latin1.fill.Goals as goal
 
 pub unit-unit-requires-clause-window : goal.unit-unit-requires-clause-window
-unit-unit-requires-clause-window g c = window_there (view_of c.args.text.now.reader.agent) (view_of c.loop-i.text.reader.agent) c.args.w (c.requires.narrow.0, c.requires.narrow.1) c.loop-i.invariant.loads
+unit-unit-requires-clause-window g c = window_there (view_of c.args.text.now.reader.agent) (view_of c.loop-i.text.reader.agent) c.args.w
+    (c.requires.narrow.0, c.requires.narrow.1) c.loop-i.invariant.loads
 
 pub overflow_cast-out : goal.overflow_cast-out
 overflow_cast-out g c = let v = view_of c.args.text.now.reader.agent in let us = c.requires.narrow.0 in let shown = c.requires.narrow.1 in

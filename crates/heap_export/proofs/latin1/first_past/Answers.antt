@@ -17,7 +17,8 @@ loop-i-preserved g c = let v = view_of c.args.text.now.reader.agent in let m = v
 }
 
 pub returns-then-unit-gt255-clause-loads : goal.returns-then-unit-gt255-clause-loads
-returns-then-unit-gt255-clause-loads g c = loads_on (view_of c.args.text.now.reader.agent) (view_of c.loop-i.text.reader.agent) (view_of c.unit.new.text.reader.agent) c.loop-i.invariant.loads c.unit.ensures.loads
+returns-then-unit-gt255-clause-loads g c = loads_on (view_of c.args.text.now.reader.agent) (view_of c.loop-i.text.reader.agent)
+    (view_of c.unit.new.text.reader.agent) c.loop-i.invariant.loads c.unit.ensures.loads
 
 pub returns-then-unit-gt255-clause-first : goal.returns-then-unit-gt255-clause-first
 returns-then-unit-gt255-clause-first g c us h = let v = view_of c.args.text.now.reader.agent in let m = view_of c.loop-i.text.reader.agent in let inv = c.loop-i.invariant in

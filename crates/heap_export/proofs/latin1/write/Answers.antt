@@ -6,10 +6,18 @@ use Rattle.heap_export.proofs.latin1.write.Goals as goal
 
 pub write_all-requires : goal.write_all-requires
 write_all-requires g c = let us = c.requires.window.0 in let h = c.requires.window.1 in
-    record { narrow = (us, still_shown (view_of c.args.text.now.reader.agent) (view_of c.first_past.new.text.reader.agent) c.args.w us c.first_past.ensures.loads h, sym (c.first_past.ensures.first us h) ∙ c.in-None.is) }
+    record {
+      narrow = (
+        us,
+        still_shown (view_of c.args.text.now.reader.agent) (view_of c.first_past.new.text.reader.agent) c.args.w us
+            c.first_past.ensures.loads h,
+        sym (c.first_past.ensures.first us h) ∙ c.in-None.is,
+      );
+    }
 
 pub returns-in-None-clause-loads : goal.returns-in-None-clause-loads
-returns-in-None-clause-loads g c = loads_on (view_of c.args.text.now.reader.agent) (view_of c.first_past.new.text.reader.agent) (view_of c.write_all.new.text.reader.agent) c.first_past.ensures.loads c.write_all.ensures.loads
+returns-in-None-clause-loads g c = loads_on (view_of c.args.text.now.reader.agent) (view_of c.first_past.new.text.reader.agent)
+    (view_of c.write_all.new.text.reader.agent) c.first_past.ensures.loads c.write_all.ensures.loads
 
 pub returns-in-None-clause-written : goal.returns-in-None-clause-written
 returns-in-None-clause-written g c us h =

@@ -8,7 +8,8 @@ use Rattle.heap_export.proofs.Windows.{loads_on, still_shown, window_len, window
 use Rattle.heap_export.proofs.utf8.fill.Goals as goal
 
 pub point_at-point-requires-clause-window : goal.point_at-point-requires-clause-window
-point_at-point-requires-clause-window g c = window_there (view_of c.args.text.now.reader.agent) (view_of c.loop-i.text.reader.agent) c.args.w (c.requires.room.0, c.requires.room.1) c.loop-i.invariant.loads
+point_at-point-requires-clause-window g c = window_there (view_of c.args.text.now.reader.agent) (view_of c.loop-i.text.reader.agent)
+    c.args.w (c.requires.room.0, c.requires.room.1) c.loop-i.invariant.loads
 
 pub put_point-at-requires-clause-range : goal.put_point-at-requires-clause-range
 put_point-at-requires-clause-range g c = let us = c.requires.room.0 in
@@ -45,5 +46,6 @@ loop-i-smaller g c = let v = view_of c.args.text.now.reader.agent in let m = vie
     let some = there.some in let t = c.loop-i-test.true in omega arith
 
 pub returns-clause-bytes : goal.returns-clause-bytes
-returns-clause-bytes g c us h long = let n = window_len (view_of c.args.text.now.reader.agent) c.args.w us h in let t = c.loop-i-test.false in let inv = c.loop-i.invariant in let end : length us ≤ c.loop-i.i = omega arith in
+returns-clause-bytes g c us h long = let n = window_len (view_of c.args.text.now.reader.agent) c.args.w us h in
+    let t = c.loop-i-test.false in let inv = c.loop-i.invariant in let end : length us ≤ c.loop-i.i = omega arith in
     bytes_done c.args.unpaired us c.loop-i.out c.loop-i.i c.loop-i.at end (c.loop-i.auto.out ∙ long) inv.room (inv.bytes us h)

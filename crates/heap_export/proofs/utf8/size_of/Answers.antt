@@ -20,7 +20,8 @@ loop-i-preserved g c = let v = view_of c.args.text.now.reader.agent in let m = v
       within = omega arith;
       few = omega arith;
       size = λ xs h. let at = c.point_at-point.ensures.point xs (still_shown v m w xs inv.loads h) in
-          ap (λ (k : ℕ). (c.loop-i.size + k) + length (spelled c.args.unpaired (drop (i + p.count) xs))) e ∙ size_next c.args.unpaired xs i p at c.loop-i.size (length (spelled c.args.unpaired xs)) (inv.size xs h);
+          ap (λ (k : ℕ). (c.loop-i.size + k) + length (spelled c.args.unpaired (drop (i + p.count) xs))) e ∙ size_next c.args.unpaired xs i
+          p at c.loop-i.size (length (spelled c.args.unpaired xs)) (inv.size xs h);
       whole = λ xs h. let at = c.point_at-point.ensures.point xs (still_shown v m w xs inv.loads h) in
           none_yet c.args.unpaired xs i p at (sym c.is_refused.ensures ∙ c.if-is_refused.false) (inv.whole xs h);
     }
@@ -44,7 +45,8 @@ loop-i-smaller g c = let v = view_of c.args.text.now.reader.agent in let m = vie
     let some = there.some in let t = c.loop-i-test.true in omega arith
 
 pub returns-then-is_refused-clause-loads : goal.returns-then-is_refused-clause-loads
-returns-then-is_refused-clause-loads g c = loads_on (view_of c.args.text.now.reader.agent) (view_of c.loop-i.text.reader.agent) (view_of c.point_at-point.new.text.reader.agent) c.loop-i.invariant.loads c.point_at-point.ensures.loads
+returns-then-is_refused-clause-loads g c = loads_on (view_of c.args.text.now.reader.agent) (view_of c.loop-i.text.reader.agent)
+    (view_of c.point_at-point.new.text.reader.agent) c.loop-i.invariant.loads c.point_at-point.ensures.loads
 
 pub returns-then-is_refused-clause-refused : goal.returns-then-is_refused-clause-refused
 returns-then-is_refused-clause-refused g c us h = let v = view_of c.args.text.now.reader.agent in let m = view_of c.loop-i.text.reader.agent in let inv = c.loop-i.invariant in

@@ -9,7 +9,8 @@ write_all-requires g c = let us = c.requires.window.0 in let h = c.requires.wind
     record { size = (us, still_shown (view_of c.args.text.now.reader.agent) (view_of c.size_of.new.text.reader.agent) c.args.w us c.size_of.ensures.loads h, c.in-Ok.ensures.size us h) }
 
 pub returns-in-Ok-clause-loads : goal.returns-in-Ok-clause-loads
-returns-in-Ok-clause-loads g c = loads_on (view_of c.args.text.now.reader.agent) (view_of c.size_of.new.text.reader.agent) (view_of c.write_all.new.text.reader.agent) c.size_of.ensures.loads c.write_all.ensures.loads
+returns-in-Ok-clause-loads g c = loads_on (view_of c.args.text.now.reader.agent) (view_of c.size_of.new.text.reader.agent)
+    (view_of c.write_all.new.text.reader.agent) c.size_of.ensures.loads c.write_all.ensures.loads
 
 pub returns-in-Ok-clause-written : goal.returns-in-Ok-clause-written
 returns-in-Ok-clause-written g c us h =

@@ -13,11 +13,15 @@ returns-then-count-lanes c = let us : List ℕ = c.args.units.now in let e : c.a
     subst (λ (m : ℕ). HoldsLanes c.args.wide c.some_lanes.result m (λ k. get_or us (c.args.first + k) 0)) e c.some_lanes.ensures
 
 pub returns-then-wide : goal.returns-then-wide
-returns-then-wide c = let us : List ℕ = c.args.units.now in let n = c.lanes.ensures in let room = c.requires.room in let some = c.if-count-lanes.false in let e : c.args.count ≡ lane_count c.args.wide = omega arith in
+returns-then-wide c = let us : List ℕ = c.args.units.now in let n = c.lanes.ensures in let room = c.requires.room in
+    let some = c.if-count-lanes.false in let e : c.args.count ≡ lane_count c.args.wide = omega arith in
     subst (λ (b : Bool). HoldsLanes b c.wide_word.result c.args.count (λ k. get_or us (c.args.first + k) 0)) (sym c.if-wide.true)
-    (full_lanes true c.wide_word.result c.args.count (λ k. get_or us (c.args.first + k) 0) (subst (λ (b : Bool). c.args.count ≡ lane_count b) c.if-wide.true e) c.wide_word.type_inv c.wide_word.ensures)
+    (full_lanes true c.wide_word.result c.args.count (λ k. get_or us (c.args.first + k) 0)
+    (subst (λ (b : Bool). c.args.count ≡ lane_count b) c.if-wide.true e) c.wide_word.type_inv c.wide_word.ensures)
 
 pub returns : goal.returns
-returns c = let us : List ℕ = c.args.units.now in let n = c.lanes.ensures in let room = c.requires.room in let some = c.if-count-lanes.false in let e : c.args.count ≡ lane_count c.args.wide = omega arith in
+returns c = let us : List ℕ = c.args.units.now in let n = c.lanes.ensures in let room = c.requires.room in
+    let some = c.if-count-lanes.false in let e : c.args.count ≡ lane_count c.args.wide = omega arith in
     subst (λ (b : Bool). HoldsLanes b c.narrow_word.result c.args.count (λ k. get_or us (c.args.first + k) 0)) (sym c.if-wide.false)
-    (full_lanes false c.narrow_word.result c.args.count (λ k. get_or us (c.args.first + k) 0) (subst (λ (b : Bool). c.args.count ≡ lane_count b) c.if-wide.false e) c.narrow_word.type_inv c.narrow_word.ensures)
+    (full_lanes false c.narrow_word.result c.args.count (λ k. get_or us (c.args.first + k) 0)
+    (subst (λ (b : Bool). c.args.count ≡ lane_count b) c.if-wide.false e) c.narrow_word.type_inv c.narrow_word.ensures)

@@ -8,7 +8,8 @@ shows-requires-clause-window g c = let v : View = c.args.text.now.reader.agent.s
     (u.0, (c.window-window.ensures.shows u.0 u.1).0)
 
 pub returns-clause-reads : goal.returns-clause-reads
-returns-clause-reads g c = reads_trans c.args.text.now.reader.agent.seat.me.0 c.window-window.new.self.reader.agent.seat.me.0 c.shows.new.text.reader.agent.seat.me.0 c.window-window.ensures.reads c.shows.ensures.reads
+returns-clause-reads g c = reads_trans c.args.text.now.reader.agent.seat.me.0 c.window-window.new.self.reader.agent.seat.me.0
+    c.shows.new.text.reader.agent.seat.me.0 c.window-window.ensures.reads c.shows.ensures.reads
 
 pub returns-clause-has : goal.returns-clause-has
 returns-clause-has g c us h = let shown = c.window-window.ensures.shows us h in c.shows.ensures.shows us shown.0 shown.1

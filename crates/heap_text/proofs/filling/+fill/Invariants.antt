@@ -19,7 +19,8 @@ invariant-loop-left g l = record {
   above : HoldsAbove (view_in l.fn.reader) (view_in l.reader) l.fn.id;
   lower : l.id ≤ l.fn.id;
   known : HasKey (view_in l.reader).units l.id;
-  filling : IsFilling l.to.wide l.to.start (own_word (view_in l.fn.reader).own_words) (own_word (view_in l.reader).own_words) l.fn.at l.fn.n (units_at (view_in l.fn.reader) l.fn.id) l.at l.n (units_at (view_in l.reader) l.id);
+  filling : IsFilling l.to.wide l.to.start (own_word (view_in l.fn.reader).own_words) (own_word (view_in l.reader).own_words) l.fn.at l.fn.n
+      (units_at (view_in l.fn.reader) l.fn.id) l.at l.n (units_at (view_in l.reader) l.id);
   behind : l.fn.at ≤ l.at;
   loads : (k : ℕ) → 0 < k → added_loads (view_in l.reader).form_loads k ≡ added_loads (view_in l.fn.reader).form_loads (l.steps - l.fn.steps + k);
   more : l.fn.steps ≤ l.steps;

@@ -16,7 +16,8 @@ copy_lanes-requires-clause-count g c = let v : View = c.args.reader.now.agent.se
 
 pub copy_lanes-requires-clause-fits : goal.copy_lanes-requires-clause-fits
 copy_lanes-requires-clause-fits g c n k l = let v : View = c.args.reader.now.agent.seat.me.0 in let i = c.args.of.id in
-    subst (λ (xs : List ℕ). get_or xs k 0 < 256) (sym (whole_is v c.args.of (units_at v i) (units_there v i c.requires.known) c.args.window (c.requires.whole ∙ sym c.requires.count))) (c.requires.fits n k l)
+    subst (λ (xs : List ℕ). get_or xs k 0 < 256) (sym (whole_is v c.args.of (units_at v i) (units_there v i c.requires.known) c.args.window
+    (c.requires.whole ∙ sym c.requires.count))) (c.requires.fits n k l)
 
 pub returns-clause-filled : goal.returns-clause-filled
 returns-clause-filled g c = let v : View = c.args.reader.now.agent.seat.me.0 in let x : View = c.copy_lanes.new.self.agent.seat.me.0 in let i = c.args.of.id in let to = c.args.to in

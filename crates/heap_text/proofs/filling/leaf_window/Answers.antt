@@ -23,10 +23,12 @@ part_window-requires-clause-sliced g c = let u : View = c.args.reader.now.agent.
     (c.in-Sliced.wide, c.form_now-under.ensures.others i (λ e. absurd (omega (arith, e, less))) ∙ here)
 
 pub part_window-requires-clause-solid : goal.part_window-requires-clause-solid
-part_window-requires-clause-solid g c = c.form_now-under.ensures.solid c.args.of.id c.in-Sliced.wide c.in-Sliced.offset (subst (λ (f : Form). Has c.args.reader.now.agent.seat.me.0.forms c.args.of.id f) c.in-Sliced.is c.requires.seen)
+part_window-requires-clause-solid g c = c.form_now-under.ensures.solid c.args.of.id c.in-Sliced.wide c.in-Sliced.offset
+    (subst (λ (f : Form). Has c.args.reader.now.agent.seat.me.0.forms c.args.of.id f) c.in-Sliced.is c.requires.seen)
 
 pub returns-in-Sliced-clause-reads : goal.returns-in-Sliced-clause-reads
-returns-in-Sliced-clause-reads g c = let v : View = c.args.reader.now.agent.seat.me.0 in let w : View = c.form_now-under.new.self.agent.seat.me.0 in let x : View = c.part_window.new.self.agent.seat.me.0 in
+returns-in-Sliced-clause-reads g c = let v : View = c.args.reader.now.agent.seat.me.0 in
+    let w : View = c.form_now-under.new.self.agent.seat.me.0 in let x : View = c.part_window.new.self.agent.seat.me.0 in
     record { heap = cc; view = reads_trans v w x c.form_now-under.ensures.reads.view c.part_window.ensures.reads.view }
 
 pub returns-in-Sliced-clause-above : goal.returns-in-Sliced-clause-above
@@ -39,7 +41,9 @@ pub returns-in-Sliced-clause-shows : goal.returns-in-Sliced-clause-shows
 returns-in-Sliced-clause-shows g c us h = c.part_window.ensures.shows us (c.form_now-under.ensures.reads.view.known.units c.args.of.id us h)
 
 pub returns-in-Sliced-clause-loads : goal.returns-in-Sliced-clause-loads
-returns-in-Sliced-clause-loads g c l j e = let told = c.part_window.ensures.loads l (j + 1) (omega (arith, e, c.form_now-under.ensures.loads)) in omega (arith, told, c.tick.ensures, c.count_target.ensures)
+returns-in-Sliced-clause-loads g c l j e =
+    let told = c.part_window.ensures.loads l (j + 1) (omega (arith, e, c.form_now-under.ensures.loads)) in omega
+    (arith, told, c.tick.ensures, c.count_target.ensures)
 
 pub returns-in-Sliced-clause-steps : goal.returns-in-Sliced-clause-steps
 returns-in-Sliced-clause-steps g c = let one = one_target c.form_now-under.result in omega (arith, one, c.tick.ensures, c.count_target.ensures)

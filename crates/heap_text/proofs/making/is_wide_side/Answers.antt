@@ -13,7 +13,8 @@ pub target_run-requires-clause-met : goal.target_run-requires-clause-met
 target_run-requires-clause-met g c = subst (KnowsSide c.args.reader.now.agent.seat.me.0) c.in-Thin.is c.requires.side
 
 pub returns-in-Thin-clause-wide : goal.returns-in-Thin-clause-wide
-returns-in-Thin-clause-wide g c = subst (λ (f : Form). IsWideIn c.target_run.new.self.agent.seat.me.0 f c.target_run.result.wide) (sym c.in-Thin.is) (c.target_run.result.start, c.target_run.ensures.flat)
+returns-in-Thin-clause-wide g c = subst (λ (f : Form). IsWideIn c.target_run.new.self.agent.seat.me.0 f c.target_run.result.wide)
+    (sym c.in-Thin.is) (c.target_run.result.start, c.target_run.ensures.flat)
 
 pub returns-in_default-clause-wide : goal.returns-in_default-clause-wide
 returns-in_default-clause-wide g c = own_wide c.args.reader.now.agent.seat.me.0 c.args.form c.has_wide_bit.result c.has_wide_bit.ensures c.in_default.not-Thin

@@ -20,15 +20,16 @@ returns-in-Err-clause-continues g c = let v : View = c.args.reader.now.agent.sea
     record { heap = refl; view = continues_full_ids v c.claim_id.new.self.seat.me.0 c.in-Err.full.at c.in-Err.ensures.refused.0 c.claim_id.ensures.low }
 
 pub returns-in-Err-clause-linked : goal.returns-in-Err-clause-linked
-returns-in-Err-clause-linked g c us h = let v : View = c.args.reader.now.agent.seat.me.0 in let x : View = c.claim_id.new.self.seat.me.0 in let f = c.in-Err.ensures.refused in let full = c.in-Err.full in inr (
-  fault.Ids full,
-  refl,
-  (
-    (full, refl),
-    (subst (λ (z : HeapSize). IsFull full 1 z.ids) (ap size_of c.heap.ensures) f.1, ap (λ (y : View). y.low.ids) f.0),
-    spared_ids v v v x 0 0 full.at full (reads_refl v) f.0 refl (omega arith) refl (λ q w. w) (λ q l. absurd (omega arith)) (λ q l k. absurd (omega arith)),
-  ),
-)
+returns-in-Err-clause-linked g c us h = let v : View = c.args.reader.now.agent.seat.me.0 in let x : View = c.claim_id.new.self.seat.me.0 in
+    let f = c.in-Err.ensures.refused in let full = c.in-Err.full in inr (
+      fault.Ids full,
+      refl,
+      (
+        (full, refl),
+        (subst (λ (z : HeapSize). IsFull full 1 z.ids) (ap size_of c.heap.ensures) f.1, ap (λ (y : View). y.low.ids) f.0),
+        spared_ids v v v x 0 0 full.at full (reads_refl v) f.0 refl (omega arith) refl (λ q w. w) (λ q l. absurd (omega arith)) (λ q l k. absurd (omega arith)),
+      ),
+    )
 
 pub returns-in-Err-clause-own : goal.returns-in-Err-clause-own
 returns-in-Err-clause-own g c = let v : View = c.args.reader.now.agent.seat.me.0 in own_full v v c.claim_id.new.self.seat.me.0 Ids c.in-Err.full.at c.in-Err.ensures.refused.0 (own_refl v)
@@ -49,7 +50,11 @@ link_part_to-requires-clause-within g c = let t = c.requires.within in (t.0, sub
 
 pub returns-clause-continues : goal.returns-clause-continues
 returns-clause-continues g c = let v : View = c.args.reader.now.agent.seat.me.0 in let x : View = c.claim_id.new.self.seat.me.0 in let w : View = c.link_part_to.new.reader.agent.seat.me.0 in
-    record { heap = c.link_part_to.ensures.continues.heap; view = continues_trans v x w (continues_ids v x c.in-Ok.id 1 c.in-Ok.ensures.view c.claim_id.ensures.low) c.link_part_to.ensures.continues.view }
+    record {
+      heap = c.link_part_to.ensures.continues.heap;
+      view = continues_trans v x w
+          (continues_ids v x c.in-Ok.id 1 c.in-Ok.ensures.view c.claim_id.ensures.low) c.link_part_to.ensures.continues.view;
+    }
 
 pub returns-clause-linked : goal.returns-clause-linked
 returns-clause-linked g c us h = let v : View = c.args.reader.now.agent.seat.me.0 in let w : View = c.link_part_to.new.reader.agent.seat.me.0 in let e = c.in-Ok.ensures.view in
@@ -62,4 +67,5 @@ returns-clause-linked g c us h = let v : View = c.args.reader.now.agent.seat.me.
 
 pub returns-clause-own : goal.returns-clause-own
 returns-clause-own g c = let v : View = c.args.reader.now.agent.seat.me.0 in
-    own_born v v c.claim_id.new.self.seat.me.0 c.link_part_to.new.reader.agent.seat.me.0 c.in-Ok.id 0 0 (own_refl v) c.in-Ok.ensures.view c.in-Ok.ensures.above_own c.link_part_to.ensures.own (λ q l own. absurd (omega arith))
+    own_born v v c.claim_id.new.self.seat.me.0 c.link_part_to.new.reader.agent.seat.me.0 c.in-Ok.id 0 0 (own_refl v) c.in-Ok.ensures.view
+    c.in-Ok.ensures.above_own c.link_part_to.ensures.own (λ q l own. absurd (omega arith))

@@ -14,4 +14,5 @@ Object::copy-copy-requires g t c κs within =
 
 pub Object::copy-loop-member-preserved : goal.Object::copy-loop-member-preserved
 Object::copy-loop-member-preserved g t c =
-    copy_turn c.loop-member.copies.items c.push.new.self.items c.members-member-items.result.now c.loop-member.member-index c.member-item.result c.in_ok-value.value c.loop-member-test.true c.member-item.is c.loop-member.invariant c.in_ok-value.ensures c.in_ok-push.ensures.items
+    copy_turn c.loop-member.copies.items c.push.new.self.items c.members-member-items.result.now c.loop-member.member-index
+    c.member-item.result c.in_ok-value.value c.loop-member-test.true c.member-item.is c.loop-member.invariant c.in_ok-value.ensures c.in_ok-push.ensures.items

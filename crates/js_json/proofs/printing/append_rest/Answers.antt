@@ -37,7 +37,8 @@ loop-s-preserved g c =
       ids = let done = i.ids in omega (arith, ids, done);
       words = omega (arith, front, words, before);
       bytes =
-          text_turn utf8 32 10 c.loop-s.line.items c.push_byte.new.line.items c.append_string.new.line.items (utf8 (text b (number r))) (line_rest (known_texts a number (drop (k + 1) rest))) c.in_ok-push_byte.ensures.added e.added
+          text_turn utf8 32 10 c.loop-s.line.items c.push_byte.new.line.items c.append_string.new.line.items (utf8 (text b (number r)))
+          (line_rest (known_texts a number (drop (k + 1) rest))) c.in_ok-push_byte.ensures.added e.added
           ∙ ap (λ t. c.loop-s.line.items ++ (32 ∷ utf8 t ++ line_rest (known_texts a number (drop (k + 1) rest)))) same
           ∙ ap (λ w. c.loop-s.line.items ++ w) (sym (rest_front utf8 32 10 number a rest k r c.loop-s-test.true c.s-item.is))
           ∙ i.bytes;

@@ -21,7 +21,8 @@ twice-requires-clause-known g t c = known_still (c.in_ok-half.ensures.uses 31 (o
 pub twice-requires-clause-half : goal.twice-requires-clause-half
 twice-requires-clause-half g t c =
     let grows = (c.in_ok-half.ensures.uses 31 (omega (arith, c.ranges.count.fits))).step.grows in
-    half_value (g.S.Strings.state c.args.store.now) (g.S.Strings.state c.doubled.new.store) (g.S.Strings.number c.args.s) c.args.count c.requires.known grows (g.S.Strings.number c.in_ok-half.half) c.in_ok-half.ensures.value
+    half_value (g.S.Strings.state c.args.store.now) (g.S.Strings.state c.doubled.new.store) (g.S.Strings.number c.args.s) c.args.count
+    c.requires.known grows (g.S.Strings.number c.in_ok-half.half) c.in_ok-half.ensures.value
 
 pub twice-requires-clause-short : goal.twice-requires-clause-short
 twice-requires-clause-short g t c =
@@ -31,7 +32,8 @@ twice-requires-clause-short g t c =
 pub returns-clause-value : goal.returns-clause-value
 returns-clause-value g t c =
     let grows = (c.in_ok-half.ensures.uses 31 (omega (arith, c.ranges.count.fits))).step.grows in
-    let value = whole_value (g.S.Strings.state c.args.store.now) (g.S.Strings.state c.doubled.new.store) (g.S.Strings.number c.args.s) c.args.count c.requires.known grows (g.S.Strings.state c.twice.new.store) in
+    let value = whole_value (g.S.Strings.state c.args.store.now) (g.S.Strings.state c.doubled.new.store) (g.S.Strings.number c.args.s)
+    c.args.count c.requires.known grows (g.S.Strings.state c.twice.new.store) in
     ok_map c.twice.result (λ r. value (g.S.Strings.number r)) c.twice.ensures.value
 
 pub returns-clause-uses : goal.returns-clause-uses

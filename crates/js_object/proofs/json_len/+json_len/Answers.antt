@@ -20,7 +20,8 @@ object_len-key_len-requires g t c =
     let ms = c.deref-member-items.result.now in
     let a = state c.args.store.now in
     let order : map lent_entry ms ≡ ordered (index_in a g.S.Strings.number) (key_values c.args.of.now) = rw c.deref-member-items.ensures.value c.in_ok-members.ensures.value in
-    key_fine a (state c.loop-member.store) g.S.Strings.number c.loop-member.invariant.grows c.args.of.now c.requires.readable ms order c.loop-member.member-index c.member-item.result c.loop-member-test.true c.member-item.is
+    key_fine a (state c.loop-member.store) g.S.Strings.number c.loop-member.invariant.grows c.args.of.now c.requires.readable ms order
+    c.loop-member.member-index c.member-item.result c.loop-member-test.true c.member-item.is
 
 pub object_len-item_len-requires : goal.object_len-item_len-requires
 object_len-item_len-requires g t c κs within =
@@ -42,7 +43,9 @@ object_len-overflow_add-len-then-is_shown-2 g t c =
     let b = state c.loop-member.store in
     let d = state c.key_len.new.store in
     let order : map lent_entry ms ≡ ordered (index_in a g.S.Strings.number) (key_values c.args.of.now) = rw c.deref-member-items.ensures.value c.in_ok-members.ensures.value in
-    let fits = len_fits a b d g.S.Strings.number c.loop-member.invariant.grows (grows_trans c.loop-member.invariant.grows c.in_ok-key.ensures.uses.step.grows) c.args.of.now c.requires.readable ms order c.loop-member.member-index c.member-item.result c.loop-member-test.true c.member-item.is
+    let fits = len_fits a b d g.S.Strings.number c.loop-member.invariant.grows
+    (grows_trans c.loop-member.invariant.grows c.in_ok-key.ensures.uses.step.grows) c.args.of.now c.requires.readable ms order
+    c.loop-member.member-index c.member-item.result c.loop-member-test.true c.member-item.is
     c.loop-member.len c.loop-member.invariant.most c.in_ok-key.key c.in_ok-value.value c.requires.many c.in_ok-key.ensures.most c.in_ok-value.ensures.most in
     omega (arith, fits)
 
@@ -54,7 +57,9 @@ object_len-overflow_add-len-then-is_shown g t c =
     let b = state c.loop-member.store in
     let d = state c.key_len.new.store in
     let order : map lent_entry ms ≡ ordered (index_in a g.S.Strings.number) (key_values c.args.of.now) = rw c.deref-member-items.ensures.value c.in_ok-members.ensures.value in
-    let fits = len_fits a b d g.S.Strings.number c.loop-member.invariant.grows (grows_trans c.loop-member.invariant.grows c.in_ok-key.ensures.uses.step.grows) c.args.of.now c.requires.readable ms order c.loop-member.member-index c.member-item.result c.loop-member-test.true c.member-item.is
+    let fits = len_fits a b d g.S.Strings.number c.loop-member.invariant.grows
+    (grows_trans c.loop-member.invariant.grows c.in_ok-key.ensures.uses.step.grows) c.args.of.now c.requires.readable ms order
+    c.loop-member.member-index c.member-item.result c.loop-member-test.true c.member-item.is
     c.loop-member.len c.loop-member.invariant.most c.in_ok-key.key c.in_ok-value.value c.requires.many c.in_ok-key.ensures.most c.in_ok-value.ensures.most in
     omega (arith, fits)
 
@@ -79,19 +84,24 @@ object_len-loop-member-preserved g t c =
             most = most_shown a b d number i.grows h c.args.of.now c.requires.readable ms order c.loop-member.member-index c.member-item.result c.loop-member-test.true c.member-item.is
                 c.loop-member.len i.most c.if-is_shown.len w.in_ok-key.key w.in_ok-value.value k.most v.most w.len-is;
             grows = grows_trans i.grows (grows_trans k.uses.step.grows v.uses.step.grows);
-            ids = (words_shown a b d number i.grows h c.args.of.now c.requires.readable ms order c.loop-member.member-index c.member-item.result c.loop-member-test.true c.member-item.is i.ids i.words (state w.item_len.new.store) k.uses.step v.uses.step).0;
-            words = (words_shown a b d number i.grows h c.args.of.now c.requires.readable ms order c.loop-member.member-index c.member-item.result c.loop-member-test.true c.member-item.is i.ids i.words (state w.item_len.new.store) k.uses.step v.uses.step).1;
+            ids = (words_shown a b d number i.grows h c.args.of.now c.requires.readable ms order c.loop-member.member-index
+                c.member-item.result c.loop-member-test.true c.member-item.is i.ids i.words (state w.item_len.new.store) k.uses.step v.uses.step).0;
+            words = (words_shown a b d number i.grows h c.args.of.now c.requires.readable ms order c.loop-member.member-index
+                c.member-item.result c.loop-member-test.true c.member-item.is i.ids i.words (state w.item_len.new.store) k.uses.step v.uses.step).1;
             history = v.uses.history ∙ (k.uses.history ∙ i.history);
           })
       | object_len-else-is_shown w ↦ rw w.store-is (
-          let skipped = len_skipped a b b number i.grows i.grows c.args.of.now c.requires.readable ms order c.loop-member.member-index c.member-item.result c.loop-member-test.true c.member-item.is (sym c.is_shown.ensures ∙ w.if-is_shown.false) in
-          let most = most_skipped a b b number i.grows i.grows c.args.of.now c.requires.readable ms order c.loop-member.member-index c.member-item.result c.loop-member-test.true c.member-item.is c.loop-member.len i.most in
+          let skipped = len_skipped a b b number i.grows i.grows c.args.of.now c.requires.readable ms order c.loop-member.member-index
+          c.member-item.result c.loop-member-test.true c.member-item.is (sym c.is_shown.ensures ∙ w.if-is_shown.false) in
+          let most = most_skipped a b b number i.grows i.grows c.args.of.now c.requires.readable ms order c.loop-member.member-index
+          c.member-item.result c.loop-member-test.true c.member-item.is c.loop-member.len i.most in
           record {
             units = omega (arith, skipped, w.len-is, i.units);
             most = omega (arith, most, w.len-is);
             grows = i.grows;
             ids = i.ids;
-            words = words_skipped a b b number i.grows i.grows c.args.of.now c.requires.readable ms order c.loop-member.member-index c.member-item.result c.loop-member-test.true c.member-item.is i.ids i.words;
+            words = words_skipped a b b number i.grows i.grows c.args.of.now c.requires.readable ms order c.loop-member.member-index
+                c.member-item.result c.loop-member-test.true c.member-item.is i.ids i.words;
             history = i.history;
           })
     ]
@@ -103,8 +113,10 @@ object_len-returns-clause-value g t c =
     let ms = c.deref-member-items.result.now in
     let order : map lent_entry ms ≡ ordered (index_in a g.S.Strings.number) (key_values c.args.of.now) = rw c.deref-member-items.ensures.value c.in_ok-members.ensures.value in
     elim c.if-len-lt2.branch [
-      | object_len-then-len-lt2 w ↦ w.result-is ∙ len_none say c.args.of.now ms c.loop-member.member-index c.loop-member.len order c.loop-member-test.false c.loop-member.invariant.units w.if-len-lt2.true
-      | object_len-else-len-lt2 w ↦ w.result-is ∙ len_some say c.args.of.now ms c.loop-member.member-index c.loop-member.len order c.loop-member-test.false c.loop-member.invariant.units w.if-len-lt2.false
+      | object_len-then-len-lt2 w ↦ w.result-is ∙ len_none say c.args.of.now ms c.loop-member.member-index c.loop-member.len order
+          c.loop-member-test.false c.loop-member.invariant.units w.if-len-lt2.true
+      | object_len-else-len-lt2 w ↦ w.result-is ∙ len_some say c.args.of.now ms c.loop-member.member-index c.loop-member.len order
+          c.loop-member-test.false c.loop-member.invariant.units w.if-len-lt2.false
     ]
 
 pub object_len-returns-clause-most : goal.object_len-returns-clause-most
@@ -129,7 +141,8 @@ object_len-returns-in_err-key-clause-uses g t c =
     let p = err_from_is_err_and c.from_residual-in_err-key.result c.from_residual-in_err-key.ensures.1 in
     let e = c.in_err-key.ensures.uses in
     rw (p.1, p.2) (record {
-      step = key_uses a b b g.S.Strings.number i.grows i.grows c.args.of.now c.requires.readable ms order c.loop-member.member-index c.member-item.result c.loop-member-test.true c.member-item.is i.ids i.words _ _ e.step;
+      step = key_uses a b b g.S.Strings.number i.grows i.grows c.args.of.now c.requires.readable ms order c.loop-member.member-index
+          c.member-item.result c.loop-member-test.true c.member-item.is i.ids i.words _ _ e.step;
       no_slots = e.no_slots;
       history = e.history ∙ i.history;
     })
@@ -146,7 +159,8 @@ object_len-returns-in_err-value-clause-uses g t c =
     let p = err_from_is_err_and c.from_residual-in_err-value.result c.from_residual-in_err-value.ensures.1 in
     let e = c.in_err-value.ensures.uses in
     rw (p.1, p.2) (record {
-      step = item_uses a b (state c.key_len.new.store) g.S.Strings.number i.grows (grows_trans i.grows k.step.grows) c.args.of.now c.requires.readable ms order c.loop-member.member-index c.member-item.result c.loop-member-test.true c.member-item.is i.ids i.words _ _ k.step e.step;
+      step = item_uses a b (state c.key_len.new.store) g.S.Strings.number i.grows (grows_trans i.grows k.step.grows) c.args.of.now
+          c.requires.readable ms order c.loop-member.member-index c.member-item.result c.loop-member-test.true c.member-item.is i.ids i.words _ _ k.step e.step;
       no_slots = e.no_slots;
       history = e.history ∙ (k.history ∙ i.history);
     })

@@ -15,4 +15,5 @@ returns-in-Some-reference-clause-parts c u at w =
     let t = c.args.template.now in
     let s = take (length t - 1) (drop 1 t) in
     let v = take (length s - 1) (drop 1 s) in
-    reference_left u at w t s v c.in_ok-first.field-0.now c.in-Some.second.now (piece_text c.in-Some-reference.piece u at w) (rest_is t) (rest_is s) c.in_ok-first.ensures.value c.in-Some.ensures.value (sym (c.in-Some-reference.ensures u at w))
+    reference_left u at w t s v c.in_ok-first.field-0.now c.in-Some.second.now (piece_text c.in-Some-reference.piece u at w) (rest_is t)
+    (rest_is s) c.in_ok-first.ensures.value c.in-Some.ensures.value (sym (c.in-Some-reference.ensures u at w))

@@ -30,7 +30,8 @@ returns-in_err-push_part-clause-uses g c =
     let p = err_from_is_err_and c.from_residual.result c.from_residual.ensures.1 in
     let e = c.in_err-push_part.ensures.uses in
     rw (p.1, p.2) (record {
-      step = refused (at - from) (limit - k) (limit - (k + 1)) (known_texts (state c.loop-at.store) number c.loop-at.parts.items) (pieces u size from (drop k places)) (pieces u size (at + size) (drop (k + 1) places)) (take limit (pieces u size 0 places)) (slice_range u from at)
+      step = refused (at - from) (limit - k) (limit - (k + 1)) (known_texts (state c.loop-at.store) number c.loop-at.parts.items)
+          (pieces u size from (drop k places)) (pieces u size (at + size) (drop (k + 1) places)) (take limit (pieces u size 0 places)) (slice_range u from at)
           (range_length u from at o.0 (omega (arith, room))) (omega (arith, below, count)) (omega arith)
           (piece_turn u size from places k below) i.made i.step e.step;
       no_slots = e.no_slots;
@@ -89,7 +90,9 @@ returns-in_err-push_part-2-clause-uses g c =
     let p = err_from_is_err_and c.from_residual-in_err-push_part-2.result c.from_residual-in_err-push_part-2.ensures.1 in
     let e = c.in_err-push_part-2.ensures.uses in
     rw (p.1, p.2) (record {
-      step = refused (c.len-len.result - from) (limit - k) (limit - (k + 1)) (known_texts (state c.loop-at.store) number c.loop-at.parts.items) (pieces u size from (drop k places)) [] (take limit (pieces u size 0 places)) (slice_range u from (length u))
+      step = refused (c.len-len.result - from) (limit - k) (limit - (k + 1))
+          (known_texts (state c.loop-at.store) number c.loop-at.parts.items) (pieces u size from (drop k places)) []
+          (take limit (pieces u size 0 places)) (slice_range u from (length u))
           (ap (λ n. n - from) len ∙ range_length u from (length u) first (omega arith)) (omega (arith, above, apart, count, end)) (omega arith)
           (last_piece u size from places k (omega (arith, above)) first) i.made i.step e.step;
       no_slots = e.no_slots;
@@ -115,7 +118,9 @@ returns-clause-uses g c =
     let first = last_order (length u) size from places k (omega (arith, above)) i.order in
     let e = c.in_ok-push_part-2.ensures.uses in
     record {
-      step = refused (c.len-len.result - from) (limit - k) (limit - (k + 1)) (known_texts (state c.loop-at.store) number c.loop-at.parts.items) (pieces u size from (drop k places)) [] (take limit (pieces u size 0 places)) (slice_range u from (length u))
+      step = refused (c.len-len.result - from) (limit - k) (limit - (k + 1))
+          (known_texts (state c.loop-at.store) number c.loop-at.parts.items) (pieces u size from (drop k places)) []
+          (take limit (pieces u size 0 places)) (slice_range u from (length u))
           (ap (λ n. n - from) len ∙ range_length u from (length u) first (omega arith)) (omega (arith, above, apart, count, end)) (omega arith)
           (last_piece u size from places k (omega (arith, above)) first) i.made i.step e.step;
       no_slots = e.no_slots;

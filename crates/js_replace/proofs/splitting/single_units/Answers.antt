@@ -24,7 +24,8 @@ returns-in_err-push_part-clause-uses g c =
     let p = err_from_is_err_and c.from_residual.result c.from_residual.ensures.1 in
     let e = c.in_err-push_part.ensures.uses in
     rw (p.1, p.2) (record {
-      step = refused (k + 1 - k) (limit - k) (limit - (k + 1)) (known_texts b number c.loop-i.parts.items) (singles (drop k u)) (singles (drop (k + 1) u)) (take limit (singles u)) (slice_range u k (k + 1))
+      step = refused (k + 1 - k) (limit - k) (limit - (k + 1)) (known_texts b number c.loop-i.parts.items) (singles (drop k u))
+          (singles (drop (k + 1) u)) (take limit (singles u)) (slice_range u k (k + 1))
           (range_length u k (k + 1) (omega arith) (omega (arith, below, size, most))) (omega (arith, below, most)) (omega arith)
           (single_turn u k (omega (arith, below, size, most))) i.made i.step e.step;
       no_slots = e.no_slots;

@@ -31,8 +31,10 @@ returns-then-cost-most-clause-greatest g c =
     let there : IsLast u w at c.last_within.result =
     subst (λ (n : ℕ). IsLast u w n c.last_within.result) same
     (subst (λ (x : List ℕ). IsLast x w (at + c.args.size - c.args.size) c.last_within.result) f
-    (subst (λ (x : List ℕ). IsLast (text (g.S.Strings.state c.previous_pair.new.store) (g.S.Strings.number c.args.hay)) x (at + c.args.size - c.args.size) c.last_within.result) h c.last_within.ensures.greatest)) in
-    last_among u _ w c.pair_of-pair.result c.args.most c.loop-end.end at c.pair_of-pair.ensures.pair (text_still s.step.grows _ c.requires.hay_known) e.greatest.1 s.apart c.last_within.result (omega arith) there
+    (subst (λ (x : List ℕ). IsLast (text (g.S.Strings.state c.previous_pair.new.store) (g.S.Strings.number c.args.hay)) x
+    (at + c.args.size - c.args.size) c.last_within.result) h c.last_within.ensures.greatest)) in
+    last_among u _ w c.pair_of-pair.result c.args.most c.loop-end.end at c.pair_of-pair.ensures.pair
+    (text_still s.step.grows _ c.requires.hay_known) e.greatest.1 s.apart c.last_within.result (omega arith) there
 
 pub returns-then-same-size-clause-greatest : goal.returns-then-same-size-clause-greatest
 returns-then-same-size-clause-greatest g c =

@@ -20,6 +20,7 @@ loop-rest-preserved c =
     let less : length us ≡ taken_by piece + length vs = omega (arith, shorter, taken_is) in
     let count : c.len.result ≡ length (units_given piece us) = cc (len_is, given) in
     record {
-      made = length_turn (hold_of c.args.part) c.args.units.now us vs (seen piece us) c.len.result c.loop-rest.len c.loop-rest.invariant.made c.in-Some.ensures.value taken.0 (rw taken_is at c.behind-rest.ensures.rest) less within count;
+      made = length_turn (hold_of c.args.part) c.args.units.now us vs (seen piece us) c.len.result c.loop-rest.len
+          c.loop-rest.invariant.made c.in-Some.ensures.value taken.0 (rw taken_is at c.behind-rest.ensures.rest) less within count;
       most = omega (arith, most, few, taken, less, len_is);
     }

@@ -19,5 +19,6 @@ loop-piece-preserved c =
     let added : c.push_to.new.text ≡ c.loop-piece.text ++ units_given piece us = c.in_ok-push_to.ensures.added in
     record {
       fine = rest_is_ok hold us vs (seen piece us) value taken.0 rest c.loop-piece.invariant.fine;
-      made = units_turn hold c.loop-piece.text c.push_to.new.text (c.args.text.now ++ units_of (decoded c.args.units.now hold)) us vs (seen piece us) value taken.0 rest c.loop-piece.invariant.fine added c.loop-piece.invariant.made;
+      made = units_turn hold c.loop-piece.text c.push_to.new.text (c.args.text.now ++ units_of (decoded c.args.units.now hold)) us vs
+          (seen piece us) value taken.0 rest c.loop-piece.invariant.fine added c.loop-piece.invariant.made;
     }

@@ -16,5 +16,6 @@ loop-point-preserved c =
     let added : c.push_point.new.text ≡ c.loop-point.text ++ unwrap_or (encoded_point keep c.in-Some.point) [] = c.in_ok-push_point.ensures.added in
     record {
       fine = rest_is_ok keep us vs c.in-Some.point here c.loop-point.invariant.fine;
-      made = units_turn keep c.loop-point.text c.push_point.new.text (c.args.text.now ++ units_of (encoded c.args.units.now keep)) us vs c.in-Some.point here c.loop-point.invariant.fine added c.loop-point.invariant.made;
+      made = units_turn keep c.loop-point.text c.push_point.new.text (c.args.text.now ++ units_of (encoded c.args.units.now keep)) us vs
+          c.in-Some.point here c.loop-point.invariant.fine added c.loop-point.invariant.made;
     }

@@ -10,7 +10,9 @@ use Rattle.jsstr_c.proofs.Settling.{looks_trans}
 use Rattle.jsstr_c.proofs.given.copied.Goals as goal
 
 pub returns-clause-looks : goal.returns-clause-looks
-returns-clause-looks c = let one = c.jsstr_length_unchecked-len in let two = c.jsstr_read_unchecked in looks_trans c.args.agent.now.at.value one.new.agent.at.value two.new.agent.at.value one.ensures.measures.looks two.ensures.looks
+returns-clause-looks c = let one = c.jsstr_length_unchecked-len in
+    let two = c.jsstr_read_unchecked in looks_trans c.args.agent.now.at.value one.new.agent.at.value two.new.agent.at.value
+    one.ensures.measures.looks two.ensures.looks
 
 pub returns-clause-units : goal.returns-clause-units
 returns-clause-units c = λ us h. let one = c.jsstr_length_unchecked-len in let two = c.jsstr_read_unchecked in let made = c.in_ok-units in let out = c.as_mut_slice in

@@ -8,4 +8,5 @@ returns-in-Ok-clause-does c = let call = c.on_spelling in
 
 pub returns-in-Err-clause-does : goal.returns-in-Err-clause-does
 returns-in-Err-clause-does c = let call = c.left in
-    malformed_does c.args.task c.args.agent.now.at.value call.new.agent.at.value c.args.bytes.now call.result c.args.encoding c.in-Err.at c.in-Err.ensures.read (call.ensures.answer ∙ c.not_utf8.ensures) call.ensures.same
+    malformed_does c.args.task c.args.agent.now.at.value call.new.agent.at.value c.args.bytes.now call.result c.args.encoding c.in-Err.at
+    c.in-Err.ensures.read (call.ensures.answer ∙ c.not_utf8.ensures) call.ensures.same

@@ -3,7 +3,8 @@ use Rattle.jsstr_c.proofs.Going.{does_done, goes_units}
 use Rattle.jsstr_c.proofs.uses.tested_twice.Goals as goal
 
 pub returns-clause-same : goal.returns-clause-same
-returns-clause-same c = let us = c.args.units.now in let first = c.jsstr_from_units-first in let one = c.jsstr_intern-one in let second = c.jsstr_from_units-second in let other = c.jsstr_intern-other in
+returns-clause-same c = let us = c.args.units.now in let first = c.jsstr_from_units-first in let one = c.jsstr_intern-one in
+    let second = c.jsstr_from_units-second in let other = c.jsstr_intern-other in
     let same = c.jsstr_same-same in
     let a = c.if-first-ne-DONE.false in let b = c.if-one-ne-DONE.false in let d = c.if-second-ne-DONE.false in let e = c.if-other-ne-DONE.false in let f = c.if-same-ne-DONE.false in
     let made : first.result.status ≡ 0 = omega (arith, a) in let interned : one.result.status ≡ 0 = omega (arith, b) in let again : second.result.status ≡ 0 = omega (arith, d) in

@@ -30,7 +30,8 @@ returns-clause-told c = let h = c.args.heap.now in let setup = one_agent (size_o
     let of = kept_of setup h prelude trees f.result os None a b t t is refl f.ensures.grows f.ensures.ran c.whole_has_all.ensures c.totals.ensures.state (step_refl t) refl refl in
     let limit = kept_limit setup h prelude trees f.result os None a b t t is refl f.ensures.grows f.ensures.ran c.whole_has_all.ensures c.totals.ensures.state (step_refl t) refl refl in
     subst (λ (x : State SessionFrame). IsTold setup x prelude trees f.result os None)
-    (same_state (session_view s) (view_of c.into_agent.result) (limit_units s.limit) (limit_units c.args.limit) (table_of s.text.reader.heap.now) (table_of h) (sym c.into_agent.ensures.view) limit of.0)
+    (same_state (session_view s) (view_of c.into_agent.result) (limit_units s.limit) (limit_units c.args.limit)
+    (table_of s.text.reader.heap.now) (table_of h) (sym c.into_agent.ensures.view) limit of.0)
     (kept_told setup h prelude trees f.result os None a b t t is refl f.ensures.grows f.ensures.ran c.whole_has_all.ensures c.totals.ensures.state (step_refl t) refl refl)
 
 pub returns-clause-left : goal.returns-clause-left
@@ -41,7 +42,8 @@ returns-clause-left c = let h = c.args.heap.now in let setup = one_agent (size_o
     let of = kept_of setup h prelude trees f.result os None a b t t is refl f.ensures.grows f.ensures.ran c.whole_has_all.ensures c.totals.ensures.state (step_refl t) refl refl in
     let limit = kept_limit setup h prelude trees f.result os None a b t t is refl f.ensures.grows f.ensures.ran c.whole_has_all.ensures c.totals.ensures.state (step_refl t) refl refl in
     subst (λ (x : State SessionFrame). HasLeft x (script_by (limit_units c.args.limit) prelude tree) bounds os)
-    (same_state (session_view s) (view_of c.into_agent.result) (limit_units s.limit) (limit_units c.args.limit) (table_of s.text.reader.heap.now) (table_of h) (sym c.into_agent.ensures.view) limit of.0)
+    (same_state (session_view s) (view_of c.into_agent.result) (limit_units s.limit) (limit_units c.args.limit)
+    (table_of s.text.reader.heap.now) (table_of h) (sym c.into_agent.ensures.view) limit of.0)
     (subst (λ (x : State SessionFrame). HasLeft x (script_by (limit_units c.args.limit) prelude tree) bounds os) (sym c.totals.ensures.state)
     (left_total b (script_by (limit_units c.args.limit) prelude tree) bounds os
     (subst (λ (l : ℕ). HasLeft b (script_by l prelude tree) bounds os) (ap (λ (x : State SessionFrame). x.limit) is) f.ensures.left)))

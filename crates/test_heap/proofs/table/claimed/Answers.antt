@@ -13,7 +13,9 @@ store_word-requires-clause-own c = let at = c.in-Ok-claim_words.at in let m : Fi
     subst (λ (v : View). HasKey v.own_words at) (sym c.in-Ok-claim_words.ensures.view) (key_of _ at 0 (insert_same m at 0))
 
 pub load_word-word-requires-clause-may : goal.load_word-word-requires-clause-may
-load_word-word-requires-clause-may c = let at = c.in-Ok-claim_words.at in subst (λ (v : View). MayLoadWord v at) (sym c.store_word.ensures.view) (inl (key_of _ at 6513249 (insert_same c.claim_words.new.self.seat.me.0.own_words at 6513249)))
+load_word-word-requires-clause-may c =
+    let at = c.in-Ok-claim_words.at in subst (λ (v : View). MayLoadWord v at) (sym c.store_word.ensures.view)
+    (inl (key_of _ at 6513249 (insert_same c.claim_words.new.self.seat.me.0.own_words at 6513249)))
 
 pub store_length-requires-clause-may : goal.store_length-requires-clause-may
 store_length-requires-clause-may c = let id = c.in-Ok-claim_id.id in let m : FinMap nat_cmp ℕ = c.load_word-word.new.self.seat.me.0.own_ids in let few : 3 ≤ MAX = omega arith in

@@ -21,7 +21,8 @@ store_length-requires-clause-may c = let id = c.in-Ok-claim_id.id in
 pub birth-requires-clause-fits : goal.birth-requires-clause-fits
 birth-requires-clause-fits c = let v : View = c.args.agent.now.seat.me.0 in let start = c.in-Ok.start in let id = c.in-Ok-claim_id.id in
     let is : c.store_length.new.self.seat.me.0 ≡ ready v start c.args.word id = c.store_length.ensures.view
-    ∙ ap (λ (y : View). stored_length y id 8) (c.in-Ok-claim_id.ensures.view ∙ ap (λ (y : View). won_claim y Ids id 1) (c.store_word.ensures.view ∙ ap (λ (y : View). stored_word y start c.args.word) c.in-Ok.ensures.view)) in
+    ∙ ap (λ (y : View). stored_length y id 8) (c.in-Ok-claim_id.ensures.view ∙ ap (λ (y : View). won_claim y Ids id 1)
+    (c.store_word.ensures.view ∙ ap (λ (y : View). stored_word y start c.args.word) c.in-Ok.ensures.view)) in
     let sizes = ap (λ (z : HeapSize). z.words) c.requires.belongs.1 in let lawful = (possible_lawful v c.requires.belongs.5).3 in let room = c.in-Ok.ensures.room in
     let small : start < 2 ^ 29 = omega arith in
     subst (λ (y : View). MayBear y id (Flat false start false)) (sym is) (eight_fits v start c.args.word id false small)
@@ -29,5 +30,6 @@ birth-requires-clause-fits c = let v : View = c.args.agent.now.seat.me.0 in let 
 pub returns-clause-units : goal.returns-clause-units
 returns-clause-units c = let v : View = c.args.agent.now.seat.me.0 in let start = c.in-Ok.start in let id = c.in-Ok-claim_id.id in
     let is : c.store_length.new.self.seat.me.0 ≡ ready v start c.args.word id = c.store_length.ensures.view
-    ∙ ap (λ (y : View). stored_length y id 8) (c.in-Ok-claim_id.ensures.view ∙ ap (λ (y : View). won_claim y Ids id 1) (c.store_word.ensures.view ∙ ap (λ (y : View). stored_word y start c.args.word) c.in-Ok.ensures.view)) in
+    ∙ ap (λ (y : View). stored_length y id 8) (c.in-Ok-claim_id.ensures.view ∙ ap (λ (y : View). won_claim y Ids id 1)
+    (c.store_word.ensures.view ∙ ap (λ (y : View). stored_word y start c.args.word) c.in-Ok.ensures.view)) in
     subst (λ (y : View). Has y.units id (bytes_of c.args.word)) (sym (c.birth.ensures.view ∙ ap (λ (y : View). born y id (Flat false start false)) is)) (eight_units v start c.args.word id false)

@@ -20,7 +20,8 @@ store_length-requires-clause-may c = let id = c.in-Ok-claim_id.id in
 pub birth-requires-clause-fits : goal.birth-requires-clause-fits
 birth-requires-clause-fits c = let v : View = c.args.reader.now.agent.seat.me.0 in let start = c.in-Ok.start in let id = c.in-Ok-claim_id.id in
     let is : c.store_length.new.self.seat.me.0 ≡ ready v start c.args.word id = c.store_length.ensures.view
-    ∙ ap (λ (y : View). stored_length y id 4) (c.in-Ok-claim_id.ensures.view ∙ ap (λ (y : View). won_claim y Ids id 1) (c.store_word.ensures.view ∙ ap (λ (y : View). stored_word y start c.args.word) c.in-Ok.ensures.view)) in
+    ∙ ap (λ (y : View). stored_length y id 4) (c.in-Ok-claim_id.ensures.view ∙ ap (λ (y : View). won_claim y Ids id 1)
+    (c.store_word.ensures.view ∙ ap (λ (y : View). stored_word y start c.args.word) c.in-Ok.ensures.view)) in
     let sizes = ap (λ (z : HeapSize). z.words) c.args.reader.now.belongs.1 in let lawful = (possible_lawful v c.args.reader.now.belongs.5).3 in let room = c.in-Ok.ensures.room in
     let small : start < 2 ^ 29 = omega arith in
     subst (λ (y : View). MayBear y id (Flat true start false)) (sym is) (wide_fits v start c.args.word id small)

@@ -8,7 +8,8 @@ use Rattle.test_strings.proofs.Turning.{turns_continues}
 use Rattle.test_strings.proofs.text_calls.reads.Goals as goal
 
 pub loop-i-init : goal.loop-i-init
-loop-i-init c = let v : View = c.args.text.now.reader.agent.seat.me.0 in let w1 : View = c.settle.new.self.reader.agent.seat.me.0 in let w2 : View = c.len.new.self.reader.agent.seat.me.0 in let w3 : View = c.window-window.new.self.reader.agent.seat.me.0 in
+loop-i-init c = let v : View = c.args.text.now.reader.agent.seat.me.0 in let w1 : View = c.settle.new.self.reader.agent.seat.me.0 in
+    let w2 : View = c.len.new.self.reader.agent.seat.me.0 in let w3 : View = c.window-window.new.self.reader.agent.seat.me.0 in
     let s = c.settle.ensures.continues in let r = reads_trans w1 w2 w3 c.len.ensures.reads c.window-window.ensures.reads in
     let k2 = known_trans v w1 w2 s.known c.len.ensures.reads.known in let p = has_key v.units c.args.s.id c.requires.known in
     let n = c.len.ensures.length p.0 (s.known.units c.args.s.id p.0 p.1) in let m = (c.window-window.ensures.shows p.0 (k2.units c.args.s.id p.0 p.1)).1 in let test = c.if-len-want.false in record {

@@ -21,8 +21,10 @@ mark_interned-requires-clause-call c = let v : View = view_of c.in-Some.text.rea
     let e = entered_adopted v w c.args.slot (Some c.in-Some-found.id) c.in-Some-found.ensures.adopts in (e.0, e.1.call)
 
 pub returns-in-Some-found : goal.returns-in-Some-found
-returns-in-Some-found c = let x = c.args.self.now in let t = c.in-Some.text in let call = c.adopt-found in let mark = c.mark_interned in let u : SharedText = record t { reader = call.new.reader; within = _ } in let a = c.in-Some-found.ensures in
-    adopted_marked x t u c.in-Some.is (ap arc_value call.ensures.heap) refl c.requires.held c.args.slot c.in-Some-found.id mark.new.self mark.ensures.text mark.ensures.held mark.ensures.marks mark.ensures.marked a.adopts a.again a.loads
+returns-in-Some-found c = let x = c.args.self.now in let t = c.in-Some.text in let call = c.adopt-found in let mark = c.mark_interned in
+    let u : SharedText = record t { reader = call.new.reader; within = _ } in let a = c.in-Some-found.ensures in
+    adopted_marked x t u c.in-Some.is (ap arc_value call.ensures.heap) refl c.requires.held c.args.slot c.in-Some-found.id mark.new.self
+    mark.ensures.text mark.ensures.held mark.ensures.marks mark.ensures.marked a.adopts a.again a.loads
 
 pub returns-in-None-found : goal.returns-in-None-found
 returns-in-None-found c = let call = c.adopt-found in let a = c.in-None-found.ensures in

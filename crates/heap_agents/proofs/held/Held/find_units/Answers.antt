@@ -26,7 +26,8 @@ mark_interned-requires-clause-call c = let v : View = view_of c.in-Some.text.rea
     (us, (entered_found v w us (Some c.in-Some-found.id) c.in-Some-found.ensures.finds).call)
 
 pub returns-in-Some-found : goal.returns-in-Some-found
-returns-in-Some-found c = let x = c.args.self.now in let t = c.in-Some.text in let call = c.find_units-found in let us = c.args.units.now in let id = c.in-Some-found.id in let mark = c.mark_interned in
+returns-in-Some-found c = let x = c.args.self.now in let t = c.in-Some.text in let call = c.find_units-found in let us = c.args.units.now in
+    let id = c.in-Some-found.id in let mark = c.mark_interned in
     let u : SharedText = record t { reader = call.new.reader; within = _ } in let v : View = view_of t.reader.agent in let w : View = view_of u.reader.agent in let i = c.in-Some-found.ensures.finds in
     found_marked x mark.new.self (Some u) mark.ensures.text us id mark.ensures.held mark.ensures.marks mark.ensures.marked (same_text x t u c.in-Some.is (ap arc_value call.ensures.heap) refl)
     (told x t u c.in-Some.is KeepsKnown (known_found v w us (Some id) i)) (told x t u c.in-Some.is KeepsCalls (calls_found v w us (Some id) i))

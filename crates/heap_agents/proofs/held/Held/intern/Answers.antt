@@ -11,16 +11,19 @@ use Rattle.heap_agents.proofs.Marks.{noted}
 use Rattle.heap_agents.proofs.held.Held.intern.Goals as goal
 
 pub mark_interned-requires-clause-held : goal.mark_interned-requires-clause-held
-mark_interned-requires-clause-held c = let x = c.args.self.now in let call = c.intern_noted-answer in let v : View = view_by x in let w : View = view_if call.new.text in let s : ℕ = c.args.s in let e = call.ensures in
+mark_interned-requires-clause-held c = let x = c.args.self.now in let call = c.intern_noted-answer in let v : View = view_by x in
+    let w : View = view_if call.new.text in let s : ℕ = c.args.s in let e = call.ensures in
     noted x call.new.text c.requires.held e.there e.same (known_by v w s c.requires.known call.result e.interns).units (calls_by v w s c.requires.known call.result e.interns)
     (agents_by v w s c.requires.known call.result e.interns) call.new.seats e.seated
 
 pub mark_interned-requires-clause-known : goal.mark_interned-requires-clause-known
-mark_interned-requires-clause-known c = let v : View = view_by c.args.self.now in let w : View = view_if c.intern_noted-answer.new.text in let s : ℕ = c.args.s in let u = has_key v.units s c.requires.known in
+mark_interned-requires-clause-known c = let v : View = view_by c.args.self.now in let w : View = view_if c.intern_noted-answer.new.text in
+    let s : ℕ = c.args.s in let u = has_key v.units s c.requires.known in
     key_of w.units c.in_ok-id.id u.0 ((entered_by v w s c.requires.known (Ok c.in_ok-id.id) c.in_ok-id.ensures.interns).units u.0 u.1)
 
 pub mark_interned-requires-clause-call : goal.mark_interned-requires-clause-call
-mark_interned-requires-clause-call c = let v : View = view_by c.args.self.now in let w : View = view_if c.intern_noted-answer.new.text in let s : ℕ = c.args.s in let u = has_key v.units s c.requires.known in
+mark_interned-requires-clause-call c = let v : View = view_by c.args.self.now in let w : View = view_if c.intern_noted-answer.new.text in
+    let s : ℕ = c.args.s in let u = has_key v.units s c.requires.known in
     (u.0, (entered_by v w s c.requires.known (Ok c.in_ok-id.id) c.in_ok-id.ensures.interns).call u.0 u.1)
 
 pub returns-clause-calls : goal.returns-clause-calls
@@ -33,4 +36,5 @@ returns-clause-entered c = let v : View = view_by c.args.self.now in let w : Vie
 
 pub returns-clause-interns : goal.returns-clause-interns
 returns-clause-interns c = let v : View = view_by c.args.self.now in let s : ℕ = c.args.s in let id : ℕ = c.in_ok-id.id in
-    subst (λ (o : Option SharedText). (us : List ℕ) → Has v.units s us → (plan : HeaderPlan) × IsPlan v (view_if o) s us plan × IsInternAnswer v (view_if o) us plan (Ok id)) (sym c.mark_interned.ensures.text) c.in_ok-id.ensures.interns
+    subst (λ (o : Option SharedText). (us : List ℕ) → Has v.units s us → (plan : HeaderPlan) × IsPlan v (view_if o) s us plan ×
+    IsInternAnswer v (view_if o) us plan (Ok id)) (sym c.mark_interned.ensures.text) c.in_ok-id.ensures.interns

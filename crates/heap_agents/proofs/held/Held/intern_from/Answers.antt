@@ -29,7 +29,8 @@ mark_interned-requires-clause-call c = let v : View = view_of c.in-Some.text.rea
 
 pub returns : goal.returns
 returns c = let x = c.args.self.now in let t = c.in-Some.text in let call = c.intern_from-answer in let us = (units_of c.args.source.now) in let id = c.in_ok-id.id in let mark = c.mark_interned in
-    let u : SharedText = record t { reader = call.new.reader; within = _ } in let v : View = view_of t.reader.agent in let w : View = view_of u.reader.agent in let i = c.in_ok-id.ensures.interns.answer in let r : Result ℕ TableFull = Ok id in
+    let u : SharedText = record t { reader = call.new.reader; within = _ } in let v : View = view_of t.reader.agent in
+    let w : View = view_of u.reader.agent in let i = c.in_ok-id.ensures.interns.answer in let r : Result ℕ TableFull = Ok id in
     interned_marked x mark.new.self (Some u) mark.ensures.text us id mark.ensures.held mark.ensures.marks mark.ensures.marked (same_text x t u c.in-Some.is (ap arc_value call.ensures.heap) refl)
     (told x t u c.in-Some.is KeepsKnown (known_from v w us (copy_plan us) (Ok id) i)) (told x t u c.in-Some.is KeepsCalls (calls_from v w us (copy_plan us) (Ok id) i))
     (entered_from v w us (copy_plan us) (Ok id) i) (told x t u c.in-Some.is (λ (a b : View). IsInternAnswer a b us (copy_plan us) (Ok id)) i)
@@ -37,4 +38,5 @@ returns c = let x = c.args.self.now in let t = c.in-Some.text in let call = c.in
 
 pub returns-in_err-id : goal.returns-in_err-id
 returns-in_err-id c = let t = c.in-Some.text in let call = c.intern_from-answer in let e = c.in_err-id.ensures in let p = err_from_is_err_and c.from_residual.result c.from_residual.ensures.1 in
-    rw (p.1, p.2) (refused_units c.args.self.now t (record t { reader = call.new.reader; within = _ }) c.in-Some.is (ap arc_value call.ensures.heap) refl c.requires.held (units_of c.args.source.now) c.in_err-id.field-0.0 e.interns.answer e.interns.again)
+    rw (p.1, p.2) (refused_units c.args.self.now t (record t { reader = call.new.reader; within = _ }) c.in-Some.is
+    (ap arc_value call.ensures.heap) refl c.requires.held (units_of c.args.source.now) c.in_err-id.field-0.0 e.interns.answer e.interns.again)

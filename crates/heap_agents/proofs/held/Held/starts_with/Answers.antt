@@ -31,7 +31,8 @@ new-requires-clause-belongs c = let t = c.take_text-reader.result in let made = 
 pub returns-clause-searched : goal.returns-clause-searched
 returns-clause-searched c = let t = c.take_text-reader.result in let x = c.args.self.now in let made = c.new-store in let left = c.into_agent-agent in let done = c.stands_at-answer in
     let uses = looked_as (state_in made.result.session) (state_in done.new.store.session) made.result.seats.now done.new.store.seats.now refl refl done.ensures.uses in
-    let same : done.new.store.seats.now ≡ x.seats.slots.items = seats_left (state_in made.result.session) (state_in done.new.store.session) made.result.seats.now done.new.store.seats.now done.ensures.uses
+    let same : done.new.store.seats.now ≡ x.seats.slots.items = seats_left (state_in made.result.session) (state_in done.new.store.session)
+    made.result.seats.now done.new.store.seats.now done.ensures.uses
     ∙ (made.ensures.seats ∙ (c.as_slice.ensures.value ∙ ap (λ (y : Held). y.seats.slots.items) c.take_text-reader.ensures.rest)) in
     subst (λ (y : Held). Searched x (record y { text = Some c.new.result })) (sym c.take_text-reader.ensures.rest)
     (searched x t made.result.session c.take_text-reader.ensures.text made.ensures.view done.new.store.session c.new.result c.requires.held

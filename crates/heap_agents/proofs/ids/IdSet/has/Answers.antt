@@ -16,4 +16,8 @@ returns-then-place-len c = let ws = c.args.self.now.words.items in let w = c.ind
 
 pub returns-else-place-len : goal.returns-else-place-len
 unfolding IsIn
-returns-else-place-len c = (λ t. let lt : c.args.id / 64 < c.len.result = ltb-true _ _ t in absurd (omega arith), λ h. let low = has_word c.args.self.now.words.items c.args.id h in absurd (omega arith))
+returns-else-place-len c = (
+  λ t. let lt : c.args.id / 64 < c.len.result = ltb-true _ _ t in absurd (omega arith),
+  λ h. let low = has_word
+      c.args.self.now.words.items c.args.id h in absurd (omega arith),
+)

@@ -13,6 +13,9 @@ returns-in_ok-add_units-in-Cons t c = let h = c.header-found.ensures in
 
 pub returns-in-Some-solid : goal.returns-in-Some-solid
 returns-in-Some-solid t c = let h = c.header-found.ensures in
-    let s = sliced_read c.args.self.now.size c.args.self.now.words.items c.requires.stand c.args.id c.requires.born c.in-Sliced.wide c.in-Sliced.parent c.in-Sliced.offset c.header-found.result.1 c.in-Some-solid.wide c.in-Some-solid.start c.in-Some-solid.field-0-2 (h.form ∙ ap Some c.in-Sliced.is) h.length.0 c.in-Some-solid.ensures.some.0 in
-    on_ok c.add_span-in-Some-solid.result (c.add_span-in-Some-solid.new.out ≡ c.args.out.now ++ span (content c.args.self.now.size c.args.self.now.words.items) c.in-Some-solid.wide c.in-Some-solid.start c.in-Sliced.offset c.header-found.result.1) _
+    let s = sliced_read c.args.self.now.size c.args.self.now.words.items c.requires.stand c.args.id c.requires.born c.in-Sliced.wide
+    c.in-Sliced.parent c.in-Sliced.offset c.header-found.result.1 c.in-Some-solid.wide c.in-Some-solid.start c.in-Some-solid.field-0-2
+    (h.form ∙ ap Some c.in-Sliced.is) h.length.0 c.in-Some-solid.ensures.some.0 in
+    on_ok c.add_span-in-Some-solid.result (c.add_span-in-Some-solid.new.out ≡ c.args.out.now ++ span
+    (content c.args.self.now.size c.args.self.now.words.items) c.in-Some-solid.wide c.in-Some-solid.start c.in-Sliced.offset c.header-found.result.1) _
     (λ e. e ∙ (λ i. c.args.out.now ++ sym s.0 i)) c.add_span-in-Some-solid.ensures

@@ -10,7 +10,9 @@ returns-then-v-clause-some c = let h = c.in-Some.ensures.lookup in
 
 pub returns-else-v-clause-none : goal.returns-else-v-clause-none
 returns-else-v-clause-none c = let h = c.in-Some.ensures.lookup in
-    λ _. not_live c.args.self.now.views.items c.args.view c.in-Some.v.now (subst (λ (l : List View). At l c.args.view c.in-Some.v.now) c.deref.ensures.value (at_here c.deref.result.now c.args.view c.in-Some.v.now h.3.0 h.1)) c.if-v.false
+    λ _. not_live c.args.self.now.views.items c.args.view c.in-Some.v.now
+    (subst (λ (l : List View). At l c.args.view c.in-Some.v.now) c.deref.ensures.value
+    (at_here c.deref.result.now c.args.view c.in-Some.v.now h.3.0 h.1)) c.if-v.false
 
 pub returns-in-None-clause-none : goal.returns-in-None-clause-none
 returns-in-None-clause-none c = λ _. no_view c.args.self.now.views.items c.args.view (subst (λ (l : List View). length l ≤ c.args.view) c.deref.ensures.value c.in-None.ensures.lookup.3)

@@ -24,4 +24,6 @@ pub learn-requires-clause-run : goal.learn-requires-clause-run
 learn-requires-clause-run c = header_run c.args.self.now.size c.args.self.now.words.items c.args.id c.args.length c.header_load.result c.header_load.ensures
 
 pub returns : goal.returns
-returns c = header_became (core_of c.args.self.now) c.requires.core c.args.view c.args.id c.args.length c.args.names.now c.header_load.result c.header_place.result c.word-found.result (core_of c.learn.new.self) c.requires.can.0 c.header_load.ensures c.header_place.ensures c.word-found.ensures c.in_ok-learn.ensures.ok
+returns c = header_became (core_of c.args.self.now) c.requires.core c.args.view c.args.id c.args.length c.args.names.now
+    c.header_load.result c.header_place.result c.word-found.result (core_of c.learn.new.self) c.requires.can.0 c.header_load.ensures
+    c.header_place.ensures c.word-found.ensures c.in_ok-learn.ensures.ok

@@ -5,7 +5,8 @@ use Rattle.heap_core.proofs.StateLemmas.{live_tells, none_tells}
 use Rattle.heap_core.proofs.machine.Machine.may_claim.Goals as goal
 
 pub returns-in-Some : goal.returns-in-Some
-returns-in-Some c = live_tells c.args.self.now.views.items c.args.view (λ (v : View). MayClaim v c.args.counter c.args.at c.args.want) c.in-Some.v.now c.may_claim.result c.in-Some.ensures.some c.may_claim.ensures
+returns-in-Some c = live_tells c.args.self.now.views.items c.args.view (λ (v : View). MayClaim v c.args.counter c.args.at c.args.want)
+    c.in-Some.v.now c.may_claim.result c.in-Some.ensures.some c.may_claim.ensures
 
 pub returns-in-None : goal.returns-in-None
 returns-in-None c = none_tells c.args.self.now.views.items c.args.view (λ (v : View). MayClaim v c.args.counter c.args.at c.args.want) (c.in-None.ensures.none refl)

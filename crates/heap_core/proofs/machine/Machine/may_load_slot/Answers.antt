@@ -11,7 +11,12 @@ pub may_load-requires : goal.may_load-requires
 may_load-requires c = has_room (core_of c.args.self.now) c.requires c.args.view c.in-Some.v.now c.in-Some.ensures.some
 
 pub returns-in-Some : goal.returns-in-Some
-returns-in-Some c = live_tells c.args.self.now.views.items c.args.view (λ (v : View). MayLoad v c.args.slot c.args.entry.now c.args.names.now (get_or c.args.self.now.words.items (slot_at c.args.self.now.size c.args.slot) 0)) c.in-Some.v.now c.may_load.result c.in-Some.ensures.some (c.may_load.ensures (get_or c.args.self.now.words.items (slot_at c.args.self.now.size c.args.slot) 0))
+returns-in-Some c = live_tells c.args.self.now.views.items c.args.view
+    (λ (v : View). MayLoad v c.args.slot c.args.entry.now c.args.names.now
+    (get_or c.args.self.now.words.items (slot_at c.args.self.now.size c.args.slot) 0)) c.in-Some.v.now c.may_load.result
+    c.in-Some.ensures.some (c.may_load.ensures (get_or c.args.self.now.words.items (slot_at c.args.self.now.size c.args.slot) 0))
 
 pub returns-in-None : goal.returns-in-None
-returns-in-None c = none_tells c.args.self.now.views.items c.args.view (λ (v : View). MayLoad v c.args.slot c.args.entry.now c.args.names.now (get_or c.args.self.now.words.items (slot_at c.args.self.now.size c.args.slot) 0)) (c.in-None.ensures.none refl)
+returns-in-None c = none_tells c.args.self.now.views.items c.args.view
+    (λ (v : View). MayLoad v c.args.slot c.args.entry.now c.args.names.now
+    (get_or c.args.self.now.words.items (slot_at c.args.self.now.size c.args.slot) 0)) (c.in-None.ensures.none refl)

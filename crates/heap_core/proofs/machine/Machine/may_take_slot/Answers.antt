@@ -20,7 +20,12 @@ pub may_take-requires-clause-room : goal.may_take-requires-clause-room
 may_take-requires-clause-room c = has_room (core_of c.args.self.now) c.requires c.args.view c.in-Some.v.now c.in-Some.ensures.some
 
 pub returns-in-Some : goal.returns-in-Some
-returns-in-Some c = live_tells c.args.self.now.views.items c.args.view (λ (v : View). MayTake v c.args.slot c.args.id c.args.names.now (get_or c.args.self.now.words.items (slot_at c.args.self.now.size c.args.slot) 0)) c.in-Some.v.now c.may_take.result c.in-Some.ensures.some (c.may_take.ensures (get_or c.args.self.now.words.items (slot_at c.args.self.now.size c.args.slot) 0))
+returns-in-Some c = live_tells c.args.self.now.views.items c.args.view
+    (λ (v : View). MayTake v c.args.slot c.args.id c.args.names.now (get_or c.args.self.now.words.items
+    (slot_at c.args.self.now.size c.args.slot) 0)) c.in-Some.v.now c.may_take.result c.in-Some.ensures.some
+    (c.may_take.ensures (get_or c.args.self.now.words.items (slot_at c.args.self.now.size c.args.slot) 0))
 
 pub returns-in-None : goal.returns-in-None
-returns-in-None c = none_tells c.args.self.now.views.items c.args.view (λ (v : View). MayTake v c.args.slot c.args.id c.args.names.now (get_or c.args.self.now.words.items (slot_at c.args.self.now.size c.args.slot) 0)) (c.in-None.ensures.none refl)
+returns-in-None c = none_tells c.args.self.now.views.items c.args.view
+    (λ (v : View). MayTake v c.args.slot c.args.id c.args.names.now (get_or c.args.self.now.words.items
+    (slot_at c.args.self.now.size c.args.slot) 0)) (c.in-None.ensures.none refl)

@@ -15,9 +15,11 @@ pub index_mut-requires : goal.index_mut-requires
 index_mut-requires c = let l = view_inside c.args.self.now.views.items c.args.view (λ (v : View). HasKey v.own_words c.args.at) c.requires.can in let ok = c.args.self.now.views.ok in omega arith
 
 pub store-requires : goal.store-requires
-store-requires c = let t = own_word (core_of c.args.self.now) c.args.view c.args.at c.requires.core c.requires.can in subst (λ (p : ℕ). p < length c.args.self.now.words.items) (sym c.content_place-place.ensures) t.2
+store-requires c = let t = own_word (core_of c.args.self.now) c.args.view c.args.at c.requires.core c.requires.can in subst
+    (λ (p : ℕ). p < length c.args.self.now.words.items) (sym c.content_place-place.ensures) t.2
 
 pub returns : goal.returns
 returns c = subst (λ (t : Core). Made (core_of c.args.self.now) (StoreWord c.args.view c.args.at c.args.word) t (Ok c.word-found.result)) (sym c.store.ensures)
-    (store_done (core_of c.args.self.now) c.args.view c.index_mut.result.now c.args.at c.args.word c.content_place-place.result c.word-found.result c.store_word.new.view c.requires.can c.content_place-place.ensures c.word-found.ensures
+    (store_done (core_of c.args.self.now) c.args.view c.index_mut.result.now c.args.at c.args.word c.content_place-place.result
+    c.word-found.result c.store_word.new.view c.requires.can c.content_place-place.ensures c.word-found.ensures
     (c.in_ok-store_word.ensures.ok ∙ ap (λ (v : View). stored_word v c.args.at c.args.word) c.index_mut.ensures.value))

@@ -12,23 +12,62 @@ use Rattle.heap_core.proofs.SlotEvents.{slot_inside, slot_room, slot_small, take
 use Rattle.heap_core.proofs.machine.Machine.take_slot.Goals as goal
 
 pub slot_place-place-requires : goal.slot_place-place-requires
-slot_place-place-requires c = let can = c.requires.can in let t : LiveIn c.args.self.now.views.items c.args.view (λ (v : View). (c.args.slot < v.sizes.slots) × (MayTake v c.args.slot c.args.id c.args.names.now (get_or c.args.self.now.words.items (slot_at c.args.self.now.size c.args.slot) 0))) = (can.0, can.1, can.2, (can.3.0.0, can.3)) in let i = slot_inside (core_of c.args.self.now) c.requires.core c.args.view (λ (v : View). MayTake v c.args.slot c.args.id c.args.names.now (get_or c.args.self.now.words.items (slot_at c.args.self.now.size c.args.slot) 0)) c.args.slot t in (i.0, i.1)
+slot_place-place-requires c = let can = c.requires.can in
+    let t : LiveIn c.args.self.now.views.items c.args.view (λ (v : View). (c.args.slot < v.sizes.slots) ×
+    (MayTake v c.args.slot c.args.id c.args.names.now (get_or c.args.self.now.words.items
+    (slot_at c.args.self.now.size c.args.slot) 0))) = (can.0, can.1, can.2, (can.3.0.0, can.3)) in
+    let i = slot_inside (core_of c.args.self.now) c.requires.core c.args.view
+    (λ (v : View). MayTake v c.args.slot c.args.id c.args.names.now (get_or c.args.self.now.words.items
+    (slot_at c.args.self.now.size c.args.slot) 0)) c.args.slot t in (i.0, i.1)
 
 pub view-requires : goal.view-requires
-view-requires c = let can = c.requires.can in let t : LiveIn c.args.self.now.views.items c.args.view (λ (v : View). (c.args.slot < v.sizes.slots) × (MayTake v c.args.slot c.args.id c.args.names.now (get_or c.args.self.now.words.items (slot_at c.args.self.now.size c.args.slot) 0))) = (can.0, can.1, can.2, (can.3.0.0, can.3)) in view_inside c.args.self.now.views.items c.args.view (λ (v : View). MayTake v c.args.slot c.args.id c.args.names.now (get_or c.args.self.now.words.items (slot_at c.args.self.now.size c.args.slot) 0)) can
+view-requires c = let can = c.requires.can in
+    let t : LiveIn c.args.self.now.views.items c.args.view (λ (v : View). (c.args.slot < v.sizes.slots) ×
+    (MayTake v c.args.slot c.args.id c.args.names.now (get_or c.args.self.now.words.items
+    (slot_at c.args.self.now.size c.args.slot) 0))) = (can.0, can.1, can.2, (can.3.0.0, can.3)) in
+    view_inside c.args.self.now.views.items c.args.view (λ (v : View). MayTake v c.args.slot c.args.id c.args.names.now
+    (get_or c.args.self.now.words.items (slot_at c.args.self.now.size c.args.slot) 0)) can
 
 pub slot_taken-requires-clause-room : goal.slot_taken-requires-clause-room
-slot_taken-requires-clause-room c = let can = c.requires.can in let t : LiveIn c.args.self.now.views.items c.args.view (λ (v : View). (c.args.slot < v.sizes.slots) × (MayTake v c.args.slot c.args.id c.args.names.now (get_or c.args.self.now.words.items (slot_at c.args.self.now.size c.args.slot) 0))) = (can.0, can.1, can.2, (can.3.0.0, can.3)) in subst HasRoom (sym c.view.ensures) (slot_room (core_of c.args.self.now) c.requires.core c.args.view (λ (v : View). MayTake v c.args.slot c.args.id c.args.names.now (get_or c.args.self.now.words.items (slot_at c.args.self.now.size c.args.slot) 0)) c.args.slot t)
+slot_taken-requires-clause-room c = let can = c.requires.can in
+    let t : LiveIn c.args.self.now.views.items c.args.view (λ (v : View). (c.args.slot < v.sizes.slots) ×
+    (MayTake v c.args.slot c.args.id c.args.names.now (get_or c.args.self.now.words.items
+    (slot_at c.args.self.now.size c.args.slot) 0))) = (can.0, can.1, can.2, (can.3.0.0, can.3)) in subst HasRoom (sym c.view.ensures)
+    (slot_room (core_of c.args.self.now) c.requires.core c.args.view (λ (v : View). MayTake v c.args.slot c.args.id c.args.names.now
+    (get_or c.args.self.now.words.items (slot_at c.args.self.now.size c.args.slot) 0)) c.args.slot t)
 
 pub slot_taken-requires-clause-small : goal.slot_taken-requires-clause-small
-slot_taken-requires-clause-small c = let can = c.requires.can in let t : LiveIn c.args.self.now.views.items c.args.view (λ (v : View). (c.args.slot < v.sizes.slots) × (MayTake v c.args.slot c.args.id c.args.names.now (get_or c.args.self.now.words.items (slot_at c.args.self.now.size c.args.slot) 0))) = (can.0, can.1, can.2, (can.3.0.0, can.3)) in subst (λ (n : ℕ). n < 2 ^ 32) (sym c.word-found.ensures) (slot_small (core_of c.args.self.now) c.requires.core c.args.view (λ (v : View). MayTake v c.args.slot c.args.id c.args.names.now (get_or c.args.self.now.words.items (slot_at c.args.self.now.size c.args.slot) 0)) c.args.slot t c.slot_place-place.result c.slot_place-place.ensures)
+slot_taken-requires-clause-small c = let can = c.requires.can in
+    let t : LiveIn c.args.self.now.views.items c.args.view (λ (v : View). (c.args.slot < v.sizes.slots) ×
+    (MayTake v c.args.slot c.args.id c.args.names.now (get_or c.args.self.now.words.items
+    (slot_at c.args.self.now.size c.args.slot) 0))) = (can.0, can.1, can.2, (can.3.0.0, can.3)) in subst (λ (n : ℕ). n < 2 ^ 32)
+    (sym c.word-found.ensures) (slot_small (core_of c.args.self.now) c.requires.core c.args.view
+    (λ (v : View). MayTake v c.args.slot c.args.id c.args.names.now (get_or c.args.self.now.words.items
+    (slot_at c.args.self.now.size c.args.slot) 0)) c.args.slot t c.slot_place-place.result c.slot_place-place.ensures)
 
 pub look-requires : goal.look-requires
-look-requires c = let can = c.requires.can in let t : LiveIn c.args.self.now.views.items c.args.view (λ (v : View). (c.args.slot < v.sizes.slots) × (MayTake v c.args.slot c.args.id c.args.names.now (get_or c.args.self.now.words.items (slot_at c.args.self.now.size c.args.slot) 0))) = (can.0, can.1, can.2, (can.3.0.0, can.3)) in view_inside c.args.self.now.views.items c.args.view (λ (v : View). MayTake v c.args.slot c.args.id c.args.names.now (get_or c.args.self.now.words.items (slot_at c.args.self.now.size c.args.slot) 0)) can
+look-requires c = let can = c.requires.can in
+    let t : LiveIn c.args.self.now.views.items c.args.view (λ (v : View). (c.args.slot < v.sizes.slots) ×
+    (MayTake v c.args.slot c.args.id c.args.names.now (get_or c.args.self.now.words.items
+    (slot_at c.args.self.now.size c.args.slot) 0))) = (can.0, can.1, can.2, (can.3.0.0, can.3)) in
+    view_inside c.args.self.now.views.items c.args.view (λ (v : View). MayTake v c.args.slot c.args.id c.args.names.now
+    (get_or c.args.self.now.words.items (slot_at c.args.self.now.size c.args.slot) 0)) can
 
 pub store-requires : goal.store-requires
-store-requires c = let can = c.requires.can in let t : LiveIn c.args.self.now.views.items c.args.view (λ (v : View). (c.args.slot < v.sizes.slots) × (MayTake v c.args.slot c.args.id c.args.names.now (get_or c.args.self.now.words.items (slot_at c.args.self.now.size c.args.slot) 0))) = (can.0, can.1, can.2, (can.3.0.0, can.3)) in subst (λ (u : Core). c.slot_place-place.result < length u.words) (sym c.look.ensures) (subst (λ (p : ℕ). p < length c.args.self.now.words.items) (sym c.slot_place-place.ensures) (slot_inside (core_of c.args.self.now) c.requires.core c.args.view (λ (v : View). MayTake v c.args.slot c.args.id c.args.names.now (get_or c.args.self.now.words.items (slot_at c.args.self.now.size c.args.slot) 0)) c.args.slot t).2)
+store-requires c = let can = c.requires.can in
+    let t : LiveIn c.args.self.now.views.items c.args.view (λ (v : View). (c.args.slot < v.sizes.slots) ×
+    (MayTake v c.args.slot c.args.id c.args.names.now (get_or c.args.self.now.words.items
+    (slot_at c.args.self.now.size c.args.slot) 0))) = (can.0, can.1, can.2, (can.3.0.0, can.3)) in subst
+    (λ (u : Core). c.slot_place-place.result < length u.words) (sym c.look.ensures)
+    (subst (λ (p : ℕ). p < length c.args.self.now.words.items) (sym c.slot_place-place.ensures)
+    (slot_inside (core_of c.args.self.now) c.requires.core c.args.view (λ (v : View). MayTake v c.args.slot c.args.id c.args.names.now
+    (get_or c.args.self.now.words.items (slot_at c.args.self.now.size c.args.slot) 0)) c.args.slot t).2)
 
 pub returns : goal.returns
-returns c = let can = c.requires.can in let t : LiveIn c.args.self.now.views.items c.args.view (λ (v : View). (c.args.slot < v.sizes.slots) × (MayTake v c.args.slot c.args.id c.args.names.now (get_or c.args.self.now.words.items (slot_at c.args.self.now.size c.args.slot) 0))) = (can.0, can.1, can.2, (can.3.0.0, can.3)) in take_became (core_of c.args.self.now) c.requires.core c.args.view c.args.slot c.args.id c.slot_place-place.result c.word-found.result c.taken_word.result c.args.names.now c.in_ok-seen.seen (core_of c.store.new.self) (core_of c.look.new.self) c.slot_place-place.ensures c.word-found.ensures c.taken_word.ensures
+returns c = let can = c.requires.can in
+    let t : LiveIn c.args.self.now.views.items c.args.view (λ (v : View). (c.args.slot < v.sizes.slots) ×
+    (MayTake v c.args.slot c.args.id c.args.names.now (get_or c.args.self.now.words.items
+    (slot_at c.args.self.now.size c.args.slot) 0))) = (can.0, can.1, can.2, (can.3.0.0, can.3)) in take_became (core_of c.args.self.now)
+    c.requires.core c.args.view c.args.slot c.args.id c.slot_place-place.result c.word-found.result c.taken_word.result c.args.names.now
+    c.in_ok-seen.seen (core_of c.store.new.self) (core_of c.look.new.self) c.slot_place-place.ensures c.word-found.ensures c.taken_word.ensures
     (c.in_ok-seen.ensures ∙ ap (λ (v : View). learned (took_slot v c.args.slot c.args.id c.word-found.result) c.args.names.now) c.view.ensures) c.look.ensures c.store.ensures

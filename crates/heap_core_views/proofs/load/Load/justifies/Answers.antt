@@ -9,5 +9,6 @@ returns-then-any_tells c = ((λ h. told_justified (loaded_by c.args.view.now c.a
 pub returns-else-any_tells : goal.returns-else-any_tells
 returns-else-any_tells c = (
   (λ h. told_justified (loaded_by c.args.view.now c.args.self.now) c.args.id (inr (sym c.is_shown.ensures ∙ h))),
-  (λ h. ⊎_elim (λ t. let e : false ≡ true = sym c.if-any_tells.false ∙ c.any_tells.ensures.1 t in absurd (cc)) (λ f. c.is_shown.ensures ∙ f) (justified_told (loaded_by c.args.view.now c.args.self.now) c.args.id h)),
+  (λ h. ⊎_elim (λ t. let e : false ≡ true = sym c.if-any_tells.false ∙ c.any_tells.ensures.1 t in absurd (cc)) (λ f. c.is_shown.ensures ∙ f)
+      (justified_told (loaded_by c.args.view.now c.args.self.now) c.args.id h)),
 )

@@ -34,5 +34,6 @@ returns-in-Some-clause-stands g c = let u : View = c.load_slot.new.self.seat.me.
 
 pub returns-in-None-clause-stands : goal.returns-in-None-clause-stands
 returns-in-None-clause-stands g c = let v : View = c.args.reader.now.agent.seat.me.0 in let u : View = c.load_slot.new.self.seat.me.0 in
-    let none : get u.slots c.args.slot ≡ None = ap (λ (m : FinMap nat_cmp ℕ). get m c.args.slot) (free_there v u c.args.slot 0 None refl c.in-None.ensures.view) ∙ none_there v.slots c.args.slot 0 refl c.in-None.ensures.found.again in
+    let none : get u.slots c.args.slot ≡ None = ap (λ (m : FinMap nat_cmp ℕ). get m c.args.slot)
+    (free_there v u c.args.slot 0 None refl c.in-None.ensures.view) ∙ none_there v.slots c.args.slot 0 refl c.in-None.ensures.found.again in
     (λ e. absurd (cc), λ h. let bad : None ≡ Some c.args.id = sym none ∙ h in absurd (cc))

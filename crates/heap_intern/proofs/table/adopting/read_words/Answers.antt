@@ -14,14 +14,16 @@ hold_in-held-requires-clause-frozen g c = let v : View = c.args.reader.now.agent
 
 pub loop-i-preserved : goal.loop-i-preserved
 loop-i-preserved g c = let v : View = c.args.reader.now.agent.seat.me.0 in let u : View = c.loop-i.reader.agent.seat.me.0 in let x : View = c.hold_in-held.new.self.agent.seat.me.0 in
-    let s = c.loop-i.invariant in let e = c.hold_in-held.ensures in let has = e.has in let held = c.hold_in-held.result in let within = e.held.within in let i : ℕ = c.loop-i.i in let n = c.count_from-count.ensures in
+    let s = c.loop-i.invariant in let e = c.hold_in-held.ensures in let has = e.has in let held = c.hold_in-held.result in
+    let within = e.held.within in let i : ℕ = c.loop-i.i in let n = c.count_from-count.ensures in
     record {
       most = omega arith;
       heap = e.reads.heap ∙ s.heap;
       reads = reads_trans v u x s.reads e.reads.view;
       forms = forms_trans v u x s.forms e.forms;
       learned = e.learned;
-      frozen = subst (λ (m : ℕ). (k : ℕ) → k < i + m → HasKey x.frozen (c.args.w.start + (c.args.w.offset + k) / lane_count c.args.w.wide)) (sym n) (words_on u x c.args.w held i e.reads.view.known e.held has.0 has.1 s.frozen);
+      frozen = subst (λ (m : ℕ). (k : ℕ) → k < i + m → HasKey x.frozen (c.args.w.start + (c.args.w.offset + k) / lane_count c.args.w.wide))
+          (sym n) (words_on u x c.args.w held i e.reads.view.known e.held has.0 has.1 s.frozen);
     }
 
 pub returns-clause-frozen : goal.returns-clause-frozen

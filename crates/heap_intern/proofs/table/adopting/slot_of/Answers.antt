@@ -15,7 +15,9 @@ pub fixed_window-window-requires-clause-fixed : goal.fixed_window-window-require
 fixed_window-window-requires-clause-fixed g c = inl (called_slot c.args.reader.now.agent.seat.me.0 c.args.reader.now.belongs.5 c.requires.call.0 c.args.id c.requires.call.1)
 
 pub hash_in-hash-requires : goal.hash_in-hash-requires
-hash_in-hash-requires g c = let v : View = c.args.reader.now.agent.seat.me.0 in let u : View = c.fixed_window-window.new.self.agent.seat.me.0 in let e = c.fixed_window-window.ensures in let us = has_key v.units c.args.id c.requires.known in
+hash_in-hash-requires g c = let v : View = c.args.reader.now.agent.seat.me.0 in
+    let u : View = c.fixed_window-window.new.self.agent.seat.me.0 in let e = c.fixed_window-window.ensures in
+    let us = has_key v.units c.args.id c.requires.known in
     (us.0, fixed_shows u c.fixed_window-window.new.self.belongs.5 c.args.id c.fixed_window-window.result us.0 e.fixed (e.reads.view.known.units c.args.id us.0 us.1))
 
 pub walk_to-requires-clause-stands : goal.walk_to-requires-clause-stands
@@ -23,12 +25,20 @@ walk_to-requires-clause-stands g c = let v : View = c.args.reader.now.agent.seat
     (t.0, c.hash_in-hash.ensures.reads.view.known.slots t.0 c.args.id (c.fixed_window-window.ensures.reads.view.known.slots t.0 c.args.id t.1))
 
 pub walk_to-requires-clause-hash : goal.walk_to-requires-clause-hash
-walk_to-requires-clause-hash g c = let v : View = c.args.reader.now.agent.seat.me.0 in let u : View = c.fixed_window-window.new.self.agent.seat.me.0 in let e = c.fixed_window-window.ensures in let us = has_key v.units c.args.id c.requires.known in
-    let here = e.reads.view.known.units c.args.id us.0 us.1 in
-    (us.0, c.hash_in-hash.ensures.reads.view.known.units c.args.id us.0 here, c.hash_in-hash.ensures.hash us.0 (fixed_shows u c.fixed_window-window.new.self.belongs.5 c.args.id c.fixed_window-window.result us.0 e.fixed here))
+walk_to-requires-clause-hash g c = let v : View = c.args.reader.now.agent.seat.me.0 in
+    let u : View = c.fixed_window-window.new.self.agent.seat.me.0 in let e = c.fixed_window-window.ensures in
+    let us = has_key v.units c.args.id c.requires.known in
+    let here = e.reads.view.known.units c.args.id us.0 us.1 in (
+      us.0,
+      c.hash_in-hash.ensures.reads.view.known.units c.args.id us.0 here,
+      c.hash_in-hash.ensures.hash us.0
+          (fixed_shows u c.fixed_window-window.new.self.belongs.5 c.args.id c.fixed_window-window.result us.0 e.fixed here),
+    )
 
 pub returns-clause-looks : goal.returns-clause-looks
-returns-clause-looks g c = let v : View = c.args.reader.now.agent.seat.me.0 in let u : View = c.fixed_window-window.new.self.agent.seat.me.0 in let x : View = c.hash_in-hash.new.self.agent.seat.me.0 in let w : View = c.walk_to.new.reader.agent.seat.me.0 in
+returns-clause-looks g c = let v : View = c.args.reader.now.agent.seat.me.0 in
+    let u : View = c.fixed_window-window.new.self.agent.seat.me.0 in let x : View = c.hash_in-hash.new.self.agent.seat.me.0 in
+    let w : View = c.walk_to.new.reader.agent.seat.me.0 in
     looks_trans v x w (looks_reads v x (reads_trans v u x c.fixed_window-window.ensures.reads.view c.hash_in-hash.ensures.reads.view)) c.walk_to.ensures.looks
 
 pub returns-clause-inside : goal.returns-clause-inside

@@ -16,28 +16,36 @@ pub loop-r-init : goal.loop-r-init
 loop-r-init g c = let a : View = c.args.reader.now.agent.seat.me.0 in record { heap = refl; ahead = λ us h. ahead_first a us c.args.id (looks_self a) (forms_self a) }
 
 pub loop-r-preserved : goal.loop-r-preserved
-loop-r-preserved g c = let a : View = c.args.reader.now.agent.seat.me.0 in let v : View = c.loop-r.reader.agent.seat.me.0 in let w : View = c.has_string.new.reader.agent.seat.me.0 in let e = c.has_string.ensures in
-    let n = c.size-n.result.slots in let slots : n ≡ a.sizes.slots = ap (λ (z : HeapSize). z.slots) ((c.size-n.ensures ∙ ap size_of c.heap.ensures) ∙ sym c.args.reader.now.belongs.1) in let own = c.requires.hash in record {
+loop-r-preserved g c = let a : View = c.args.reader.now.agent.seat.me.0 in let v : View = c.loop-r.reader.agent.seat.me.0 in
+    let w : View = c.has_string.new.reader.agent.seat.me.0 in let e = c.has_string.ensures in
+    let n = c.size-n.result.slots in
+    let slots : n ≡ a.sizes.slots = ap (λ (z : HeapSize). z.slots) ((c.size-n.ensures ∙ ap size_of c.heap.ensures) ∙
+    sym c.args.reader.now.belongs.1) in let own = c.requires.hash in record {
       heap = e.heap ∙ c.loop-r.invariant.heap;
       ahead = λ us h. let hash : c.args.hash ≡ hash_of us = own.2 ∙ ap hash_of (one_units a c.args.id own.0 us own.1 h) in
-          ahead_next a v w c.args.reader.now.belongs.5 us c.args.id c.loop-r.r n c.args.hash (c.loop-r.invariant.ahead us h) slots hash c.loop-r-test.true e.looks e.forms e.loads (λ there. let t = e.stands.1 there in absurd (cc));
+          ahead_next a v w c.args.reader.now.belongs.5 us c.args.id c.loop-r.r n c.args.hash (c.loop-r.invariant.ahead us h) slots hash
+          c.loop-r-test.true e.looks e.forms e.loads (λ there. let t = e.stands.1 there in absurd (cc));
     }
 
 pub returns-then-has_string-clause-looks : goal.returns-then-has_string-clause-looks
-returns-then-has_string-clause-looks g c = let a : View = c.args.reader.now.agent.seat.me.0 in let v : View = c.loop-r.reader.agent.seat.me.0 in let w : View = c.has_string.new.reader.agent.seat.me.0 in let own = c.requires.hash in
+returns-then-has_string-clause-looks g c = let a : View = c.args.reader.now.agent.seat.me.0 in
+    let v : View = c.loop-r.reader.agent.seat.me.0 in let w : View = c.has_string.new.reader.agent.seat.me.0 in let own = c.requires.hash in
     looks_trans a v w (c.loop-r.invariant.ahead own.0 own.1).looks c.has_string.ensures.looks
 
 pub returns-then-has_string-clause-forms : goal.returns-then-has_string-clause-forms
-returns-then-has_string-clause-forms g c = let a : View = c.args.reader.now.agent.seat.me.0 in let v : View = c.loop-r.reader.agent.seat.me.0 in let w : View = c.has_string.new.reader.agent.seat.me.0 in let own = c.requires.hash in
+returns-then-has_string-clause-forms g c = let a : View = c.args.reader.now.agent.seat.me.0 in
+    let v : View = c.loop-r.reader.agent.seat.me.0 in let w : View = c.has_string.new.reader.agent.seat.me.0 in let own = c.requires.hash in
     forms_trans a v w (c.loop-r.invariant.ahead own.0 own.1).forms c.has_string.ensures.forms
 
 pub returns-then-has_string-clause-once : goal.returns-then-has_string-clause-once
-returns-then-has_string-clause-once g c = let a : View = c.args.reader.now.agent.seat.me.0 in let v : View = c.loop-r.reader.agent.seat.me.0 in let w : View = c.has_string.new.reader.agent.seat.me.0 in let own = c.requires.hash in
+returns-then-has_string-clause-once g c = let a : View = c.args.reader.now.agent.seat.me.0 in
+    let v : View = c.loop-r.reader.agent.seat.me.0 in let w : View = c.has_string.new.reader.agent.seat.me.0 in let own = c.requires.hash in
     let n = c.size-n.result.slots in let slots : n ≡ a.sizes.slots = ap (λ (z : HeapSize). z.slots) ((c.size-n.ensures ∙ ap size_of c.heap.ensures) ∙ sym c.args.reader.now.belongs.1) in
     loaded_once a v w c.args.reader.now.belongs.5 own.0 c.args.id c.loop-r.r n c.args.hash (c.loop-r.invariant.ahead own.0 own.1) slots own.2 c.loop-r-test.true c.has_string.ensures.loads
 
 pub returns-then-has_string-clause-few : goal.returns-then-has_string-clause-few
-returns-then-has_string-clause-few g c us h = let a : View = c.args.reader.now.agent.seat.me.0 in let v : View = c.loop-r.reader.agent.seat.me.0 in let w : View = c.has_string.new.reader.agent.seat.me.0 in let own = c.requires.hash in
+returns-then-has_string-clause-few g c us h = let a : View = c.args.reader.now.agent.seat.me.0 in
+    let v : View = c.loop-r.reader.agent.seat.me.0 in let w : View = c.has_string.new.reader.agent.seat.me.0 in let own = c.requires.hash in
     let n = c.size-n.result.slots in let slots : n ≡ a.sizes.slots = ap (λ (z : HeapSize). z.slots) ((c.size-n.ensures ∙ ap size_of c.heap.ensures) ∙ sym c.args.reader.now.belongs.1) in
     let hash : c.args.hash ≡ hash_of us = own.2 ∙ ap hash_of (one_units a c.args.id own.0 us own.1 h) in
     none_behind a v w c.args.reader.now.belongs.5 us c.args.id c.loop-r.r n c.args.hash (c.loop-r.invariant.ahead us h) slots hash c.loop-r-test.true c.has_string.ensures.loads

@@ -13,7 +13,8 @@ pub walk-requires-clause-hash : goal.walk-requires-clause-hash
 walk-requires-clause-hash g c us h = c.hash-hash.ensures ∙ ap hash_of h.1
 
 pub returns-clause-finds : goal.returns-clause-finds
-returns-clause-finds g c = let v : View = c.args.reader.now.agent.seat.me.0 in let w : View = c.walk.new.reader.agent.seat.me.0 in let us : List ℕ = units_of c.args.source.now in let e = c.walk.ensures in
+returns-clause-finds g c = let v : View = c.args.reader.now.agent.seat.me.0 in let w : View = c.walk.new.reader.agent.seat.me.0 in
+    let us : List ℕ = units_of c.args.source.now in let e = c.walk.ensures in
     let answer = e.finds us (c.requires.read, refl, c.requires.short) in record {
       answer = answer;
       again = λ i u s. find_again v w us c.args.reader.now.belongs.5 c.walk.new.reader.belongs.5 i u s c.walk.result answer;

@@ -15,7 +15,8 @@ pub returns-clause-finds : goal.returns-clause-finds
 returns-clause-finds g c = c.walk.ensures.finds c.args.units.now (refl, c.requires.short)
 
 pub returns-clause-again : goal.returns-clause-again
-returns-clause-again g c i known s = find_again c.args.reader.now.agent.seat.me.0 c.walk.new.reader.agent.seat.me.0 c.args.units.now c.args.reader.now.belongs.5 c.walk.new.reader.belongs.5 i known s c.walk.result (returns-clause-finds g c)
+returns-clause-again g c i known s = find_again c.args.reader.now.agent.seat.me.0 c.walk.new.reader.agent.seat.me.0 c.args.units.now
+    c.args.reader.now.belongs.5 c.walk.new.reader.belongs.5 i known s c.walk.result (returns-clause-finds g c)
 
 pub returns-clause-few : goal.returns-clause-few
 returns-clause-few g c = slots_few c.args.reader.now.agent.seat.me.0 c.walk.new.reader.agent.seat.me.0 c.walk.result c.args.steps.now c.walk.new.steps c.walk.ensures.loads

@@ -15,12 +15,18 @@ pub visit_used-requires-clause-used : goal.visit_used-requires-clause-used
 visit_used-requires-clause-used g c = stands_there c.args.reader.now.agent.seat.me.0 c.load_slot.new.self.seat.me.0 c.args.k c.in-Some.t _ None refl c.in-Some.ensures.view
 
 pub visit_used-requires-clause-wanted : goal.visit_used-requires-clause-wanted
-visit_used-requires-clause-wanted g c = wanted_stays c.args.reader.now.agent.seat.me.0 c.load_slot.new.self.seat.me.0 c.args.reader.now.belongs.5 c.load_slot.ensures.known (forms_held c.args.reader.now.agent.seat.me.0 c.load_slot.new.self.seat.me.0 c.load_slot.ensures.forms) c.args.wanted.now c.requires.wanted
+visit_used-requires-clause-wanted g c = wanted_stays c.args.reader.now.agent.seat.me.0 c.load_slot.new.self.seat.me.0
+    c.args.reader.now.belongs.5 c.load_slot.ensures.known (forms_held c.args.reader.now.agent.seat.me.0 c.load_slot.new.self.seat.me.0
+    c.load_slot.ensures.forms) c.args.wanted.now c.requires.wanted
 
 pub returns-in-Some-clause-looked : goal.returns-in-Some-clause-looked
-returns-in-Some-clause-looked g c us h = let v : View = c.args.reader.now.agent.seat.me.0 in let u : View = c.load_slot.new.self.seat.me.0 in let w : View = c.visit_used.new.reader.agent.seat.me.0 in let k = c.load_slot.ensures.known in
-    let l = looks_slot v u c.args.k _ k c.in-Some.ensures.view in let forms = forms_held v u c.load_slot.ensures.forms in let nothing = c.visit_used.ensures.nothing in
-    (visits_after v u w us (wanted_plan c.args.wanted.now us) c.args.k None (Ok c.visit_used.result) l forms (c.visit_used.ensures.visited us (wanted_kept v u k forms c.args.wanted.now us h)), (nothing.0 ∙ l.used, nothing.1 ∙ l.words))
+returns-in-Some-clause-looked g c us h = let v : View = c.args.reader.now.agent.seat.me.0 in
+    let u : View = c.load_slot.new.self.seat.me.0 in let w : View = c.visit_used.new.reader.agent.seat.me.0 in let k = c.load_slot.ensures.known in
+    let l = looks_slot v u c.args.k _ k c.in-Some.ensures.view in let forms = forms_held v u c.load_slot.ensures.forms in let nothing = c.visit_used.ensures.nothing in (
+      visits_after v u w us (wanted_plan c.args.wanted.now us) c.args.k None (Ok c.visit_used.result) l forms
+          (c.visit_used.ensures.visited us (wanted_kept v u k forms c.args.wanted.now us h)),
+      (nothing.0 ∙ l.used, nothing.1 ∙ l.words),
+    )
 
 pub returns-in-None-clause-looked : goal.returns-in-None-clause-looked
 returns-in-None-clause-looked g c us h = let v : View = c.args.reader.now.agent.seat.me.0 in let u : View = c.load_slot.new.self.seat.me.0 in (
@@ -30,8 +36,10 @@ returns-in-None-clause-looked g c us h = let v : View = c.args.reader.now.agent.
 )
 
 pub returns-in-Some-clause-loads : goal.returns-in-Some-clause-loads
-returns-in-Some-clause-loads g c = let v : View = c.args.reader.now.agent.seat.me.0 in let u : View = c.load_slot.new.self.seat.me.0 in let w : View = c.visit_used.new.reader.agent.seat.me.0 in let n : ℕ = entries c.visit_used.result in
-    loads_after v u w c.args.k 1 n (n + 1) c.args.steps.now c.tick.new.self c.visit_used.new.steps (loads_once v u c.args.k _ c.args.steps.now c.tick.new.self None c.in-Some.ensures.view c.tick.ensures) c.visit_used.ensures.loads (omega arith)
+returns-in-Some-clause-loads g c = let v : View = c.args.reader.now.agent.seat.me.0 in let u : View = c.load_slot.new.self.seat.me.0 in
+    let w : View = c.visit_used.new.reader.agent.seat.me.0 in let n : ℕ = entries c.visit_used.result in
+    loads_after v u w c.args.k 1 n (n + 1) c.args.steps.now c.tick.new.self c.visit_used.new.steps
+    (loads_once v u c.args.k _ c.args.steps.now c.tick.new.self None c.in-Some.ensures.view c.tick.ensures) c.visit_used.ensures.loads (omega arith)
 
 pub returns-in-None-clause-loads : goal.returns-in-None-clause-loads
 returns-in-None-clause-loads g c = let v : View = c.args.reader.now.agent.seat.me.0 in let u : View = c.load_slot.new.self.seat.me.0 in

@@ -7,10 +7,14 @@ pub thin_step-requires-clause-may : goal.thin_step-requires-clause-may
 thin_step-requires-clause-may g c = let e = c.can_thin.ensures in (c.requires.lies.own, rw c.if-can_thin.true at e, c.requires.stands, c.requires.units)
 
 pub returns-then-can_thin-clause-looks : goal.returns-then-can_thin-clause-looks
-returns-then-can_thin-clause-looks g c = let e = c.thin_step.ensures in (looks_thinned c.args.reader.now.agent.seat.me.0 c.thin_step.new.self.seat.me.0 c.args.s.id c.args.s.form c.args.answer _ e.known e.view).0
+returns-then-can_thin-clause-looks g c =
+    let e = c.thin_step.ensures in (looks_thinned c.args.reader.now.agent.seat.me.0 c.thin_step.new.self.seat.me.0 c.args.s.id c.args.s.form
+    c.args.answer _ e.known e.view).0
 
 pub returns-then-can_thin-clause-loads : goal.returns-then-can_thin-clause-loads
-returns-then-can_thin-clause-loads g c = let e = c.thin_step.ensures in (looks_thinned c.args.reader.now.agent.seat.me.0 c.thin_step.new.self.seat.me.0 c.args.s.id c.args.s.form c.args.answer _ e.known e.view).1
+returns-then-can_thin-clause-loads g c =
+    let e = c.thin_step.ensures in (looks_thinned c.args.reader.now.agent.seat.me.0 c.thin_step.new.self.seat.me.0 c.args.s.id c.args.s.form
+    c.args.answer _ e.known e.view).1
 
 pub returns-then-can_thin-clause-forwards : goal.returns-then-can_thin-clause-forwards
 returns-then-can_thin-clause-forwards g c = inl c.thin_step.ensures.forwards

@@ -16,7 +16,8 @@ use Rattle.heap_read.proofs.Showing.{forms_held}
 use Rattle.heap_intern.proofs.table.header.bear.Goals as goal
 
 pub returns-in-Err-clause-goes : goal.returns-in-Err-clause-goes
-returns-in-Err-clause-goes g c a b never = let v : View = c.args.reader.now.agent.seat.me.0 in let w : View = c.claim_id.new.self.seat.me.0 in goes_trans a v w _ _ b (goes_full v w c.in-Err.full.at c.in-Err.ensures.refused.0 c.claim_id.ensures.low)
+returns-in-Err-clause-goes g c a b never = let v : View = c.args.reader.now.agent.seat.me.0 in
+    let w : View = c.claim_id.new.self.seat.me.0 in goes_trans a v w _ _ b (goes_full v w c.in-Err.full.at c.in-Err.ensures.refused.0 c.claim_id.ensures.low)
 
 pub returns-in-Err-clause-forms : goal.returns-in-Err-clause-forms
 returns-in-Err-clause-forms g c = forms_held c.args.reader.now.agent.seat.me.0 c.claim_id.new.self.seat.me.0 (ap (λ (x : View). x.forms) c.in-Err.ensures.refused.0)
@@ -37,12 +38,14 @@ store_length-requires-clause-may g c = let v : View = c.args.reader.now.agent.se
     (subst (λ (y : View). HasKey y.own_ids id) (sym c.in-Ok.ensures.view) (key_of _ id 0 (insert_same v.own_ids id 0)), c.requires.over.1.short)
 
 pub birth-requires-clause-fits : goal.birth-requires-clause-fits
-birth-requires-clause-fits g c = let v : View = c.args.reader.now.agent.seat.me.0 in let y : View = c.store_length.new.self.seat.me.0 in let id = c.in-Ok.id in let n = c.args.len in let o = c.requires.over in
+birth-requires-clause-fits g c = let v : View = c.args.reader.now.agent.seat.me.0 in let y : View = c.store_length.new.self.seat.me.0 in
+    let id = c.in-Ok.id in let n = c.args.len in let o = c.requires.over in
     let is : y ≡ stored_length (won_claim v Ids id 1) id n = c.store_length.ensures.view ∙ ap (λ (a : View). stored_length a id n) c.in-Ok.ensures.view in
     subst (λ (a : View). MayBear a id (Flat c.args.wide c.args.start true)) (sym is) (header_fits v c.args.wide c.args.start n o.0 o.1 id)
 
 pub returns-clause-goes : goal.returns-clause-goes
-returns-clause-goes g c a b0 never = let v : View = c.args.reader.now.agent.seat.me.0 in let y : View = c.store_length.new.self.seat.me.0 in let w : View = c.birth.new.self.seat.me.0 in let id = c.in-Ok.id in let n = c.args.len in let o = c.requires.over in
+returns-clause-goes g c a b0 never = let v : View = c.args.reader.now.agent.seat.me.0 in let y : View = c.store_length.new.self.seat.me.0 in
+    let w : View = c.birth.new.self.seat.me.0 in let id = c.in-Ok.id in let n = c.args.len in let o = c.requires.over in
     let f = Flat c.args.wide c.args.start true in let r : View = stored_length (won_claim v Ids id 1) id n in
     let is : y ≡ r = c.store_length.ensures.view ∙ ap (λ (b : View). stored_length b id n) c.in-Ok.ensures.view in
     let born_is : w ≡ born r id f = c.birth.ensures.view ∙ ap (λ (b : View). born b id f) is in
@@ -50,7 +53,8 @@ returns-clause-goes g c a b0 never = let v : View = c.args.reader.now.agent.seat
     goes_born v c.args.wide c.args.start n o.0 o.1 id a w b0 never born_is c.in-Ok.ensures.above_own low (subst (λ (b : View). KeepsKnown b w) is c.birth.ensures.known)
 
 pub returns-clause-forms : goal.returns-clause-forms
-returns-clause-forms g c = let v : View = c.args.reader.now.agent.seat.me.0 in let x : View = c.claim_id.new.self.seat.me.0 in let y : View = c.store_length.new.self.seat.me.0 in let w : View = c.birth.new.self.seat.me.0 in let id = c.in-Ok.id in let n = c.args.len in
+returns-clause-forms g c = let v : View = c.args.reader.now.agent.seat.me.0 in let x : View = c.claim_id.new.self.seat.me.0 in
+    let y : View = c.store_length.new.self.seat.me.0 in let w : View = c.birth.new.self.seat.me.0 in let id = c.in-Ok.id in let n = c.args.len in
     let f = Flat c.args.wide c.args.start true in let r : View = stored_length (won_claim v Ids id 1) id n in
     let is : y ≡ r = c.store_length.ensures.view ∙ ap (λ (b : View). stored_length b id n) c.in-Ok.ensures.view in
     let born_is : w ≡ born r id f = c.birth.ensures.view ∙ ap (λ (b : View). born b id f) is in forms_born v x w id n c.args.wide c.args.start c.in-Ok.ensures.belongs.5 c.in-Ok.ensures.view born_is
@@ -62,7 +66,8 @@ pub returns-clause-used : goal.returns-clause-used
 returns-clause-used g c = ap (λ (a : View). a.used.ids) c.birth.ensures.view ∙ (ap (λ (a : View). a.used.ids) c.store_length.ensures.view ∙ ap (λ (a : View). a.used.ids) c.in-Ok.ensures.view)
 
 pub returns-clause-ok : goal.returns-clause-ok
-returns-clause-ok g c us h = let v : View = c.args.reader.now.agent.seat.me.0 in let y : View = c.store_length.new.self.seat.me.0 in let w : View = c.birth.new.self.seat.me.0 in let id = c.in-Ok.id in let n = c.args.len in
+returns-clause-ok g c us h = let v : View = c.args.reader.now.agent.seat.me.0 in let y : View = c.store_length.new.self.seat.me.0 in
+    let w : View = c.birth.new.self.seat.me.0 in let id = c.in-Ok.id in let n = c.args.len in
     let f = Flat c.args.wide c.args.start true in let r : View = stored_length (won_claim v Ids id 1) id n in
     let is : y ≡ r = c.store_length.ensures.view ∙ ap (λ (b : View). stored_length b id n) c.in-Ok.ensures.view in
     header_fixed v c.args.wide c.args.start n us h id w (c.birth.ensures.view ∙ ap (λ (b : View). born b id f) is)

@@ -29,10 +29,13 @@ overflow_add-part g c = let v : View = c.args.reader.now.agent.seat.me.0 in let 
 
 pub overflow_add-done : goal.overflow_add-done
 overflow_add-done g c = let us : List ℕ = units_of c.args.source.now in let p = c.in-Some.ensures in let i = c.loop-count.invariant in
-    let n = piece_within us c.split_front.new.room (units_of c.loop-count.rest) (units_of c.in-Some.after) c.loop-count.done c.in-Some.count i.left p.most p.split i.within in omega (arith, n, c.requires.short)
+    let n = piece_within us c.split_front.new.room (units_of c.loop-count.rest) (units_of c.in-Some.after) c.loop-count.done c.in-Some.count
+    i.left p.most p.split i.within in omega (arith, n, c.requires.short)
 
 pub shows_list-requires-clause-frozen : goal.shows_list-requires-clause-frozen
-shows_list-requires-clause-frozen g c = let v : View = c.args.reader.now.agent.seat.me.0 in let u : View = c.loop-count.reader.agent.seat.me.0 in let us : List ℕ = units_of c.args.source.now in let p = c.in-Some.ensures in let i = c.loop-count.invariant in
+shows_list-requires-clause-frozen g c = let v : View = c.args.reader.now.agent.seat.me.0 in
+    let u : View = c.loop-count.reader.agent.seat.me.0 in let us : List ℕ = units_of c.args.source.now in let p = c.in-Some.ensures in
+    let i = c.loop-count.invariant in
     let n = piece_within us c.split_front.new.room (units_of c.loop-count.rest) (units_of c.in-Some.after) c.loop-count.done c.in-Some.count i.left p.most p.split i.within in
     part_frozen u c.args.w c.loop-count.done c.in-Some.count (omega (arith, n, c.requires.long)) (frozen_window_stays v u c.args.w (forms_held v u i.forms.0) i.reads.known c.requires.frozen)
 
@@ -42,11 +45,13 @@ shows_list-requires-clause-long g c = let us : List ℕ = units_of c.args.source
 
 pub loop-count-smaller : goal.loop-count-smaller
 loop-count-smaller g c = let p = c.in-Some.ensures in
-    let k : length (units_of c.in-Some.after) < length (units_of c.loop-count.rest) = fewer_left c.split_front.new.room (units_of c.loop-count.rest) (units_of c.in-Some.after) c.in-Some.count p.some p.most p.split in k
+    let k : length (units_of c.in-Some.after) < length (units_of c.loop-count.rest) = fewer_left c.split_front.new.room
+    (units_of c.loop-count.rest) (units_of c.in-Some.after) c.in-Some.count p.some p.most p.split in k
 
 pub loop-count-preserved : goal.loop-count-preserved
 loop-count-preserved g c = let v : View = c.args.reader.now.agent.seat.me.0 in let u : View = c.loop-count.reader.agent.seat.me.0 in let x : View = c.shows_list.new.reader.agent.seat.me.0 in
-    let us : List ℕ = units_of c.args.source.now in let p = c.in-Some.ensures in let i = c.loop-count.invariant in let e = c.shows_list.ensures in let done = c.loop-count.done in let count = c.in-Some.count in
+    let us : List ℕ = units_of c.args.source.now in let p = c.in-Some.ensures in let i = c.loop-count.invariant in
+    let e = c.shows_list.ensures in let done = c.loop-count.done in let count = c.in-Some.count in
     let room = c.split_front.new.room in let vs : List ℕ = units_of c.loop-count.rest in let ws : List ℕ = units_of c.in-Some.after in record {
       long = c.split_front.auto.room ∙ i.long;
       heap = e.reads.heap ∙ i.heap;
@@ -56,15 +61,19 @@ loop-count-preserved g c = let v : View = c.args.reader.now.agent.seat.me.0 in l
       within = piece_within us room vs ws done count i.left p.most p.split i.within;
       read = p.read;
       left = piece_left us room vs ws done count i.left p.most p.split;
-      same = piece_on u x c.args.w us (take count room) done count (piece_long us room vs ws done count i.left p.most p.split) (piece_unit us room vs ws done count i.left p.most p.split) e.reads.view.known i.same c.if-not-shows_list.ensures.same;
+      same = piece_on u x c.args.w us (take count room) done count (piece_long us room vs ws done count i.left p.most p.split)
+          (piece_unit us room vs ws done count i.left p.most p.split) e.reads.view.known i.same c.if-not-shows_list.ensures.same;
     }
 
 pub returns-then-not-shows_list-clause-reads : goal.returns-then-not-shows_list-clause-reads
-returns-then-not-shows_list-clause-reads g c = let v : View = c.args.reader.now.agent.seat.me.0 in let u : View = c.loop-count.reader.agent.seat.me.0 in let x : View = c.shows_list.new.reader.agent.seat.me.0 in let i = c.loop-count.invariant in let e = c.shows_list.ensures in
+returns-then-not-shows_list-clause-reads g c = let v : View = c.args.reader.now.agent.seat.me.0 in
+    let u : View = c.loop-count.reader.agent.seat.me.0 in let x : View = c.shows_list.new.reader.agent.seat.me.0 in
+    let i = c.loop-count.invariant in let e = c.shows_list.ensures in
     record { heap = e.reads.heap ∙ i.heap; view = reads_trans v u x i.reads e.reads.view }
 
 pub returns-then-not-shows_list-clause-forms : goal.returns-then-not-shows_list-clause-forms
-returns-then-not-shows_list-clause-forms g c = let v : View = c.args.reader.now.agent.seat.me.0 in let u : View = c.loop-count.reader.agent.seat.me.0 in let x : View = c.shows_list.new.reader.agent.seat.me.0 in
+returns-then-not-shows_list-clause-forms g c = let v : View = c.args.reader.now.agent.seat.me.0 in
+    let u : View = c.loop-count.reader.agent.seat.me.0 in let x : View = c.shows_list.new.reader.agent.seat.me.0 in
     forms_trans v u x c.loop-count.invariant.forms c.shows_list.ensures.forms
 
 pub returns-then-not-shows_list-clause-same : goal.returns-then-not-shows_list-clause-same
@@ -75,5 +84,6 @@ returns-then-not-shows_list-clause-same g c = let u : View = c.loop-count.reader
     (piece_within us room vs ws done count i.left p.most p.split i.within) c.if-not-shows_list.ensures.same
 
 pub returns-clause-same : goal.returns-clause-same
-returns-clause-same g c = let us : List ℕ = units_of c.args.source.now in let i = c.loop-count.invariant in let all = all_done us (units_of c.loop-count.rest) c.loop-count.done i.left c.in_default.ensures i.within in
+returns-clause-same g c = let us : List ℕ = units_of c.args.source.now in let i = c.loop-count.invariant in
+    let all = all_done us (units_of c.loop-count.rest) c.loop-count.done i.left c.in_default.ensures i.within in
     record { each = λ k l. i.same k (omega (arith, all, l)) }

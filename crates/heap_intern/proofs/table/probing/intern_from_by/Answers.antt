@@ -14,7 +14,8 @@ pub probe-requires-clause-hash : goal.probe-requires-clause-hash
 probe-requires-clause-hash g c us h = c.hash-hash.ensures ∙ ap hash_of h.1
 
 pub returns-in-Ok-clause-interns : goal.returns-in-Ok-clause-interns
-returns-in-Ok-clause-interns g c = let v : View = c.args.reader.now.agent.seat.me.0 in let w : View = c.probe.new.reader.agent.seat.me.0 in let us : List ℕ = units_of c.args.source.now in let e = c.in-Ok.ensures in
+returns-in-Ok-clause-interns g c = let v : View = c.args.reader.now.agent.seat.me.0 in let w : View = c.probe.new.reader.agent.seat.me.0 in
+    let us : List ℕ = units_of c.args.source.now in let e = c.in-Ok.ensures in
     let answer = e.interns us (c.requires.read, refl, c.requires.short) in record {
       answer = answer;
       again = λ i u s. found_again v w us c.args.reader.now.belongs.5 c.probe.new.reader.belongs.5 i u s (copy_plan us) (Ok c.in-Ok.seat.id) answer;
@@ -23,7 +24,8 @@ returns-in-Ok-clause-interns g c = let v : View = c.args.reader.now.agent.seat.m
     }
 
 pub returns-clause-interns : goal.returns-clause-interns
-returns-clause-interns g c = let v : View = c.args.reader.now.agent.seat.me.0 in let w : View = c.probe.new.reader.agent.seat.me.0 in let us : List ℕ = units_of c.args.source.now in let e = c.in-Err.ensures in
+returns-clause-interns g c = let v : View = c.args.reader.now.agent.seat.me.0 in let w : View = c.probe.new.reader.agent.seat.me.0 in
+    let us : List ℕ = units_of c.args.source.now in let e = c.in-Err.ensures in
     let answer = e.interns us (c.requires.read, refl, c.requires.short) in record {
       answer = answer;
       again = λ i u s. found_again v w us c.args.reader.now.belongs.5 c.probe.new.reader.belongs.5 i u s (copy_plan us) (Err c.in-Err.full) answer;

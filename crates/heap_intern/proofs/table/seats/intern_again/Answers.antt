@@ -13,14 +13,17 @@ load_slot-requires-clause-inside g c = let v : View = c.args.reader.now.agent.se
     subst (λ (z : HeapSize). c.args.slot < z.slots) (c.args.reader.now.belongs.1 ∙ sym (ap size_of c.heap.ensures)) (possible_inside v c.args.reader.now.belongs.5 c.args.slot x.target x.stands)
 
 pub returns-clause-interns : goal.returns-clause-interns
-returns-clause-interns g c = let v : View = c.args.reader.now.agent.seat.me.0 in let w : View = c.load_slot.new.self.seat.me.0 in let s : ℕ = c.args.id in let k : ℕ = c.args.slot in let x = seat_of v s k c.requires in let t : ℕ = c.in-Some.target in
+returns-clause-interns g c = let v : View = c.args.reader.now.agent.seat.me.0 in let w : View = c.load_slot.new.self.seat.me.0 in
+    let s : ℕ = c.args.id in let k : ℕ = c.args.slot in let x = seat_of v s k c.requires in let t : ℕ = c.in-Some.target in
     let one : t + 1 ≡ x.target + 1 = c.in-Some.ensures.found.again x.target x.stands in let same : t ≡ x.target = omega arith in
     again_interns v w s k t x c.load_slot.ensures.known c.in-Some.ensures.view same (again_sizes v w s k t x c.load_slot.ensures.known c.in-Some.ensures.view same) c.args.reader.now.belongs.5
 
 pub returns-clause-forwards : goal.returns-clause-forwards
-returns-clause-forwards g c = let v : View = c.args.reader.now.agent.seat.me.0 in let w : View = c.load_slot.new.self.seat.me.0 in let s : ℕ = c.args.id in let k : ℕ = c.args.slot in let x = seat_of v s k c.requires in let t : ℕ = c.in-Some.target in
+returns-clause-forwards g c = let v : View = c.args.reader.now.agent.seat.me.0 in let w : View = c.load_slot.new.self.seat.me.0 in
+    let s : ℕ = c.args.id in let k : ℕ = c.args.slot in let x = seat_of v s k c.requires in let t : ℕ = c.in-Some.target in
     let one : t + 1 ≡ x.target + 1 = c.in-Some.ensures.found.again x.target x.stands in let same : t ≡ x.target = omega arith in
     again_forwards v w s k t x c.load_slot.ensures.known c.in-Some.ensures.view same
 
 pub returns-clause-loads : goal.returns-clause-loads
-returns-clause-loads g c = let v : View = c.args.reader.now.agent.seat.me.0 in here_once v c.load_slot.new.self.seat.me.0 c.args.slot (c.in-Some.target + 1) (entry_in v c.args.slot) c.in-Some.ensures.view
+returns-clause-loads g c = let v : View = c.args.reader.now.agent.seat.me.0 in here_once v c.load_slot.new.self.seat.me.0 c.args.slot
+    (c.in-Some.target + 1) (entry_in v c.args.slot) c.in-Some.ensures.view

@@ -15,7 +15,9 @@ pub form_now-under-requires : goal.form_now-under-requires
 form_now-under-requires g c = record { known = subst (KnowsSide c.form_now-form.new.self.agent.seat.me.0) c.in-Sliced.is c.form_now-form.ensures.side }
 
 pub part_window-window-requires-clause-known : goal.part_window-window-requires-clause-known
-part_window-window-requires-clause-known g c = key_kept c.form_now-form.new.self.agent.seat.me.0 c.form_now-under.new.self.agent.seat.me.0 c.args.id c.form_now-under.ensures.reads.view.known (key_kept c.args.reader.now.agent.seat.me.0 c.form_now-form.new.self.agent.seat.me.0 c.args.id c.form_now-form.ensures.reads.view.known c.requires.known)
+part_window-window-requires-clause-known g c = key_kept c.form_now-form.new.self.agent.seat.me.0 c.form_now-under.new.self.agent.seat.me.0
+    c.args.id c.form_now-under.ensures.reads.view.known (key_kept c.args.reader.now.agent.seat.me.0 c.form_now-form.new.self.agent.seat.me.0
+    c.args.id c.form_now-form.ensures.reads.view.known c.requires.known)
 
 pub part_window-window-requires-clause-sliced : goal.part_window-window-requires-clause-sliced
 part_window-window-requires-clause-sliced g c = let u : View = c.form_now-form.new.self.agent.seat.me.0 in let i = c.args.id in let parent = c.in-Sliced.parent in
@@ -24,10 +26,13 @@ part_window-window-requires-clause-sliced g c = let u : View = c.form_now-form.n
     (c.in-Sliced.wide, c.form_now-under.ensures.others i (λ e. absurd (omega (arith, e, less))) ∙ here)
 
 pub part_window-window-requires-clause-solid : goal.part_window-window-requires-clause-solid
-part_window-window-requires-clause-solid g c = c.form_now-under.ensures.solid c.args.id c.in-Sliced.wide c.in-Sliced.offset (subst (λ (f : Form). Has c.form_now-form.new.self.agent.seat.me.0.forms c.args.id f) c.in-Sliced.is c.form_now-form.ensures.seen)
+part_window-window-requires-clause-solid g c = c.form_now-under.ensures.solid c.args.id c.in-Sliced.wide c.in-Sliced.offset
+    (subst (λ (f : Form). Has c.form_now-form.new.self.agent.seat.me.0.forms c.args.id f) c.in-Sliced.is c.form_now-form.ensures.seen)
 
 pub returns-in-Sliced-clause-looks : goal.returns-in-Sliced-clause-looks
-returns-in-Sliced-clause-looks g c = let v : View = c.args.reader.now.agent.seat.me.0 in let u : View = c.form_now-form.new.self.agent.seat.me.0 in let w : View = c.form_now-under.new.self.agent.seat.me.0 in let x : View = c.part_window-window.new.self.agent.seat.me.0 in
+returns-in-Sliced-clause-looks g c = let v : View = c.args.reader.now.agent.seat.me.0 in
+    let u : View = c.form_now-form.new.self.agent.seat.me.0 in let w : View = c.form_now-under.new.self.agent.seat.me.0 in
+    let x : View = c.part_window-window.new.self.agent.seat.me.0 in
     looks_reads v x (reads_trans v w x (reads_trans v u w c.form_now-form.ensures.reads.view c.form_now-under.ensures.reads.view) c.part_window-window.ensures.reads.view)
 
 pub returns-in-Sliced-clause-loads : goal.returns-in-Sliced-clause-loads
@@ -35,9 +40,12 @@ returns-in-Sliced-clause-loads g c = c.part_window-window.ensures.reads.view.slo
 
 pub returns-in-Sliced-clause-lies : goal.returns-in-Sliced-clause-lies
 returns-in-Sliced-clause-lies g c = let x : View = c.part_window-window.new.self.agent.seat.me.0 in let i = c.args.id in let f = Sliced c.in-Sliced.wide c.in-Sliced.parent c.in-Sliced.offset in
-    let e = c.form_now-form.ensures in let less = possible_parent c.form_now-form.new.self.agent.seat.me.0 c.form_now-form.new.self.belongs.5 i c.in-Sliced.wide c.in-Sliced.parent c.in-Sliced.offset (subst (λ (g : Form). Has c.form_now-form.new.self.agent.seat.me.0.forms i g) c.in-Sliced.is e.seen) in
+    let e = c.form_now-form.ensures in
+    let less = possible_parent c.form_now-form.new.self.agent.seat.me.0 c.form_now-form.new.self.belongs.5 i c.in-Sliced.wide
+    c.in-Sliced.parent c.in-Sliced.offset (subst (λ (g : Form). Has c.form_now-form.new.self.agent.seat.me.0.forms i g) c.in-Sliced.is e.seen) in
     sought_of x (record { id = i; form = f; window = c.part_window-window.result })
-    (c.part_window-window.ensures.held i f (c.form_now-under.ensures.others i (λ d. absurd (omega (arith, d, less))) ∙ subst (λ (g : Form). Has c.form_now-form.new.self.agent.seat.me.0.forms i g) c.in-Sliced.is e.seen))
+    (c.part_window-window.ensures.held i f (c.form_now-under.ensures.others i (λ d. absurd (omega (arith, d, less))) ∙ subst
+    (λ (g : Form). Has c.form_now-form.new.self.agent.seat.me.0.forms i g) c.in-Sliced.is e.seen))
     (λ none. none) c.part_window-window.ensures.over
 
 pub returns-in-Sliced-clause-target : goal.returns-in-Sliced-clause-target
@@ -45,7 +53,8 @@ returns-in-Sliced-clause-target g c t is = let bad : Sliced c.in-Sliced.wide c.i
 
 -- a Flat or a Thin
 pub returns-clause-target : goal.returns-clause-target
-returns-clause-target g c t is = key_kept c.form_now-form.new.self.agent.seat.me.0 c.solid_window-window.new.self.agent.seat.me.0 t c.solid_window-window.ensures.reads.view.known (c.form_now-form.ensures.target t is c.requires.known)
+returns-clause-target g c t is = key_kept c.form_now-form.new.self.agent.seat.me.0 c.solid_window-window.new.self.agent.seat.me.0 t
+    c.solid_window-window.ensures.reads.view.known (c.form_now-form.ensures.target t is c.requires.known)
 
 pub solid_window-window-requires-clause-known : goal.solid_window-window-requires-clause-known
 solid_window-window-requires-clause-known g c = key_kept c.args.reader.now.agent.seat.me.0 c.form_now-form.new.self.agent.seat.me.0 c.args.id c.form_now-form.ensures.reads.view.known c.requires.known
@@ -54,7 +63,8 @@ pub solid_window-window-requires-clause-solid : goal.solid_window-window-require
 solid_window-window-requires-clause-solid g c = let e = c.form_now-form.ensures in leaf_solid c.form_now-form.result e.born (e.settled c.requires.settled) c.in_default.not-Sliced
 
 pub returns-clause-looks : goal.returns-clause-looks
-returns-clause-looks g c = let v : View = c.args.reader.now.agent.seat.me.0 in let u : View = c.form_now-form.new.self.agent.seat.me.0 in let x : View = c.solid_window-window.new.self.agent.seat.me.0 in
+returns-clause-looks g c = let v : View = c.args.reader.now.agent.seat.me.0 in let u : View = c.form_now-form.new.self.agent.seat.me.0 in
+    let x : View = c.solid_window-window.new.self.agent.seat.me.0 in
     looks_reads v x (reads_trans v u x c.form_now-form.ensures.reads.view c.solid_window-window.ensures.reads.view)
 
 pub returns-clause-loads : goal.returns-clause-loads

@@ -50,9 +50,12 @@ overflow_add-to-in-loop-done g c = let u : View = c.loop-done.self.agent.seat.me
     let a = (possible_within u p).words (c.args.to.start + c.word_and_lane-number.result.0) own in let b = (possible_lawful u p).3 in omega arith
 
 pub loop-done-preserved : goal.loop-done-preserved
-loop-done-preserved g c = let v : View = c.args.self.now.agent.seat.me.0 in let u : View = c.loop-done.self.agent.seat.me.0 in let p : View = c.patched-word.new.self.agent.seat.me.0 in let w : View = c.store_word.new.self.seat.me.0 in
-    let i = c.loop-done.invariant in let e = c.patched-word.ensures in let f = c.store_word.ensures in let wide = c.args.to.wide in let start = c.args.to.start in let done = c.loop-done.done in let count = c.min-count.result in let o : ℕ = c.args.at + done in
-    let us : List ℕ = source_units v c.args.source.now in let number = c.word_and_lane-number.result.0 in let low = c.word_and_lane-number.result.1 in let x = c.patched-word.result in let is = c.word_and_lane-number.ensures in
+loop-done-preserved g c = let v : View = c.args.self.now.agent.seat.me.0 in let u : View = c.loop-done.self.agent.seat.me.0 in
+    let p : View = c.patched-word.new.self.agent.seat.me.0 in let w : View = c.store_word.new.self.seat.me.0 in
+    let i = c.loop-done.invariant in let e = c.patched-word.ensures in let f = c.store_word.ensures in let wide = c.args.to.wide in
+    let start = c.args.to.start in let done = c.loop-done.done in let count = c.min-count.result in let o : ℕ = c.args.at + done in
+    let us : List ℕ = source_units v c.args.source.now in let number = c.word_and_lane-number.result.0 in
+    let low = c.word_and_lane-number.result.1 in let x = c.patched-word.result in let is = c.word_and_lane-number.ensures in
     let known : KeepsKnown p w = subst (KeepsKnown p) (sym f.view) (known_stored p (start + number) x) in
     let stored : IsStored (own_word u.own_words) (own_word w.own_words) (start + o / lane_count wide) x =
     subst (λ (n : ℕ). IsStored (own_word u.own_words) (own_word w.own_words) (start + n) x) is.0
@@ -62,10 +65,12 @@ loop-done-preserved g c = let v : View = c.args.self.now.agent.seat.me.0 in let 
     subst (λ (n : ℕ). IsPlaced wide (own_word u.own_words (start + n)) x (o % lane_count wide) count (λ k. get_or us (done + k) 0)) is.0
     (subst (λ (n : ℕ). IsPlaced wide (own_word u.own_words (start + number)) x n count (λ k. get_or us (done + k) 0)) is.1
     (subst (λ (xs : List ℕ). IsPlaced wide (own_word u.own_words (start + number)) x low count (λ k. get_or xs (done + k) 0)) i.same e.placed)) in
-    let inside : number < words_over wide (c.args.at + c.args.n) = subst (λ (m : ℕ). m < words_over wide (c.args.at + c.args.n)) (sym is.0) (unit_inside wide (c.args.at + c.args.n) o (omega (arith, c.loop-done-test.true))) in
+    let inside : number < words_over wide (c.args.at + c.args.n) = subst (λ (m : ℕ). m < words_over wide (c.args.at + c.args.n)) (sym is.0)
+    (unit_inside wide (c.args.at + c.args.n) o (omega (arith, c.loop-done-test.true))) in
     let small = lane_small wide o in let lanes = c.lanes.ensures in let most = c.min-count.ensures in
     let room : o % lane_count wide + count ≤ lane_count wide = omega (arith, is.1) in
-    let next : IsFilled wide start (own_word u.own_words) (own_word w.own_words) o count (λ k. get_or us (done + k) 0) = placed_filled wide start (own_word u.own_words) (own_word w.own_words) o count x (λ k. get_or us (done + k) 0) room stored here in record {
+    let next : IsFilled wide start (own_word u.own_words) (own_word w.own_words) o count (λ k. get_or us (done + k) 0) = placed_filled wide
+    start (own_word u.own_words) (own_word w.own_words) o count x (λ k. get_or us (done + k) 0) room stored here in record {
       heap = e.reads.heap ∙ i.heap;
       writes = writes_trans v u w i.writes (writes_trans u p w (writes_reads u p e.reads.view) (subst (Writes p) (sym f.view) (writes_stored p (start + number) x)));
       below = λ q y l h. let old : Has p.own_words q y = subst (λ (m : FinMap nat_cmp ℕ). Has m q y) (sym e.reads.view.own_words) (i.below q y l h) in

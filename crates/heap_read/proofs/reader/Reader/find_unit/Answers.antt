@@ -32,7 +32,9 @@ returns-then-at-left-clause-least g c us window =
       omega arith,
       omega arith,
       sym (lane_on c.args.w us i c.word_with-word.result lane shows is at (omega arith) (omega arith)) ∙ c.first_from-at-in-loop-i.ensures.found (omega arith),
-      none_on us c.args.unit c.args.from i (i + at) (s.none us window) (λ k a b. none_in_lanes c.args.w us i c.word_with-word.result lane shows is c.args.unit at c.first_from-at-in-loop-i.ensures.none k a b (omega arith) (omega arith)),
+      none_on us c.args.unit c.args.from i (i + at) (s.none us window)
+          (λ k a b. none_in_lanes c.args.w us i c.word_with-word.result lane shows is c.args.unit at c.first_from-at-in-loop-i.ensures.none k a
+          b (omega arith) (omega arith)),
     )
 
 pub loop-i-preserved : goal.loop-i-preserved
@@ -55,7 +57,8 @@ loop-i-preserved g c =
       none = λ us window.
           let shows = e.word us (window_later v u c.args.w us s.reads s.forms window) in
           none_on us c.args.unit c.args.from i (i + c.min-left.result) (s.none us window)
-          (λ k a b. none_in_lanes c.args.w us i c.word_with-word.result lane shows is c.args.unit c.first_from-at-in-loop-i.result c.first_from-at-in-loop-i.ensures.none k a (omega arith) (omega arith) (omega arith));
+          (λ k a b. none_in_lanes c.args.w us i c.word_with-word.result lane shows is c.args.unit c.first_from-at-in-loop-i.result
+          c.first_from-at-in-loop-i.ensures.none k a (omega arith) (omega arith) (omega arith));
       heap = e.reads.heap ∙ s.heap;
       reads = reads_trans v u x s.reads e.reads.view;
       forms = forms_trans v u x s.forms e.forms;
@@ -87,8 +90,11 @@ returns-then-at-size-clause-least g c us window =
     let long = window_length v c.args.w us window in (
       omega arith,
       omega arith,
-      sym (first_on c.args.w us i c.word_with-word.result lane shows is zero_lane at (omega arith) (omega arith)) ∙ (ap (lane_of c.args.w.wide c.word_with-word.result) same ∙ c.first_from-at.ensures.found (omega arith)),
-      none_on us c.args.unit c.args.from i (i + at) (s.none us window) (λ k a b. none_in_word_on c.args.w us i c.word_with-word.result lane shows is zero_lane c.args.unit at c.first_from-at.ensures.none k a b (omega arith) (omega arith)),
+      sym (first_on c.args.w us i c.word_with-word.result lane shows is zero_lane at (omega arith) (omega arith)) ∙
+          (ap (lane_of c.args.w.wide c.word_with-word.result) same ∙ c.first_from-at.ensures.found (omega arith)),
+      none_on us c.args.unit c.args.from i (i + at) (s.none us window)
+          (λ k a b. none_in_word_on c.args.w us i c.word_with-word.result lane shows is zero_lane c.args.unit at c.first_from-at.ensures.none k
+          a b (omega arith) (omega arith)),
     )
 
 pub returns-then-at-size-clause-reads : goal.returns-then-at-size-clause-reads
@@ -119,7 +125,8 @@ loop-i-preserved-then-w-i g c =
       none = λ us window.
           let shows = e.word us (window_later v u c.args.w us s.reads s.forms window) in
           none_on us c.args.unit c.args.from i (i + c.lanes-size.result) (s.none us window)
-          (λ k a b. none_in_word_on c.args.w us i c.word_with-word.result lane shows is zero_lane c.args.unit c.first_from-at.result c.first_from-at.ensures.none k a (omega arith) (omega arith) (omega arith));
+          (λ k a b. none_in_word_on c.args.w us i c.word_with-word.result lane shows is zero_lane c.args.unit c.first_from-at.result
+          c.first_from-at.ensures.none k a (omega arith) (omega arith) (omega arith));
       heap = e.reads.heap ∙ s.heap;
       reads = reads_trans v u x s.reads e.reads.view;
       forms = forms_trans v u x s.forms e.forms;

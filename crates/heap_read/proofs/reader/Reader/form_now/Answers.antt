@@ -19,4 +19,6 @@ pub returns-clause-loads : goal.returns-clause-loads
 returns-clause-loads g c = let e = c.load_form.ensures in one_load c.args.self.now.agent.seat.me.0 c.load_form.new.self.seat.me.0 c.args.id e.view.0 e.view.2
 
 pub returns-clause-target : goal.returns-clause-target
-returns-clause-target g c t is known = let e = c.load_form.ensures in target_met c.args.self.now.agent.seat.me.0 c.load_form.new.self.seat.me.0 c.args.id e.view.0 t c.load_form.result e.view.1 is e.view.2 known
+returns-clause-target g c t is known =
+    let e = c.load_form.ensures in target_met c.args.self.now.agent.seat.me.0 c.load_form.new.self.seat.me.0 c.args.id e.view.0 t
+    c.load_form.result e.view.1 is e.view.2 known

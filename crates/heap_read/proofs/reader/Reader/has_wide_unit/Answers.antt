@@ -14,13 +14,17 @@ hold_in-held-requires-clause-frozen g c = let v : View = c.args.self.now.agent.s
     frozen_later v u c.args.w c.requires.window.0 s.reads s.forms c.requires.window.1
 
 pub returns-then-has_wide_lane-clause-wide : goal.returns-then-has_wide_lane-clause-wide
-returns-then-has_wide_lane-clause-wide g c us window = let v : View = c.args.self.now.agent.seat.me.0 in let u : View = c.loop-i.self.agent.seat.me.0 in let s = c.loop-i.invariant in let e = c.hold_in-held.ensures in let held = c.hold_in-held.result in
+returns-then-has_wide_lane-clause-wide g c us window = let v : View = c.args.self.now.agent.seat.me.0 in
+    let u : View = c.loop-i.self.agent.seat.me.0 in let s = c.loop-i.invariant in let e = c.hold_in-held.ensures in let held = c.hold_in-held.result in
     let holds = e.holds us (window_later v u c.args.w us s.reads s.forms window) in
-    sym (some_over us held c.loop-i.i c.part.result holds e.has.0 e.has.1 (subst (λ (n : ℕ). HoldsLanes true c.part.result n (λ k. held_unit held (c.loop-i.i + k))) c.count_from-count.ensures c.part.ensures) (c.has_wide_lane.ensures.some c.if-has_wide_lane.true))
+    sym (some_over us held c.loop-i.i c.part.result holds e.has.0 e.has.1
+    (subst (λ (n : ℕ). HoldsLanes true c.part.result n (λ k. held_unit held (c.loop-i.i + k))) c.count_from-count.ensures c.part.ensures)
+    (c.has_wide_lane.ensures.some c.if-has_wide_lane.true))
 
 pub loop-i-preserved : goal.loop-i-preserved
 loop-i-preserved g c = let v : View = c.args.self.now.agent.seat.me.0 in let u : View = c.loop-i.self.agent.seat.me.0 in let x : View = c.hold_in-held.new.self.agent.seat.me.0 in
-    let s = c.loop-i.invariant in let e = c.hold_in-held.ensures in let held = c.hold_in-held.result in let i = c.loop-i.i in let has = e.has in let within = e.held.within in let count = c.count_from-count.ensures in record {
+    let s = c.loop-i.invariant in let e = c.hold_in-held.ensures in let held = c.hold_in-held.result in let i = c.loop-i.i in
+    let has = e.has in let within = e.held.within in let count = c.count_from-count.ensures in record {
       most = omega arith;
       heap = e.reads.heap ∙ s.heap;
       reads = reads_trans v u x s.reads e.reads.view;

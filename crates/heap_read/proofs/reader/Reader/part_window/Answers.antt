@@ -20,7 +20,11 @@ window_over-requires-clause-led g c = let e = c.solid_run-run.ensures in record 
 }
 
 pub returns-clause-reads : goal.returns-clause-reads
-returns-clause-reads g c = record { heap = cc; view = reads_trans c.args.self.now.agent.seat.me.0 c.solid_run-run.new.self.agent.seat.me.0 c.window_over.new.self.agent.seat.me.0 c.solid_run-run.ensures.reads.view c.window_over.ensures.reads.view }
+returns-clause-reads g c = record {
+  heap = cc;
+  view = reads_trans c.args.self.now.agent.seat.me.0 c.solid_run-run.new.self.agent.seat.me.0
+      c.window_over.new.self.agent.seat.me.0 c.solid_run-run.ensures.reads.view c.window_over.ensures.reads.view;
+}
 
 pub returns-clause-held : goal.returns-clause-held
 returns-clause-held g c i f h = forms_held c.solid_run-run.new.self.agent.seat.me.0 c.window_over.new.self.agent.seat.me.0 c.window_over.ensures.forms.0 i f (c.solid_run-run.ensures.held i f h)

@@ -20,16 +20,20 @@ returns-then-patch-lanes-clause-placed g c = let v : View = c.args.self.now.agen
     (λ k l. c.word_of.ensures.word.each k (subst (λ (n : ℕ). k < n) (sym (c.if-patch-lanes.true ∙ c.lanes.ensures)) l))
 
 pub word_of-part-requires-clause-shows : goal.word_of-part-requires-clause-shows
-word_of-part-requires-clause-shows g c = shows_kept c.args.self.now.agent.seat.me.0 c.load_word-word.new.self.seat.me.0 c.args.source.now c.load_word-word.ensures.known (forms_held c.args.self.now.agent.seat.me.0 c.load_word-word.new.self.seat.me.0 c.load_word-word.ensures.forms) c.requires.shows
+word_of-part-requires-clause-shows g c = shows_kept c.args.self.now.agent.seat.me.0 c.load_word-word.new.self.seat.me.0 c.args.source.now
+    c.load_word-word.ensures.known (forms_held c.args.self.now.agent.seat.me.0 c.load_word-word.new.self.seat.me.0
+    c.load_word-word.ensures.forms) c.requires.shows
 
 pub returns-clause-shows : goal.returns-clause-shows
 returns-clause-shows g c = c.word_of-part.ensures.shows
 
 pub returns-clause-listed : goal.returns-clause-listed
-returns-clause-listed g c = c.word_of-part.ensures.listed ∙ listed_same c.args.self.now.agent.seat.me.0 c.load_word-word.new.self.seat.me.0 c.args.source.now c.load_word-word.ensures.known c.requires.shows
+returns-clause-listed g c = c.word_of-part.ensures.listed ∙ listed_same c.args.self.now.agent.seat.me.0 c.load_word-word.new.self.seat.me.0
+    c.args.source.now c.load_word-word.ensures.known c.requires.shows
 
 pub returns-clause-placed : goal.returns-clause-placed
-returns-clause-placed g c = let v : View = c.args.self.now.agent.seat.me.0 in let w : View = c.load_word-word.new.self.seat.me.0 in let at = c.args.at in let p = c.args.patch in let e = c.load_word-word.ensures in let x = c.load_word-word.result in let y = c.replaced.result in
+returns-clause-placed g c = let v : View = c.args.self.now.agent.seat.me.0 in let w : View = c.load_word-word.new.self.seat.me.0 in
+    let at = c.args.at in let p = c.args.patch in let e = c.load_word-word.ensures in let x = c.load_word-word.result in let y = c.replaced.result in
     let r = reads_word v w at x e.known e.view in let own : HasKey w.own_words at = subst (λ (m : FinMap nat_cmp ℕ). HasKey m at) (sym r.own_words) c.requires.own in
     let word : x ≡ own_word v.own_words at = e.shown ∙ (shown_own w at own ∙ ap (λ (m : FinMap nat_cmp ℕ). own_word m at) r.own_words) in
     let same = listed_same v w c.args.source.now e.known c.requires.shows in

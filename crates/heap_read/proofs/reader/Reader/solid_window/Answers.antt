@@ -32,7 +32,8 @@ pub target_run-run-requires-clause-met : goal.target_run-run-requires-clause-met
 target_run-run-requires-clause-met g c = subst (KnowsSide c.args.self.now.agent.seat.me.0) c.in-Thin.is c.requires.side
 
 pub window_over-requires-in-Thin-clause-known : goal.window_over-requires-in-Thin-clause-known
-window_over-requires-in-Thin-clause-known g c = key_kept c.args.self.now.agent.seat.me.0 c.target_run-run.new.self.agent.seat.me.0 c.args.of.id c.target_run-run.ensures.reads.view.known c.requires.known
+window_over-requires-in-Thin-clause-known g c = key_kept c.args.self.now.agent.seat.me.0 c.target_run-run.new.self.agent.seat.me.0
+    c.args.of.id c.target_run-run.ensures.reads.view.known c.requires.known
 
 pub window_over-requires-in-Thin-clause-met : goal.window_over-requires-in-Thin-clause-met
 window_over-requires-in-Thin-clause-met g c = c.target_run-run.ensures.reads.view.known.known c.in-Thin.target (subst (KnowsSide c.args.self.now.agent.seat.me.0) c.in-Thin.is c.requires.side)
@@ -49,10 +50,16 @@ pub unreachable-requires : goal.unreachable-requires
 unreachable-requires g c = no_other c.args.form c.requires.solid c.in_default.not-Flat c.in_default.not-Thin
 
 pub returns-in-Thin-clause-reads : goal.returns-in-Thin-clause-reads
-returns-in-Thin-clause-reads g c = record { heap = cc; view = reads_trans c.args.self.now.agent.seat.me.0 c.target_run-run.new.self.agent.seat.me.0 c.window_over-in-Thin.new.self.agent.seat.me.0 c.target_run-run.ensures.reads.view c.window_over-in-Thin.ensures.reads.view }
+returns-in-Thin-clause-reads g c = record {
+  heap = cc;
+  view = reads_trans c.args.self.now.agent.seat.me.0
+      c.target_run-run.new.self.agent.seat.me.0 c.window_over-in-Thin.new.self.agent.seat.me.0 c.target_run-run.ensures.reads.view
+      c.window_over-in-Thin.ensures.reads.view;
+}
 
 pub returns-in-Thin-clause-held : goal.returns-in-Thin-clause-held
-returns-in-Thin-clause-held g c i f h = forms_held c.target_run-run.new.self.agent.seat.me.0 c.window_over-in-Thin.new.self.agent.seat.me.0 c.window_over-in-Thin.ensures.forms.0 i f (c.target_run-run.ensures.held i f h)
+returns-in-Thin-clause-held g c i f h = forms_held c.target_run-run.new.self.agent.seat.me.0 c.window_over-in-Thin.new.self.agent.seat.me.0
+    c.window_over-in-Thin.ensures.forms.0 i f (c.target_run-run.ensures.held i f h)
 
 pub returns-in-Thin-clause-shows : goal.returns-in-Thin-clause-shows
 returns-in-Thin-clause-shows g c us h = c.window_over-in-Thin.ensures.shows us (c.target_run-run.ensures.reads.view.known.units c.args.of.id us h)

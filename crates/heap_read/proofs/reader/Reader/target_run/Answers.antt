@@ -13,7 +13,8 @@ unreachable-requires g c = let u : View = c.form_now.new.self.agent.seat.me.0 in
     let is = possible_target u c.form_now.new.self.belongs.5 c.args.of t c.form_now.result (e.reads.view.known.thins c.args.of t c.requires.thin) e.seen in c.in_default.not-Flat is.0 is.1 true is.2
 
 pub returns-clause-held : goal.returns-clause-held
-returns-clause-held g c i f h = let v : View = c.args.self.now.agent.seat.me.0 in let w : View = c.form_now.new.self.agent.seat.me.0 in let e = c.form_now.ensures in let t = c.args.target in dite (ℕ_discrete i t)
+returns-clause-held g c i f h = let v : View = c.args.self.now.agent.seat.me.0 in let w : View = c.form_now.new.self.agent.seat.me.0 in
+    let e = c.form_now.ensures in let t = c.args.target in dite (ℕ_discrete i t)
     (λ (same : i ≡ t). let is = possible_target v c.args.self.now.belongs.5 c.args.of t f c.requires.thin (subst (λ (q : ℕ). Has v.forms q f) same h) in
     subst (λ (g : Form). Has w.forms i g) (sym is.2) (e.reads.view.known.flats i is.0 is.1 (subst (λ (g : Form). Has v.forms i g) is.2 h)))
     (λ ne. e.others i ne ∙ h)

@@ -20,7 +20,9 @@ returns-clause-units g c us window =
 
 pub overflow_add-w : goal.overflow_add-w
 overflow_add-w g c = let v : View = c.args.self.now.agent.seat.me.0 in let u : View = c.loop-done.self.agent.seat.me.0 in let s = c.loop-done.invariant in
-    let a = place_small u c.args.w (c.args.from + c.loop-done.done) c.loop-done.self.belongs.5 (frozen_later v u c.args.w c.requires.window.0 s.reads s.forms c.requires.window.1) (omega (arith, c.requires.within, c.loop-done-test.true)) in omega arith
+    let a = place_small u c.args.w (c.args.from + c.loop-done.done) c.loop-done.self.belongs.5
+    (frozen_later v u c.args.w c.requires.window.0 s.reads s.forms c.requires.window.1)
+    (omega (arith, c.requires.within, c.loop-done-test.true)) in omega arith
 
 pub whole_words_into-done-requires-clause-window : goal.whole_words_into-done-requires-clause-window
 whole_words_into-done-requires-clause-window g c = let v : View = c.args.self.now.agent.seat.me.0 in let u : View = c.loop-done.self.agent.seat.me.0 in let s = c.loop-done.invariant in
@@ -62,7 +64,8 @@ loop-done-preserved g c =
       same = λ us window.
           let shows = e.word us (window_later v u c.args.w us s.reads s.forms window) in
           read_more us c.args.from c.loop-done.done c.min-count.result c.loop-done.into c.put.new.into (s.same us window) c.put.ensures.before
-          (λ k l. c.put.ensures.inside k l ∙ (c.lanes_from.ensures k (omega arith) ∙ lane_on c.args.w us i c.word_with-word.result c.word_and_lane-lane.result.1 shows c.word_and_lane-lane.ensures.1 k (omega arith) (omega arith)));
+          (λ k l. c.put.ensures.inside k l ∙ (c.lanes_from.ensures k (omega arith) ∙ lane_on c.args.w us i c.word_with-word.result
+          c.word_and_lane-lane.result.1 shows c.word_and_lane-lane.ensures.1 k (omega arith) (omega arith)));
       heap = e.reads.heap ∙ s.heap;
       reads = reads_trans v u x s.reads e.reads.view;
       forms = forms_trans v u x s.forms e.forms;

@@ -15,7 +15,9 @@ pub form_now-under-requires : goal.form_now-under-requires
 form_now-under-requires g c = record { known = subst (KnowsSide c.form_now-form.new.self.agent.seat.me.0) c.in-Sliced.is c.form_now-form.ensures.side }
 
 pub part_window-requires-clause-known : goal.part_window-requires-clause-known
-part_window-requires-clause-known g c = key_kept c.form_now-form.new.self.agent.seat.me.0 c.form_now-under.new.self.agent.seat.me.0 c.args.of.id c.form_now-under.ensures.reads.view.known (key_kept c.args.self.now.agent.seat.me.0 c.form_now-form.new.self.agent.seat.me.0 c.args.of.id c.form_now-form.ensures.reads.view.known c.requires.known)
+part_window-requires-clause-known g c = key_kept c.form_now-form.new.self.agent.seat.me.0 c.form_now-under.new.self.agent.seat.me.0
+    c.args.of.id c.form_now-under.ensures.reads.view.known (key_kept c.args.self.now.agent.seat.me.0 c.form_now-form.new.self.agent.seat.me.0
+    c.args.of.id c.form_now-form.ensures.reads.view.known c.requires.known)
 
 pub part_window-requires-clause-sliced : goal.part_window-requires-clause-sliced
 part_window-requires-clause-sliced g c = let u : View = c.form_now-form.new.self.agent.seat.me.0 in let i = c.args.of.id in let parent = c.in-Sliced.parent in
@@ -24,14 +26,19 @@ part_window-requires-clause-sliced g c = let u : View = c.form_now-form.new.self
     (c.in-Sliced.wide, c.form_now-under.ensures.others i (λ e. absurd (omega (arith, e, less))) ∙ here)
 
 pub part_window-requires-clause-solid : goal.part_window-requires-clause-solid
-part_window-requires-clause-solid g c = c.form_now-under.ensures.solid c.args.of.id c.in-Sliced.wide c.in-Sliced.offset (subst (λ (f : Form). Has c.form_now-form.new.self.agent.seat.me.0.forms c.args.of.id f) c.in-Sliced.is c.form_now-form.ensures.seen)
+part_window-requires-clause-solid g c = c.form_now-under.ensures.solid c.args.of.id c.in-Sliced.wide c.in-Sliced.offset
+    (subst (λ (f : Form). Has c.form_now-form.new.self.agent.seat.me.0.forms c.args.of.id f) c.in-Sliced.is c.form_now-form.ensures.seen)
 
 pub returns-in-Sliced-clause-reads : goal.returns-in-Sliced-clause-reads
-returns-in-Sliced-clause-reads g c = let v : View = c.args.self.now.agent.seat.me.0 in let u : View = c.form_now-form.new.self.agent.seat.me.0 in let w : View = c.form_now-under.new.self.agent.seat.me.0 in let x : View = c.part_window.new.self.agent.seat.me.0 in
+returns-in-Sliced-clause-reads g c = let v : View = c.args.self.now.agent.seat.me.0 in
+    let u : View = c.form_now-form.new.self.agent.seat.me.0 in let w : View = c.form_now-under.new.self.agent.seat.me.0 in
+    let x : View = c.part_window.new.self.agent.seat.me.0 in
     record { heap = cc; view = reads_trans v w x (reads_trans v u w c.form_now-form.ensures.reads.view c.form_now-under.ensures.reads.view) c.part_window.ensures.reads.view }
 
 pub returns-in-Sliced-clause-shows : goal.returns-in-Sliced-clause-shows
-returns-in-Sliced-clause-shows g c us h = let i = c.args.of.id in c.part_window.ensures.shows us (c.form_now-under.ensures.reads.view.known.units i us (c.form_now-form.ensures.reads.view.known.units i us h))
+returns-in-Sliced-clause-shows g c us h =
+    let i = c.args.of.id in c.part_window.ensures.shows us (c.form_now-under.ensures.reads.view.known.units i us
+    (c.form_now-form.ensures.reads.view.known.units i us h))
 
 -- a Flat or a Thin
 pub solid_window-requires-clause-known : goal.solid_window-requires-clause-known
@@ -41,7 +48,11 @@ pub solid_window-requires-clause-solid : goal.solid_window-requires-clause-solid
 solid_window-requires-clause-solid g c = let e = c.form_now-form.ensures in leaf_solid c.form_now-form.result e.born (e.settled c.requires.settled) c.in_default.not-Sliced
 
 pub returns-clause-reads : goal.returns-clause-reads
-returns-clause-reads g c = record { heap = cc; view = reads_trans c.args.self.now.agent.seat.me.0 c.form_now-form.new.self.agent.seat.me.0 c.solid_window.new.self.agent.seat.me.0 c.form_now-form.ensures.reads.view c.solid_window.ensures.reads.view }
+returns-clause-reads g c = record {
+  heap = cc;
+  view = reads_trans c.args.self.now.agent.seat.me.0 c.form_now-form.new.self.agent.seat.me.0
+      c.solid_window.new.self.agent.seat.me.0 c.form_now-form.ensures.reads.view c.solid_window.ensures.reads.view;
+}
 
 pub returns-clause-shows : goal.returns-clause-shows
 returns-clause-shows g c us h = c.solid_window.ensures.shows us (c.form_now-form.ensures.reads.view.known.units c.args.of.id us h)

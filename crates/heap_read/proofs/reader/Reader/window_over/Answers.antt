@@ -8,7 +8,10 @@ use Rattle.heap_read.proofs.Storing.{forms_length}
 use Rattle.heap_read.proofs.reader.Reader.window_over.Goals as goal
 
 pub returns-clause-reads : goal.returns-clause-reads
-returns-clause-reads g c = let f = c.load_length.ensures in record { heap = cc; view = reads_length c.args.self.now.agent.seat.me.0 c.load_length.new.self.seat.me.0 c.args.by c.load_length.result f.known f.view }
+returns-clause-reads g c = let f = c.load_length.ensures in record {
+  heap = cc;
+  view = reads_length c.args.self.now.agent.seat.me.0 c.load_length.new.self.seat.me.0 c.args.by c.load_length.result f.known f.view;
+}
 
 pub returns-clause-forms : goal.returns-clause-forms
 returns-clause-forms g c = forms_length c.args.self.now.agent.seat.me.0 c.load_length.new.self.seat.me.0 c.args.by c.load_length.result c.load_length.ensures.view

@@ -15,7 +15,8 @@ overflow_add-w g c =
     let v : View = c.args.self.now.agent.seat.me.0 in
     let i = c.args.j * lane_count w.wide - w.offset % lane_count w.wide in
     let same : w.start + c.args.first + c.args.j ≡ w.start + (w.offset + i) / lane_count w.wide = first_number w.wide w.start w.offset c.args.j c.args.first c.requires.first in
-    let small : w.start + (w.offset + i) / lane_count w.wide < 2 ^ 29 = word_small v w i c.args.self.now.belongs.5 c.requires.frozen (first_within w.wide c.args.j w.offset w.len c.requires.some c.requires.within) in
+    let small : w.start + (w.offset + i) / lane_count w.wide < 2 ^ 29 = word_small v w i c.args.self.now.belongs.5 c.requires.frozen
+    (first_within w.wide c.args.j w.offset w.len c.requires.some c.requires.within) in
     omega arith
 
 pub overflow_add-w-2 : goal.overflow_add-w-2
@@ -24,7 +25,8 @@ overflow_add-w-2 g c =
     let v : View = c.args.self.now.agent.seat.me.0 in
     let i = c.args.j * lane_count w.wide - w.offset % lane_count w.wide in
     let same : w.start + c.args.first + c.args.j ≡ w.start + (w.offset + i) / lane_count w.wide = first_number w.wide w.start w.offset c.args.j c.args.first c.requires.first in
-    let small : w.start + (w.offset + i) / lane_count w.wide < 2 ^ 29 = word_small v w i c.args.self.now.belongs.5 c.requires.frozen (first_within w.wide c.args.j w.offset w.len c.requires.some c.requires.within) in
+    let small : w.start + (w.offset + i) / lane_count w.wide < 2 ^ 29 = word_small v w i c.args.self.now.belongs.5 c.requires.frozen
+    (first_within w.wide c.args.j w.offset w.len c.requires.some c.requires.within) in
     omega arith
 
 pub returns-clause-word : goal.returns-clause-word

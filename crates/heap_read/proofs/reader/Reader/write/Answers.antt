@@ -39,8 +39,13 @@ write_at-requires-clause-own g c q l = let v : View = c.args.self.now.agent.seat
     subst (λ (x : View). HasKey x.own_words (start + q)) (sym e.view) (run_keys v.own_words start want q 0 (omega (arith, l, c.words_for-want.ensures)))
 
 pub returns-clause-continues : goal.returns-clause-continues
-returns-clause-continues g c = let v : View = c.args.self.now.agent.seat.me.0 in let w : View = c.claim_words.new.self.seat.me.0 in let x : View = c.write_at.new.self.agent.seat.me.0 in let e = c.in_ok-start.ensures in
-    record { heap = c.write_at.ensures.writes.heap; view = continues_trans v w x (continues_words v w c.in_ok-start.start c.words_for-want.result e.view e.low) (continues_writes w x c.write_at.ensures.writes.view) }
+returns-clause-continues g c = let v : View = c.args.self.now.agent.seat.me.0 in let w : View = c.claim_words.new.self.seat.me.0 in
+    let x : View = c.write_at.new.self.agent.seat.me.0 in let e = c.in_ok-start.ensures in
+    record {
+      heap = c.write_at.ensures.writes.heap;
+      view = continues_trans v w x
+          (continues_words v w c.in_ok-start.start c.words_for-want.result e.view e.low) (continues_writes w x c.write_at.ensures.writes.view);
+    }
 
 pub returns-clause-ids : goal.returns-clause-ids
 returns-clause-ids g c = ap (λ (n : Counters). n.ids) c.write_at.ensures.writes.view.used ∙ ap (λ (x : View). x.used.ids) c.in_ok-start.ensures.view
@@ -54,14 +59,22 @@ returns-clause-own_words g c q h = let v : View = c.args.self.now.agent.seat.me.
 
 pub returns-clause-ok : goal.returns-clause-ok
 returns-clause-ok g c = let v : View = c.args.self.now.agent.seat.me.0 in let w : View = c.claim_words.new.self.seat.me.0 in let x : View = c.write_at.new.self.agent.seat.me.0 in
-    let start = c.in_ok-start.start in let want = c.words_for-want.result in let e = c.in_ok-start.ensures in let f = c.write_at.ensures in let us : List ℕ = source_units v c.args.source.now in let wide = c.args.wide in
+    let start = c.in_ok-start.start in let want = c.words_for-want.result in let e = c.in_ok-start.ensures in let f = c.write_at.ensures in
+    let us : List ℕ = source_units v c.args.source.now in let wide = c.args.wide in
     let known : KeepsKnown v w = subst (KeepsKnown v) (sym e.view) (known_words v start want) in
     let words : want ≡ words_over wide c.args.n = c.words_for-want.ensures in
-    let own : HasKey x.own_words start = f.writes.view.own_words start (subst (λ (y : View). HasKey y.own_words start) (sym e.view) (subst (HasKey (won_claim v Words start want).own_words) (here start) (run_keys v.own_words start want 0 0 (omega (arith, c.if-want-eq0.false))))) in
+    let own : HasKey x.own_words start = f.writes.view.own_words start
+    (subst (λ (y : View). HasKey y.own_words start) (sym e.view) (subst (HasKey (won_claim v Words start want).own_words) (here start)
+    (run_keys v.own_words start want 0 0 (omega (arith, c.if-want-eq0.false))))) in
     let p = c.write_at.new.self.belongs.5 in let a = (possible_within x p).words start own in let b = (possible_lawful x p).3 in
     let small : start < 2 ^ 29 = omega (arith, a, b) in
-    let all : AreWords x wide start us (words_over wide c.args.n) = subst (λ (xs : List ℕ). AreWords x wide start xs (words_over wide c.args.n)) (listed_same v w c.args.source.now known c.requires.shows) f.written in (
-      record { small = small; words = subst (λ (n : ℕ). AreWords x wide start us (words_over wide n)) (sym c.requires.count) all; empty = λ none. absurd (c.if-want-eq0.false (nothing wide c.args.n want words (sym c.requires.count ∙ none))) },
+    let all : AreWords x wide start us (words_over wide c.args.n) = subst
+    (λ (xs : List ℕ). AreWords x wide start xs (words_over wide c.args.n)) (listed_same v w c.args.source.now known c.requires.shows) f.written in (
+      record {
+        small = small;
+        words = subst (λ (n : ℕ). AreWords x wide start us (words_over wide n)) (sym c.requires.count) all;
+        empty = λ none. absurd (c.if-want-eq0.false (nothing wide c.args.n want words (sym c.requires.count ∙ none)));
+      },
       ap (λ (n : Counters). n.words) f.writes.view.used ∙ (ap (λ (y : View). y.used.words) e.view ∙ ap (λ (m : ℕ). v.used.words + m) words),
     )
   where
@@ -76,7 +89,8 @@ returns-clause-ok g c = let v : View = c.args.self.now.agent.seat.me.0 in let w 
         zero_words false = omega arith
 
 pub returns-clause-forms : goal.returns-clause-forms
-returns-clause-forms g c = let v : View = c.args.self.now.agent.seat.me.0 in let w : View = c.claim_words.new.self.seat.me.0 in let x : View = c.write_at.new.self.agent.seat.me.0 in let e = c.in_ok-start.ensures in
+returns-clause-forms g c = let v : View = c.args.self.now.agent.seat.me.0 in let w : View = c.claim_words.new.self.seat.me.0 in
+    let x : View = c.write_at.new.self.agent.seat.me.0 in let e = c.in_ok-start.ensures in
     forms_trans v w x (ap (λ (y : View). y.forms) e.view, ap (λ (y : View). y.form_loads) e.view) c.write_at.ensures.forms
 
 pub returns-clause-stays : goal.returns-clause-stays

@@ -10,6 +10,7 @@ use Rattle.heap_reserve.proofs.reserve.Reserve.claim.Goals as goal
 pub returns-clause-answer : goal.returns-clause-answer
 returns-clause-answer g c = let v : View = c.args.text.now.reader.agent.seat.me.0 in let w : View = c.claim_words.new.reader.agent.seat.me.0 in let x : View = c.claim_ids.new.reader.agent.seat.me.0 in
     let r = c.args.self.now in let s = c.claim_words.new.self in let t = c.claim_ids.new.self in let ids = c.args.ids in let answer = c.claim_ids.result in
-    let same : size_of (g.H.HeapRef.reached c.claim_words.new.reader.heap) ≡ size_of (g.H.HeapRef.reached c.args.text.now.reader.heap) = ap (λ y. size_of (g.H.HeapRef.reached y)) c.claim_words.ensures.continues.heap in
+    let same : size_of (g.H.HeapRef.reached c.claim_words.new.reader.heap) ≡ size_of (g.H.HeapRef.reached c.args.text.now.reader.heap) = ap
+    (λ y. size_of (g.H.HeapRef.reached y)) c.claim_words.ensures.continues.heap in
     claim_answer v w x (size_of (g.H.HeapRef.reached c.args.text.now.reader.heap)) r s t ids c.args.words answer c.in_default.ensures.ok c.claim_ids.ensures.ok
     (subst (λ (z : HeapSize). IfErr answer (λ f. IsIdRefused w x z s t ids 0 f)) same c.claim_ids.ensures.refused)

@@ -8,4 +8,5 @@ returns-in-Ok-clause-own g c = let v : View = c.args.reader.now.agent.seat.me.0 
 
 pub returns-in-Ok-clause-reserve : goal.returns-in-Ok-clause-reserve
 returns-in-Ok-clause-reserve g c = let v : View = c.args.reader.now.agent.seat.me.0 in let id = c.in-Ok.id in
-    reserve_pushed v c.claim_id.new.self.seat.me.0 c.args.self.now c.keep.new.self id c.in-Ok.ensures.view c.in-Ok.ensures.above_own c.requires.reserve (c.keep.ensures.ids ∙ ap (λ (is : List ℕ). is ++ id ∷ []) c.reserve.ensures.items) c.keep.ensures.words.0 c.keep.ensures.words.1
+    reserve_pushed v c.claim_id.new.self.seat.me.0 c.args.self.now c.keep.new.self id c.in-Ok.ensures.view c.in-Ok.ensures.above_own
+    c.requires.reserve (c.keep.ensures.ids ∙ ap (λ (is : List ℕ). is ++ id ∷ []) c.reserve.ensures.items) c.keep.ensures.words.0 c.keep.ensures.words.1

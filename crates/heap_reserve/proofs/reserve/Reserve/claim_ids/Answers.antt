@@ -16,10 +16,11 @@ loop-done-init g c = let v : View = c.args.reader.now.agent.seat.me.0 in let r =
 }
 
 pub loop-done-preserved : goal.loop-done-preserved
-loop-done-preserved g c = let v : View = c.args.reader.now.agent.seat.me.0 in let u : View = c.loop-done.reader.agent.seat.me.0 in let w : View = c.claim_id.new.reader.agent.seat.me.0 in let i = c.loop-done.invariant in let e = c.claim_id.ensures in record {
-  heap = e.continues.heap ∙ i.heap;
-  continues = continues_trans v u w i.continues e.continues.view;
-  own = own_trans v u w i.own e.own;
-  reserve = e.reserve;
-  claimed = claimed_then v u w c.args.self.now c.loop-done.self c.claim_id.new.self c.loop-done._done 1 0 i.claimed c.in_ok-claim_id.ensures.ok;
-}
+loop-done-preserved g c = let v : View = c.args.reader.now.agent.seat.me.0 in let u : View = c.loop-done.reader.agent.seat.me.0 in
+    let w : View = c.claim_id.new.reader.agent.seat.me.0 in let i = c.loop-done.invariant in let e = c.claim_id.ensures in record {
+      heap = e.continues.heap ∙ i.heap;
+      continues = continues_trans v u w i.continues e.continues.view;
+      own = own_trans v u w i.own e.own;
+      reserve = e.reserve;
+      claimed = claimed_then v u w c.args.self.now c.loop-done.self c.claim_id.new.self c.loop-done._done 1 0 i.claimed c.in_ok-claim_id.ensures.ok;
+    }

@@ -18,16 +18,20 @@ returns-in-Some-clause-joined g c us vs h k = let m = c.try_concat.ensures.tried
 }
 
 pub returns-in-None-clause-reserve : goal.returns-in-None-clause-reserve
-returns-in-None-clause-reserve g c = reserve_kept c.try_concat.new.text.reader.agent.seat.me.0 c.concat.new.self.reader.agent.seat.me.0 c.try_concat.new.self c.concat.ensures.own c.try_concat.ensures.reserve
+returns-in-None-clause-reserve g c = reserve_kept c.try_concat.new.text.reader.agent.seat.me.0 c.concat.new.self.reader.agent.seat.me.0
+    c.try_concat.new.self c.concat.ensures.own c.try_concat.ensures.reserve
 
 pub returns-in-None-clause-joined : goal.returns-in-None-clause-joined
-returns-in-None-clause-joined g c us vs h k = let v : View = c.args.text.now.reader.agent.seat.me.0 in let u : View = c.try_concat.new.text.reader.agent.seat.me.0 in let w : View = c.concat.new.self.reader.agent.seat.me.0 in
+returns-in-None-clause-joined g c us vs h k = let v : View = c.args.text.now.reader.agent.seat.me.0 in
+    let u : View = c.try_concat.new.text.reader.agent.seat.me.0 in let w : View = c.concat.new.self.reader.agent.seat.me.0 in
     let r = c.args.self.now in let a = c.args.a in let b = c.args.b in let most = c.args.text.now.limit in let answer = c.concat.result in let m = c.try_concat.ensures.tried us vs h k in
     let no_short : IsShortJoin r most us vs → ⊥ = (λ e. let t = m.short e in let o : None ≡ Some t.0 = sym c.in-None.is ∙ t.1 in absurd (cc)) in
     let no_long : IsLongJoin r most a b us vs → ⊥ = (λ e. let t = m.long e in let o : None ≡ Some t.0 = sym c.in-None.is ∙ t.1 in absurd (cc)) in
     let left = m.left no_short no_long in let z : HeapSize = size_of (g.H.HeapRef.reached c.args.text.now.reader.heap) in
     let same : size_of (g.H.HeapRef.reached c.try_concat.new.text.reader.heap) ≡ z = ap (λ y. size_of (g.H.HeapRef.reached y)) c.try_concat.ensures.kept.heap in
-    let told : IsJoined u w z c.try_concat.new.text.limit a b us vs answer = subst (λ (y : HeapSize). IsJoined u w y c.try_concat.new.text.limit a b us vs answer) same (c.concat.ensures.joined us vs (left.2.known.units a.id us h) (left.2.known.units b.id vs k)) in record {
+    let told : IsJoined u w z c.try_concat.new.text.limit a b us vs answer = subst
+    (λ (y : HeapSize). IsJoined u w y c.try_concat.new.text.limit a b us vs answer) same
+    (c.concat.ensures.joined us vs (left.2.known.units a.id us h) (left.2.known.units b.id vs k)) in record {
       short = λ e. absurd (no_short e);
       long = λ e. absurd (no_long e);
       claimed = λ _ _. (

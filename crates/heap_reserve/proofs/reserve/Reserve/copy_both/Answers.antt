@@ -11,8 +11,14 @@ copy-requires-clause-count g c = let k = c.requires.known in ap length (c.both_p
 
 pub returns-clause-continues : goal.returns-clause-continues
 returns-clause-continues g c = let v : View = c.args.reader.now.agent.seat.me.0 in let u : View = c.both_pieces.new.reader.agent.seat.me.0 in
-    record { heap = c.copy.ensures.continues.heap ∙ c.both_pieces.ensures.reads.heap; view = continues_trans v u c.copy.new.reader.agent.seat.me.0 (continues_reads v u c.both_pieces.ensures.reads.view) c.copy.ensures.continues.view }
+    record {
+      heap = c.copy.ensures.continues.heap ∙ c.both_pieces.ensures.reads.heap;
+      view = continues_trans v u c.copy.new.reader.agent.seat.me.0 (continues_reads v u c.both_pieces.ensures.reads.view) c.copy.ensures.continues.view;
+    }
 
 pub returns-clause-made : goal.returns-clause-made
-returns-clause-made g c us vs h k = let v : View = c.args.reader.now.agent.seat.me.0 in let u : View = c.both_pieces.new.reader.agent.seat.me.0 in let w : View = c.copy.new.reader.agent.seat.me.0 in let r = c.args.self.now in let s = c.copy.new.self in
-    flat_after v u w r s c.both_pieces.ensures.reads.view (us ++ vs) c.copy.result (subst (λ (xs : List ℕ). MakesFlat u w r s xs c.copy.result) (c.both_pieces.ensures.units us vs h k) c.copy.ensures.made)
+returns-clause-made g c us vs h k = let v : View = c.args.reader.now.agent.seat.me.0 in
+    let u : View = c.both_pieces.new.reader.agent.seat.me.0 in let w : View = c.copy.new.reader.agent.seat.me.0 in let r = c.args.self.now in
+    let s = c.copy.new.self in
+    flat_after v u w r s c.both_pieces.ensures.reads.view (us ++ vs) c.copy.result
+    (subst (λ (xs : List ℕ). MakesFlat u w r s xs c.copy.result) (c.both_pieces.ensures.units us vs h k) c.copy.ensures.made)

@@ -16,11 +16,13 @@ pub returns-in-None-clause-reserve : goal.returns-in-None-clause-reserve
 returns-in-None-clause-reserve g c = reserve_kept c.copy.new.reader.agent.seat.me.0 c.make_flat.new.self.reader.agent.seat.me.0 c.copy.new.self c.make_flat.ensures.own c.copy.ensures.reserve
 
 pub returns-in-None-clause-made : goal.returns-in-None-clause-made
-returns-in-None-clause-made g c = let v : View = c.args.text.now.reader.agent.seat.me.0 in let u : View = c.copy.new.reader.agent.seat.me.0 in let w : View = c.make_flat.new.self.reader.agent.seat.me.0 in
+returns-in-None-clause-made g c = let v : View = c.args.text.now.reader.agent.seat.me.0 in
+    let u : View = c.copy.new.reader.agent.seat.me.0 in let w : View = c.make_flat.new.self.reader.agent.seat.me.0 in
     let r = c.args.self.now in let us : List ℕ = c.args.units.now in let m = c.copy.ensures.made in let e = c.make_flat.ensures in let answer = c.make_flat.result in
     let none : HasEnough r (words_of us) → ⊥ = (λ enough. let t = m.made enough in let o : None ≡ Some t.0 = sym c.in-None.is ∙ t.1 in absurd (cc)) in
     let left = m.left none in let n : ℕ = length us in
-    let same : size_of (g.H.HeapRef.reached c.copy.new.reader.heap) ≡ size_of (g.H.HeapRef.reached c.args.text.now.reader.heap) = ap (λ y. size_of (g.H.HeapRef.reached y)) c.copy.ensures.continues.heap in record {
+    let same : size_of (g.H.HeapRef.reached c.copy.new.reader.heap) ≡ size_of (g.H.HeapRef.reached c.args.text.now.reader.heap) = ap
+    (λ y. size_of (g.H.HeapRef.reached y)) c.copy.ensures.continues.heap in record {
       taken = λ enough. absurd (none enough);
       claimed = λ _. (
         left.1,

@@ -18,10 +18,12 @@ returns-in-Some-clause-cut g c us h = let m = c.try_slice.ensures.tried us h in 
 }
 
 pub returns-in-None-clause-reserve : goal.returns-in-None-clause-reserve
-returns-in-None-clause-reserve g c = reserve_kept c.try_slice.new.text.reader.agent.seat.me.0 c.slice.new.self.reader.agent.seat.me.0 c.try_slice.new.self c.slice.ensures.own c.try_slice.ensures.reserve
+returns-in-None-clause-reserve g c = reserve_kept c.try_slice.new.text.reader.agent.seat.me.0 c.slice.new.self.reader.agent.seat.me.0
+    c.try_slice.new.self c.slice.ensures.own c.try_slice.ensures.reserve
 
 pub returns-in-None-clause-cut : goal.returns-in-None-clause-cut
-returns-in-None-clause-cut g c us h = let v : View = c.args.text.now.reader.agent.seat.me.0 in let u : View = c.try_slice.new.text.reader.agent.seat.me.0 in let w : View = c.slice.new.self.reader.agent.seat.me.0 in
+returns-in-None-clause-cut g c us h = let v : View = c.args.text.now.reader.agent.seat.me.0 in
+    let u : View = c.try_slice.new.text.reader.agent.seat.me.0 in let w : View = c.slice.new.self.reader.agent.seat.me.0 in
     let r = c.args.self.now in let p = c.args.s in let from = c.args.from in let to = c.args.to in let answer = c.slice.result in let m = c.try_slice.ensures.tried us h in
     let no_short : IsShortCut r from to us → ⊥ = (λ e. let t = m.short e in let o : None ≡ Some t.0 = sym c.in-None.is ∙ t.1 in absurd (cc)) in
     let no_long : IsLongCut r p from to us → ⊥ = (λ e. let t = m.long e in let o : None ≡ Some t.0 = sym c.in-None.is ∙ t.1 in absurd (cc)) in

@@ -29,8 +29,11 @@ returns-clause-continues g c = let v : View = c.args.text.now.reader.agent.seat.
     continues_trans v w2 c.join.new.reader.agent.seat.me.0 (continues_reads v w2 (reads_trans v w1 w2 c.len-left.ensures.reads.view c.len-right.ensures.reads.view)) c.join.ensures.continues.view
 
 pub returns-clause-tried : goal.returns-clause-tried
-returns-clause-tried g c us vs h k = let v : View = c.args.text.now.reader.agent.seat.me.0 in let w1 : View = c.len-left.new.self.agent.seat.me.0 in let w2 : View = c.len-right.new.self.agent.seat.me.0 in let x : View = c.join.new.reader.agent.seat.me.0 in
-    let r2 = reads_trans v w1 w2 c.len-left.ensures.reads.view c.len-right.ensures.reads.view in let r = c.args.self.now in let s = c.join.new.self in let o = c.join.result in let a = c.args.a in let b = c.args.b in
+returns-clause-tried g c us vs h k = let v : View = c.args.text.now.reader.agent.seat.me.0 in
+    let w1 : View = c.len-left.new.self.agent.seat.me.0 in let w2 : View = c.len-right.new.self.agent.seat.me.0 in
+    let x : View = c.join.new.reader.agent.seat.me.0 in
+    let r2 = reads_trans v w1 w2 c.len-left.ensures.reads.view c.len-right.ensures.reads.view in let r = c.args.self.now in
+    let s = c.join.new.self in let o = c.join.result in let a = c.args.a in let b = c.args.b in
     let left = c.len-left.ensures.length us h in let right = c.len-right.ensures.length vs (c.len-left.ensures.reads.view.known.units c.args.b.id vs k) in
     let fit = c.if-not-is_joinable.ensures.0 refl in let f0 = fit.0 in let f1 = fit.1 in let f2 = fit.2 in
     let hl = r2.known.units a.id us h in let hr = r2.known.units b.id vs k in

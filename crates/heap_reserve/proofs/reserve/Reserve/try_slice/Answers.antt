@@ -9,7 +9,8 @@ use Rattle.heap_reserve.proofs.reserve.Reserve.try_slice.Goals as goal
 
 pub returns-clause-tried : goal.returns-clause-tried
 returns-clause-tried g c us h = let v : View = c.args.text.now.reader.agent.seat.me.0 in let u : View = c.len-n.new.self.agent.seat.me.0 in let x : View = c.cut.new.reader.agent.seat.me.0 in
-    let read = c.len-n.ensures.reads.view in let r = c.args.self.now in let s = c.cut.new.self in let o = c.cut.result in let p = c.args.s in let from = c.args.from in let to = c.args.to in let n : ℕ = to - from in
+    let read = c.len-n.ensures.reads.view in let r = c.args.self.now in let s = c.cut.new.self in let o = c.cut.result in
+    let p = c.args.s in let from = c.args.from in let to = c.args.to in let n : ℕ = to - from in
     let count = c.len-n.ensures.length us h in let known = read.known.units p.id us h in let t = c.requires.within in
     let is : t.0 ≡ us = (let both : Some t.0 ≡ Some us = sym t.1 ∙ h in cc) in let high : to ≤ length us = subst (λ (xs : List ℕ). to ≤ length xs) is t.3 in
     let other : (0 < from) ⊎ (to < length us) = dite (ℕ_discrete from 0)

@@ -7,5 +7,7 @@ use Rattle.heap_rule.proofs.MapLaying.{lay_step}
 use Rattle.heap_rule.proofs.overlay.IdMap+u64.lay_sums.Goals as goal
 
 pub loop-key-preserved : goal.loop-key-preserved
-loop-key-preserved c = lay_step sum_of_loads c.args.upper.now (laid_over sum_of_loads c.args.self.now c.args.upper.now) c.loop-key.self c.insert.new.self c.loop-key.key-iterator c.next.new.self c.in-Some.key.now c.in-Some.count.now c.saturating_add.result
-    (rest_more deref_pair c.loop-key.key-iterator c.next.new.self c.next.result (c.in-Some.key, c.in-Some.count) c.in-Some.is c.next.ensures.steps) c.loop-key.invariant.0 c.loop-key.invariant.1 (search rules) (search rules)
+loop-key-preserved c = lay_step sum_of_loads c.args.upper.now (laid_over sum_of_loads c.args.self.now c.args.upper.now) c.loop-key.self
+    c.insert.new.self c.loop-key.key-iterator c.next.new.self c.in-Some.key.now c.in-Some.count.now c.saturating_add.result
+    (rest_more deref_pair c.loop-key.key-iterator c.next.new.self c.next.result (c.in-Some.key, c.in-Some.count) c.in-Some.is
+    c.next.ensures.steps) c.loop-key.invariant.0 c.loop-key.invariant.1 (search rules) (search rules)

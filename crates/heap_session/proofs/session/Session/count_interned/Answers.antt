@@ -15,20 +15,26 @@ use Rattle.heap_session.proofs.session.Session.count_interned.Goals as goal
 pub returns-clause-uses : goal.returns-clause-uses
 returns-clause-uses g c = let s = c.args.self.now in
     let v : View = s.text.reader.agent.seat.me.0 in let w : View = c.count_interned.new.reader.agent.seat.me.0 in
-    uses_at v w (limit_units s.limit) (table_of (g.H.HeapRef.reached s.text.reader.heap)) (table_of (g.H.HeapRef.reached c.count_interned.new.reader.heap)) None 0 0 (ap (λ y. table_of (g.H.HeapRef.reached y)) c.count_interned.ensures.heap) (history_looks v w c.count_interned.ensures.looks) tt
+    uses_at v w (limit_units s.limit) (table_of (g.H.HeapRef.reached s.text.reader.heap))
+    (table_of (g.H.HeapRef.reached c.count_interned.new.reader.heap)) None 0 0
+    (ap (λ y. table_of (g.H.HeapRef.reached y)) c.count_interned.ensures.heap) (history_looks v w c.count_interned.ensures.looks) tt
     (step_looks v w (limit_units s.limit) (table_of (g.H.HeapRef.reached s.text.reader.heap)) s.text.reader.belongs.5 c.count_interned.ensures.looks)
 
 pub invariant_of-self-clause-last_kept : goal.invariant_of-self-clause-last_kept
-invariant_of-self-clause-last_kept g c = let s = c.args.self.now in let v : View = s.text.reader.agent.seat.me.0 in let w : View = c.count_interned.new.reader.agent.seat.me.0 in kept_by v w (c.count_interned.ensures.looks.goes.known) s.last s.last_kept
+invariant_of-self-clause-last_kept g c = let s = c.args.self.now in let v : View = s.text.reader.agent.seat.me.0 in
+    let w : View = c.count_interned.new.reader.agent.seat.me.0 in kept_by v w (c.count_interned.ensures.looks.goes.known) s.last s.last_kept
 
 pub invariant_of-self-clause-older_kept : goal.invariant_of-self-clause-older_kept
-invariant_of-self-clause-older_kept g c = let s = c.args.self.now in let v : View = s.text.reader.agent.seat.me.0 in let w : View = c.count_interned.new.reader.agent.seat.me.0 in kept_by v w (c.count_interned.ensures.looks.goes.known) s.older s.older_kept
+invariant_of-self-clause-older_kept g c = let s = c.args.self.now in let v : View = s.text.reader.agent.seat.me.0 in
+    let w : View = c.count_interned.new.reader.agent.seat.me.0 in kept_by v w (c.count_interned.ensures.looks.goes.known) s.older s.older_kept
 
 pub invariant_of-self-clause-singles_kept : goal.invariant_of-self-clause-singles_kept
-invariant_of-self-clause-singles_kept g c = let s = c.args.self.now in let v : View = s.text.reader.agent.seat.me.0 in let w : View = c.count_interned.new.reader.agent.seat.me.0 in singles_by v w (c.count_interned.ensures.looks.goes.known) s.singles.ids s.singles_kept
+invariant_of-self-clause-singles_kept g c = let s = c.args.self.now in let v : View = s.text.reader.agent.seat.me.0 in
+    let w : View = c.count_interned.new.reader.agent.seat.me.0 in singles_by v w (c.count_interned.ensures.looks.goes.known) s.singles.ids s.singles_kept
 
 pub invariant_of-self-clause-recent_kept : goal.invariant_of-self-clause-recent_kept
-invariant_of-self-clause-recent_kept g c = let s = c.args.self.now in let v : View = s.text.reader.agent.seat.me.0 in let w : View = c.count_interned.new.reader.agent.seat.me.0 in recent_by v w (c.count_interned.ensures.looks.goes.known) s.recent.ids s.recent_kept
+invariant_of-self-clause-recent_kept g c = let s = c.args.self.now in let v : View = s.text.reader.agent.seat.me.0 in
+    let w : View = c.count_interned.new.reader.agent.seat.me.0 in recent_by v w (c.count_interned.ensures.looks.goes.known) s.recent.ids s.recent_kept
 
 pub returns-clause-used : goal.returns-clause-used
 returns-clause-used g c = let w : View = c.count_interned.new.reader.agent.seat.me.0 in

@@ -19,12 +19,18 @@ returns-in-Some-clause-ok g c = let w : View = c.find_units.new.reader.agent.sea
     (i.2.1, settled_test w id (Flat i.2.0.0 i.2.0.1 true, i.2.0.2, λ x. x))
 
 pub returns-in-Some-clause-step : goal.returns-in-Some-clause-step
-returns-in-Some-clause-step g c = let s = c.args.self.now in let v : View = s.text.reader.agent.seat.me.0 in let w : View = c.find_units.new.reader.agent.seat.me.0 in let l = limit_units s.limit in let t = table_of (g.H.HeapRef.reached s.text.reader.heap) in let i = c.in-Some.ensures.finds in
-    step_at v w l t (table_of (g.H.HeapRef.reached c.find_units.new.reader.heap)) None 0 0 (ap (λ y. table_of (g.H.HeapRef.reached y)) c.find_units.ensures.heap) (found_step v w ((c.args.units.now, c.in-Some.id) ∷ []) l t s.text.reader.belongs.5 i.0 i.1.0 i.1.1)
+returns-in-Some-clause-step g c = let s = c.args.self.now in let v : View = s.text.reader.agent.seat.me.0 in
+    let w : View = c.find_units.new.reader.agent.seat.me.0 in let l = limit_units s.limit in
+    let t = table_of (g.H.HeapRef.reached s.text.reader.heap) in let i = c.in-Some.ensures.finds in
+    step_at v w l t (table_of (g.H.HeapRef.reached c.find_units.new.reader.heap)) None 0 0
+    (ap (λ y. table_of (g.H.HeapRef.reached y)) c.find_units.ensures.heap)
+    (found_step v w ((c.args.units.now, c.in-Some.id) ∷ []) l t s.text.reader.belongs.5 i.0 i.1.0 i.1.1)
 
 pub returns-in-None-clause-step : goal.returns-in-None-clause-step
-returns-in-None-clause-step g c = let s = c.args.self.now in let v : View = s.text.reader.agent.seat.me.0 in let w : View = c.find_units.new.reader.agent.seat.me.0 in let l = limit_units s.limit in let t = table_of (g.H.HeapRef.reached s.text.reader.heap) in
-    step_at v w l t (table_of (g.H.HeapRef.reached c.find_units.new.reader.heap)) None 0 0 (ap (λ y. table_of (g.H.HeapRef.reached y)) c.find_units.ensures.heap) (step_looks v w l t s.text.reader.belongs.5 c.in-None.ensures.finds.0)
+returns-in-None-clause-step g c = let s = c.args.self.now in let v : View = s.text.reader.agent.seat.me.0 in
+    let w : View = c.find_units.new.reader.agent.seat.me.0 in let l = limit_units s.limit in let t = table_of (g.H.HeapRef.reached s.text.reader.heap) in
+    step_at v w l t (table_of (g.H.HeapRef.reached c.find_units.new.reader.heap)) None 0 0
+    (ap (λ y. table_of (g.H.HeapRef.reached y)) c.find_units.ensures.heap) (step_looks v w l t s.text.reader.belongs.5 c.in-None.ensures.finds.0)
 
 pub returns-in-Some-clause-grown : goal.returns-in-Some-clause-grown
 returns-in-Some-clause-grown g c = history_goes c.args.self.now.text.reader.agent.seat.me.0 c.find_units.new.reader.agent.seat.me.0 ((c.args.units.now, c.in-Some.id) ∷ []) c.in-Some.ensures.finds.0

@@ -22,7 +22,8 @@ returns-in-Ok-clause-ok g c = let w : View = c.intern_units.new.reader.agent.sea
     (i.3.1, settled_test w id (Flat i.3.0.0 i.3.0.1 true, i.3.0.2, λ x. x))
 
 pub returns-in-Ok-clause-step : goal.returns-in-Ok-clause-step
-returns-in-Ok-clause-step g c = let s = c.args.self.now in let v : View = s.text.reader.agent.seat.me.0 in let w : View = c.intern_units.new.reader.agent.seat.me.0 in let l = limit_units s.limit in let t = table_of (g.H.HeapRef.reached s.text.reader.heap) in
+returns-in-Ok-clause-step g c = let s = c.args.self.now in let v : View = s.text.reader.agent.seat.me.0 in
+    let w : View = c.intern_units.new.reader.agent.seat.me.0 in let l = limit_units s.limit in let t = table_of (g.H.HeapRef.reached s.text.reader.heap) in
     let us : List ℕ = c.args.units.now in let i = c.in-Ok.ensures.interns in let most : words_of_copy us ≤ flat_words us = (let e = flat_is us in omega arith) in
     step_at v w l t (table_of (g.H.HeapRef.reached c.intern_units.new.reader.heap)) None 1 (flat_words us) (ap (λ y. table_of (g.H.HeapRef.reached y)) c.intern_units.ensures.heap)
     (interned_ok v w l t ((us, c.in-Ok.id) ∷ []) (words_of_copy us) (flat_words us) most s.text.reader.belongs.5 i.0 i.1 i.2)
@@ -31,13 +32,16 @@ pub returns-in-Ok-clause-grown : goal.returns-in-Ok-clause-grown
 returns-in-Ok-clause-grown g c = history_goes c.args.self.now.text.reader.agent.seat.me.0 c.intern_units.new.reader.agent.seat.me.0 ((c.args.units.now, c.in-Ok.id) ∷ []) c.in-Ok.ensures.interns.0
 
 pub returns-in-Err-clause-step : goal.returns-in-Err-clause-step
-returns-in-Err-clause-step g c = let s = c.args.self.now in let v : View = s.text.reader.agent.seat.me.0 in let w : View = c.intern_units.new.reader.agent.seat.me.0 in let l = limit_units s.limit in let t = table_of (g.H.HeapRef.reached s.text.reader.heap) in
+returns-in-Err-clause-step g c = let s = c.args.self.now in let v : View = s.text.reader.agent.seat.me.0 in
+    let w : View = c.intern_units.new.reader.agent.seat.me.0 in let l = limit_units s.limit in let t = table_of (g.H.HeapRef.reached s.text.reader.heap) in
     let us : List ℕ = c.args.units.now in let i = c.in-Err.ensures.interns in let f = c.in-Err.full in let most : words_of_copy us ≤ flat_words us = (let e = flat_is us in omega arith) in
-    rw c.table_fault.ensures (step_at v w l t (table_of (g.H.HeapRef.reached c.intern_units.new.reader.heap)) (Some (fault_in_table f)) 1 (flat_words us) (ap (λ y. table_of (g.H.HeapRef.reached y)) c.intern_units.ensures.heap)
+    rw c.table_fault.ensures (step_at v w l t (table_of (g.H.HeapRef.reached c.intern_units.new.reader.heap)) (Some (fault_in_table f)) 1
+    (flat_words us) (ap (λ y. table_of (g.H.HeapRef.reached y)) c.intern_units.ensures.heap)
     (interned_err v w us (copy_plan us) l t f (flat_words us) most s.text.reader.belongs.5 i.0 i.1))
 
 pub returns-in-Err-clause-shut : goal.returns-in-Err-clause-shut
-returns-in-Err-clause-shut g c = let s = c.args.self.now in let v : View = s.text.reader.agent.seat.me.0 in let w : View = c.intern_units.new.reader.agent.seat.me.0 in let us : List ℕ = c.args.units.now in
+returns-in-Err-clause-shut g c = let s = c.args.self.now in let v : View = s.text.reader.agent.seat.me.0 in
+    let w : View = c.intern_units.new.reader.agent.seat.me.0 in let us : List ℕ = c.args.units.now in
     rw c.table_fault.ensures (interned_shut v w us (copy_plan us) (limit_units s.limit) (table_of (g.H.HeapRef.reached c.intern_units.new.reader.heap)) c.in-Err.full c.in-Err.ensures.interns.1)
 
 pub returns-in-Ok-clause-plan : goal.returns-in-Ok-clause-plan

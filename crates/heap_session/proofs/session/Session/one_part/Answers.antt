@@ -23,5 +23,6 @@ invariant_of-self-in-Ok g c = let p = c.part_of.new.self in let x : View = c.uni
     }
 
 pub returns-in-Ok-clause-own : goal.returns-in-Ok-clause-own
-returns-in-Ok-clause-own g c = let v : View = c.args.self.now.text.reader.agent.seat.me.0 in let x : View = c.unit_at-unit.new.self.text.reader.agent.seat.me.0 in let w : View = c.part_of.new.self.text.reader.agent.seat.me.0 in
+returns-in-Ok-clause-own g c = let v : View = c.args.self.now.text.reader.agent.seat.me.0 in
+    let x : View = c.unit_at-unit.new.self.text.reader.agent.seat.me.0 in let w : View = c.part_of.new.self.text.reader.agent.seat.me.0 in
     own_trans v x w (own_reads v x c.unit_at-unit.ensures.reads) c.part_of.ensures.own

@@ -6,19 +6,21 @@ use Rattle.heap_session.proofs.MadeLately.{recent_by}
 use Rattle.heap_session.proofs.session.Session.unit_by_loads.Goals as goal
 
 pub invariant_of-self : goal.invariant_of-self
-invariant_of-self g c = let s = c.args.self.now in let v : View = s.text.reader.agent.seat.me.0 in let w : View = c.word_with-unit.new.text.reader.agent.seat.me.0 in let e = c.word_with-unit.ensures in record {
-  one_limit = e.limit ∙ s.one_limit;
-  last_kept = e.kept;
-  older_kept = kept_by v w e.reads.known s.older s.older_kept;
-  singles_kept = singles_by v w e.reads.known s.singles.ids s.singles_kept;
-  recent_kept = recent_by v w e.reads.known s.recent.ids s.recent_kept;
-}
+invariant_of-self g c = let s = c.args.self.now in let v : View = s.text.reader.agent.seat.me.0 in
+    let w : View = c.word_with-unit.new.text.reader.agent.seat.me.0 in let e = c.word_with-unit.ensures in record {
+      one_limit = e.limit ∙ s.one_limit;
+      last_kept = e.kept;
+      older_kept = kept_by v w e.reads.known s.older s.older_kept;
+      singles_kept = singles_by v w e.reads.known s.singles.ids s.singles_kept;
+      recent_kept = recent_by v w e.reads.known s.recent.ids s.recent_kept;
+    }
 
 pub invariant_of-self-2 : goal.invariant_of-self-2
-invariant_of-self-2 g c = let s = c.args.self.now in let v : View = s.text.reader.agent.seat.me.0 in let w : View = c.word_with-unit.new.text.reader.agent.seat.me.0 in let e = c.word_with-unit.ensures in record {
-  one_limit = e.limit ∙ s.one_limit;
-  last_kept = e.kept;
-  older_kept = kept_by v w e.reads.known s.last s.last_kept;
-  singles_kept = singles_by v w e.reads.known s.singles.ids s.singles_kept;
-  recent_kept = recent_by v w e.reads.known s.recent.ids s.recent_kept;
-}
+invariant_of-self-2 g c = let s = c.args.self.now in let v : View = s.text.reader.agent.seat.me.0 in
+    let w : View = c.word_with-unit.new.text.reader.agent.seat.me.0 in let e = c.word_with-unit.ensures in record {
+      one_limit = e.limit ∙ s.one_limit;
+      last_kept = e.kept;
+      older_kept = kept_by v w e.reads.known s.last s.last_kept;
+      singles_kept = singles_by v w e.reads.known s.singles.ids s.singles_kept;
+      recent_kept = recent_by v w e.reads.known s.recent.ids s.recent_kept;
+    }

@@ -25,7 +25,8 @@ returns-in-Ok-clause-answer g c = let s = c.args.self.now in let v : View = s.te
     let us : List ℕ = unwrap_or (get v.units c.args.a.id) [] in let vs : List ℕ = unwrap_or (get v.units c.args.b.id) [] in
     let h = has_text v.units c.args.a.id c.requires.left in let k = has_text v.units c.args.b.id c.requires.right in
     let l = limit_units s.limit in let t = table_of (g.H.HeapRef.reached s.text.reader.heap) in
-    let j = joined_in v w (size_of (g.H.HeapRef.reached s.text.reader.heap)) s.text.limit l c.args.a c.args.b us vs (Ok c.in-Ok.s) (c.concat.new.self.reader.belongs.1 ∙ ap (λ x. size_of (g.H.HeapRef.reached x)) e.kept.heap) s.one_limit (c.in-Ok.ensures.joined us vs h k) in
+    let j = joined_in v w (size_of (g.H.HeapRef.reached s.text.reader.heap)) s.text.limit l c.args.a c.args.b us vs (Ok c.in-Ok.s)
+    (c.concat.new.self.reader.belongs.1 ∙ ap (λ x. size_of (g.H.HeapRef.reached x)) e.kept.heap) s.one_limit (c.in-Ok.ensures.joined us vs h k) in
     joined_fits v w l t c.args.a c.args.b us vs s.text.reader.belongs.5 e.continues l c.in-Ok.s j
 
 pub returns-in-Ok-clause-uses : goal.returns-in-Ok-clause-uses
@@ -33,8 +34,10 @@ returns-in-Ok-clause-uses g c = let s = c.args.self.now in let v : View = s.text
     let us : List ℕ = unwrap_or (get v.units c.args.a.id) [] in let vs : List ℕ = unwrap_or (get v.units c.args.b.id) [] in
     let h = has_text v.units c.args.a.id c.requires.left in let k = has_text v.units c.args.b.id c.requires.right in
     let l = limit_units s.limit in let t = table_of (g.H.HeapRef.reached s.text.reader.heap) in
-    let j = joined_in v w (size_of (g.H.HeapRef.reached s.text.reader.heap)) s.text.limit l c.args.a c.args.b us vs (Ok c.in-Ok.s) (c.concat.new.self.reader.belongs.1 ∙ ap (λ x. size_of (g.H.HeapRef.reached x)) e.kept.heap) s.one_limit (c.in-Ok.ensures.joined us vs h k) in
-    uses_at v w l t (table_of (g.H.HeapRef.reached c.concat.new.self.reader.heap)) None (join_ids (length us) (length vs)) (join_words (length us) (length vs)) (ap (λ x. table_of (g.H.HeapRef.reached x)) e.kept.heap) (history_continues v w e.continues) tt
+    let j = joined_in v w (size_of (g.H.HeapRef.reached s.text.reader.heap)) s.text.limit l c.args.a c.args.b us vs (Ok c.in-Ok.s)
+    (c.concat.new.self.reader.belongs.1 ∙ ap (λ x. size_of (g.H.HeapRef.reached x)) e.kept.heap) s.one_limit (c.in-Ok.ensures.joined us vs h k) in
+    uses_at v w l t (table_of (g.H.HeapRef.reached c.concat.new.self.reader.heap)) None (join_ids (length us) (length vs))
+    (join_words (length us) (length vs)) (ap (λ x. table_of (g.H.HeapRef.reached x)) e.kept.heap) (history_continues v w e.continues) tt
     (joined_ok v w l t c.args.a c.args.b us vs s.text.reader.belongs.5 e.continues l c.in-Ok.s j)
 
 pub returns-in-Err-clause-answer : goal.returns-in-Err-clause-answer
@@ -42,7 +45,8 @@ returns-in-Err-clause-answer g c = let s = c.args.self.now in let v : View = s.t
     let us : List ℕ = unwrap_or (get v.units c.args.a.id) [] in let vs : List ℕ = unwrap_or (get v.units c.args.b.id) [] in
     let h = has_text v.units c.args.a.id c.requires.left in let k = has_text v.units c.args.b.id c.requires.right in
     let l = limit_units s.limit in let t = table_of (g.H.HeapRef.reached s.text.reader.heap) in
-    let j = joined_in v w (size_of (g.H.HeapRef.reached s.text.reader.heap)) s.text.limit l c.args.a c.args.b us vs (Err c.in-Err.fault) (c.concat.new.self.reader.belongs.1 ∙ ap (λ x. size_of (g.H.HeapRef.reached x)) e.kept.heap) s.one_limit (c.in-Err.ensures.joined us vs h k) in
+    let j = joined_in v w (size_of (g.H.HeapRef.reached s.text.reader.heap)) s.text.limit l c.args.a c.args.b us vs (Err c.in-Err.fault)
+    (c.concat.new.self.reader.belongs.1 ∙ ap (λ x. size_of (g.H.HeapRef.reached x)) e.kept.heap) s.one_limit (c.in-Err.ensures.joined us vs h k) in
     rw c.join_fault.ensures (joined_told v w l t c.args.a c.args.b us vs s.text.reader.belongs.5 e.continues l c.in-Err.fault j)
 
 pub returns-in-Err-clause-uses : goal.returns-in-Err-clause-uses
@@ -50,21 +54,28 @@ returns-in-Err-clause-uses g c = let s = c.args.self.now in let v : View = s.tex
     let us : List ℕ = unwrap_or (get v.units c.args.a.id) [] in let vs : List ℕ = unwrap_or (get v.units c.args.b.id) [] in
     let h = has_text v.units c.args.a.id c.requires.left in let k = has_text v.units c.args.b.id c.requires.right in
     let l = limit_units s.limit in let t = table_of (g.H.HeapRef.reached s.text.reader.heap) in
-    let j = joined_in v w (size_of (g.H.HeapRef.reached s.text.reader.heap)) s.text.limit l c.args.a c.args.b us vs (Err c.in-Err.fault) (c.concat.new.self.reader.belongs.1 ∙ ap (λ x. size_of (g.H.HeapRef.reached x)) e.kept.heap) s.one_limit (c.in-Err.ensures.joined us vs h k) in
-    rw c.join_fault.ensures (uses_at v w l t (table_of (g.H.HeapRef.reached c.concat.new.self.reader.heap)) (concat_part (fault_in_join c.in-Err.fault)) (join_ids (length us) (length vs)) (join_words (length us) (length vs)) (ap (λ x. table_of (g.H.HeapRef.reached x)) e.kept.heap) (history_continues v w e.continues) (never_join c.in-Err.fault)
+    let j = joined_in v w (size_of (g.H.HeapRef.reached s.text.reader.heap)) s.text.limit l c.args.a c.args.b us vs (Err c.in-Err.fault)
+    (c.concat.new.self.reader.belongs.1 ∙ ap (λ x. size_of (g.H.HeapRef.reached x)) e.kept.heap) s.one_limit (c.in-Err.ensures.joined us vs h k) in
+    rw c.join_fault.ensures (uses_at v w l t (table_of (g.H.HeapRef.reached c.concat.new.self.reader.heap))
+    (concat_part (fault_in_join c.in-Err.fault)) (join_ids (length us) (length vs)) (join_words (length us) (length vs))
+    (ap (λ x. table_of (g.H.HeapRef.reached x)) e.kept.heap) (history_continues v w e.continues) (never_join c.in-Err.fault)
     (joined_step v w l t c.args.a c.args.b us vs s.text.reader.belongs.5 e.continues l c.in-Err.fault j))
 
 pub invariant_of-self-clause-last_kept : goal.invariant_of-self-clause-last_kept
-invariant_of-self-clause-last_kept g c = let s = c.args.self.now in let v : View = s.text.reader.agent.seat.me.0 in let w : View = c.concat.new.self.reader.agent.seat.me.0 in kept_by v w c.concat.ensures.continues.known s.last s.last_kept
+invariant_of-self-clause-last_kept g c = let s = c.args.self.now in let v : View = s.text.reader.agent.seat.me.0 in
+    let w : View = c.concat.new.self.reader.agent.seat.me.0 in kept_by v w c.concat.ensures.continues.known s.last s.last_kept
 
 pub invariant_of-self-clause-older_kept : goal.invariant_of-self-clause-older_kept
-invariant_of-self-clause-older_kept g c = let s = c.args.self.now in let v : View = s.text.reader.agent.seat.me.0 in let w : View = c.concat.new.self.reader.agent.seat.me.0 in kept_by v w c.concat.ensures.continues.known s.older s.older_kept
+invariant_of-self-clause-older_kept g c = let s = c.args.self.now in let v : View = s.text.reader.agent.seat.me.0 in
+    let w : View = c.concat.new.self.reader.agent.seat.me.0 in kept_by v w c.concat.ensures.continues.known s.older s.older_kept
 
 pub invariant_of-self-clause-singles_kept : goal.invariant_of-self-clause-singles_kept
-invariant_of-self-clause-singles_kept g c = let s = c.args.self.now in let v : View = s.text.reader.agent.seat.me.0 in let w : View = c.concat.new.self.reader.agent.seat.me.0 in singles_by v w c.concat.ensures.continues.known s.singles.ids s.singles_kept
+invariant_of-self-clause-singles_kept g c = let s = c.args.self.now in let v : View = s.text.reader.agent.seat.me.0 in
+    let w : View = c.concat.new.self.reader.agent.seat.me.0 in singles_by v w c.concat.ensures.continues.known s.singles.ids s.singles_kept
 
 pub invariant_of-self-clause-recent_kept : goal.invariant_of-self-clause-recent_kept
-invariant_of-self-clause-recent_kept g c = let s = c.args.self.now in let v : View = s.text.reader.agent.seat.me.0 in let w : View = c.concat.new.self.reader.agent.seat.me.0 in recent_by v w c.concat.ensures.continues.known s.recent.ids s.recent_kept
+invariant_of-self-clause-recent_kept g c = let s = c.args.self.now in let v : View = s.text.reader.agent.seat.me.0 in
+    let w : View = c.concat.new.self.reader.agent.seat.me.0 in recent_by v w c.concat.ensures.continues.known s.recent.ids s.recent_kept
 
 pub returns-in-Err-clause-spared : goal.returns-in-Err-clause-spared
 returns-in-Err-clause-spared g c = let s = c.args.self.now in let v : View = s.text.reader.agent.seat.me.0 in let w : View = c.concat.new.self.reader.agent.seat.me.0 in

@@ -24,27 +24,35 @@ returns-clause-units g c = let v : View = c.args.self.now.text.reader.agent.seat
     c.read_in.ensures.units u.0 (c.window-window.ensures.shows u.0 u.1).0 ∙ ap (λ us. slice_range us c.args.from (c.args.from + length c.args.into.now)) (sym (text_is v.units c.args.s.id u.0 u.1))
 
 pub returns-clause-uses : goal.returns-clause-uses
-returns-clause-uses g c = let s = c.args.self.now in let v : View = s.text.reader.agent.seat.me.0 in let x : View = c.window-window.new.self.reader.agent.seat.me.0 in let w : View = c.read_in.new.self.reader.agent.seat.me.0 in
+returns-clause-uses g c = let s = c.args.self.now in let v : View = s.text.reader.agent.seat.me.0 in
+    let x : View = c.window-window.new.self.reader.agent.seat.me.0 in let w : View = c.read_in.new.self.reader.agent.seat.me.0 in
     let r = reads_trans v x w c.window-window.ensures.reads c.read_in.ensures.reads in
-    uses_at v w (limit_units s.limit) (table_of (g.H.HeapRef.reached s.text.reader.heap)) (table_of (g.H.HeapRef.reached c.read_in.new.self.reader.heap)) None 0 0 (ap (λ y. table_of (g.H.HeapRef.reached y)) (c.read_in.ensures.kept.heap ∙ c.window-window.ensures.kept.heap)) (history_reads v w r) tt
+    uses_at v w (limit_units s.limit) (table_of (g.H.HeapRef.reached s.text.reader.heap))
+    (table_of (g.H.HeapRef.reached c.read_in.new.self.reader.heap)) None 0 0
+    (ap (λ y. table_of (g.H.HeapRef.reached y)) (c.read_in.ensures.kept.heap ∙ c.window-window.ensures.kept.heap)) (history_reads v w r) tt
     (step_reads v w (limit_units s.limit) (table_of (g.H.HeapRef.reached s.text.reader.heap)) s.text.reader.belongs.5 r)
 
 pub invariant_of-self-clause-last_kept : goal.invariant_of-self-clause-last_kept
-invariant_of-self-clause-last_kept g c = let s = c.args.self.now in let v : View = s.text.reader.agent.seat.me.0 in let x : View = c.window-window.new.self.reader.agent.seat.me.0 in let w : View = c.read_in.new.self.reader.agent.seat.me.0 in
+invariant_of-self-clause-last_kept g c = let s = c.args.self.now in let v : View = s.text.reader.agent.seat.me.0 in
+    let x : View = c.window-window.new.self.reader.agent.seat.me.0 in let w : View = c.read_in.new.self.reader.agent.seat.me.0 in
     kept_by v w ((reads_trans v x w c.window-window.ensures.reads c.read_in.ensures.reads).known) s.last s.last_kept
 
 pub invariant_of-self-clause-older_kept : goal.invariant_of-self-clause-older_kept
-invariant_of-self-clause-older_kept g c = let s = c.args.self.now in let v : View = s.text.reader.agent.seat.me.0 in let x : View = c.window-window.new.self.reader.agent.seat.me.0 in let w : View = c.read_in.new.self.reader.agent.seat.me.0 in
+invariant_of-self-clause-older_kept g c = let s = c.args.self.now in let v : View = s.text.reader.agent.seat.me.0 in
+    let x : View = c.window-window.new.self.reader.agent.seat.me.0 in let w : View = c.read_in.new.self.reader.agent.seat.me.0 in
     kept_by v w ((reads_trans v x w c.window-window.ensures.reads c.read_in.ensures.reads).known) s.older s.older_kept
 
 pub invariant_of-self-clause-singles_kept : goal.invariant_of-self-clause-singles_kept
-invariant_of-self-clause-singles_kept g c = let s = c.args.self.now in let v : View = s.text.reader.agent.seat.me.0 in let x : View = c.window-window.new.self.reader.agent.seat.me.0 in let w : View = c.read_in.new.self.reader.agent.seat.me.0 in
+invariant_of-self-clause-singles_kept g c = let s = c.args.self.now in let v : View = s.text.reader.agent.seat.me.0 in
+    let x : View = c.window-window.new.self.reader.agent.seat.me.0 in let w : View = c.read_in.new.self.reader.agent.seat.me.0 in
     singles_by v w ((reads_trans v x w c.window-window.ensures.reads c.read_in.ensures.reads).known) s.singles.ids s.singles_kept
 
 pub invariant_of-self-clause-recent_kept : goal.invariant_of-self-clause-recent_kept
-invariant_of-self-clause-recent_kept g c = let s = c.args.self.now in let v : View = s.text.reader.agent.seat.me.0 in let x : View = c.window-window.new.self.reader.agent.seat.me.0 in let w : View = c.read_in.new.self.reader.agent.seat.me.0 in
+invariant_of-self-clause-recent_kept g c = let s = c.args.self.now in let v : View = s.text.reader.agent.seat.me.0 in
+    let x : View = c.window-window.new.self.reader.agent.seat.me.0 in let w : View = c.read_in.new.self.reader.agent.seat.me.0 in
     recent_by v w ((reads_trans v x w c.window-window.ensures.reads c.read_in.ensures.reads).known) s.recent.ids s.recent_kept
 
 pub returns-clause-reads : goal.returns-clause-reads
-returns-clause-reads g c = let v : View = c.args.self.now.text.reader.agent.seat.me.0 in let x : View = c.window-window.new.self.reader.agent.seat.me.0 in let w : View = c.read_in.new.self.reader.agent.seat.me.0 in
+returns-clause-reads g c = let v : View = c.args.self.now.text.reader.agent.seat.me.0 in
+    let x : View = c.window-window.new.self.reader.agent.seat.me.0 in let w : View = c.read_in.new.self.reader.agent.seat.me.0 in
     reads_trans v x w c.window-window.ensures.reads c.read_in.ensures.reads

@@ -24,32 +24,47 @@ pub returns-in-Ok-clause-ok : goal.returns-in-Ok-clause-ok
 returns-in-Ok-clause-ok g c = settled_test c.settle.new.self.reader.agent.seat.me.0 c.args.s.id c.in-Ok.ensures.settled
 
 pub returns-in-Ok-clause-uses : goal.returns-in-Ok-clause-uses
-returns-in-Ok-clause-uses g c = let s = c.args.self.now in let v : View = s.text.reader.agent.seat.me.0 in let w : View = c.settle.new.self.reader.agent.seat.me.0 in let i = c.args.s.id in let l = limit_units s.limit in let t = table_of (g.H.HeapRef.reached s.text.reader.heap) in
+returns-in-Ok-clause-uses g c = let s = c.args.self.now in let v : View = s.text.reader.agent.seat.me.0 in
+    let w : View = c.settle.new.self.reader.agent.seat.me.0 in let i = c.args.s.id in let l = limit_units s.limit in
+    let t = table_of (g.H.HeapRef.reached s.text.reader.heap) in
     let p = has_key v.units i c.requires in let e = c.settle.ensures in
-    subst (λ (us : List ℕ). Uses (state_by v l t) (state_by w l (table_of (g.H.HeapRef.reached c.settle.new.self.reader.heap))) None 0 (settle_words (is_settled (get v.forms i)) (length us))) (sym (text_is v.units i p.0 p.1))
-    (uses_at v w l t (table_of (g.H.HeapRef.reached c.settle.new.self.reader.heap)) None 0 (settle_words (is_settled (get v.forms i)) (length p.0)) (ap (λ x. table_of (g.H.HeapRef.reached x)) e.kept.heap) (history_continues v w e.continues) tt
+    subst (λ (us : List ℕ). Uses (state_by v l t) (state_by w l (table_of (g.H.HeapRef.reached c.settle.new.self.reader.heap))) None 0
+    (settle_words (is_settled (get v.forms i)) (length us))) (sym (text_is v.units i p.0 p.1))
+    (uses_at v w l t (table_of (g.H.HeapRef.reached c.settle.new.self.reader.heap)) None 0
+    (settle_words (is_settled (get v.forms i)) (length p.0)) (ap (λ x. table_of (g.H.HeapRef.reached x)) e.kept.heap) (history_continues v w e.continues) tt
     (settled_step v w l t i p.0 s.text.reader.belongs.5 e.continues (λ h. (e.again h).1) (c.in-Ok.ensures.used p.0 p.1)))
 
 pub returns-in-Err-clause-uses : goal.returns-in-Err-clause-uses
-returns-in-Err-clause-uses g c = let s = c.args.self.now in let v : View = s.text.reader.agent.seat.me.0 in let w : View = c.settle.new.self.reader.agent.seat.me.0 in let i = c.args.s.id in let l = limit_units s.limit in let t = table_of (g.H.HeapRef.reached s.text.reader.heap) in
+returns-in-Err-clause-uses g c = let s = c.args.self.now in let v : View = s.text.reader.agent.seat.me.0 in
+    let w : View = c.settle.new.self.reader.agent.seat.me.0 in let i = c.args.s.id in let l = limit_units s.limit in
+    let t = table_of (g.H.HeapRef.reached s.text.reader.heap) in
     let p = has_key v.units i c.requires in let e = c.settle.ensures in let f = c.in-Err.full in
     let sizes : w.sizes ≡ size_of (g.H.HeapRef.reached s.text.reader.heap) = c.settle.new.self.reader.belongs.1 ∙ ap (λ x. size_of (g.H.HeapRef.reached x)) e.kept.heap in
-    let room : (wide : Bool) × IsBitOf v c.args.s.id wide × IsNoRoom v w w.sizes p.0 f wide = subst (λ (z : HeapSize). (wide : Bool) × IsBitOf v c.args.s.id wide × IsNoRoom v w z p.0 f wide) (sym sizes) (c.in-Err.ensures.refused p.0 p.1) in
-    rw c.text_fault.ensures (subst (λ (us : List ℕ). Uses (state_by v l t) (state_by w l (table_of (g.H.HeapRef.reached c.settle.new.self.reader.heap))) (Some (fault_in_text f)) 0 (settle_words (is_settled (get v.forms i)) (length us))) (sym (text_is v.units i p.0 p.1))
-    (uses_at v w l t (table_of (g.H.HeapRef.reached c.settle.new.self.reader.heap)) (Some (fault_in_text f)) 0 (settle_words (is_settled (get v.forms i)) (length p.0)) (ap (λ x. table_of (g.H.HeapRef.reached x)) e.kept.heap) (history_continues v w e.continues) (never_slots f)
+    let room : (wide : Bool) × IsBitOf v c.args.s.id wide × IsNoRoom v w w.sizes p.0 f wide = subst
+    (λ (z : HeapSize). (wide : Bool) × IsBitOf v c.args.s.id wide × IsNoRoom v w z p.0 f wide) (sym sizes) (c.in-Err.ensures.refused p.0 p.1) in
+    rw c.text_fault.ensures (subst (λ (us : List ℕ). Uses (state_by v l t)
+    (state_by w l (table_of (g.H.HeapRef.reached c.settle.new.self.reader.heap))) (Some (fault_in_text f)) 0
+    (settle_words (is_settled (get v.forms i)) (length us))) (sym (text_is v.units i p.0 p.1))
+    (uses_at v w l t (table_of (g.H.HeapRef.reached c.settle.new.self.reader.heap)) (Some (fault_in_text f)) 0
+    (settle_words (is_settled (get v.forms i)) (length p.0)) (ap (λ x. table_of (g.H.HeapRef.reached x)) e.kept.heap)
+    (history_continues v w e.continues) (never_slots f)
     (settle_refused v w l t i p.0 s.text.reader.belongs.5 e.continues f (λ h. let bad = (c.in-Err.ensures.again h).0 in absurd (cc)) room)))
 
 pub invariant_of-self-clause-last_kept : goal.invariant_of-self-clause-last_kept
-invariant_of-self-clause-last_kept g c = let s = c.args.self.now in let v : View = s.text.reader.agent.seat.me.0 in let w : View = c.settle.new.self.reader.agent.seat.me.0 in kept_by v w (c.settle.ensures.continues.known) s.last s.last_kept
+invariant_of-self-clause-last_kept g c = let s = c.args.self.now in let v : View = s.text.reader.agent.seat.me.0 in
+    let w : View = c.settle.new.self.reader.agent.seat.me.0 in kept_by v w (c.settle.ensures.continues.known) s.last s.last_kept
 
 pub invariant_of-self-clause-older_kept : goal.invariant_of-self-clause-older_kept
-invariant_of-self-clause-older_kept g c = let s = c.args.self.now in let v : View = s.text.reader.agent.seat.me.0 in let w : View = c.settle.new.self.reader.agent.seat.me.0 in kept_by v w (c.settle.ensures.continues.known) s.older s.older_kept
+invariant_of-self-clause-older_kept g c = let s = c.args.self.now in let v : View = s.text.reader.agent.seat.me.0 in
+    let w : View = c.settle.new.self.reader.agent.seat.me.0 in kept_by v w (c.settle.ensures.continues.known) s.older s.older_kept
 
 pub invariant_of-self-clause-singles_kept : goal.invariant_of-self-clause-singles_kept
-invariant_of-self-clause-singles_kept g c = let s = c.args.self.now in let v : View = s.text.reader.agent.seat.me.0 in let w : View = c.settle.new.self.reader.agent.seat.me.0 in singles_by v w (c.settle.ensures.continues.known) s.singles.ids s.singles_kept
+invariant_of-self-clause-singles_kept g c = let s = c.args.self.now in let v : View = s.text.reader.agent.seat.me.0 in
+    let w : View = c.settle.new.self.reader.agent.seat.me.0 in singles_by v w (c.settle.ensures.continues.known) s.singles.ids s.singles_kept
 
 pub invariant_of-self-clause-recent_kept : goal.invariant_of-self-clause-recent_kept
-invariant_of-self-clause-recent_kept g c = let s = c.args.self.now in let v : View = s.text.reader.agent.seat.me.0 in let w : View = c.settle.new.self.reader.agent.seat.me.0 in recent_by v w (c.settle.ensures.continues.known) s.recent.ids s.recent_kept
+invariant_of-self-clause-recent_kept g c = let s = c.args.self.now in let v : View = s.text.reader.agent.seat.me.0 in
+    let w : View = c.settle.new.self.reader.agent.seat.me.0 in recent_by v w (c.settle.ensures.continues.known) s.recent.ids s.recent_kept
 
 pub returns-in-Ok-clause-settling : goal.returns-in-Ok-clause-settling
 returns-in-Ok-clause-settling g c = c.in-Ok.ensures.used _ (has_text c.args.self.now.text.reader.agent.seat.me.0.units c.args.s.id c.requires)

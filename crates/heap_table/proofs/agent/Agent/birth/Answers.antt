@@ -16,7 +16,9 @@ store-requires c = let r = c.requires.belongs in let h = c.args.heap.now in let 
     let lt : c.args.id < h.size.ids = subst (λ (z : HeapSize). c.args.id < z.ids) r.1 ((possible_within seat.me.0 r.5).ids c.args.id own) in rw (c.form_place.ensures, c.encode.ensures.word) (
       r.0,
       subst (λ (n : ℕ). form_at h.size c.args.id < n) (sym h.counted) (form_small h.size c.args.id lt),
-      subst (λ (z : HeapSize). Allows (KeepsHeap h.table.shared.key) h.table.shared.table_id.slots seat.id seat.me (form_at z c.args.id) (λ _. word_of c.args.form) (λ _. GaveBirth (step h.table.shared.table_id.slots (form_at z c.args.id) (word_of c.args.form) 0 none) seat.me (word_of c.args.form))) r.1
+      subst (λ (z : HeapSize). Allows (KeepsHeap h.table.shared.key) h.table.shared.table_id.slots seat.id seat.me (form_at z c.args.id)
+          (λ _. word_of c.args.form) (λ _. GaveBirth (step h.table.shared.table_id.slots (form_at z c.args.id) (word_of c.args.form) 0 none)
+          seat.me (word_of c.args.form))) r.1
           (bears h.table.shared.key h.table.shared.table_id.slots seat.id seat.me r.2 c.args.id c.args.form (born_in_range seat.me.0 r.5 c.args.id c.args.form c.requires.fits) c.requires.fits),
     )
 

@@ -24,24 +24,33 @@ load-requires c = let a = c.requires.belongs.0 in let h = c.args.heap.now in let
 
 pub overflow_add-self : goal.overflow_add-self
 overflow_add-self c = let a = c.requires.belongs.0 in let b = c.requires.belongs.1 in let v : View = c.args.self.now.seat.me.0 in let o : View = c.args.other.seat.me.0 in
-    let w : View = c.load.new.seat.me.0 in let e = c.load.ensures.2 in let t = taken_over c.args.self.now.seat.me.0 c.args.other.seat.me.0 c.load.new.seat.me.0 (e.1 ∙ ap (λ (q : Sat). q.0) c.join_seat.ensures.2) e.0.possible in
+    let w : View = c.load.new.seat.me.0 in let e = c.load.ensures.2 in
+    let t = taken_over c.args.self.now.seat.me.0 c.args.other.seat.me.0 c.load.new.seat.me.0
+    (e.1 ∙ ap (λ (q : Sat). q.0) c.join_seat.ensures.2) e.0.possible in
     let share : w.share ≡ v.share + o.share = ap (λ (x : View). x.share) t.0 in let same : w.share ≡ c.join_seat.new.seat.me.0.share = ap (λ (x : View). x.share) e.1 in
     let few : c.join_seat.new.seat.me.0.share ≤ 64 = e.2 in let p : v.share ≡ c.args.self.now.share = a.4 in let q : o.share ≡ c.args.other.share = b.4 in omega arith
 
 pub returns-clause-view : goal.returns-clause-view
-returns-clause-view c = let e = c.load.ensures.2 in (taken_over c.args.self.now.seat.me.0 c.args.other.seat.me.0 c.load.new.seat.me.0 (e.1 ∙ ap (λ (q : Sat). q.0) c.join_seat.ensures.2) e.0.possible).0
+returns-clause-view c = let e = c.load.ensures.2 in (taken_over c.args.self.now.seat.me.0 c.args.other.seat.me.0 c.load.new.seat.me.0
+    (e.1 ∙ ap (λ (q : Sat). q.0) c.join_seat.ensures.2) e.0.possible).0
 
 pub returns-clause-known : goal.returns-clause-known
-returns-clause-known c = let e = c.load.ensures.2 in (taken_over c.args.self.now.seat.me.0 c.args.other.seat.me.0 c.load.new.seat.me.0 (e.1 ∙ ap (λ (q : Sat). q.0) c.join_seat.ensures.2) e.0.possible).1.0
+returns-clause-known c = let e = c.load.ensures.2 in (taken_over c.args.self.now.seat.me.0 c.args.other.seat.me.0 c.load.new.seat.me.0
+    (e.1 ∙ ap (λ (q : Sat). q.0) c.join_seat.ensures.2) e.0.possible).1.0
 
 pub returns-clause-known_of_other : goal.returns-clause-known_of_other
-returns-clause-known_of_other c = let e = c.load.ensures.2 in (taken_over c.args.self.now.seat.me.0 c.args.other.seat.me.0 c.load.new.seat.me.0 (e.1 ∙ ap (λ (q : Sat). q.0) c.join_seat.ensures.2) e.0.possible).1.1
+returns-clause-known_of_other c =
+    let e = c.load.ensures.2 in (taken_over c.args.self.now.seat.me.0 c.args.other.seat.me.0 c.load.new.seat.me.0
+    (e.1 ∙ ap (λ (q : Sat). q.0) c.join_seat.ensures.2) e.0.possible).1.1
 
 pub returns-clause-all : goal.returns-clause-all
-returns-clause-all c = let e = c.load.ensures.2 in (taken_over c.args.self.now.seat.me.0 c.args.other.seat.me.0 c.load.new.seat.me.0 (e.1 ∙ ap (λ (q : Sat). q.0) c.join_seat.ensures.2) e.0.possible).2.0
+returns-clause-all c = let e = c.load.ensures.2 in (taken_over c.args.self.now.seat.me.0 c.args.other.seat.me.0 c.load.new.seat.me.0
+    (e.1 ∙ ap (λ (q : Sat). q.0) c.join_seat.ensures.2) e.0.possible).2.0
 
 pub returns-clause-all_of_other : goal.returns-clause-all_of_other
-returns-clause-all_of_other c = let e = c.load.ensures.2 in (taken_over c.args.self.now.seat.me.0 c.args.other.seat.me.0 c.load.new.seat.me.0 (e.1 ∙ ap (λ (q : Sat). q.0) c.join_seat.ensures.2) e.0.possible).2.1
+returns-clause-all_of_other c =
+    let e = c.load.ensures.2 in (taken_over c.args.self.now.seat.me.0 c.args.other.seat.me.0 c.load.new.seat.me.0
+    (e.1 ∙ ap (λ (q : Sat). q.0) c.join_seat.ensures.2) e.0.possible).2.1
 
 pub returns-clause-belongs : goal.returns-clause-belongs
 returns-clause-belongs c = let a = c.requires.belongs.0 in let b = c.requires.belongs.1 in let j = c.join_seat.ensures in

@@ -13,4 +13,5 @@ load-requires c = let r = c.requires in let h = c.args.heap.now in rw c.place.en
 
 pub overflow_cast-result : goal.overflow_cast-result
 overflow_cast-result c = let f = (c.load.ensures.2.1 c.args.counter c.place.ensures).1 in let w = f.within in
-    let e : end_of c.args.self.now.seat.me.0.sizes c.args.counter < 2 ^ 29 = subst (λ (z : HeapSize). end_of z c.args.counter < 2 ^ 29) (sym c.requires.1) (end_small c.args.heap.now.size c.args.counter c.args.heap.now.lawful) in omega arith
+    let e : end_of c.args.self.now.seat.me.0.sizes c.args.counter < 2 ^ 29 = subst (λ (z : HeapSize). end_of z c.args.counter < 2 ^ 29)
+    (sym c.requires.1) (end_small c.args.heap.now.size c.args.counter c.args.heap.now.lawful) in omega arith

@@ -14,7 +14,8 @@ load-requires c = let r = c.requires.belongs in let h = c.args.heap.now in let s
     let lt : c.args.id < h.size.ids = subst (λ (z : HeapSize). c.args.id < z.ids) r.1 ((possible_within seat.me.0 r.5).known c.args.id c.requires.known) in rw c.length_place.ensures (
       r.0,
       subst (λ (n : ℕ). length_at h.size c.args.id < n) (sym h.counted) (length_small h.size c.args.id lt),
-      subst (λ (z : HeapSize). Allows (KeepsHeap h.table.shared.key) h.table.shared.table_id.slots seat.id seat.me (length_at z c.args.id) (λ n. n) (LoadedLength (step h.table.shared.table_id.slots (length_at z c.args.id) 0 0 none) seat.me)) r.1
+      subst (λ (z : HeapSize). Allows (KeepsHeap h.table.shared.key) h.table.shared.table_id.slots seat.id seat.me (length_at z c.args.id)
+          (λ n. n) (LoadedLength (step h.table.shared.table_id.slots (length_at z c.args.id) 0 0 none) seat.me)) r.1
           (loads_length h.table.shared.key h.table.shared.table_id.slots seat.id seat.me r.2 c.args.id c.requires.known),
     )
 

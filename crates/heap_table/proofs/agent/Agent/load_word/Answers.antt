@@ -13,7 +13,8 @@ load-requires c = let r = c.requires.belongs in let h = c.args.heap.now in let s
     let lt : c.args.at < h.size.words = subst (λ (z : HeapSize). c.args.at < z.words) r.1 (word_within seat.me.0 r.5 c.args.at c.requires.may) in rw c.content_place.ensures (
       r.0,
       subst (λ (n : ℕ). content_at h.size c.args.at < n) (sym h.counted) (content_small h.size c.args.at lt),
-      subst (λ (z : HeapSize). Allows (KeepsHeap h.table.shared.key) h.table.shared.table_id.slots seat.id seat.me (content_at z c.args.at) (λ n. n) (LoadedWord (step h.table.shared.table_id.slots (content_at z c.args.at) 0 0 none) seat.me)) r.1
+      subst (λ (z : HeapSize). Allows (KeepsHeap h.table.shared.key) h.table.shared.table_id.slots seat.id seat.me (content_at z c.args.at)
+          (λ n. n) (LoadedWord (step h.table.shared.table_id.slots (content_at z c.args.at) 0 0 none) seat.me)) r.1
           (loads_word h.table.shared.key h.table.shared.table_id.slots seat.id seat.me r.2 c.args.at c.requires.may),
     )
 

@@ -9,7 +9,8 @@ pub load-requires : goal.load-requires
 load-requires c = let r = c.requires.belongs in let h = c.args.heap.now in let seat = c.args.self.now.seat in rw c.slot_place-place.ensures (
   r.0,
   subst (λ (n : ℕ). slot_at h.size c.args.slot < n) (sym h.counted) (slot_small h.size c.args.slot c.requires.inside),
-  sees_slot h.table.shared.key h.table.shared.table_id.slots seat.id seat.me r.2 entry_in c.args.slot (subst (λ (z : HeapSize). c.args.slot < z.slots) (sym r.1) c.requires.inside) (may_enter_in seat.me.0 c.args.slot),
+  sees_slot h.table.shared.key h.table.shared.table_id.slots seat.id seat.me r.2 entry_in c.args.slot
+      (subst (λ (z : HeapSize). c.args.slot < z.slots) (sym r.1) c.requires.inside) (may_enter_in seat.me.0 c.args.slot),
 )
 
 pub load-requires-2 : goal.load-requires-2

@@ -14,7 +14,8 @@ store-requires c = let r = c.requires.belongs in let h = c.args.heap.now in let 
     let lt : c.args.id < h.size.ids = subst (λ (z : HeapSize). c.args.id < z.ids) r.1 ((possible_within seat.me.0 r.5).ids c.args.id c.requires.may.0) in rw (c.length_place.ensures, c.from.ensures) (
       r.0,
       subst (λ (n : ℕ). length_at h.size c.args.id < n) (sym h.counted) (length_small h.size c.args.id lt),
-      subst (λ (z : HeapSize). Allows (KeepsHeap h.table.shared.key) h.table.shared.table_id.slots seat.id seat.me (length_at z c.args.id) (λ _. c.args.length) (λ _. StoredLength (step h.table.shared.table_id.slots (length_at z c.args.id) c.args.length 0 none) seat.me c.args.length)) r.1
+      subst (λ (z : HeapSize). Allows (KeepsHeap h.table.shared.key) h.table.shared.table_id.slots seat.id seat.me (length_at z c.args.id)
+          (λ _. c.args.length) (λ _. StoredLength (step h.table.shared.table_id.slots (length_at z c.args.id) c.args.length 0 none) seat.me c.args.length)) r.1
           (stores_length h.table.shared.key h.table.shared.table_id.slots seat.id seat.me r.2 c.args.id c.args.length c.requires.may),
     )
 

@@ -11,16 +11,23 @@ use Rattle.heap_table.proofs.Keeps.{flattens, is_flattening, cons_in_range, form
 use Rattle.heap_table.proofs.agent.Agent.try_flatten.Goals as goal
 
 pub compare_exchange-requires : goal.compare_exchange-requires
-compare_exchange-requires c = let r = c.requires.belongs in let h = c.args.heap.now in let seat = c.args.self.now.seat in let may = is_flattening seat.me.0 c.args.id c.args.old c.args.new c.requires.may in
-    let lt : c.args.id < h.size.ids = subst (λ (z : HeapSize). c.args.id < z.ids) r.1 (form_seen seat.me.0 r.5 c.args.id c.args.old may.0) in rw (c.form_place-place.ensures, c.encode.ensures.word, c.encode-2.ensures.word) (
+compare_exchange-requires c = let r = c.requires.belongs in let h = c.args.heap.now in let seat = c.args.self.now.seat in
+    let may = is_flattening seat.me.0 c.args.id c.args.old c.args.new c.requires.may in
+    let lt : c.args.id < h.size.ids = subst (λ (z : HeapSize). c.args.id < z.ids) r.1 (form_seen seat.me.0 r.5 c.args.id c.args.old may.0)
+    in rw (c.form_place-place.ensures, c.encode.ensures.word, c.encode-2.ensures.word) (
       r.0,
       subst (λ (n : ℕ). form_at h.size c.args.id < n) (sym h.counted) (form_small h.size c.args.id lt),
-      subst (λ (z : HeapSize). Allows (KeepsHeap h.table.shared.key) h.table.shared.table_id.slots seat.id seat.me (form_at z c.args.id) (λ n. either (eqb n (word_of c.args.old)) (word_of c.args.new) n) (FlattenedForm (step h.table.shared.table_id.slots (form_at z c.args.id) (word_of c.args.old) (word_of c.args.new) none) seat.me)) r.1
-          (flattens h.table.shared.key h.table.shared.table_id.slots seat.id seat.me r.2 c.args.id c.args.old c.args.new (cons_in_range seat.me.0 r.5 c.args.id c.args.old may.0 may.1) may.2 c.requires.may),
+      subst (λ (z : HeapSize). Allows (KeepsHeap h.table.shared.key) h.table.shared.table_id.slots seat.id seat.me (form_at z c.args.id)
+          (λ n. either (eqb n (word_of c.args.old)) (word_of c.args.new) n)
+          (FlattenedForm (step h.table.shared.table_id.slots (form_at z c.args.id) (word_of c.args.old) (word_of c.args.new) none) seat.me)) r.1
+          (flattens h.table.shared.key h.table.shared.table_id.slots seat.id seat.me r.2 c.args.id c.args.old c.args.new
+          (cons_in_range seat.me.0 r.5 c.args.id c.args.old may.0 may.1) may.2 c.requires.may),
     )
 
 pub encode-requires : goal.encode-requires
-encode-requires c = let r = c.requires.belongs in let may = is_flattening c.args.self.now.seat.me.0 c.args.id c.args.old c.args.new c.requires.may in cons_in_range c.args.self.now.seat.me.0 r.5 c.args.id c.args.old may.0 may.1
+encode-requires c = let r = c.requires.belongs in
+    let may = is_flattening c.args.self.now.seat.me.0 c.args.id c.args.old c.args.new c.requires.may in cons_in_range
+    c.args.self.now.seat.me.0 r.5 c.args.id c.args.old may.0 may.1
 
 pub encode-requires-2 : goal.encode-requires-2
 encode-requires-2 c = (is_flattening c.args.self.now.seat.me.0 c.args.id c.args.old c.args.new c.requires.may).2

@@ -13,11 +13,16 @@ use Rattle.heap_table.proofs.agent.Agent.try_thin.Goals as goal
 
 pub compare_exchange-requires : goal.compare_exchange-requires
 compare_exchange-requires c = let r = c.requires.belongs in let h = c.args.heap.now in let seat = c.args.self.now.seat in let may = c.requires.may in
-    let lt : c.args.id < h.size.ids = subst (λ (z : HeapSize). c.args.id < z.ids) r.1 (form_seen seat.me.0 r.5 c.args.id c.args.old may.0) in rw (c.form_place-place.ensures, c.encode.ensures.word, c.encode-2.ensures.word) (
+    let lt : c.args.id < h.size.ids = subst (λ (z : HeapSize). c.args.id < z.ids) r.1 (form_seen seat.me.0 r.5 c.args.id c.args.old may.0)
+    in rw (c.form_place-place.ensures, c.encode.ensures.word, c.encode-2.ensures.word) (
       r.0,
       subst (λ (n : ℕ). form_at h.size c.args.id < n) (sym h.counted) (form_small h.size c.args.id lt),
-      subst (λ (z : HeapSize). Allows (KeepsHeap h.table.shared.key) h.table.shared.table_id.slots seat.id seat.me (form_at z c.args.id) (λ n. either (eqb n (word_of c.args.old)) (word_of (Thin c.args.target)) n) (ThinnedForm (step h.table.shared.table_id.slots (form_at z c.args.id) (word_of c.args.old) (word_of (Thin c.args.target)) none) seat.me)) r.1
-          (thins h.table.shared.key h.table.shared.table_id.slots seat.id seat.me r.2 c.args.id c.args.target c.args.old (thin_in_range c.args.self.now.seat.me.0 c.requires.belongs.5 c.args.id c.args.old c.requires.may.0 c.requires.may.1) (slot_in_range seat.me.0 r.5 may.2.0 c.args.target may.2.1) may),
+      subst (λ (z : HeapSize). Allows (KeepsHeap h.table.shared.key) h.table.shared.table_id.slots seat.id seat.me (form_at z c.args.id)
+          (λ n. either (eqb n (word_of c.args.old)) (word_of (Thin c.args.target)) n)
+          (ThinnedForm (step h.table.shared.table_id.slots (form_at z c.args.id) (word_of c.args.old) (word_of (Thin c.args.target)) none) seat.me)) r.1
+          (thins h.table.shared.key h.table.shared.table_id.slots seat.id seat.me r.2 c.args.id c.args.target c.args.old
+          (thin_in_range c.args.self.now.seat.me.0 c.requires.belongs.5 c.args.id c.args.old c.requires.may.0 c.requires.may.1)
+          (slot_in_range seat.me.0 r.5 may.2.0 c.args.target may.2.1) may),
     )
 
 pub encode-requires : goal.encode-requires
@@ -32,10 +37,14 @@ form_place-place-requires c = let r = c.requires.belongs in let h = c.args.heap.
 
 pub returns-clause-view : goal.returns-clause-view
 returns-clause-view c = let r = c.requires.belongs in let v = c.args.self.now.seat.me.0 in let may = c.requires.may in
-    (c.compare_exchange.ensures.2.2 c.args.id c.args.target c.args.old (c.form_place-place.ensures ∙ ap (λ (z : HeapSize). form_at z c.args.id) (sym r.1)) c.encode.ensures.word c.encode-2.ensures.word (thin_in_range c.args.self.now.seat.me.0 c.requires.belongs.5 c.args.id c.args.old c.requires.may.0 c.requires.may.1)
+    (c.compare_exchange.ensures.2.2 c.args.id c.args.target c.args.old
+    (c.form_place-place.ensures ∙ ap (λ (z : HeapSize). form_at z c.args.id) (sym r.1)) c.encode.ensures.word c.encode-2.ensures.word
+    (thin_in_range c.args.self.now.seat.me.0 c.requires.belongs.5 c.args.id c.args.old c.requires.may.0 c.requires.may.1)
     (slot_in_range v r.5 may.2.0 c.args.target may.2.1)).0
 
 pub returns-clause-forwards : goal.returns-clause-forwards
 returns-clause-forwards c = let r = c.requires.belongs in let v = c.args.self.now.seat.me.0 in let may = c.requires.may in
-    (c.compare_exchange.ensures.2.2 c.args.id c.args.target c.args.old (c.form_place-place.ensures ∙ ap (λ (z : HeapSize). form_at z c.args.id) (sym r.1)) c.encode.ensures.word c.encode-2.ensures.word (thin_in_range c.args.self.now.seat.me.0 c.requires.belongs.5 c.args.id c.args.old c.requires.may.0 c.requires.may.1)
+    (c.compare_exchange.ensures.2.2 c.args.id c.args.target c.args.old
+    (c.form_place-place.ensures ∙ ap (λ (z : HeapSize). form_at z c.args.id) (sym r.1)) c.encode.ensures.word c.encode-2.ensures.word
+    (thin_in_range c.args.self.now.seat.me.0 c.requires.belongs.5 c.args.id c.args.old c.requires.may.0 c.requires.may.1)
     (slot_in_range v r.5 may.2.0 c.args.target may.2.1)).1

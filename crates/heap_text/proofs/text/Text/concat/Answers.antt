@@ -26,7 +26,8 @@ returns-then-left-eq0-clause-joined g c us vs h k =
 
 pub returns-then-right-eq0-clause-joined : goal.returns-then-right-eq0-clause-joined
 returns-then-right-eq0-clause-joined g c us vs h k =
-    let left = c.len-left.ensures.length us h in let some = c.if-left-eq0.false in let right = c.len-right.ensures.length vs (c.len-left.ensures.reads.view.known.units c.args.b.id vs k) in let none = c.if-right-eq0.true in
+    let left = c.len-left.ensures.length us h in let some = c.if-left-eq0.false in
+    let right = c.len-right.ensures.length vs (c.len-left.ensures.reads.view.known.units c.args.b.id vs k) in let none = c.if-right-eq0.true in
     let room = c.if-left-right.false in record {
       long = λ l. absurd (omega arith);
       left_empty = λ _ e. absurd (some (left ∙ e));
@@ -41,18 +42,24 @@ overflow_add-left g c = let v : View = c.args.self.now.reader.agent.seat.me.0 in
     let a = possible_short v c.args.self.now.reader.belongs.5 c.args.a.id p.0 p.1 in let b = possible_short v c.args.self.now.reader.belongs.5 c.args.b.id q.0 q.1 in omega arith
 
 pub join-requires-clause-known : goal.join-requires-clause-known
-join-requires-clause-known g c = let v : View = c.args.self.now.reader.agent.seat.me.0 in let w1 : View = c.len-left.new.self.agent.seat.me.0 in let w2 : View = c.len-right.new.self.agent.seat.me.0 in let r2 = reads_trans v w1 w2 c.len-left.ensures.reads.view c.len-right.ensures.reads.view in
+join-requires-clause-known g c = let v : View = c.args.self.now.reader.agent.seat.me.0 in
+    let w1 : View = c.len-left.new.self.agent.seat.me.0 in let w2 : View = c.len-right.new.self.agent.seat.me.0 in
+    let r2 = reads_trans v w1 w2 c.len-left.ensures.reads.view c.len-right.ensures.reads.view in
     let p = has_key v.units c.args.a.id c.requires.known.0 in let q = has_key v.units c.args.b.id c.requires.known.1 in
     let left = c.len-left.ensures.length p.0 p.1 in let right = c.len-right.ensures.length q.0 (c.len-left.ensures.reads.view.known.units c.args.b.id q.0 q.1) in
     let some = c.if-left-eq0.false in let more = c.if-right-eq0.false in
     (p.0, q.0, r2.known.units c.args.a.id p.0 p.1, r2.known.units c.args.b.id q.0 q.1, omega arith, omega arith, omega arith)
 
 pub returns-in-Ok-clause-continues : goal.returns-in-Ok-clause-continues
-returns-in-Ok-clause-continues g c = let v : View = c.args.self.now.reader.agent.seat.me.0 in let w1 : View = c.len-left.new.self.agent.seat.me.0 in let w2 : View = c.len-right.new.self.agent.seat.me.0 in let w : View = c.join.new.reader.agent.seat.me.0 in let r2 = reads_trans v w1 w2 c.len-left.ensures.reads.view c.len-right.ensures.reads.view in
+returns-in-Ok-clause-continues g c = let v : View = c.args.self.now.reader.agent.seat.me.0 in
+    let w1 : View = c.len-left.new.self.agent.seat.me.0 in let w2 : View = c.len-right.new.self.agent.seat.me.0 in
+    let w : View = c.join.new.reader.agent.seat.me.0 in let r2 = reads_trans v w1 w2 c.len-left.ensures.reads.view c.len-right.ensures.reads.view in
     continues_trans v w2 w (continues_reads v w2 r2) c.join.ensures.continues.view
 
 pub returns-in-Ok-clause-joined : goal.returns-in-Ok-clause-joined
-returns-in-Ok-clause-joined g c us vs h k = let v : View = c.args.self.now.reader.agent.seat.me.0 in let w1 : View = c.len-left.new.self.agent.seat.me.0 in let w2 : View = c.len-right.new.self.agent.seat.me.0 in let w : View = c.join.new.reader.agent.seat.me.0 in let r2 = reads_trans v w1 w2 c.len-left.ensures.reads.view c.len-right.ensures.reads.view in
+returns-in-Ok-clause-joined g c us vs h k = let v : View = c.args.self.now.reader.agent.seat.me.0 in
+    let w1 : View = c.len-left.new.self.agent.seat.me.0 in let w2 : View = c.len-right.new.self.agent.seat.me.0 in
+    let w : View = c.join.new.reader.agent.seat.me.0 in let r2 = reads_trans v w1 w2 c.len-left.ensures.reads.view c.len-right.ensures.reads.view in
     let left = c.len-left.ensures.length us h in let right = c.len-right.ensures.length vs (c.len-left.ensures.reads.view.known.units c.args.b.id vs k) in
     let some = c.if-left-eq0.false in let more = c.if-right-eq0.false in let room = c.if-left-right.false in
     let z : HeapSize = size_of (g.H.HeapRef.reached c.args.self.now.reader.heap) in
@@ -61,16 +68,24 @@ returns-in-Ok-clause-joined g c us vs h k = let v : View = c.args.self.now.reade
       long = λ l. absurd (omega arith);
       left_empty = λ _ e. absurd (some (left ∙ e));
       right_empty = λ _ _ e. absurd (more (right ∙ e));
-      short = λ _ _ _ l. copied_lifted v w z (us ++ vs) (Ok c.in-Ok.s) (copied_after v w2 w z r2 (us ++ vs) (Ok c.in-Ok.s) (subst (λ (y : HeapSize). IsCopied w2 w y (us ++ vs) (Ok c.in-Ok.s)) same (c.in-Ok.ensures.copied (omega arith) us vs hl hr)));
-      rope = λ _ _ _ l. linked_lifted v w z a b (us ++ vs) (Ok c.in-Ok.s) (linked_after v w2 w z r2 a b (us ++ vs) (Ok c.in-Ok.s) (subst (λ (y : HeapSize). IsLinked w2 w y a b (us ++ vs) (Ok c.in-Ok.s)) same (c.in-Ok.ensures.linked (omega arith) us vs hl hr)));
+      short = λ _ _ _ l. copied_lifted v w z (us ++ vs) (Ok c.in-Ok.s)
+          (copied_after v w2 w z r2 (us ++ vs) (Ok c.in-Ok.s) (subst (λ (y : HeapSize). IsCopied w2 w y (us ++ vs) (Ok c.in-Ok.s)) same
+          (c.in-Ok.ensures.copied (omega arith) us vs hl hr)));
+      rope = λ _ _ _ l. linked_lifted v w z a b (us ++ vs) (Ok c.in-Ok.s)
+          (linked_after v w2 w z r2 a b (us ++ vs) (Ok c.in-Ok.s) (subst (λ (y : HeapSize). IsLinked w2 w y a b (us ++ vs) (Ok c.in-Ok.s))
+          same (c.in-Ok.ensures.linked (omega arith) us vs hl hr)));
     }
 
 pub returns-in-Err-clause-continues : goal.returns-in-Err-clause-continues
-returns-in-Err-clause-continues g c = let v : View = c.args.self.now.reader.agent.seat.me.0 in let w1 : View = c.len-left.new.self.agent.seat.me.0 in let w2 : View = c.len-right.new.self.agent.seat.me.0 in let w : View = c.join.new.reader.agent.seat.me.0 in let r2 = reads_trans v w1 w2 c.len-left.ensures.reads.view c.len-right.ensures.reads.view in
+returns-in-Err-clause-continues g c = let v : View = c.args.self.now.reader.agent.seat.me.0 in
+    let w1 : View = c.len-left.new.self.agent.seat.me.0 in let w2 : View = c.len-right.new.self.agent.seat.me.0 in
+    let w : View = c.join.new.reader.agent.seat.me.0 in let r2 = reads_trans v w1 w2 c.len-left.ensures.reads.view c.len-right.ensures.reads.view in
     continues_trans v w2 w (continues_reads v w2 r2) c.join.ensures.continues.view
 
 pub returns-in-Err-clause-joined : goal.returns-in-Err-clause-joined
-returns-in-Err-clause-joined g c us vs h k = let v : View = c.args.self.now.reader.agent.seat.me.0 in let w1 : View = c.len-left.new.self.agent.seat.me.0 in let w2 : View = c.len-right.new.self.agent.seat.me.0 in let w : View = c.join.new.reader.agent.seat.me.0 in let r2 = reads_trans v w1 w2 c.len-left.ensures.reads.view c.len-right.ensures.reads.view in
+returns-in-Err-clause-joined g c us vs h k = let v : View = c.args.self.now.reader.agent.seat.me.0 in
+    let w1 : View = c.len-left.new.self.agent.seat.me.0 in let w2 : View = c.len-right.new.self.agent.seat.me.0 in
+    let w : View = c.join.new.reader.agent.seat.me.0 in let r2 = reads_trans v w1 w2 c.len-left.ensures.reads.view c.len-right.ensures.reads.view in
     let left = c.len-left.ensures.length us h in let right = c.len-right.ensures.length vs (c.len-left.ensures.reads.view.known.units c.args.b.id vs k) in
     let some = c.if-left-eq0.false in let more = c.if-right-eq0.false in let room = c.if-left-right.false in
     let z : HeapSize = size_of (g.H.HeapRef.reached c.args.self.now.reader.heap) in
@@ -79,25 +94,41 @@ returns-in-Err-clause-joined g c us vs h k = let v : View = c.args.self.now.read
       long = λ l. absurd (omega arith);
       left_empty = λ _ e. absurd (some (left ∙ e));
       right_empty = λ _ _ e. absurd (more (right ∙ e));
-      short = λ _ _ _ l. copied_lifted v w z (us ++ vs) (Err c.in-Err.full) (copied_after v w2 w z r2 (us ++ vs) (Err c.in-Err.full) (subst (λ (y : HeapSize). IsCopied w2 w y (us ++ vs) (Err c.in-Err.full)) same (c.in-Err.ensures.copied (omega arith) us vs hl hr)));
-      rope = λ _ _ _ l. linked_lifted v w z a b (us ++ vs) (Err c.in-Err.full) (linked_after v w2 w z r2 a b (us ++ vs) (Err c.in-Err.full) (subst (λ (y : HeapSize). IsLinked w2 w y a b (us ++ vs) (Err c.in-Err.full)) same (c.in-Err.ensures.linked (omega arith) us vs hl hr)));
+      short = λ _ _ _ l. copied_lifted v w z (us ++ vs) (Err c.in-Err.full)
+          (copied_after v w2 w z r2 (us ++ vs) (Err c.in-Err.full) (subst (λ (y : HeapSize). IsCopied w2 w y (us ++ vs) (Err c.in-Err.full))
+          same (c.in-Err.ensures.copied (omega arith) us vs hl hr)));
+      rope = λ _ _ _ l. linked_lifted v w z a b (us ++ vs) (Err c.in-Err.full)
+          (linked_after v w2 w z r2 a b (us ++ vs) (Err c.in-Err.full) (subst
+          (λ (y : HeapSize). IsLinked w2 w y a b (us ++ vs) (Err c.in-Err.full)) same (c.in-Err.ensures.linked (omega arith) us vs hl hr)));
     }
 
 pub returns-then-left-eq0-clause-units : goal.returns-then-left-eq0-clause-units
-returns-then-left-eq0-clause-units g c us vs h k = let v : View = c.args.self.now.reader.agent.seat.me.0 in let w1 : View = c.len-left.new.self.agent.seat.me.0 in let w2 : View = c.len-right.new.self.agent.seat.me.0 in let w : View = c.len-right.new.self.agent.seat.me.0 in
-    let known = known_trans v w1 w2 c.len-left.ensures.reads.view.known c.len-right.ensures.reads.view.known in joined_units v w (size_of (g.H.HeapRef.reached c.args.self.now.reader.heap)) c.args.self.now.limit c.args.a c.args.b c.args.b us vs (returns-then-left-eq0-clause-joined g c us vs h k) (known.units c.args.a.id us h) (known.units c.args.b.id vs k)
+returns-then-left-eq0-clause-units g c us vs h k = let v : View = c.args.self.now.reader.agent.seat.me.0 in
+    let w1 : View = c.len-left.new.self.agent.seat.me.0 in let w2 : View = c.len-right.new.self.agent.seat.me.0 in
+    let w : View = c.len-right.new.self.agent.seat.me.0 in
+    let known = known_trans v w1 w2 c.len-left.ensures.reads.view.known c.len-right.ensures.reads.view.known in joined_units v w
+    (size_of (g.H.HeapRef.reached c.args.self.now.reader.heap)) c.args.self.now.limit c.args.a c.args.b c.args.b us vs
+    (returns-then-left-eq0-clause-joined g c us vs h k) (known.units c.args.a.id us h) (known.units c.args.b.id vs k)
 
 pub returns-then-right-eq0-clause-units : goal.returns-then-right-eq0-clause-units
-returns-then-right-eq0-clause-units g c us vs h k = let v : View = c.args.self.now.reader.agent.seat.me.0 in let w1 : View = c.len-left.new.self.agent.seat.me.0 in let w2 : View = c.len-right.new.self.agent.seat.me.0 in let w : View = c.len-right.new.self.agent.seat.me.0 in
-    let known = known_trans v w1 w2 c.len-left.ensures.reads.view.known c.len-right.ensures.reads.view.known in joined_units v w (size_of (g.H.HeapRef.reached c.args.self.now.reader.heap)) c.args.self.now.limit c.args.a c.args.b c.args.a us vs (returns-then-right-eq0-clause-joined g c us vs h k) (known.units c.args.a.id us h) (known.units c.args.b.id vs k)
+returns-then-right-eq0-clause-units g c us vs h k = let v : View = c.args.self.now.reader.agent.seat.me.0 in
+    let w1 : View = c.len-left.new.self.agent.seat.me.0 in let w2 : View = c.len-right.new.self.agent.seat.me.0 in
+    let w : View = c.len-right.new.self.agent.seat.me.0 in
+    let known = known_trans v w1 w2 c.len-left.ensures.reads.view.known c.len-right.ensures.reads.view.known in joined_units v w
+    (size_of (g.H.HeapRef.reached c.args.self.now.reader.heap)) c.args.self.now.limit c.args.a c.args.b c.args.a us vs
+    (returns-then-right-eq0-clause-joined g c us vs h k) (known.units c.args.a.id us h) (known.units c.args.b.id vs k)
 
 pub returns-in-Ok-clause-units : goal.returns-in-Ok-clause-units
-returns-in-Ok-clause-units g c us vs h k = let v : View = c.args.self.now.reader.agent.seat.me.0 in let w1 : View = c.len-left.new.self.agent.seat.me.0 in let w2 : View = c.len-right.new.self.agent.seat.me.0 in let w : View = c.join.new.reader.agent.seat.me.0 in let r2 = reads_trans v w1 w2 c.len-left.ensures.reads.view c.len-right.ensures.reads.view in
+returns-in-Ok-clause-units g c us vs h k = let v : View = c.args.self.now.reader.agent.seat.me.0 in
+    let w1 : View = c.len-left.new.self.agent.seat.me.0 in let w2 : View = c.len-right.new.self.agent.seat.me.0 in
+    let w : View = c.join.new.reader.agent.seat.me.0 in let r2 = reads_trans v w1 w2 c.len-left.ensures.reads.view c.len-right.ensures.reads.view in
     let known = known_trans v w2 w r2.known c.join.ensures.continues.view.known in
-    joined_units v w (size_of (g.H.HeapRef.reached c.args.self.now.reader.heap)) c.args.self.now.limit c.args.a c.args.b c.in-Ok.s us vs (returns-in-Ok-clause-joined g c us vs h k) (known.units c.args.a.id us h) (known.units c.args.b.id vs k)
+    joined_units v w (size_of (g.H.HeapRef.reached c.args.self.now.reader.heap)) c.args.self.now.limit c.args.a c.args.b c.in-Ok.s us vs
+    (returns-in-Ok-clause-joined g c us vs h k) (known.units c.args.a.id us h) (known.units c.args.b.id vs k)
 
 pub returns-then-left-right-clause-continues : goal.returns-then-left-right-clause-continues
-returns-then-left-right-clause-continues g c = let v : View = c.args.self.now.reader.agent.seat.me.0 in let w1 : View = c.len-left.new.self.agent.seat.me.0 in let w2 : View = c.len-right.new.self.agent.seat.me.0 in
+returns-then-left-right-clause-continues g c = let v : View = c.args.self.now.reader.agent.seat.me.0 in
+    let w1 : View = c.len-left.new.self.agent.seat.me.0 in let w2 : View = c.len-right.new.self.agent.seat.me.0 in
     continues_reads v w2 (reads_trans v w1 w2 c.len-left.ensures.reads.view c.len-right.ensures.reads.view)
 
 pub returns-then-left-right-clause-joined : goal.returns-then-left-right-clause-joined
@@ -115,21 +146,31 @@ pub join-requires-clause-most : goal.join-requires-clause-most
 join-requires-clause-most g c = let room = c.if-left-right.false in let most = c.args.self.now.within in omega arith
 
 pub returns-in-Ok-clause-own : goal.returns-in-Ok-clause-own
-returns-in-Ok-clause-own g c = let v : View = c.args.self.now.reader.agent.seat.me.0 in let w1 : View = c.len-left.new.self.agent.seat.me.0 in let w2 : View = c.len-right.new.self.agent.seat.me.0 in let r2 = reads_trans v w1 w2 c.len-left.ensures.reads.view c.len-right.ensures.reads.view in
+returns-in-Ok-clause-own g c = let v : View = c.args.self.now.reader.agent.seat.me.0 in
+    let w1 : View = c.len-left.new.self.agent.seat.me.0 in let w2 : View = c.len-right.new.self.agent.seat.me.0 in
+    let r2 = reads_trans v w1 w2 c.len-left.ensures.reads.view c.len-right.ensures.reads.view in
     own_trans v w2 c.join.new.reader.agent.seat.me.0 (own_reads v w2 r2) c.join.ensures.own
 
 pub returns-in-Err-clause-own : goal.returns-in-Err-clause-own
-returns-in-Err-clause-own g c = let v : View = c.args.self.now.reader.agent.seat.me.0 in let w1 : View = c.len-left.new.self.agent.seat.me.0 in let w2 : View = c.len-right.new.self.agent.seat.me.0 in let r2 = reads_trans v w1 w2 c.len-left.ensures.reads.view c.len-right.ensures.reads.view in
+returns-in-Err-clause-own g c = let v : View = c.args.self.now.reader.agent.seat.me.0 in
+    let w1 : View = c.len-left.new.self.agent.seat.me.0 in let w2 : View = c.len-right.new.self.agent.seat.me.0 in
+    let r2 = reads_trans v w1 w2 c.len-left.ensures.reads.view c.len-right.ensures.reads.view in
     own_trans v w2 c.join.new.reader.agent.seat.me.0 (own_reads v w2 r2) c.join.ensures.own
 
 pub returns-then-left-right-clause-own : goal.returns-then-left-right-clause-own
-returns-then-left-right-clause-own g c = let v : View = c.args.self.now.reader.agent.seat.me.0 in let w1 : View = c.len-left.new.self.agent.seat.me.0 in let w2 : View = c.len-right.new.self.agent.seat.me.0 in let r2 = reads_trans v w1 w2 c.len-left.ensures.reads.view c.len-right.ensures.reads.view in
+returns-then-left-right-clause-own g c = let v : View = c.args.self.now.reader.agent.seat.me.0 in
+    let w1 : View = c.len-left.new.self.agent.seat.me.0 in let w2 : View = c.len-right.new.self.agent.seat.me.0 in
+    let r2 = reads_trans v w1 w2 c.len-left.ensures.reads.view c.len-right.ensures.reads.view in
     own_reads v w2 r2
 
 pub returns-then-left-eq0-clause-own : goal.returns-then-left-eq0-clause-own
-returns-then-left-eq0-clause-own g c = let v : View = c.args.self.now.reader.agent.seat.me.0 in let w1 : View = c.len-left.new.self.agent.seat.me.0 in let w2 : View = c.len-right.new.self.agent.seat.me.0 in let r2 = reads_trans v w1 w2 c.len-left.ensures.reads.view c.len-right.ensures.reads.view in
+returns-then-left-eq0-clause-own g c = let v : View = c.args.self.now.reader.agent.seat.me.0 in
+    let w1 : View = c.len-left.new.self.agent.seat.me.0 in let w2 : View = c.len-right.new.self.agent.seat.me.0 in
+    let r2 = reads_trans v w1 w2 c.len-left.ensures.reads.view c.len-right.ensures.reads.view in
     own_reads v w2 r2
 
 pub returns-then-right-eq0-clause-own : goal.returns-then-right-eq0-clause-own
-returns-then-right-eq0-clause-own g c = let v : View = c.args.self.now.reader.agent.seat.me.0 in let w1 : View = c.len-left.new.self.agent.seat.me.0 in let w2 : View = c.len-right.new.self.agent.seat.me.0 in let r2 = reads_trans v w1 w2 c.len-left.ensures.reads.view c.len-right.ensures.reads.view in
+returns-then-right-eq0-clause-own g c = let v : View = c.args.self.now.reader.agent.seat.me.0 in
+    let w1 : View = c.len-left.new.self.agent.seat.me.0 in let w2 : View = c.len-right.new.self.agent.seat.me.0 in
+    let r2 = reads_trans v w1 w2 c.len-left.ensures.reads.view c.len-right.ensures.reads.view in
     own_reads v w2 r2

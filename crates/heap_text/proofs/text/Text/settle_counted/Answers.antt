@@ -13,11 +13,14 @@ use Rattle.heap_text.proofs.Settled.{err_then, flattened_after, no_room_after, o
 use Rattle.heap_text.proofs.text.Text.settle_counted.Goals as goal
 
 pub returns-in-Cons-clause-continues : goal.returns-in-Cons-clause-continues
-returns-in-Cons-clause-continues g c = let v : View = c.args.self.now.reader.agent.seat.me.0 in let u : View = c.form_now-form.new.self.agent.seat.me.0 in let w : View = c.flatten.new.reader.agent.seat.me.0 in
+returns-in-Cons-clause-continues g c = let v : View = c.args.self.now.reader.agent.seat.me.0 in
+    let u : View = c.form_now-form.new.self.agent.seat.me.0 in let w : View = c.flatten.new.reader.agent.seat.me.0 in
     continues_trans v u w (continues_reads v u c.form_now-form.ensures.reads.view) c.flatten.ensures.continues.view
 
 pub returns-in-Cons-clause-used : goal.returns-in-Cons-clause-used
-returns-in-Cons-clause-used g c = let v : View = c.args.self.now.reader.agent.seat.me.0 in let u : View = c.form_now-form.new.self.agent.seat.me.0 in let w : View = c.flatten.new.reader.agent.seat.me.0 in let i = c.args.s.id in let wide = c.in-Cons.wide in let r = c.form_now-form.ensures.reads.view in
+returns-in-Cons-clause-used g c = let v : View = c.args.self.now.reader.agent.seat.me.0 in
+    let u : View = c.form_now-form.new.self.agent.seat.me.0 in let w : View = c.flatten.new.reader.agent.seat.me.0 in let i = c.args.s.id in
+    let wide = c.in-Cons.wide in let r = c.form_now-form.ensures.reads.view in
     let bit : IsBitOf v i wide = λ seen l m k. same_bit seen wide l m c.in-Cons.left c.in-Cons.right c.form_now-form.result c.in-Cons.is (c.form_now-form.ensures.later (Cons seen l m) k) in
     ok_then c.flatten.result (λ _. (us : List ℕ) → Has u.units i us → IsFlattened u w i us wide) (λ _. (us : List ℕ) → Has v.units i us → IsSettling v w i us)
     (λ _ h us k. inr (wide, bit, flattened_after v u w r i us wide (h us (r.known.units i us k)))) c.flatten.ensures.flat
@@ -30,16 +33,24 @@ pub returns-in_default-clause-later : goal.returns-in_default-clause-later
 returns-in_default-clause-later g c settled f h = (c.form_now-form.result, c.form_now-form.ensures.seen, c.form_now-form.ensures.later f h)
 
 pub returns-in-Cons-clause-refused : goal.returns-in-Cons-clause-refused
-returns-in-Cons-clause-refused g c = let v : View = c.args.self.now.reader.agent.seat.me.0 in let u : View = c.form_now-form.new.self.agent.seat.me.0 in let w : View = c.flatten.new.reader.agent.seat.me.0 in let i = c.args.s.id in let wide = c.in-Cons.wide in let r = c.form_now-form.ensures.reads.view in
+returns-in-Cons-clause-refused g c = let v : View = c.args.self.now.reader.agent.seat.me.0 in
+    let u : View = c.form_now-form.new.self.agent.seat.me.0 in let w : View = c.flatten.new.reader.agent.seat.me.0 in let i = c.args.s.id in
+    let wide = c.in-Cons.wide in let r = c.form_now-form.ensures.reads.view in
     let bit : IsBitOf v i wide = λ seen l m k. same_bit seen wide l m c.in-Cons.left c.in-Cons.right c.form_now-form.result c.in-Cons.is (c.form_now-form.ensures.later (Cons seen l m) k) in
-    let same : size_of (g.H.HeapRef.reached c.form_now-form.new.self.heap) ≡ size_of (g.H.HeapRef.reached c.args.self.now.reader.heap) = ap (λ y. size_of (g.H.HeapRef.reached y)) c.form_now-form.ensures.reads.heap in
+    let same : size_of (g.H.HeapRef.reached c.form_now-form.new.self.heap) ≡ size_of (g.H.HeapRef.reached c.args.self.now.reader.heap) = ap
+    (λ y. size_of (g.H.HeapRef.reached y)) c.form_now-form.ensures.reads.heap in
     subst (λ (z : HeapSize). IfErr c.flatten.result (λ f. (us : List ℕ) → Has v.units i us → (b : Bool) × IsBitOf v i b × IsNoRoom v w z us f b)) same
-    (err_then c.flatten.result (λ f. (us : List ℕ) → Has u.units i us → IsNoRoom u w (size_of (g.H.HeapRef.reached c.form_now-form.new.self.heap)) us f wide) (λ f. (us : List ℕ) → Has v.units i us → (b : Bool) × IsBitOf v i b × IsNoRoom v w (size_of (g.H.HeapRef.reached c.form_now-form.new.self.heap)) us f b)
+    (err_then c.flatten.result (λ f. (us : List ℕ) → Has u.units i us → IsNoRoom u w
+    (size_of (g.H.HeapRef.reached c.form_now-form.new.self.heap)) us f wide)
+    (λ f. (us : List ℕ) → Has v.units i us → (b : Bool) × IsBitOf v i b × IsNoRoom v w (size_of (g.H.HeapRef.reached c.form_now-form.new.self.heap)) us f b)
     (λ f h us k. (wide, bit, no_room_after v u w r (size_of (g.H.HeapRef.reached c.form_now-form.new.self.heap)) us f wide (h us (r.known.units i us k)))) c.flatten.ensures.refused)
 
 pub returns-in-Cons-clause-rope : goal.returns-in-Cons-clause-rope
-returns-in-Cons-clause-rope g c = let v : View = c.args.self.now.reader.agent.seat.me.0 in let u : View = c.form_now-form.new.self.agent.seat.me.0 in let w : View = c.flatten.new.reader.agent.seat.me.0 in let i = c.args.s.id in let r = c.form_now-form.ensures.reads.view in
-    err_then c.flatten.result (λ f. (us : List ℕ) → Has u.units i us → HasSides w i us) (λ f. (us : List ℕ) → Has v.units i us → HasSides w i us) (λ f h us k. h us (r.known.units i us k)) c.flatten.ensures.rope
+returns-in-Cons-clause-rope g c = let v : View = c.args.self.now.reader.agent.seat.me.0 in
+    let u : View = c.form_now-form.new.self.agent.seat.me.0 in let w : View = c.flatten.new.reader.agent.seat.me.0 in let i = c.args.s.id in
+    let r = c.form_now-form.ensures.reads.view in
+    err_then c.flatten.result (λ f. (us : List ℕ) → Has u.units i us → HasSides w i us)
+    (λ f. (us : List ℕ) → Has v.units i us → HasSides w i us) (λ f h us k. h us (r.known.units i us k)) c.flatten.ensures.rope
 
 pub returns-in-Cons-clause-own : goal.returns-in-Cons-clause-own
 returns-in-Cons-clause-own g c = let v : View = c.args.self.now.reader.agent.seat.me.0 in let u : View = c.form_now-form.new.self.agent.seat.me.0 in

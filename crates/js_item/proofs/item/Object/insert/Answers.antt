@@ -15,17 +15,20 @@ replace-requires g c =
 pub returns-in-Some-clause-added : goal.returns-in-Some-clause-added
 returns-in-Some-clause-added g c =
     let a = g.S.Strings.state c.args.store.now in
-    c.replace.ensures ∙ put_there (has_units a g.S.Strings.number (text a (g.S.Strings.number c.args.key))) c.args.key (content_of c.args.value) c.args.self.now c.in-Some.place (sym c.in-Some.ensures.place)
+    c.replace.ensures ∙ put_there (has_units a g.S.Strings.number (text a (g.S.Strings.number c.args.key))) c.args.key
+    (content_of c.args.value) c.args.self.now c.in-Some.place (sym c.in-Some.ensures.place)
 
 pub returns-in-Some-clause-keys : goal.returns-in-Some-clause-keys
 returns-in-Some-clause-keys g c =
     let state = g.S.Strings.state in
-    keys_with (state c.args.store.now) (state c.find.new.store) c.in-Some.ensures.uses.step.grows g.S.Strings.number c.args.key (content_of c.args.value) c.requires.key c.args.self.now c.replace.new.self c.requires.keys (returns-in-Some-clause-added g c)
+    keys_with (state c.args.store.now) (state c.find.new.store) c.in-Some.ensures.uses.step.grows g.S.Strings.number c.args.key
+    (content_of c.args.value) c.requires.key c.args.self.now c.replace.new.self c.requires.keys (returns-in-Some-clause-added g c)
 
 pub returns-in-Some-clause-apart : goal.returns-in-Some-clause-apart
 returns-in-Some-clause-apart g c =
     let state = g.S.Strings.state in
-    differ_with (state c.args.store.now) (state c.find.new.store) c.in-Some.ensures.uses.step.grows g.S.Strings.number c.args.key (content_of c.args.value) c.requires.key c.args.self.now c.replace.new.self c.requires.keys c.requires.apart (returns-in-Some-clause-added g c)
+    differ_with (state c.args.store.now) (state c.find.new.store) c.in-Some.ensures.uses.step.grows g.S.Strings.number c.args.key
+    (content_of c.args.value) c.requires.key c.args.self.now c.replace.new.self c.requires.keys c.requires.apart (returns-in-Some-clause-added g c)
 
 pub returns-in-Some-clause-few : goal.returns-in-Some-clause-few
 returns-in-Some-clause-few g c =
@@ -34,12 +37,14 @@ returns-in-Some-clause-few g c =
 pub returns-in_err-enter-in-None-clause-keys : goal.returns-in_err-enter-in-None-clause-keys
 returns-in_err-enter-in-None-clause-keys g c =
     let state = g.S.Strings.state in
-    keys_without (state c.args.store.now) (state c.find.new.store) c.in-None.ensures.uses.step.grows g.S.Strings.number c.args.key (content_of c.args.value) c.requires.key c.args.self.now c.enter.new.self c.requires.keys c.enter.ensures
+    keys_without (state c.args.store.now) (state c.find.new.store) c.in-None.ensures.uses.step.grows g.S.Strings.number c.args.key
+    (content_of c.args.value) c.requires.key c.args.self.now c.enter.new.self c.requires.keys c.enter.ensures
 
 pub returns-in_err-enter-in-None-clause-apart : goal.returns-in_err-enter-in-None-clause-apart
 returns-in_err-enter-in-None-clause-apart g c =
     let state = g.S.Strings.state in
-    differ_without (state c.args.store.now) (state c.find.new.store) c.in-None.ensures.uses.step.grows g.S.Strings.number c.args.key (content_of c.args.value) c.requires.key c.args.self.now c.enter.new.self c.requires.keys c.requires.apart c.enter.ensures
+    differ_without (state c.args.store.now) (state c.find.new.store) c.in-None.ensures.uses.step.grows g.S.Strings.number c.args.key
+    (content_of c.args.value) c.requires.key c.args.self.now c.enter.new.self c.requires.keys c.requires.apart c.enter.ensures
 
 pub returns-in_ok-enter-in-None-clause-added : goal.returns-in_ok-enter-in-None-clause-added
 returns-in_ok-enter-in-None-clause-added g c =
@@ -50,13 +55,18 @@ returns-in_ok-enter-in-None-clause-added g c =
 pub returns-in_ok-enter-in-None-clause-keys : goal.returns-in_ok-enter-in-None-clause-keys
 returns-in_ok-enter-in-None-clause-keys g c =
     let state = g.S.Strings.state in
-    keys_either (state c.args.store.now) (state c.find.new.store) c.in-None.ensures.uses.step.grows g.S.Strings.number c.args.key (content_of c.args.value) c.requires.key c.args.self.now c.push.new.self c.requires.keys c.push.result c.enter.new.self c.enter.ensures (returns-in_ok-enter-in-None-clause-added g c) c.push.ensures.unchanged
+    keys_either (state c.args.store.now) (state c.find.new.store) c.in-None.ensures.uses.step.grows g.S.Strings.number c.args.key
+    (content_of c.args.value) c.requires.key c.args.self.now c.push.new.self c.requires.keys c.push.result c.enter.new.self c.enter.ensures
+    (returns-in_ok-enter-in-None-clause-added g c) c.push.ensures.unchanged
 
 pub returns-in_ok-enter-in-None-clause-apart : goal.returns-in_ok-enter-in-None-clause-apart
 returns-in_ok-enter-in-None-clause-apart g c =
     let state = g.S.Strings.state in
-    differ_either (state c.args.store.now) (state c.find.new.store) c.in-None.ensures.uses.step.grows g.S.Strings.number c.args.key (content_of c.args.value) c.requires.key c.args.self.now c.push.new.self c.requires.keys c.requires.apart c.push.result c.enter.new.self c.enter.ensures (returns-in_ok-enter-in-None-clause-added g c) c.push.ensures.unchanged
+    differ_either (state c.args.store.now) (state c.find.new.store) c.in-None.ensures.uses.step.grows g.S.Strings.number c.args.key
+    (content_of c.args.value) c.requires.key c.args.self.now c.push.new.self c.requires.keys c.requires.apart c.push.result c.enter.new.self
+    c.enter.ensures (returns-in_ok-enter-in-None-clause-added g c) c.push.ensures.unchanged
 
 pub returns-in_ok-enter-in-None-clause-few : goal.returns-in_ok-enter-in-None-clause-few
 returns-in_ok-enter-in-None-clause-few g c =
-    width_either (names_key (g.S.Strings.state c.args.store.now) g.S.Strings.number c.args.key) c.args.key (content_of c.args.value) c.args.self.now c.push.new.self c.push.result c.enter.new.self c.enter.ensures (returns-in_ok-enter-in-None-clause-added g c) c.push.ensures.unchanged
+    width_either (names_key (g.S.Strings.state c.args.store.now) g.S.Strings.number c.args.key) c.args.key (content_of c.args.value)
+    c.args.self.now c.push.new.self c.push.result c.enter.new.self c.enter.ensures (returns-in_ok-enter-in-None-clause-added g c) c.push.ensures.unchanged

@@ -13,5 +13,6 @@ index_mut-member-requires g c =
 pub returns : goal.returns
 returns g c =
     let w : width (fields_of c.self.inside.members.items) ≡ width c.args.self.now = ap width c.self.view_is in
-    fields_replace c.self.inside.members.items c.args.place c.index_mut-member.result.now c.args.value (omega (arith, w, width_is c.self.inside.members.items, c.requires)) c.index_mut-member.ensures.value
+    fields_replace c.self.inside.members.items c.args.place c.index_mut-member.result.now c.args.value
+    (omega (arith, w, width_is c.self.inside.members.items, c.requires)) c.index_mut-member.ensures.value
     ∙ ap (λ fs. with_value c.args.place (content_of c.args.value) fs) c.self.view_is

@@ -11,7 +11,8 @@ jsstr_slice_unchecked-requires-clause-within c = let one = c.settle_reaching-set
 
 pub returns-clause-units : goal.returns-clause-units
 returns-clause-units c = λ done us h. let one = c.settle_reaching-settled in
-    c.jsstr_slice_unchecked.ensures.units done us (units_first c.args.agent.now.at.value one.new.agent.at.value c.args.s one.result one.ensures.settles (omega (arith, c.if-settled-ne-DONE.false)) us h)
+    c.jsstr_slice_unchecked.ensures.units done us (units_first c.args.agent.now.at.value one.new.agent.at.value c.args.s one.result
+    one.ensures.settles (omega (arith, c.if-settled-ne-DONE.false)) us h)
 
 pub returns-clause-cuts : goal.returns-clause-cuts
 returns-clause-cuts c = λ told. let one = c.settle_reaching-settled in let m = one.new.agent.at.value in

@@ -12,5 +12,6 @@ returns-then-settled-ne-DONE-clause-reads c = let first = c.settle_known-settled
 
 pub returns-clause-reads : goal.returns-clause-reads
 returns-clause-reads c = let first = c.settle_known-settled in let two = c.jsstr_hash_unchecked-value in let n = c.if-settled-ne-DONE.false in
-    goes_on c.args.agent.now.at.value first.new.agent.at.value c.args.s first.result first.ensures.settles two.new.agent.at.value _ _ _ (omega (arith, n)) two.ensures.looks (c.of_number.ensures.told) (c.of_number.ensures.words)
+    goes_on c.args.agent.now.at.value first.new.agent.at.value c.args.s first.result first.ensures.settles two.new.agent.at.value _ _ _
+    (omega (arith, n)) two.ensures.looks (c.of_number.ensures.told) (c.of_number.ensures.words)
     (λ us h. c.of_number.ensures.value ∙ ap (λ (n : ℕ). number_answer (Some n)) (two.ensures.hash us h))

@@ -11,5 +11,6 @@ returns-then-settled-ne-DONE-clause-reads c = let first = c.settle_known-settled
 
 pub returns-clause-reads : goal.returns-clause-reads
 returns-clause-reads c = let first = c.settle_known-settled in let two = c.jsstr_to_latin1_unchecked in let n = c.if-settled-ne-DONE.false in
-    goes_on c.args.agent.now.at.value first.new.agent.at.value c.args.s first.result first.ensures.settles two.new.agent.at.value _ _ _ (omega (arith, n)) two.ensures.looks (two.ensures.told) (two.ensures.words)
+    goes_on c.args.agent.now.at.value first.new.agent.at.value c.args.s first.result first.ensures.settles two.new.agent.at.value _ _ _
+    (omega (arith, n)) two.ensures.looks (two.ensures.told) (two.ensures.words)
     (two.ensures.given)

@@ -18,5 +18,6 @@ jsstr_unit_at_unchecked-unit-requires-clause-within c = let first = c.settle_rea
 
 pub returns-clause-reads : goal.returns-clause-reads
 returns-clause-reads c = let first = c.settle_reaching-settled in let two = c.jsstr_unit_at_unchecked-unit in let n = c.if-settled-ne-DONE.false in
-    goes_on c.args.agent.now.at.value first.new.agent.at.value c.args.s first.result first.ensures.settles two.new.agent.at.value _ _ _ (omega (arith, n)) two.ensures.looks (c.of_number.ensures.told) (c.of_number.ensures.words)
+    goes_on c.args.agent.now.at.value first.new.agent.at.value c.args.s first.result first.ensures.settles two.new.agent.at.value _ _ _
+    (omega (arith, n)) two.ensures.looks (c.of_number.ensures.told) (c.of_number.ensures.words)
     (λ us h. c.of_number.ensures.value ∙ ap (λ (n : ℕ). number_answer (Some n)) (c.from.ensures ∙ two.ensures.unit us h))

@@ -11,5 +11,7 @@ returns-then-settled-ne-DONE-clause-reads c = let first = c.settle_known-settled
 
 pub returns-clause-reads : goal.returns-clause-reads
 returns-clause-reads c = let first = c.settle_known-settled in let two = c.jsstr_window_unchecked in let n = c.if-settled-ne-DONE.false in
-    goes_on c.args.agent.now.at.value first.new.agent.at.value c.args.s first.result first.ensures.settles two.new.agent.at.value _ _ _ (omega (arith, n)) two.ensures.looks (λ (x : two.result.status ≡ 9). absurd (omega (arith, x, two.ensures.told))) (λ (x : two.result.status ≡ 4). absurd (omega (arith, x, two.ensures.told)))
+    goes_on c.args.agent.now.at.value first.new.agent.at.value c.args.s first.result first.ensures.settles two.new.agent.at.value _ _ _
+    (omega (arith, n)) two.ensures.looks (λ (x : two.result.status ≡ 9). absurd (omega (arith, x, two.ensures.told)))
+    (λ (x : two.result.status ≡ 4). absurd (omega (arith, x, two.ensures.told)))
     (λ us h. (two.ensures.told, two.ensures.shown us h, two.ensures.there us h))

@@ -18,7 +18,8 @@ returns-clause-settles c = let left = c.jsstr_settle_unchecked-left in let right
     let n = c.if-left-ne-DONE.false in let one : left.result.status ≡ 0 = omega (arith, n) in
     let kb = subst (λ (x : Option Held). HandleKnows x c.args.b) c.knows.ensures.same (second.ensures.known.0 c.if-not-knows-2.false) in
     right_ends c.args.agent.now.at.value m right.new.agent.at.value c.args.a c.args.b right.result (c.knows.ensures.known.0 c.if-not-knows.false) kb
-    (subst (λ (x : Option Held). Settles x m c.args.a) (second.ensures.same ∙ c.knows.ensures.same) (left.ensures.settled one).1) right.ensures.told (λ e. (right.ensures.settled e).1) right.ensures.refused
+    (subst (λ (x : Option Held). Settles x m c.args.a) (second.ensures.same ∙ c.knows.ensures.same) (left.ensures.settled one).1)
+    right.ensures.told (λ e. (right.ensures.settled e).1) right.ensures.refused
 
 pub returns-clause-left : goal.returns-clause-left
 returns-clause-left c = λ done. let left = c.jsstr_settle_unchecked-left in let right = c.jsstr_settle_unchecked in let second = c.knows-else-not-knows in let n = c.if-left-ne-DONE.false in

@@ -12,5 +12,6 @@ returns-in-Ok-clause-says c = let call = c.compare_spelled-order in let k = utf8
     inr (k.0, (call.ensures.looks, refl, λ us h. let is = call.ensures.order us h ∙ ap (λ (vs : List ℕ). order_number (units_cmp us vs)) k.1 in orders _ _ refl (search rules)))
 
 pub returns-in-Err-clause-says : goal.returns-in-Err-clause-says
-returns-in-Err-clause-says c = let is = c.without_order.ensures in let n = ap (λ (x : JsAnswer). x.status) (c.left.ensures.answer ∙ c.not_utf8.ensures) in let e = ap (λ (x : JsOrder). x.status) is ∙ n in
+returns-in-Err-clause-says c = let is = c.without_order.ensures in
+    let n = ap (λ (x : JsAnswer). x.status) (c.left.ensures.answer ∙ c.not_utf8.ensures) in let e = ap (λ (x : JsOrder). x.status) is ∙ n in
     inl (utf8_unread c.args.bytes.now c.in-Err.at c.in-Err.ensures.read, e, is ∙ ap no_order (sym (ap (λ (x : JsOrder). x.status) is)), c.left.ensures.same)

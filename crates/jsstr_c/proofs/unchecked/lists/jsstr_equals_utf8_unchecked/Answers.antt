@@ -11,5 +11,6 @@ returns-in-Ok-clause-says c = let call = c.has_spelled-holds in let k = utf8_rea
     inr (k.0, (call.ensures.looks, refl, λ us h. subst (λ (vs : List ℕ). IsTrue call.result ↔ (us ≡ vs)) k.1 (call.ensures.same us h)))
 
 pub returns-in-Err-clause-says : goal.returns-in-Err-clause-says
-returns-in-Err-clause-says c = let is = c.without_truth.ensures in let n = ap (λ (x : JsAnswer). x.status) (c.left.ensures.answer ∙ c.not_utf8.ensures) in let e = ap (λ (x : JsTruth). x.status) is ∙ n in
+returns-in-Err-clause-says c = let is = c.without_truth.ensures in
+    let n = ap (λ (x : JsAnswer). x.status) (c.left.ensures.answer ∙ c.not_utf8.ensures) in let e = ap (λ (x : JsTruth). x.status) is ∙ n in
     inl (utf8_unread c.args.bytes.now c.in-Err.at c.in-Err.ensures.read, e, is ∙ ap no_truth (sym (ap (λ (x : JsTruth). x.status) is)), c.left.ensures.same)
