@@ -16,7 +16,7 @@ use Rattle.heap_text.proofs.Cutting.{part_after}
 use Rattle.heap_text.proofs.Linking.{copied_after}
 use Rattle.heap_text.proofs.Pieces.{spared_after, uses_after}
 use Rattle.heap_reserve.specs.declared.reserve.Reserve.{Reserve}
-use Rattle.heap_reserve.specs.Making.{MakesFlat, MakesPart, MakesRope}
+use Rattle.heap_reserve.specs.Trying.{MakesFlat, MakesPart, MakesRope}
 use Rattle.heap_reserve.proofs.Kept.{taken_after}
 
 module _ (v u w : View) (z : HeapSize) (read : OnlyLoads v u) where

@@ -1,3 +1,4 @@
 pub mod Reserves
 pub mod Claims
 pub mod Making
+pub mod Trying

@@ -7,7 +7,8 @@ ghost use Rattle.heap_read.specs.Readers.{Moves, view_in};
 ghost use Rattle.heap_read.specs.Reads.{Continues};
 ghost use Rattle.heap_text.specs.Joins.{AreJoinable, MIN_CONS};
 ghost use Rattle.heap_text.specs.Keeping.{KeepsText};
-ghost use Rattle.heap_reserve.specs.Making.{IsJoinedBy, MakesFlat, MakesRope, TriesJoin};
+ghost use Rattle.heap_reserve.specs.Making.{IsJoinedBy};
+ghost use Rattle.heap_reserve.specs.Trying.{MakesFlat, MakesRope, TriesJoin};
 ghost use Rattle.heap_reserve.specs.Reserves.{IsReserve};
 
 use crate::reserve::Reserve;

@@ -8,7 +8,8 @@ ghost use Rattle.heap_read.specs.Reads.{Continues};
 ghost use Rattle.heap_read.specs.Sources.{ShowsSource, listed_in};
 ghost use Rattle.heap_bytes.specs.Spellings.{IsReadable, units_of};
 ghost use Rattle.heap_text.specs.Keeping.{KeepsText};
-ghost use Rattle.heap_reserve.specs.Making.{IsMade, MakesFlat};
+ghost use Rattle.heap_reserve.specs.Making.{IsMade};
+ghost use Rattle.heap_reserve.specs.Trying.{MakesFlat};
 ghost use Rattle.heap_reserve.specs.Reserves.{IsReserve};
 
 use crate::reserve::Reserve;

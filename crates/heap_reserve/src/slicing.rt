@@ -8,7 +8,8 @@ ghost use Rattle.heap_read.specs.Readers.{Moves, view_in};
 ghost use Rattle.heap_read.specs.Reads.{Continues};
 ghost use Rattle.heap_text.specs.Joins.{MIN_CONS};
 ghost use Rattle.heap_text.specs.Keeping.{KeepsText};
-ghost use Rattle.heap_reserve.specs.Making.{IsCutBy, MakesFlat, MakesPart, TriesCut};
+ghost use Rattle.heap_reserve.specs.Making.{IsCutBy};
+ghost use Rattle.heap_reserve.specs.Trying.{MakesFlat, MakesPart, TriesCut};
 ghost use Rattle.heap_reserve.specs.Reserves.{IsReserve};
 
 use crate::reserve::Reserve;

@@ -2,7 +2,7 @@ use Rattle.std.proofs.Common.{◌++◌, ◌∙◌, ℕ, List, length, ap, subst}
 use Rattle.std.proofs.lemmas.List.{length-append}
 use Rattle.heap_rule.specs.declared.view.View.{View}
 use Rattle.heap_read.proofs.Going.{continues_reads, continues_trans}
-use Rattle.heap_reserve.specs.Making.{MakesFlat}
+use Rattle.heap_reserve.specs.Trying.{MakesFlat}
 use Rattle.heap_reserve.proofs.After.{flat_after}
 use Rattle.heap_reserve.proofs.reserve.Reserve.copy_both.Goals as goal
 

@@ -4,7 +4,7 @@ use Rattle.heap_rule.specs.Births.{part}
 use Rattle.heap_rule.proofs.Possible.{possible_short}
 use Rattle.heap_read.proofs.Going.{continues_reads, continues_trans}
 use Rattle.heap_text.proofs.Pieces.{length_part}
-use Rattle.heap_reserve.specs.Making.{MakesFlat}
+use Rattle.heap_reserve.specs.Trying.{MakesFlat}
 use Rattle.heap_reserve.proofs.After.{flat_after}
 use Rattle.heap_reserve.proofs.reserve.Reserve.copy_part.Goals as goal
 
