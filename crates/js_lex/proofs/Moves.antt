@@ -11,9 +11,9 @@ use Rattle.js_literal.specs.Literal.{is_quote}
 use Rattle.js_literal.specs.Number.{is_word_start, begins_number}
 use Rattle.js_literal.proofs.Places.{bytes_of}
 use Rattle.js_literal.proofs.Pieces.{EndsIn}
-use Rattle.js_lex.specs.Elements.{is_word_part, is_line_end, after_word, after_line, after_block, begins_comment}
+use Rattle.js_lex.specs.Elements.{is_word_part, is_line_end, after_line, after_block}
 use Rattle.js_lex.specs.MarkReader.{mark_front}
-use Rattle.js_lex.specs.Reader.{Lookahead, comment, block_ahead, mark_ahead, front}
+use Rattle.js_lex.specs.Reader.{Lookahead, comment, block_ahead, mark_ahead, front, after_word, begins_comment}
 use Rattle.js_lex.specs.Reader as ahead
 use Rattle.js_lex.specs.Tokens.{IsBad}
 use Rattle.js_lex.specs.Steps.{IsForward}

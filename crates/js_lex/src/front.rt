@@ -67,7 +67,7 @@ fn word_len(bytes: &[u8]) -> usize
 
 /// What follows the longest run of identifier parts, which are ASCII.
 fn after_word(text: &str) -> &str
-    ensures { chars result.now ≡ Elements.after_word (chars text.now) }
+    ensures { chars result.now ≡ Reader.after_word (chars text.now) }
 {
     &text[word_len(text.as_bytes())..]
 }

@@ -12,7 +12,7 @@ ghost use Rattle.parse_tokens.specs.Tokens as definition;
 ghost use Rattle.parse_tokens.specs.Tokens.{HasTokens, place_in, with_name, has_line_end, begins_colon, grammar_token, before_next};
 ghost use Rattle.parse_tokens.specs.Words as words;
 ghost use Rattle.parse_syntax.specs.declared.token.GrammarToken.{GrammarToken};
-ghost use Rattle.parse_tokens.specs.Steps.{Agrees, IsScriptTokens, ScannedTo, TellsKey, before_of};
+ghost use Rattle.parse_tokens.specs.Steps.{Agrees, IsScriptTokens, ScannedTo, TellsKey, before_of, is_colon};
 
 use crate::numbers::Numbers;
 use crate::word::{property_named, word_named};
@@ -273,7 +273,7 @@ fn opens_member(kind: &TokenKind) -> bool
 }
 
 fn is_colon(kind: &TokenKind) -> bool
-    ensures { result ≡ definition.is_colon kind.now }
+    ensures { result ≡ is_colon kind.now }
 {
     match kind {
         TokenKind::Mark(Mark::Colon) => true,
