@@ -10,9 +10,9 @@ use Rattle.js_literal.specs.declared.fault.NumberFault.{NumberFault}
 use Rattle.js_literal.proofs.Places.{one_rest, one_place}
 use Rattle.js_literal.proofs.Laws.{one_literal, never_both, one_fault_of}
 use Rattle.js_literal.proofs.NumberLaws.{one_number, no_number, one_number_fault}
-use Rattle.js_lex.specs.Elements.{after_line, after_block}
+use Rattle.js_lex.specs.Elements.{after_block}
 use Rattle.js_lex.specs.MarkReader.{mark_front, one_mark, two_mark, three_mark, one_front, two_front, three_front, or_else}
-use Rattle.js_lex.specs.Reader.{Lookahead, comment, block_ahead, mark_ahead, front, after_word, begins_comment}
+use Rattle.js_lex.specs.Reader.{Lookahead, comment, block_ahead, mark_ahead, front, after_line, after_word, begins_comment}
 use Rattle.js_lex.specs.Reader as ahead
 use Rattle.js_lex.specs.Tokens.{Element, End, Skip, TokenOf, Fault, ElementAt, ended, blank, line, block, open_block, word, string, string_fault, number, number_fault, mark, bad, IsBad}
 use Rattle.js_lex.proofs.MarkLaws.{longest_reads, no_mark_reads}

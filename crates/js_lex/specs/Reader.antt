@@ -1,10 +1,10 @@
 -- Helpers: no public contract reaches these definitions.
 -- What the code reads at the front of a text, for the contracts of private functions.
-use Rattle.std.specs.Prelude.{ℕ, List, [], ◌∷◌, Bool, Option, Some, None, ◌==◌, ◌||◌, if◌then◌else◌}
+use Rattle.std.specs.Prelude.{ℕ, List, [], ◌∷◌, Bool, Option, Some, None, ◌==◌, ◌||◌, not, if◌then◌else◌}
 use Rattle.std.specs.Str.{chars}
 use Rattle.js_literal.specs.Literal.{is_quote, begins_with}
 use Rattle.js_literal.specs.Number.{is_word_start, begins_number, after_run}
-use Rattle.js_lex.specs.Elements.{is_word_part, after_line, after_block}
+use Rattle.js_lex.specs.Elements.{is_line_end, is_word_part, after_block}
 use Rattle.js_lex.specs.MarkReader.{mark_front}
 use Rattle.js_lex.specs.declared.token.Mark.{Mark}
 use Rattle.js_lex.specs.declared.token.Token.{Token}
@@ -16,6 +16,10 @@ use Rattle.js_units.specs.Text.{is_blank}
 -- what follows the longest run of identifier parts
 abbrev pub after_word : List ℕ → List ℕ
 after_word s = after_run is_word_part s
+
+-- from the next line end on
+abbrev pub after_line : List ℕ → List ℕ
+after_line s = after_run (λ c. not (is_line_end c)) s
 
 -- / or *, which begins a comment behind a slash
 abbrev pub begins_comment : List ℕ → Bool

@@ -1,13 +1,13 @@
 -- The tokens of a text and its first lexical fault (ECMA-262, "Lexical Grammar": from the left, each element
 -- as long as possible).
-use Rattle.std.specs.Prelude.{◌≡◌, ℕ, List, [], ◌∷◌, true, false, Some, None, ◌==◌, ◌&&◌, ◌||◌, IsUtf8}
+use Rattle.std.specs.Prelude.{◌≡◌, ℕ, List, [], ◌∷◌, true, false, Some, None, ◌==◌, ◌&&◌, ◌||◌, not, IsUtf8}
 use Rattle.std.specs.Str.Lossy.{utf8_valid_len}
 use Rattle.js_literal.specs.Place.{StandsAt}
 use Rattle.js_literal.specs.Literal.{is_quote, begins_with, LiteralOf, LiteralFaultOf}
 use Rattle.js_literal.specs.Number.{is_word_start, begins_number, after_run, NumberOf, NumberFaultOf}
 use Rattle.js_literal.specs.declared.fault.LiteralFault.{LiteralFault}
 use Rattle.js_literal.specs.declared.fault.NumberFault.{NumberFault}
-use Rattle.js_lex.specs.Elements.{is_word_part, after_line, after_block}
+use Rattle.js_lex.specs.Elements.{is_line_end, is_word_part, after_block}
 use Rattle.js_lex.specs.Marks.{IsLongest, HasNoMark}
 use Rattle.js_lex.specs.declared.token.Mark.{Mark}
 use Rattle.js_lex.specs.declared.token.Token.{Token}
@@ -36,8 +36,8 @@ pub data ElementAt (text : List ℕ) (at : ℕ) : Element → Type 0 where
   blank : (c : ℕ) (s : List ℕ) (end : ℕ) → StandsAt text at (c ∷ s) → is_blank c ≡ true → StandsAt text end s
       → ElementAt text at (Skip end)
   -- from // up to the next line end, which is a blank, or up to the end
-  line : (s : List ℕ) (end : ℕ) → StandsAt text at (47 ∷ 47 ∷ s) → StandsAt text end (after_line s)
-      → ElementAt text at (Skip end)
+  line : (s : List ℕ) (end : ℕ) → StandsAt text at (47 ∷ 47 ∷ s)
+      → StandsAt text end (after_run (λ c. not (is_line_end c)) s) → ElementAt text at (Skip end)
   -- from /* to the next */ behind it
   block : (s rest : List ℕ) (end : ℕ) → StandsAt text at (47 ∷ 42 ∷ s) → after_block s ≡ Some rest
       → StandsAt text end rest → ElementAt text at (Skip end)

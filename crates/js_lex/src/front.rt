@@ -74,7 +74,7 @@ fn after_word(text: &str) -> &str
 
 /// The text from the next line end on.
 fn after_line(text: &str) -> &str
-    ensures { chars result.now ≡ Elements.after_line (chars text.now) }
+    ensures { chars result.now ≡ Reader.after_line (chars text.now) }
 {
     let mut text = text;
     while let Some((c, rest)) = split_char(text) {

@@ -1,5 +1,5 @@
 // Number literals (ECMA-262, "Numeric Literals").
-ghost use Rattle.std.specs.Prelude.{◌≡◌, ◌<◌, ◌≤◌, ◌^◌, ◌∷◌, ◌+◌, ◌⊎◌, ℕ, List, min, length, slice_index, encode_utf8_all, drop, IsUtf8, IfOk, IfErr, MatchResult, Ok, Err, true};
+ghost use Rattle.std.specs.Prelude.{◌≡◌, ◌<◌, ◌^◌, ◌∷◌, ◌+◌, ◌⊎◌, ℕ, List, min, length, IsUtf8, IfOk, IfErr, MatchResult, Ok, Err};
 ghost use Rattle.std.specs.Str.{chars};
 ghost use Rattle.js_literal.specs.Place.{StandsAt};
 ghost use Rattle.js_literal.specs.Number.{digits_of, decimal, number_at, NumberOf, NumberFaultOf, BeginsNumber};

@@ -1,11 +1,10 @@
 // Looks at the next token.
-ghost use Rattle.std.specs.Prelude.{◌≡◌, [], ◌∷◌, ℕ, MatchOption, None, Some, IfOk, IfErr, false, true};
+ghost use Rattle.std.specs.Prelude.{◌≡◌, [], ◌∷◌, ℕ, MatchOption, None, Some, IfOk, false, true};
 ghost use Rattle.parse_syntax.specs.Reader.{Got, one_of, heads, heads_two};
 ghost use Rattle.eval_tree.specs.Tree.{expr_tree, step_tree};
 ghost use Rattle.parse_syntax.specs.Tables.{tables_of};
 ghost use Rattle.parse_syntax.specs.MarksAndWords as named;
 ghost use Rattle.parse_syntax.specs.Terminals as terminals;
-ghost use Rattle.parse_syntax.specs.Terminals.{Identifier};
 ghost use Rattle.parse_syntax.specs.declared.token.GrammarToken.{GrammarToken};
 ghost use Rattle.parse_syntax.specs.declared.token.GrammarKind.TheVariants as kind;
 ghost use Rattle.parse_syntax.specs.Reading.{step_mark, goes_on, read_header};

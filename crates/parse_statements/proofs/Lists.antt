@@ -16,7 +16,7 @@ use Rattle.std.specs.Prelude.{Some}
 use Rattle.eval_tree.specs.Tree.{StmtTree, BlockTree, ArmTree, expr_tree, init_tree, stmt_tree, arm_tree, if_line, arms}
 use Rattle.parse_syntax.specs.Grammar
 use Rattle.parse_syntax.specs.Grammar.{Expression, Statement}
-use Rattle.parse_syntax.specs.Reading.{goes_on, if_of}
+use Rattle.parse_syntax.specs.Reading.{goes_on}
 use Rattle.parse_syntax.proofs.Statements.{first, arm_part, else_part}
 use Rattle.parse_syntax.proofs.Scripts.{same_expressions, same_levels, starts_at}
 use Rattle.parse_look.specs.declared.fault.Fault.{Fault}

@@ -115,10 +115,8 @@ member_word t = elim t.kind [
 
 -- an identifier that is the name of a method: its offset, the method and its letters
 abbrev pub method : TokenTables → GrammarToken → Option ((ℕ × Method) × List ℕ)
-method tables t = elim t.kind [
-  | kind.Name n (property.Method m) ↦ Some ((t.at, m), get_or tables.names n [])
-  | _ ↦ None
-]
+method tables t =
+    elim t.kind [ kind.Name n (property.Method m) ↦ Some ((t.at, m), get_or tables.names n []) | _ ↦ None ]
 
 -- any other identifier behind a point, reserved words among them: the read of the property of that name
 -- ("EvaluatePropertyAccessWithIdentifierKey")

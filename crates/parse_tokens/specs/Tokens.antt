@@ -42,10 +42,6 @@ pub record Before : Type 0 where
 abbrev pub nothing : Before
 nothing = record { first = true; end = 0; names = []; texts = []; keys = [] }
 
--- whether a line end is in these bytes of a text
-abbrev pub has_line_end : List ℕ → Bool
-has_line_end bytes = list_any is_line_end (chars bytes)
-
 -- the spellings of the directive; there is none with an escape (ECMA-262, "Directive Prologues and the Use
 -- Strict Directive")
 abbrev pub is_use_strict : List ℕ → Bool
@@ -103,16 +99,14 @@ literals_after key before source k =
 
 -- the keys behind a token: the units of a string that is one come last
 abbrev pub keys_after : Bool → Before → TokenKind → List (List ℕ)
-keys_after key before k = elim k [
-  | kinds.Text units ↦ (if key then before.keys ++ units ∷ [] else before.keys)
-  | _ ↦ before.keys
-]
+keys_after key before k =
+    elim k [ kinds.Text units ↦ (if key then before.keys ++ units ∷ [] else before.keys) | _ ↦ before.keys ]
 
 -- the grammar's token for a token of the text, which is a key or not, where this precedes it
 abbrev pub grammar_token : List ℕ → Before → Bool → Lexed → GrammarToken
 grammar_token bytes before key t = record {
   at = t.from;
-  after_line = has_line_end (slice bytes before.end t.from);
+  after_line = list_any is_line_end (chars (slice bytes before.end t.from));
   kind = kind_of before (slice bytes t.from t.to) key t.kind;
 }
 
