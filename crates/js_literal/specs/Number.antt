@@ -36,8 +36,8 @@ abbrev pub begins_number : List ℕ → Bool
 begins_number [] = false
 begins_number (c ∷ cs) = is_digit c || (c == 46 && begins_with is_digit cs)
 
--- the value and what follows, or the fault of the first rule that refuses it, by the byte where the literal is;
--- a letter, _, $ or a backslash may not follow the digits
+-- the value and what follows, or the fault of the first rule that refuses it, by the byte of the literal; a
+-- letter, _, $ or a backslash may not follow the digits
 abbrev pub number_at : List ℕ → Result (ℕ × List ℕ) (ℕ → NumberFault)
 number_at s =
     if begins_with (λ c. c == 46) s then Err faults.Fraction else

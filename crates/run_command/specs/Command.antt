@@ -17,8 +17,8 @@ abbrev pub defaulted_rule : Text → Text → Rule
 defaulted_rule name value = record (number_rule name) { defaults = value ∷ [] }
 
 -- the command: `--prelude FILE`; `--jobs N`, the sizes of the heap and `--limit N`, with their defaults;
--- `--summary`; `--generate N`; arguments that name files, each of them one value of `FILE`; and what a command of
--- clap has by itself, `-h`, `--help` and `--`
+-- `--summary`; `--generate N`; arguments that name files, each of them one value of `FILE`; and what a
+-- command of clap has by itself, `-h`, `--help` and `--`
 abbrev pub command : App
 command = fold with_rule (new_app (codes "jsstr")) (option_rule (codes "prelude") ∷
     defaulted_rule (codes "jobs") (codes "4") ∷ defaulted_rule (codes "ids") (codes "262144") ∷
