@@ -1,63 +1,28 @@
 -- The methods: their names, and how many arguments each uses.
-use Rattle.std.specs.Prelude.{ℕ, List, codes, Option, Some, None, if◌then◌else◌}
+use Rattle.std.specs.Prelude.{ℕ, List, [], ◌∷◌, codes, Option, Some, None, if◌then◌else◌}
 use Rattle.std.specs.Str.{bytes_eq}
 use Rattle.eval_tree.specs.declared.tree.Method.{Method}
 use Rattle.eval_tree.specs.declared.tree.Method.TheVariants as method
 
--- the first of two that is there
-abbrev pub first_there : {A : Type 0} → Option A → Option A → Option A
-first_there (Some x) other = Some x
-first_there None other = other
+-- what these letters name in a table, if they are in it
+abbrev pub named : {A : Type 0} → List (List ℕ × A) → List ℕ → Option A
+named [] letters = None
+named (row ∷ rows) letters = if bytes_eq letters row.0 then Some row.1 else named rows letters
 
--- a method that gives or looks at single units
-abbrev pub unit_method : List ℕ → Option Method
-unit_method letters =
-    if bytes_eq letters (codes "at") then Some method.At
-    else if bytes_eq letters (codes "charAt") then Some method.CharAt
-    else if bytes_eq letters (codes "charCodeAt") then Some method.CharCodeAt
-    else if bytes_eq letters (codes "codePointAt") then Some method.CodePointAt
-    else if bytes_eq letters (codes "isWellFormed") then Some method.IsWellFormed
-    else if bytes_eq letters (codes "toWellFormed") then Some method.ToWellFormed
-    else None
-
--- a method that searches
-abbrev pub search_method : List ℕ → Option Method
-search_method letters =
-    if bytes_eq letters (codes "endsWith") then Some method.EndsWith
-    else if bytes_eq letters (codes "includes") then Some method.Includes
-    else if bytes_eq letters (codes "indexOf") then Some method.IndexOf
-    else if bytes_eq letters (codes "lastIndexOf") then Some method.LastIndexOf
-    else if bytes_eq letters (codes "startsWith") then Some method.StartsWith
-    else None
-
--- a method that cuts
-abbrev pub part_method : List ℕ → Option Method
-part_method letters =
-    if bytes_eq letters (codes "slice") then Some method.Slice
-    else if bytes_eq letters (codes "split") then Some method.Split
-    else if bytes_eq letters (codes "substr") then Some method.Substr
-    else if bytes_eq letters (codes "substring") then Some method.Substring
-    else if bytes_eq letters (codes "trim") then Some method.Trim
-    else if bytes_eq letters (codes "trimEnd") then Some method.TrimEnd
-    else if bytes_eq letters (codes "trimStart") then Some method.TrimStart
-    else None
-
--- a method that builds another string
-abbrev pub building_method : List ℕ → Option Method
-building_method letters =
-    if bytes_eq letters (codes "concat") then Some method.Concat
-    else if bytes_eq letters (codes "join") then Some method.Join
-    else if bytes_eq letters (codes "padEnd") then Some method.PadEnd
-    else if bytes_eq letters (codes "padStart") then Some method.PadStart
-    else if bytes_eq letters (codes "repeat") then Some method.Repeat
-    else if bytes_eq letters (codes "replace") then Some method.Replace
-    else if bytes_eq letters (codes "replaceAll") then Some method.ReplaceAll
-    else None
-
--- the method with this name
-abbrev pub method_of : List ℕ → Option Method
-method_of letters = first_there (unit_method letters)
-    (first_there (search_method letters) (first_there (part_method letters) (building_method letters)))
+-- the methods by their names: those that give or look at single units, that search, that cut, and that build
+-- another string
+abbrev pub method_names : List (List ℕ × Method)
+method_names =
+    (codes "at", method.At) ∷ (codes "charAt", method.CharAt) ∷ (codes "charCodeAt", method.CharCodeAt) ∷
+    (codes "codePointAt", method.CodePointAt) ∷ (codes "isWellFormed", method.IsWellFormed) ∷
+    (codes "toWellFormed", method.ToWellFormed) ∷ (codes "endsWith", method.EndsWith) ∷
+    (codes "includes", method.Includes) ∷ (codes "indexOf", method.IndexOf) ∷
+    (codes "lastIndexOf", method.LastIndexOf) ∷ (codes "startsWith", method.StartsWith) ∷
+    (codes "slice", method.Slice) ∷ (codes "split", method.Split) ∷ (codes "substr", method.Substr) ∷
+    (codes "substring", method.Substring) ∷ (codes "trim", method.Trim) ∷ (codes "trimEnd", method.TrimEnd) ∷
+    (codes "trimStart", method.TrimStart) ∷ (codes "concat", method.Concat) ∷ (codes "join", method.Join) ∷
+    (codes "padEnd", method.PadEnd) ∷ (codes "padStart", method.PadStart) ∷ (codes "repeat", method.Repeat) ∷
+    (codes "replace", method.Replace) ∷ (codes "replaceAll", method.ReplaceAll) ∷ []
 
 -- how many of n arguments a method uses at most
 abbrev pub most_taken : Method → ℕ → ℕ

@@ -1,7 +1,7 @@
 // The tree of a script.
-ghost use Rattle.std.specs.Prelude.{◌≡◌, ◌∷◌, ◌++◌, [], IfOk, OnOk, OnErr, bytes_eq};
+ghost use Rattle.std.specs.Prelude.{◌≡◌, ◌∷◌, ◌++◌, [], IfOk, OnOk, OnErr, bytes_eq, drop};
 ghost use Rattle.eval_tree.specs.Keys.{key_of, AreBytes};
-ghost use Rattle.eval_tree.specs.Methods as methods;
+ghost use Rattle.eval_tree.specs.Methods.{method_names, most_taken, named};
 
 use js_units::{NoMemory, Units};
 use std::alloc::Global;
@@ -212,23 +212,28 @@ pub enum Method {
 impl Method {
     /// The method with this name.
     pub fn of_word(letters: &[u8]) -> Option<Method>
-        ensures { result ≡ methods.method_of letters.now }
+        ensures { result ≡ named method_names letters.now }
     {
-        if let Some(method) = unit_method(letters) {
-            return Some(method);
+        if letters == b"at".as_slice() {
+            Some(Method::At)
+        } else if letters == b"charAt".as_slice() {
+            Some(Method::CharAt)
+        } else if letters == b"charCodeAt".as_slice() {
+            Some(Method::CharCodeAt)
+        } else if letters == b"codePointAt".as_slice() {
+            Some(Method::CodePointAt)
+        } else if letters == b"isWellFormed".as_slice() {
+            Some(Method::IsWellFormed)
+        } else if letters == b"toWellFormed".as_slice() {
+            Some(Method::ToWellFormed)
+        } else {
+            search_method(letters)
         }
-        if let Some(method) = search_method(letters) {
-            return Some(method);
-        }
-        if let Some(method) = part_method(letters) {
-            return Some(method);
-        }
-        building_method(letters)
     }
 
     /// How many of `count` arguments it uses at most: those that its definition names.
     pub fn most_taken(self, count: usize) -> usize
-        ensures { result ≡ methods.most_taken self count }
+        ensures { result ≡ most_taken self count }
     {
         match self {
             Method::Concat => count,
@@ -248,30 +253,9 @@ impl Method {
     }
 }
 
-// A method that gives or looks at single units.
-fn unit_method(letters: &[u8]) -> Option<Method>
-    ensures { result ≡ methods.unit_method letters.now }
-{
-    if letters == b"at".as_slice() {
-        Some(Method::At)
-    } else if letters == b"charAt".as_slice() {
-        Some(Method::CharAt)
-    } else if letters == b"charCodeAt".as_slice() {
-        Some(Method::CharCodeAt)
-    } else if letters == b"codePointAt".as_slice() {
-        Some(Method::CodePointAt)
-    } else if letters == b"isWellFormed".as_slice() {
-        Some(Method::IsWellFormed)
-    } else if letters == b"toWellFormed".as_slice() {
-        Some(Method::ToWellFormed)
-    } else {
-        None
-    }
-}
-
-// A method that searches.
+// A method that searches, cuts or builds another string.
 fn search_method(letters: &[u8]) -> Option<Method>
-    ensures { result ≡ methods.search_method letters.now }
+    ensures { result ≡ named (drop 6 method_names) letters.now }
 {
     if letters == b"endsWith".as_slice() {
         Some(Method::EndsWith)
@@ -284,13 +268,13 @@ fn search_method(letters: &[u8]) -> Option<Method>
     } else if letters == b"startsWith".as_slice() {
         Some(Method::StartsWith)
     } else {
-        None
+        part_method(letters)
     }
 }
 
-// A method that cuts.
+// A method that cuts or builds another string.
 fn part_method(letters: &[u8]) -> Option<Method>
-    ensures { result ≡ methods.part_method letters.now }
+    ensures { result ≡ named (drop 11 method_names) letters.now }
 {
     if letters == b"slice".as_slice() {
         Some(Method::Slice)
@@ -307,13 +291,13 @@ fn part_method(letters: &[u8]) -> Option<Method>
     } else if letters == b"trimStart".as_slice() {
         Some(Method::TrimStart)
     } else {
-        None
+        building_method(letters)
     }
 }
 
 // A method that builds another string.
 fn building_method(letters: &[u8]) -> Option<Method>
-    ensures { result ≡ methods.building_method letters.now }
+    ensures { result ≡ named (drop 18 method_names) letters.now }
 {
     if letters == b"concat".as_slice() {
         Some(Method::Concat)

@@ -3,16 +3,16 @@ use Rattle.std.proofs.Common.{◌≡◌, ℕ, List, [], ◌∷◌, Bool, true, f
 use Rattle.std.proofs.lemmas.Bool.Decides.{nat_tests}
 use Rattle.std.specs.Prelude.{IsUtf8, ◌||◌, ◌&&◌}
 use Rattle.js_literal.specs.Place.{StandsAt}
-use Rattle.js_literal.specs.Literal.{is_quote, LiteralOf, LiteralFaultOf, begins_digit, is_digit}
+use Rattle.js_literal.specs.Literal.{is_quote, LiteralOf, LiteralFaultOf, is_digit}
 use Rattle.js_literal.specs.Number.{is_word_start, begins_number, NumberOf, NumberFaultOf}
 use Rattle.js_literal.specs.declared.fault.LiteralFault.{LiteralFault}
 use Rattle.js_literal.specs.declared.fault.NumberFault.{NumberFault}
 use Rattle.js_literal.proofs.Places.{one_rest, one_place}
 use Rattle.js_literal.proofs.Laws.{one_literal, never_both, one_fault_of}
 use Rattle.js_literal.proofs.NumberLaws.{one_number, no_number, one_number_fault}
-use Rattle.js_lex.specs.Elements.{after_word, after_line, after_block, begins_comment}
+use Rattle.js_lex.specs.Elements.{after_block}
 use Rattle.js_lex.specs.MarkReader.{mark_front, one_mark, two_mark, three_mark, one_front, two_front, three_front, or_else}
-use Rattle.js_lex.specs.Reader.{Lookahead, comment, block_ahead, mark_ahead, front}
+use Rattle.js_lex.specs.Reader.{Lookahead, comment, block_ahead, mark_ahead, front, after_line, after_word, begins_comment}
 use Rattle.js_lex.specs.Reader as ahead
 use Rattle.js_lex.specs.Tokens.{Element, End, Skip, TokenOf, Fault, ElementAt, ended, blank, line, block, open_block, word, string, string_fault, number, number_fault, mark, bad, IsBad}
 use Rattle.js_lex.proofs.MarkLaws.{longest_reads, no_mark_reads}
@@ -20,6 +20,7 @@ use Rattle.js_lex.specs.declared.token.Mark.{Mark}
 use Rattle.js_lex.specs.declared.token.TokenKind.TheVariants as kinds
 use Rattle.js_lex.specs.declared.token.LexFault.TheVariants as faults
 use Rattle.js_units.specs.Text.{is_blank}
+use Rattle.js_literal.specs.Reader.{begins_digit}
 
 -- the element that the reader's value stands for
 abbrev pub Fits : List ℕ → ℕ → Lookahead → Element → Type 0

@@ -2,7 +2,7 @@
 use Rattle.std.proofs.Common.{◌≡◌, ℕ, List, [], ◌∷◌, ◌++◌, length, Bool, true, false, cond, Option, Some, None, nat_eq, refl, sym, ap, ◌∙◌, subst, arith, ◌⊎◌, inl, inr}
 use Rattle.std.proofs.lemmas.Bool.Decides.{nat_tests}
 use Rattle.std.proofs.lemmas.List.{length-append}
-use Rattle.std.specs.Prelude.{IsUtf8, encode_utf8_all, ◌&&◌}
+use Rattle.std.specs.Prelude.{IsUtf8, encode_utf8_all, ◌&&◌, not}
 use Rattle.std.specs.Str.{IsCharBoundary, all_scalars}
 use Rattle.std.specs.Char.{encode_utf8}
 use Rattle.std.proofs.lemmas.Str.{encodes-append, encodes-chars, scalars-chars, length-encode, len_utf8_bounds, IsCharBoundary-at_seam}
@@ -11,9 +11,9 @@ use Rattle.js_literal.specs.Literal.{is_quote}
 use Rattle.js_literal.specs.Number.{is_word_start, begins_number}
 use Rattle.js_literal.proofs.Places.{bytes_of}
 use Rattle.js_literal.proofs.Pieces.{EndsIn}
-use Rattle.js_lex.specs.Elements.{is_word_part, is_line_end, after_word, after_line, after_block, begins_comment}
+use Rattle.js_lex.specs.Elements.{is_word_part, is_line_end, after_block}
 use Rattle.js_lex.specs.MarkReader.{mark_front}
-use Rattle.js_lex.specs.Reader.{Lookahead, comment, block_ahead, mark_ahead, front}
+use Rattle.js_lex.specs.Reader.{Lookahead, comment, block_ahead, mark_ahead, front, after_line, after_word, begins_comment}
 use Rattle.js_lex.specs.Reader as ahead
 use Rattle.js_lex.specs.Tokens.{IsBad}
 use Rattle.js_lex.specs.Steps.{IsForward}
@@ -87,7 +87,7 @@ pub line_end : (s : List ℕ) → EndsIn s (after_line s)
 line_end [] = ([], refl)
 line_end (c ∷ s) = go (is_line_end c) (line_end s)
   where
-    go : (b : Bool) → EndsIn s (after_line s) → EndsIn (c ∷ s) (cond b (c ∷ s) (after_line s))
+    go : (b : Bool) → EndsIn s (after_line s) → EndsIn (c ∷ s) (cond (not b) (after_line s) (c ∷ s))
     go true e = ([], refl)
     go false e = (c ∷ e.0, ap (λ r. c ∷ r) (e.1))
 

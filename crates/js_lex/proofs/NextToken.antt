@@ -2,13 +2,14 @@
 use Rattle.std.proofs.Common.{◌≡◌, ℕ, ◌≤◌, List, [], ◌∷◌, subst, arith, ◌⊎◌, inl, inr}
 use Rattle.std.specs.Prelude.{IsUtf8}
 use Rattle.std.specs.Str.{IsCharBoundary}
-use Rattle.js_lex.specs.Tokens.{End, Skip, TokenOf, Fault, ElementAt, Lexes, done, skip, token, FailsFrom, fault, skip_on, token_on, token_at}
+use Rattle.js_lex.specs.Tokens.{End, Skip, TokenOf, Fault, ElementAt, Lexes, done, skip, token, FailsFrom, fault, skip_on, token_on}
 use Rattle.js_lex.specs.Next.{Separates, nothing, more, IsNextToken, GoesOn}
 use Rattle.js_lex.specs.declared.token.Token.{Token}
 use Rattle.js_lex.specs.declared.token.LexFault.{LexFault}
 use Rattle.js_lex.specs.declared.token.LexFault.TheVariants as faults
 use Rattle.js_lex.proofs.OneList.{after_same}
 use Rattle.js_lex.proofs.Spans.{forward}
+use Rattle.js_lex.specs.Reader.{token_at}
 
 module _ (text : List ℕ) (at : ℕ) where
   pub lexes_behind : (mid : ℕ) → Separates text at mid → (ts : List Token) → Lexes text mid ts → Lexes text at ts

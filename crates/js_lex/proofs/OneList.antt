@@ -2,11 +2,12 @@
 use Rattle.std.proofs.Common.{◌≡◌, ℕ, List, [], ◌∷◌, refl, sym, ap, ◌∙◌, subst, ◌⊎◌, inl, inr, Ok, Err}
 use Rattle.std.specs.Prelude.{IsUtf8, Result, IfOk, IfErr}
 use Rattle.std.specs.Str.Lossy.{utf8_valid_len}
-use Rattle.js_lex.specs.Tokens.{Element, End, Skip, TokenOf, Fault, ElementAt, Lexes, done, skip, token, FailsFrom, fault, skip_on, token_on, token_at, TokensOf, LexFaultOf, no_text, in_text}
+use Rattle.js_lex.specs.Tokens.{Element, End, Skip, TokenOf, Fault, ElementAt, Lexes, done, skip, token, FailsFrom, fault, skip_on, token_on, TokensOf, LexFaultOf, no_text, in_text}
 use Rattle.js_lex.specs.declared.token.Token.{Token}
 use Rattle.js_lex.specs.declared.token.LexFault.{LexFault}
 use Rattle.js_lex.specs.declared.token.LexFault.TheVariants as faults
 use Rattle.js_lex.proofs.Lookaheads.{one_element}
+use Rattle.js_lex.specs.Reader.{token_at}
 
 -- how a list of tokens begins
 abbrev pub After : List ℕ → ℕ → List Token → Element → Type 0

@@ -1,12 +1,13 @@
 -- One thing comes next from a place on.
 use Rattle.std.proofs.Common.{◌≡◌, ℕ, List, [], refl, sym, ap, ◌∙◌, subst, ◌⊎◌, inl, inr, Ok, Err, Option, Some, None}
 use Rattle.std.specs.Prelude.{IsUtf8, Result}
-use Rattle.js_lex.specs.Tokens.{Element, End, Skip, TokenOf, Fault, ElementAt, Lexes, done, skip, token, token_at}
+use Rattle.js_lex.specs.Tokens.{Element, End, Skip, TokenOf, Fault, ElementAt, Lexes, done, skip, token}
 use Rattle.js_lex.specs.Next.{Separates, nothing, more, GivesToken}
 use Rattle.js_lex.specs.declared.token.Token.{Token}
 use Rattle.js_lex.specs.declared.token.LexFault.{LexFault}
 use Rattle.js_lex.specs.declared.token.LexFault.TheVariants.{Memory}
 use Rattle.js_lex.proofs.Lookaheads.{one_element}
+use Rattle.js_lex.specs.Reader.{token_at}
 
 abbrev Stays : Element → Type 0
 Stays (Skip mid) = ⊥

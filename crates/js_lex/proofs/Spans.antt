@@ -6,7 +6,6 @@ use Rattle.std.specs.Prelude.{IsUtf8, encode_utf8_all}
 use Rattle.std.proofs.lemmas.Str.{encodes-append, encodes-chars}
 use Rattle.js_literal.specs.Place.{StandsAt}
 use Rattle.js_literal.proofs.Places.{bytes_of}
-use Rattle.js_lex.specs.Elements.{after_word, after_line}
 use Rattle.js_lex.specs.Tokens.{Element, End, Skip, TokenOf, Fault, ElementAt, ended, blank, line, block, open_block, word, string, string_fault, number, number_fault, mark, bad, Lexes, done, skip, token}
 use Rattle.js_lex.specs.Spans.{InOrder}
 use Rattle.js_lex.specs.Steps.{IsForward}
@@ -14,6 +13,7 @@ use Rattle.js_lex.specs.declared.token.Token.{Token}
 use Rattle.js_lex.proofs.MarkLaws.{longest_reads}
 use Rattle.js_lex.proofs.Moves.{word_end, line_end, block_end, goes_forward}
 use Rattle.js_lex.proofs.Steps.{literal_forward, number_behind, mark_behind}
+use Rattle.js_lex.specs.Reader.{after_line, after_word}
 
 -- how far an element reaches
 abbrev pub Forward : List ℕ → ℕ → Element → Type 0

@@ -6,8 +6,8 @@ use Rattle.std.specs.Prelude.{IsUtf8, encode_utf8_all, slice_index, ◌||◌, �
 use Rattle.std.proofs.lemmas.Str.{encodes-append, encodes-chars, encode_ascii}
 use Rattle.std.proofs.Math.Seq.{get_or-append_seam}
 use Rattle.js_literal.specs.Place.{StandsAt}
-use Rattle.js_literal.specs.Literal.{is_quote, is_digit, begins_digit, LiteralOf, LiteralFaultOf, BeginsString}
-use Rattle.js_literal.specs.Number.{NumberOf, BeginsNumber, begins_number, number_at, after_digits, Fraction}
+use Rattle.js_literal.specs.Literal.{is_quote, is_digit, LiteralOf, LiteralFaultOf, BeginsString}
+use Rattle.js_literal.specs.Number.{NumberOf, BeginsNumber, begins_number, number_at}
 use Rattle.js_literal.proofs.Places.{moved, left_stands, left_fits, one_byte}
 use Rattle.js_literal.proofs.Pieces.{EndsIn, closed_ends}
 use Rattle.js_literal.proofs.NumberLaws.{number_rest, digits_end}
@@ -23,6 +23,9 @@ use Rattle.js_lex.specs.declared.token.TokenKind.TheVariants as kinds
 use Rattle.js_lex.specs.declared.token.LexFault.TheVariants as faults
 use Rattle.js_lex.proofs.MarkLaws.{reads_longest}
 use Rattle.js_lex.proofs.Moves.{Means, front_means, Behind, word_end, line_end, block_end, goes_forward}
+use Rattle.js_literal.specs.declared.fault.NumberFault.TheVariants as numbers
+use Rattle.js_literal.specs.Reader.{begins_digit}
+use Rattle.js_literal.specs.NumberReader.{after_digits}
 
 means : (s : List ℕ) (g : Lookahead) → g ≡ front s → Means s g
 means s g e = subst (Means s) (sym e) (front_means s)
@@ -184,7 +187,7 @@ number_behind (c ∷ s) rest v b h = go (is_digit c) refl (nat_eq c 46) refl h (
         let f : after_digits (c ∷ s) ≡ after_digits s = rw ed refl in
         let g = digits_end s in
         (c, g.0, ap (λ r. c ∷ r) (g.1 ∙ ap (λ r. g.0 ++ r) (sym f ∙ sym e)))
-    go false ed true ep h e = let f : number_at (c ∷ s) ≡ Err Fraction = rw ep refl in absurd cc
+    go false ed true ep h e = let f : number_at (c ∷ s) ≡ Err numbers.Fraction = rw ep refl in absurd cc
     go false ed false ep h e = let f : begins_number (c ∷ s) ≡ false = rw (ed, ep) refl in absurd cc
 
 pub number_forward : (text : List ℕ) (at v end : ℕ) → IsUtf8 text → NumberOf text at v end → ElementAt text at (TokenOf (kinds.Number v) end) × IsForward text at end

@@ -4,7 +4,8 @@ use Rattle.std.proofs.lemmas.Bool.Decides.{nat_tests}
 use Rattle.std.specs.List.{prefix_len}
 use Rattle.std.specs.Str.{chars, IsCharBoundary}
 use Rattle.js_literal.proofs.AsciiRun.{OfAscii, drop_first, run_of}
-use Rattle.js_lex.specs.Elements.{is_word_part, after_word}
+use Rattle.js_lex.specs.Elements.{is_word_part}
+use Rattle.js_lex.specs.Reader.{after_word}
 
 part_ascii : OfAscii is_word_part
 part_ascii c e = grind (arith, nat_tests)

@@ -1,6 +1,6 @@
 -- Blanks, comments and identifiers, on characters (ECMA-262, "White Space", "Line Terminators", "Comments",
 -- "Names and Keywords").
-use Rattle.std.specs.Prelude.{ℕ, List, [], ◌∷◌, Bool, false, Option, Some, None, ◌==◌, ◌&&◌, ◌||◌, if◌then◌else◌}
+use Rattle.std.specs.Prelude.{ℕ, List, [], ◌∷◌, Bool, Option, Some, None, ◌==◌, ◌&&◌, ◌||◌, if◌then◌else◌}
 use Rattle.js_literal.specs.Literal.{is_digit}
 use Rattle.js_literal.specs.Number.{is_word_start}
 
@@ -12,23 +12,8 @@ is_line_end c = c == 10 || c == 13 || c == 0x2028 || c == 0x2029
 abbrev pub is_word_part : ℕ → Bool
 is_word_part c = is_word_start c || is_digit c
 
--- what follows the longest run of identifier parts
-abbrev pub after_word : List ℕ → List ℕ
-after_word [] = []
-after_word (c ∷ s) = if is_word_part c then after_word s else c ∷ s
-
--- from the next line end on
-abbrev pub after_line : List ℕ → List ℕ
-after_line [] = []
-after_line (c ∷ s) = if is_line_end c then c ∷ s else after_line s
-
 -- what follows the next */
 abbrev pub after_block : List ℕ → Option (List ℕ)
 after_block [] = None
 after_block (a ∷ []) = None
 after_block (a ∷ b ∷ s) = if a == 42 && b == 47 then Some s else after_block (b ∷ s)
-
--- / or *, which begins a comment behind a slash
-abbrev pub begins_comment : List ℕ → Bool
-begins_comment [] = false
-begins_comment (c ∷ s) = c == 47 || c == 42

@@ -1,13 +1,13 @@
 -- The tokens of a text and its first lexical fault (ECMA-262, "Lexical Grammar": from the left, each element
 -- as long as possible).
-use Rattle.std.specs.Prelude.{◌≡◌, ℕ, List, [], ◌∷◌, true, false, Some, None, ◌==◌, ◌&&◌, IsUtf8}
+use Rattle.std.specs.Prelude.{◌≡◌, ℕ, List, [], ◌∷◌, true, false, Some, None, ◌==◌, ◌&&◌, ◌||◌, not, IsUtf8}
 use Rattle.std.specs.Str.Lossy.{utf8_valid_len}
 use Rattle.js_literal.specs.Place.{StandsAt}
-use Rattle.js_literal.specs.Literal.{is_quote, LiteralOf, LiteralFaultOf}
-use Rattle.js_literal.specs.Number.{is_word_start, begins_number, NumberOf, NumberFaultOf}
+use Rattle.js_literal.specs.Literal.{is_quote, begins_with, LiteralOf, LiteralFaultOf}
+use Rattle.js_literal.specs.Number.{is_word_start, begins_number, after_run, NumberOf, NumberFaultOf}
 use Rattle.js_literal.specs.declared.fault.LiteralFault.{LiteralFault}
 use Rattle.js_literal.specs.declared.fault.NumberFault.{NumberFault}
-use Rattle.js_lex.specs.Elements.{after_word, after_line, after_block, begins_comment}
+use Rattle.js_lex.specs.Elements.{is_line_end, is_word_part, after_block}
 use Rattle.js_lex.specs.Marks.{IsLongest, HasNoMark}
 use Rattle.js_lex.specs.declared.token.Mark.{Mark}
 use Rattle.js_lex.specs.declared.token.Token.{Token}
@@ -28,7 +28,7 @@ pub data Element : Type 0 where
 abbrev pub IsBad : ℕ → List ℕ → Type 0
 IsBad c s =
     (is_blank c ≡ false) × (is_word_start c ≡ false) × (is_quote c ≡ false) × (begins_number (c ∷ s) ≡ false)
-    × ((c == 47 && begins_comment s) ≡ false) × HasNoMark (c ∷ s)
+    × ((c == 47 && begins_with (λ d. d == 47 || d == 42) s) ≡ false) × HasNoMark (c ∷ s)
 
 -- what is at byte at of the text ("InputElementDiv", and the faults)
 pub data ElementAt (text : List ℕ) (at : ℕ) : Element → Type 0 where
@@ -36,15 +36,15 @@ pub data ElementAt (text : List ℕ) (at : ℕ) : Element → Type 0 where
   blank : (c : ℕ) (s : List ℕ) (end : ℕ) → StandsAt text at (c ∷ s) → is_blank c ≡ true → StandsAt text end s
       → ElementAt text at (Skip end)
   -- from // up to the next line end, which is a blank, or up to the end
-  line : (s : List ℕ) (end : ℕ) → StandsAt text at (47 ∷ 47 ∷ s) → StandsAt text end (after_line s)
-      → ElementAt text at (Skip end)
+  line : (s : List ℕ) (end : ℕ) → StandsAt text at (47 ∷ 47 ∷ s)
+      → StandsAt text end (after_run (λ c. not (is_line_end c)) s) → ElementAt text at (Skip end)
   -- from /* to the next */ behind it
   block : (s rest : List ℕ) (end : ℕ) → StandsAt text at (47 ∷ 42 ∷ s) → after_block s ≡ Some rest
       → StandsAt text end rest → ElementAt text at (Skip end)
   open_block : (s : List ℕ) → StandsAt text at (47 ∷ 42 ∷ s) → after_block s ≡ None
       → ElementAt text at (Fault (faults.OpenComment at))
   word : (c : ℕ) (s : List ℕ) (end : ℕ) → StandsAt text at (c ∷ s) → is_word_start c ≡ true
-      → StandsAt text end (after_word s) → ElementAt text at (TokenOf kinds.Word end)
+      → StandsAt text end (after_run is_word_part s) → ElementAt text at (TokenOf kinds.Word end)
   string : (us : List ℕ) (end : ℕ) → LiteralOf text at us end
       → ElementAt text at (TokenOf (kinds.Text us) end)
   string_fault : (f : LiteralFault) → LiteralFaultOf text at f → ElementAt text at (Fault (faults.Literal f))
@@ -56,16 +56,12 @@ pub data ElementAt (text : List ℕ) (at : ℕ) : Element → Type 0 where
   bad : (c : ℕ) (s : List ℕ) → StandsAt text at (c ∷ s) → IsBad c s
       → ElementAt text at (Fault (faults.BadCharacter at))
 
--- a token of this kind from one place up to another
-abbrev pub token_at : TokenKind → ℕ → ℕ → Token
-token_at k at end = record { kind = k; from = at; to = end }
-
 -- from a place on, the text has these tokens
 pub data Lexes (text : List ℕ) : ℕ → List Token → Type 0 where
   done : (at : ℕ) → ElementAt text at End → Lexes text at []
   skip : (at mid : ℕ) (ts : List Token) → ElementAt text at (Skip mid) → Lexes text mid ts → Lexes text at ts
   token : (at mid : ℕ) (k : TokenKind) (ts : List Token) → ElementAt text at (TokenOf k mid)
-      → Lexes text mid ts → Lexes text at (token_at k at mid ∷ ts)
+      → Lexes text mid ts → Lexes text at (record { kind = k; from = at; to = mid } ∷ ts)
 
 -- from a place on, this is the first fault
 pub data FailsFrom (text : List ℕ) : ℕ → LexFault → Type 0 where

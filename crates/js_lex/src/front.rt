@@ -67,14 +67,14 @@ fn word_len(bytes: &[u8]) -> usize
 
 /// What follows the longest run of identifier parts, which are ASCII.
 fn after_word(text: &str) -> &str
-    ensures { chars result.now ≡ Elements.after_word (chars text.now) }
+    ensures { chars result.now ≡ Reader.after_word (chars text.now) }
 {
     &text[word_len(text.as_bytes())..]
 }
 
 /// The text from the next line end on.
 fn after_line(text: &str) -> &str
-    ensures { chars result.now ≡ Elements.after_line (chars text.now) }
+    ensures { chars result.now ≡ Reader.after_line (chars text.now) }
 {
     let mut text = text;
     while let Some((c, rest)) = split_char(text) {

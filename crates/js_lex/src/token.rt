@@ -1,6 +1,6 @@
 // Tokens, and the faults of a text that has none.
 ghost use Rattle.std.specs.Prelude.{◌≡◌};
-ghost use Rattle.js_lex.specs.Faults.{lexical_offset, lexical_words};
+ghost use Rattle.js_lex.specs.Faults.{lexical_report};
 
 use js_literal::{LiteralFault, NumberFault};
 use js_units::Units;
@@ -101,7 +101,7 @@ pub enum LexFault {
 impl LexFault {
     /// The byte offset at which it is; 0 where memory ran out.
     pub fn offset(self) -> u32
-        ensures { result ≡ lexical_offset self }
+        ensures { result ≡ (lexical_report self).0 }
     {
         match self {
             LexFault::NotUtf8 { at } => at,
@@ -115,7 +115,7 @@ impl LexFault {
 
     /// Its message, in ASCII.
     pub fn words(self) -> &'static [u8]
-        ensures { result.now ≡ lexical_words self }
+        ensures { result.now ≡ (lexical_report self).1 }
     {
         match self {
             LexFault::NotUtf8 { at: _ } => b"not utf-8",

@@ -6,11 +6,14 @@ use Rattle.std.specs.Str.{chars, IsUtf8, IsCharBoundary}
 use Rattle.std.proofs.lemmas.List.{get_or_past}
 use Rattle.std.proofs.lemmas.Str.{IsCharBoundary-before_ascii}
 use Rattle.js_literal.specs.Place.{StandsAt}
-use Rattle.js_literal.specs.Literal.{is_digit, begins_digit}
-use Rattle.js_literal.specs.Number.{after_digits, number_at, number_fault, NumberOf, NumberFaultOf, NumberKind, BeginsNumber, begins_number, begins_point, has_leading_zero, begins_tail, decimal, digits_of, Fraction, OtherForm, TooLarge}
+use Rattle.js_literal.specs.Literal.{is_digit}
+use Rattle.js_literal.specs.Number.{number_at, NumberOf, NumberFaultOf, BeginsNumber, begins_number, has_leading_zero, decimal, digits_of}
 use Rattle.js_literal.specs.declared.fault.NumberFault.{NumberFault}
+use Rattle.js_literal.specs.declared.fault.NumberFault.TheVariants as faults
 use Rattle.js_literal.proofs.Pieces.{EndsIn}
 use Rattle.js_literal.proofs.Places.{left_stands, left_fits, one_rest, one_place, moved, ascii_stands, one_byte}
+use Rattle.js_literal.specs.Reader.{begins_digit}
+use Rattle.js_literal.specs.NumberReader.{after_digits, begins_point, begins_tail}
 
 abbrev value_of : ℕ × List ℕ → ℕ
 value_of p = p.0
@@ -18,7 +21,7 @@ value_of p = p.0
 abbrev rest_of : ℕ × List ℕ → List ℕ
 rest_of p = p.1
 
-abbrev read_ok : ℕ × List ℕ → Result (ℕ × List ℕ) NumberKind
+abbrev read_ok : ℕ × List ℕ → Result (ℕ × List ℕ) (ℕ → NumberFault)
 read_ok p = Ok p
 
 ok_same : (p q : ℕ × List ℕ) → read_ok p ≡ read_ok q → p ≡ q
@@ -32,8 +35,8 @@ digits_end (c ∷ s) = go (is_digit c) (digits_end s)
     go true e = (c ∷ e.0, ap (λ r. c ∷ r) (e.1))
     go false e = ([], refl)
 
-abbrev chosen : List ℕ → Bool → Bool → Bool → Bool → Bool → Result (ℕ × List ℕ) NumberKind
-chosen s a b c d e = cond a (Err Fraction) (cond b (Err OtherForm) (cond c (Err Fraction) (cond d (Err OtherForm) (cond e (Err TooLarge) (Ok (decimal 0 (digits_of s), after_digits s))))))
+abbrev chosen : List ℕ → Bool → Bool → Bool → Bool → Bool → Result (ℕ × List ℕ) (ℕ → NumberFault)
+chosen s a b c d e = cond a (Err faults.Fraction) (cond b (Err faults.OtherForm) (cond c (Err faults.Fraction) (cond d (Err faults.OtherForm) (cond e (Err faults.TooLarge) (Ok (decimal 0 (digits_of s), after_digits s))))))
 
 pub number_rest : (s rest : List ℕ) (v : ℕ) → number_at s ≡ Ok (v, rest) → rest ≡ after_digits s
 number_rest s rest v h = go (begins_point s) (has_leading_zero s) (begins_point (after_digits s)) (begins_tail (after_digits s)) (nat_lt 9007199254740991 (decimal 0 (digits_of s))) h
@@ -119,7 +122,7 @@ one_number_fault text at f e h g =
     let a = h.reads in
     let b : number_at h.s ≡ Err g.kind = rw same g.reads in
     let k : h.kind ≡ g.kind = cc in
-    h.is_fault ∙ (ap (λ k. number_fault k at) k ∙ sym g.is_fault)
+    h.is_fault ∙ (ap (λ k. k at) k ∙ sym g.is_fault)
 
 pub only_number : (text : List ℕ) (at : ℕ) (r : Result (ℕ × ℕ) NumberFault) → IsUtf8 text → IfOk r (λ p. NumberOf text at (p.0) (p.1)) → IfErr r (λ e. NumberFaultOf text at e) → (v end : ℕ) → NumberOf text at v end → r ≡ Ok (v, end)
 only_number text at (Ok p) u ok err v end h =
@@ -132,7 +135,7 @@ only_number_fault text at (Ok p) ok err f h = absurd (no_number text at (p.0) (p
 only_number_fault text at (Err e) ok err f h = ap (λ x. Err x) (one_number_fault text at e f err h)
 
 -- the fault of a number that begins here
-pub number_fails : (text : List ℕ) (at : ℕ) (s : List ℕ) (k : NumberKind) → IsUtf8 text → BeginsNumber text at → StandsAt text at s → number_at s ≡ Err k → NumberFaultOf text at (number_fault k at)
+pub number_fails : (text : List ℕ) (at : ℕ) (s : List ℕ) (k : ℕ → NumberFault) → IsUtf8 text → BeginsNumber text at → StandsAt text at s → number_at s ≡ Err k → NumberFaultOf text at (k at)
 number_fails text at s k u b h e = record { s = s; kind = k; starts = h; begins = number_begins text at s u b h; reads = e; is_fault = refl }
 
 -- a number or a fault
@@ -145,6 +148,6 @@ some_number text at u b = go (number_at s) refl
     here : StandsAt text at s
     here = ascii_stands text at u (b.0) (number_small (slice_index text at) (is_digit (slice_index text (at + 1))) (b.1))
 
-    go : (r : Result (ℕ × List ℕ) NumberKind) → number_at s ≡ r → ((v : ℕ) × (end : ℕ) × NumberOf text at v end) ⊎ ((f : NumberFault) × NumberFaultOf text at f)
+    go : (r : Result (ℕ × List ℕ) (ℕ → NumberFault)) → number_at s ≡ r → ((v : ℕ) × (end : ℕ) × NumberOf text at v end) ⊎ ((f : NumberFault) × NumberFaultOf text at f)
     go (Ok p) e = inl (p.0, length text - length (encode_utf8_all (p.1)), number_stands text at s (p.1) (p.0) (length (encode_utf8_all (p.1))) u b here e refl)
-    go (Err k) e = inr (number_fault k at, number_fails text at s k u b here e)
+    go (Err k) e = inr (k at, number_fails text at s k u b here e)

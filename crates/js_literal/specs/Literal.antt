@@ -30,15 +30,10 @@ abbrev pub letter_unit : ℕ → Option ℕ
 letter_unit c = if c == 98 then Some 8 else (if c == 116 then Some 9 else (if c == 110 then Some 10 else
     (if c == 118 then Some 11 else (if c == 102 then Some 12 else (if c == 114 then Some 13 else None)))))
 
--- a digit is the first of the characters
-abbrev pub begins_digit : List ℕ → Bool
-begins_digit [] = false
-begins_digit (c ∷ cs) = is_digit c
-
--- a line feed is the first of the characters
-abbrev pub begins_line_feed : List ℕ → Bool
-begins_line_feed [] = false
-begins_line_feed (c ∷ cs) = c == 10
+-- the first of the characters passes this test
+abbrev pub begins_with : (ℕ → Bool) → List ℕ → Bool
+begins_with test [] = false
+begins_with test (c ∷ cs) = test c
 
 -- a character that denotes itself in a string in these quotes: any but the quote, the backslash, LF and CR
 abbrev pub is_plain : ℕ → ℕ → Bool
@@ -55,7 +50,7 @@ is_itself c = if is_digit c || c == 120 || c == 117 then false
 pub data LiteralPiece (q : ℕ) : List ℕ → List ℕ → List ℕ → Type 0 where
   plain : (c : ℕ) (rest : List ℕ) → is_plain q c ≡ true → LiteralPiece q (c ∷ rest) (utf16_of c) rest
   letter : (c u : ℕ) (rest : List ℕ) → letter_unit c ≡ Some u → LiteralPiece q (92 ∷ c ∷ rest) (u ∷ []) rest
-  null : (rest : List ℕ) → begins_digit rest ≡ false → LiteralPiece q (92 ∷ 48 ∷ rest) (0 ∷ []) rest
+  null : (rest : List ℕ) → begins_with is_digit rest ≡ false → LiteralPiece q (92 ∷ 48 ∷ rest) (0 ∷ []) rest
   two : (a b v : ℕ) (rest : List ℕ) → hex_number 0 (a ∷ b ∷ []) ≡ Some v
       → LiteralPiece q (92 ∷ 120 ∷ a ∷ b ∷ rest) (v ∷ []) rest
   four : (a b c d v : ℕ) (rest : List ℕ) → hex_number 0 (a ∷ b ∷ c ∷ d ∷ []) ≡ Some v
@@ -63,7 +58,7 @@ pub data LiteralPiece (q : ℕ) : List ℕ → List ℕ → List ℕ → Type 0 
   braces : (d : ℕ) (ds : List ℕ) (v : ℕ) (rest : List ℕ) → hex_number 0 (d ∷ ds) ≡ Some v → v ≤ 0x10FFFF
       → LiteralPiece q (92 ∷ 117 ∷ 123 ∷ d ∷ (ds ++ 125 ∷ rest)) (utf16_of v) rest
   both_ends : (rest : List ℕ) → LiteralPiece q (92 ∷ 13 ∷ 10 ∷ rest) [] rest
-  return : (rest : List ℕ) → begins_line_feed rest ≡ false → LiteralPiece q (92 ∷ 13 ∷ rest) [] rest
+  return : (rest : List ℕ) → begins_with (λ c. c == 10) rest ≡ false → LiteralPiece q (92 ∷ 13 ∷ rest) [] rest
   line_end : (c : ℕ) (rest : List ℕ) → (c == 10 || c == 0x2028 || c == 0x2029) ≡ true
       → LiteralPiece q (92 ∷ c ∷ rest) [] rest
   itself : (c : ℕ) (rest : List ℕ) → letter_unit c ≡ None → is_itself c ≡ true
@@ -90,7 +85,7 @@ pub data Breaks (q : ℕ) : List ℕ → StringFaultKind → Type 0 where
   ended_escape : Breaks q (92 ∷ []) Unclosed
   raw_line_end : (c : ℕ) (rest : List ℕ) → (c == 10 || c == 13) ≡ true → Breaks q (c ∷ rest) RawLineEnd
   octal : (c : ℕ) (rest : List ℕ) → (nat_le 49 c && nat_le c 57) ≡ true → Breaks q (92 ∷ c ∷ rest) LegacyOctal
-  octal_zero : (rest : List ℕ) → begins_digit rest ≡ true → Breaks q (92 ∷ 48 ∷ rest) LegacyOctal
+  octal_zero : (rest : List ℕ) → begins_with is_digit rest ≡ true → Breaks q (92 ∷ 48 ∷ rest) LegacyOctal
   too_large : (s : List ℕ) → IsCodePointTooLarge s → Breaks q (92 ∷ s) CodePointTooLarge
   -- x or u, and neither a row of the table nor too large
   bad : (c : ℕ) (rest : List ℕ) → (c == 120 || c == 117) ≡ true

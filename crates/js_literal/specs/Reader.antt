@@ -3,13 +3,21 @@
 use Rattle.std.specs.Prelude.{ℕ, ◌+◌, ◌*◌, List, [], ◌∷◌, Option, Some, None, Bool, nat_le, ◌==◌, not, ◌&&◌, ◌||◌, if◌then◌else◌}
 use Rattle.std.specs.Str.{chars}
 use Rattle.js_units.specs.Text.{utf16_of}
-use Rattle.js_literal.specs.Literal.{hex_value, letter_unit, begins_digit, StringFaultKind, Unclosed, RawLineEnd, BadEscape, CodePointTooLarge, LegacyOctal}
+use Rattle.js_literal.specs.Literal.{hex_value, letter_unit, is_digit, begins_with, StringFaultKind, Unclosed, RawLineEnd, BadEscape, CodePointTooLarge, LegacyOctal}
 use Rattle.js_literal.specs.declared.front.LiteralFront.{LiteralFront}
 use Rattle.js_literal.specs.declared.front.LiteralFront.TheVariants as code
 use Rattle.js_literal.specs.declared.front.PieceUnits.{PieceUnits}
 use Rattle.js_literal.specs.declared.front.PieceUnits.TheVariants as value
 use Rattle.js_literal.specs.declared.front.PieceFault.{PieceFault}
 use Rattle.js_literal.specs.declared.front.PieceFault.TheVariants as refusal
+
+-- a digit is the first of the characters
+abbrev pub begins_digit : List ℕ → Bool
+begins_digit s = begins_with is_digit s
+
+-- a line feed is the first of the characters
+abbrev pub begins_line_feed : List ℕ → Bool
+begins_line_feed s = begins_with (λ c. c == 10) s
 
 -- a piece with its units and the rest, the closing quote with the rest, or what is refused
 pub data Reading : Type 0 where

@@ -1,6 +1,6 @@
 // Faults of literals, each with the byte of the text at which it is.
 ghost use Rattle.std.specs.Prelude.{◌≡◌};
-ghost use Rattle.js_literal.specs.Faults.{literal_offset, literal_words, number_offset, number_words};
+ghost use Rattle.js_literal.specs.Faults.{literal_report, number_report};
 
 /// Why a text has no string literal at a place.
 #[derive(Clone, Copy, Debug, PartialEq, Eq)]
@@ -33,7 +33,7 @@ pub enum NumberFault {
 impl LiteralFault {
     /// The byte offset at which it is; 0 where memory ran out.
     pub fn offset(self) -> u32
-        ensures { result ≡ literal_offset self }
+        ensures { result ≡ (literal_report self).0 }
     {
         match self {
             LiteralFault::Unclosed { at } => at,
@@ -47,7 +47,7 @@ impl LiteralFault {
 
     /// Its message, in ASCII.
     pub fn words(self) -> &'static [u8]
-        ensures { result.now ≡ literal_words self }
+        ensures { result.now ≡ (literal_report self).1 }
     {
         match self {
             LiteralFault::Unclosed { at: _ } => b"unclosed string",
@@ -63,7 +63,7 @@ impl LiteralFault {
 impl NumberFault {
     /// The byte offset at which it is.
     pub fn offset(self) -> u32
-        ensures { result ≡ number_offset self }
+        ensures { result ≡ (number_report self).0 }
     {
         match self {
             NumberFault::Fraction { at } => at,
@@ -74,7 +74,7 @@ impl NumberFault {
 
     /// Its message, in ASCII.
     pub fn words(self) -> &'static [u8]
-        ensures { result.now ≡ number_words self }
+        ensures { result.now ≡ (number_report self).1 }
     {
         match self {
             NumberFault::Fraction { at: _ } => b"fraction",

@@ -1,10 +1,11 @@
 // Number literals (ECMA-262, "Numeric Literals").
-ghost use Rattle.std.specs.Prelude.{◌≡◌, ◌<◌, ◌≤◌, ◌^◌, ◌∷◌, ◌+◌, ◌⊎◌, ℕ, List, min, length, slice_index, encode_utf8_all, drop, IsUtf8, IfOk, IfErr, MatchResult, Ok, Err, true};
+ghost use Rattle.std.specs.Prelude.{◌≡◌, ◌<◌, ◌^◌, ◌∷◌, ◌+◌, ◌⊎◌, ℕ, List, min, length, IsUtf8, IfOk, IfErr, MatchResult, Ok, Err};
 ghost use Rattle.std.specs.Str.{chars};
 ghost use Rattle.js_literal.specs.Place.{StandsAt};
-ghost use Rattle.js_literal.specs.Number.{digits_of, after_digits, decimal, number_at, number_fault, NumberOf, NumberFaultOf, BeginsNumber};
+ghost use Rattle.js_literal.specs.Number.{digits_of, decimal, number_at, NumberOf, NumberFaultOf, BeginsNumber};
 ghost use Rattle.js_literal.specs.Number;
-ghost use Rattle.js_literal.specs.NumberReader.{number_kind};
+ghost use Rattle.js_literal.specs.NumberReader;
+ghost use Rattle.js_literal.specs.NumberReader.{after_digits, number_kind};
 ghost use Rattle.js_literal.specs.declared.fault.NumberFault.{NumberFault};
 
 use crate::fault::NumberFault;
@@ -21,7 +22,7 @@ enum DigitsFault {
 
 /// Whether the first character is a point.
 fn begins_point(text: &str) -> bool
-    ensures { result ≡ Number.begins_point (chars text.now) }
+    ensures { result ≡ NumberReader.begins_point (chars text.now) }
 {
     matches!(split_char(text), Some(('.', _)))
 }
@@ -45,7 +46,7 @@ pub fn is_word_start(c: char) -> bool
 
 /// Whether the first character is one that may not follow a number's digits.
 fn begins_tail(text: &str) -> bool
-    ensures { result ≡ Number.begins_tail (chars text.now) }
+    ensures { result ≡ NumberReader.begins_tail (chars text.now) }
 {
     match split_char(text) {
         Some((c, _)) => is_word_start(c) || c == '\\',
@@ -152,7 +153,7 @@ fn from(text: &str, at: u32) -> &str
 
 /// The fault of a literal that begins at `at`.
 fn placed(refusal: DigitsFault, at: u32) -> NumberFault
-    ensures { result ≡ number_fault (number_kind refusal) at }
+    ensures { result ≡ number_kind refusal at }
 {
     match refusal {
         DigitsFault::Fraction => NumberFault::Fraction { at },

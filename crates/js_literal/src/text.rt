@@ -7,7 +7,7 @@ use js_units::split_char;
 
 /// Whether the first character is a digit `0` to `9`.
 pub fn begins_digit(text: &str) -> bool
-    ensures { result ≡ Literal.begins_digit (chars text.now) }
+    ensures { result ≡ Literal.begins_with Literal.is_digit (chars text.now) }
 {
     match split_char(text) {
         Some((c, _)) => c.is_ascii_digit(),

@@ -21,7 +21,9 @@ use Rattle.js_parse.specs.declared.fault.Role.{Role}
 use Rattle.js_parse.specs.declared.fault.ParseFault.{ParseFault}
 use Rattle.js_parse.specs.declared.fault.ParseFault.TheVariants as fault
 use Rattle.js_parse.specs.FirstFault.{HasNameFault, IsFirstFault}
-use Rattle.js_parse.specs.Spells.{Parses, Spells, Refused, lexical, grammatical, of_names, prints, front_of, misplaced, misnamed}
+use Rattle.js_parse.specs.Spells.{Parses, Spells, Refused, lexical, grammatical, of_names, prints, misplaced, misnamed}
+use Rattle.js_parse.specs.Told.{front_of}
+use Rattle.js_parse.proofs.Fronts.{front_is, grammatical_at}
 use Rattle.js_parse.proofs.First.{right_or_first, one_first}
 
 module _ (r : Role) (bytes : List ℕ) where
@@ -90,9 +92,11 @@ module _ (r : Role) (outer : List (List ℕ)) (bytes : List ℕ) where
   one_refusal _ _ (grammatical ts xs a k rest p h) (grammatical us ys b j left q i) =
       let same = grammar.one_refusal (Statements a (prints r)) most ts k j rest left h (same_refusal r bytes ts us xs ys a b j left p q i) in
       let source = one_source r bytes ts us xs ys a b p q in
-      ap (λ v. misplaced v (front_of ts rest) rest (length bytes)) same.0
+      ap (λ v. misplaced k v rest (length bytes)) (sym (front_is ts h.front rest h.whole))
+      ∙ ap (λ v. misplaced v (front_of ts rest) rest (length bytes)) same.0
       ∙ ap (λ v. misplaced j (front_of ts v) v (length bytes)) same.1
       ∙ ap (λ v. misplaced j (front_of v left) left (length bytes)) source.tokens
+      ∙ ap (λ v. misplaced j v left (length bytes)) (front_is us i.front left i.whole)
   one_refusal _ _ (grammatical ts xs a k rest p h) (of_names y g q i) = absurd (not_parsed r bytes y ts xs a k rest q p h)
   one_refusal _ _ (of_names y g q i) (grammatical ts xs a k rest p h) = absurd (not_parsed r bytes y ts xs a k rest q p h)
   one_refusal _ _ (of_names x f p h) (of_names y g q i) = ap misnamed (one_first outer p.tables p.tokens x f g h (carried r bytes (λ a ts t. IsFirstFault outer a ts t g) x y p q i))
@@ -105,7 +109,7 @@ module _ (r : Role) (outer : List (List ℕ)) (bytes : List ℕ) where
   of_tokens ts xs a p (Got lines rest) e =
       let x : Tree = record { literals = xs; body = stmts lines; top = own_names lines } in
       of_tree x (record { tokens = ts; tables = a; statements = lines; reads = p; parsed = all_read a (prints r) most ts lines rest e; body = refl; top = refl }) (right_or_first outer a ts x)
-  of_tokens ts xs a p (Bad k rest) e = inr (misplaced k (front_of ts rest) rest (length bytes), grammatical ts xs a k rest p (refuses a (prints r) most ts k rest e))
+  of_tokens ts xs a p (Bad k rest) e = inr (misplaced k (front_of ts rest) rest (length bytes), grammatical_at r outer bytes ts xs a k rest p (refuses a (prints r) most ts k rest e))
 
   of_text : ((ts : List Lexed) × TokensOf bytes ts) ⊎ ((f : LexFault) × LexFaultOf bytes f) → ((y : Tree) × Spells r outer bytes y) ⊎ ((e : ParseFault) × Refused r outer bytes e)
   of_text (inl h) =

@@ -3,16 +3,16 @@ use Rattle.std.proofs.Common.{◌≡◌, ℕ, ◌≤◌, ◌<◌, Bool, true, fa
 use Rattle.std.specs.Prelude.{nat_lt}
 use Rattle.std.proofs.lemmas.Bool.{ltb-true, ltb-false}
 use Rattle.eval_tree.specs.Tree.{Tree}
-use Rattle.parse_syntax.specs.Reader.{is_some}
 use Rattle.parse_syntax.specs.declared.token.GrammarToken.{GrammarToken}
 use Rattle.parse_syntax.specs.Tables.{TokenTables}
-use Rattle.parse_syntax.specs.Terminals.{colon}
 use Rattle.js_parse.specs.Names.{Declaring, NameFault, Duplicate, LoopName, ProtoKey}
 use Rattle.js_parse.specs.ProtoKeys.{HasProtoKey, here, later, opens_entry, is_proto}
 use Rattle.js_parse.specs.declared.name_fault.NameFault.{NameFault as Told}
 use Rattle.js_parse.specs.FirstFault.{fault_rank, HasNameFault, of_name, of_key, IsFirstFault, fault_of, TellsFirst}
 use Rattle.js_parse.specs.NameFaults.{faults_of, key_first, proto_fault, proto_behind, proto_faults, earlier, least, offers}
 use Rattle.js_parse.proofs.Faults.{In, in_left, in_right, apart, either, sound_among, complete_among}
+use Rattle.js_lex.specs.declared.token.Mark.TheVariants.{Colon}
+use Rattle.parse_syntax.specs.Terminals.{is_mark}
 
 earlier_is : (f g : NameFault) → ((earlier f g ≡ f) ⊎ (earlier f g ≡ g)) × (fault_rank (earlier f g) ≤ fault_rank f) × (fault_rank (earlier f g) ≤ fault_rank g)
 earlier_is f g = go (nat_lt (fault_rank g) (fault_rank f)) refl
@@ -54,7 +54,7 @@ module _ (tables : TokenTables) where
   key_of b [] f o i = absurd i
   key_of b (k ∷ []) f o i = absurd i
   key_of b (k ∷ c ∷ ts) f o i =
-      let q = opened (is_some (colon c)) (proto_fault tables k) f i in
+      let q = opened (is_mark Colon c) (proto_fault tables k) f i in
       let p = opened (is_proto tables k) (ProtoKey k.at ∷ []) f q.1 in
       (k.at, only f (ProtoKey k.at) p.1, here b k c ts o p.0 q.0)
 

@@ -1,6 +1,7 @@
 mod Answered
 mod Faults
 mod First
+mod Fronts
 mod Marks
 mod Parsed
 mod Told

@@ -19,7 +19,8 @@ use Rattle.js_parse.specs.NameFaults.{offers, proto_faults}
 use Rattle.parse_tokens.specs.Tokens.{HasTokens}
 use Rattle.js_parse.specs.declared.fault.Role.{Role}
 use Rattle.js_parse.specs.declared.fault.ParseFault.{ParseFault}
-use Rattle.js_parse.specs.Spells.{lexical, grammatical, prints}
+use Rattle.js_parse.specs.Spells.{lexical, prints}
+use Rattle.js_parse.proofs.Fronts.{grammatical_at}
 use Rattle.js_parse.specs.Told.{lex_fault, grammar_fault, IsRefusal, ParsesWith}
 
 pub lex_refused : (role : Role) (bytes : List ℕ) (f : LexFault) → (f ≡ lex.Memory) ⊎ LexFaultOf bytes f → IsRefusal role bytes (lex_fault f)
@@ -39,8 +40,8 @@ Says (parser.TooDeep rest) P = P TooDeep rest.now
 
 pub grammar_refused : (role : Role) (bytes : List ℕ) (end : ℕ) (ts : List GrammarToken) (literals : List (List ℕ)) (tables : TokenTables) (f : Fault) → end ≡ length bytes → HasTokens bytes ts literals tables.names tables.keys → Says f (IsRefused (Statements tables (prints role)) most ts) → IsRefusal role bytes (grammar_fault f ts end)
 grammar_refused role bytes end ts literals tables parser.Memory e reads h = inl refl
-grammar_refused role bytes end ts literals tables (parser.Wrong rest) e reads h = rw e (inr (λ outer. grammatical ts literals tables Wrong rest.now reads h))
-grammar_refused role bytes end ts literals tables (parser.TooDeep rest) e reads h = rw e (inr (λ outer. grammatical ts literals tables TooDeep rest.now reads h))
+grammar_refused role bytes end ts literals tables (parser.Wrong rest) e reads h = rw e (inr (λ outer. grammatical_at role outer bytes ts literals tables Wrong rest.now reads h))
+grammar_refused role bytes end ts literals tables (parser.TooDeep rest) e reads h = rw e (inr (λ outer. grammatical_at role outer bytes ts literals tables TooDeep rest.now reads h))
 
 pub says_of : (f : Fault) (P : SyntaxFaultKind → List GrammarToken → Type 0) → OnFault {X = ℕ} (Err f) P → Says f P
 says_of parser.Memory P h = tt

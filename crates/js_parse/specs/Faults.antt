@@ -1,25 +1,15 @@
--- The report of the fault of a text that is no script: where it is, and with which message.
-use Rattle.std.specs.Prelude.{ℕ, List, [], codes}
-use Rattle.js_lex.specs.Faults.{lexical_offset, lexical_words}
+-- The report of the fault of a text that is no script.
+use Rattle.std.specs.Prelude.{ℕ, List, codes}
+use Rattle.js_lex.specs.Faults.{lexical_report}
 use Rattle.js_parse.specs.declared.fault.ParseFault.{ParseFault}
 use Rattle.js_parse.specs.declared.fault.ParseFault.TheVariants as fault
 
--- the byte offset; out of memory has none
-abbrev pub fault_offset : ParseFault → ℕ
-fault_offset (fault.Lex f) = lexical_offset f
-fault_offset (fault.Unexpected at) = at
-fault_offset (fault.NotInProfile at) = at
-fault_offset (fault.TooDeep at) = at
-fault_offset (fault.Duplicate at) = at
-fault_offset (fault.LoopName at) = at
-fault_offset fault.Memory = 0
-
--- the message with which the fault of a text that is no script is reported
-abbrev pub fault_words : ParseFault → List ℕ
-fault_words (fault.Lex f) = lexical_words f
-fault_words (fault.Unexpected at) = codes "unexpected"
-fault_words (fault.NotInProfile at) = codes "not in profile"
-fault_words (fault.TooDeep at) = codes "too deep"
-fault_words (fault.Duplicate at) = codes "duplicate"
-fault_words (fault.LoopName at) = codes "loop name"
-fault_words fault.Memory = codes "out of memory"
+-- the byte offset at which the fault is reported, 0 where memory ran out, and the message
+abbrev pub fault_report : ParseFault → ℕ × List ℕ
+fault_report (fault.Lex f) = lexical_report f
+fault_report (fault.Unexpected at) = (at, codes "unexpected")
+fault_report (fault.NotInProfile at) = (at, codes "not in profile")
+fault_report (fault.TooDeep at) = (at, codes "too deep")
+fault_report (fault.Duplicate at) = (at, codes "duplicate")
+fault_report (fault.LoopName at) = (at, codes "loop name")
+fault_report fault.Memory = (0, codes "out of memory")

@@ -5,13 +5,13 @@ use Rattle.std.specs.List.{list_any}
 use Rattle.std.specs.Str.{bytes_eq}
 use Rattle.eval_tree.specs.Tree as tree
 use Rattle.eval_tree.specs.Tree.{Tree, StmtTree, BlockTree, block_of, Stmts, Arms}
-use Rattle.parse_syntax.specs.Reader.{is_some}
 use Rattle.parse_syntax.specs.declared.token.GrammarToken.{GrammarToken}
 use Rattle.parse_syntax.specs.Tables.{TokenTables}
-use Rattle.parse_syntax.specs.Terminals.{colon}
 use Rattle.js_parse.specs.Names.{NameFault, Duplicate, LoopName, ProtoKey}
 use Rattle.js_parse.specs.ProtoKeys.{opens_entry, is_proto}
 use Rattle.js_parse.specs.FirstFault.{fault_rank}
+use Rattle.js_lex.specs.declared.token.Mark.TheVariants.{Colon}
+use Rattle.parse_syntax.specs.Terminals.{is_mark}
 
 -- a set of names, as the test for its members
 abbrev pub NameTest : Type 0
@@ -85,7 +85,7 @@ proto_fault tables k = if is_proto tables k then ProtoKey k.at ∷ [] else []
 
 -- that of the first token, where a colon follows it
 abbrev pub key_first : TokenTables → List GrammarToken → List NameFault
-key_first tables (k ∷ c ∷ ts) = if is_some (colon c) then proto_fault tables k else []
+key_first tables (k ∷ c ∷ ts) = if is_mark Colon c then proto_fault tables k else []
 key_first tables _ = []
 
 -- that behind a token

@@ -60,8 +60,7 @@ mutual
   -- among statements of one block, behind which these names were declared before
   pub data FaultAmong : List NameScope → List (List ℕ) → Stmts → NameFault → Type 0 where
     let_again : (scopes : List NameScope) (before : List (List ℕ)) (at : ℕ) (x : List ℕ)
-        (init : Option ExprTree)
-        (rest : Stmts) → IsAmong x before
+        (init : Option ExprTree) (rest : Stmts) → IsAmong x before
         → FaultAmong scopes before (stmt (let_line at x init) rest) (Duplicate at)
     const_again : (scopes : List NameScope) (before : List (List ℕ)) (at : ℕ) (x : List ℕ) (init : ExprTree)
         (rest : Stmts) → IsAmong x before
@@ -69,8 +68,8 @@ mutual
     in_it : (scopes : List NameScope) (before : List (List ℕ)) (s : StmtTree) (rest : Stmts) (f : NameFault)
         → FaultIn scopes s f → FaultAmong scopes before (stmt s rest) f
     behind_it : (scopes : List NameScope) (before : List (List ℕ)) (s : StmtTree) (rest : Stmts)
-        (f : NameFault)
-        → FaultAmong scopes (own_name s ++ before) rest f → FaultAmong scopes before (stmt s rest) f
+        (f : NameFault) → FaultAmong scopes (own_name s ++ before) rest f
+        → FaultAmong scopes before (stmt s rest) f
 
 -- after a prelude that declares the outer names, the script has the fault
 abbrev pub HasFault : List (List ℕ) → Tree → NameFault → Type 0

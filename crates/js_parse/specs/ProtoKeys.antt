@@ -1,16 +1,15 @@
 -- Keys of object literals that are `__proto__`, over the tokens of a script: the profile has no prototypes.
-use Rattle.std.specs.Prelude.{◌≡◌, ℕ, List, [], ◌∷◌, codes, get_or, Bool, true, false}
+use Rattle.std.specs.Prelude.{◌≡◌, ℕ, List, [], ◌∷◌, codes, get_or, Bool, true, false, ◌||◌}
 use Rattle.std.specs.Str.{bytes_eq}
-use Rattle.js_lex.specs.declared.token.Mark.TheVariants as mark
-use Rattle.parse_syntax.specs.Reader.{is_some}
+use Rattle.js_lex.specs.declared.token.Mark.TheVariants.{OpenBrace, Comma, Colon}
 use Rattle.parse_syntax.specs.declared.token.GrammarToken.{GrammarToken}
 use Rattle.parse_syntax.specs.declared.token.GrammarKind.TheVariants as kind
 use Rattle.parse_syntax.specs.Tables.{TokenTables}
-use Rattle.parse_syntax.specs.Terminals.{colon}
+use Rattle.parse_syntax.specs.Terminals.{is_mark}
 
 -- { or a comma, behind which there is a key where a colon follows it
 abbrev pub opens_entry : GrammarToken → Bool
-opens_entry t = elim t.kind [ kind.Mark mark.OpenBrace ↦ true | kind.Mark mark.Comma ↦ true | _ ↦ false ]
+opens_entry t = is_mark OpenBrace t || is_mark Comma t
 
 -- whether the key is __proto__; that of a number has digits alone
 abbrev pub is_proto : TokenTables → GrammarToken → Bool
@@ -24,6 +23,6 @@ is_proto tables t = elim t.kind [
 -- among the tokens such a key is at this place
 pub data HasProtoKey (tables : TokenTables) : List GrammarToken → ℕ → Type 0 where
   here : (b k c : GrammarToken) (ts : List GrammarToken) → opens_entry b ≡ true → is_proto tables k ≡ true
-      → is_some (colon c) ≡ true → HasProtoKey tables (b ∷ k ∷ c ∷ ts) k.at
+      → is_mark Colon c ≡ true → HasProtoKey tables (b ∷ k ∷ c ∷ ts) k.at
   later : (t : GrammarToken) (ts : List GrammarToken) (at : ℕ) → HasProtoKey tables ts at
       → HasProtoKey tables (t ∷ ts) at

@@ -1,12 +1,12 @@
 -- Which bytes spell which script, and which are refused.
-use Rattle.std.specs.Prelude.{◌≡◌, ℕ, ◌-◌, List, [], ◌∷◌, length, take, drop, Bool, true, false, if◌then◌else◌, Option, Some, None, Result, Ok, Err}
+use Rattle.std.specs.Prelude.{◌≡◌, ℕ, ◌-◌, List, [], ◌∷◌, length, drop, Bool, true, false, if◌then◌else◌, Option, Some, None, Result, Ok, Err}
 use Rattle.js_lex.specs.declared.token.LexFault.{LexFault}
 use Rattle.js_lex.specs.Tokens.{LexFaultOf}
-use Rattle.parse_syntax.specs.Reader.{SyntaxFaultKind, Wrong, TooDeep, is_some}
+use Rattle.parse_syntax.specs.Reader.{SyntaxFaultKind, Wrong, TooDeep}
 use Rattle.parse_syntax.specs.Refused.{IsRefused}
 use Rattle.parse_syntax.specs.declared.token.GrammarToken.{GrammarToken}
 use Rattle.parse_syntax.specs.Tables.{TokenTables}
-use Rattle.parse_syntax.specs.Terminals.{is_word_token, point, opening}
+use Rattle.parse_syntax.specs.Terminals.{is_mark, is_word_token}
 use Rattle.eval_tree.specs.Tree.{Tree, StmtTree, stmts}
 use Rattle.parse_syntax.specs.Grammar.{Statements, own_names, most}
 use Rattle.js_parse.specs.Names.{NameFault, Duplicate, LoopName, ProtoKey}
@@ -16,6 +16,7 @@ use Rattle.js_parse.specs.declared.fault.Role.TheVariants as role
 use Rattle.js_parse.specs.declared.fault.ParseFault.{ParseFault}
 use Rattle.js_parse.specs.declared.fault.ParseFault.TheVariants as fault
 use Rattle.js_parse.specs.FirstFault.{HasNameFault, IsFirstFault}
+use Rattle.js_lex.specs.declared.token.Mark.TheVariants.{Point, OpenParen}
 
 -- a prelude has no print
 abbrev pub prints : Role → Bool
@@ -37,18 +38,14 @@ pub record Spells (r : Role) (outer : List (List ℕ)) (bytes : List ℕ) (scrip
   pub parses : Parses r bytes script
   pub innocent : (f : NameFault) → HasNameFault outer parses.tables parses.tokens script f → ⊥
 
--- the tokens before the rest
-abbrev pub front_of : List GrammarToken → List GrammarToken → List GrammarToken
-front_of tokens rest = take (length tokens - length rest) tokens
-
 -- of a point and an identifier the place of the identifier
 abbrev pub pointed : List GrammarToken → Option ℕ
-pointed (p ∷ t ∷ []) = if is_some (point p) then (if is_word_token t then Some t.at else None) else None
+pointed (p ∷ t ∷ []) = if is_mark Point p then (if is_word_token t then Some t.at else None) else None
 pointed _ = None
 
 -- the identifier behind a point that ends the front, where ( follows. Where it is a method, ( is never wrong
 abbrev pub called_word : List GrammarToken → GrammarToken → Option ℕ
-called_word front t = if is_some (opening t) then pointed (drop (length front - 2) front) else None
+called_word front t = if is_mark OpenParen t then pointed (drop (length front - 2) front) else None
 
 -- a token isn't allowed there: an identifier that is called so is at fault in its place
 abbrev pub misplaced_at : Option ℕ → GrammarToken → ParseFault
@@ -75,8 +72,8 @@ pub data Refused (r : Role) (outer : List (List ℕ)) (bytes : List ℕ) : Parse
   grammatical : (tokens : List GrammarToken) (literals : List (List ℕ)) (tables : TokenTables)
       (kind : SyntaxFaultKind)
       (rest : List GrammarToken) → HasTokens bytes tokens literals tables.names tables.keys
-      → IsRefused (Statements tables (prints r)) most tokens kind rest
-      → Refused r outer bytes (misplaced kind (front_of tokens rest) rest (length bytes))
+      → (refused : IsRefused (Statements tables (prints r)) most tokens kind rest)
+      → Refused r outer bytes (misplaced kind refused.front rest (length bytes))
   of_names : (script : Tree) (f : NameFault) (p : Parses r bytes script)
       → IsFirstFault outer p.tables p.tokens script f → Refused r outer bytes (misnamed f)
 

@@ -1,6 +1,6 @@
 -- Helpers: no public contract reaches these definitions.
 -- How faults of tokens and of the grammar are reported.
-use Rattle.std.specs.Prelude.{◌≡◌, ◌⊎◌, ℕ, List, Option, None}
+use Rattle.std.specs.Prelude.{◌≡◌, ◌⊎◌, ℕ, ◌-◌, List, length, take, Option, None}
 use Rattle.js_lex.specs.declared.token.LexFault.{LexFault}
 use Rattle.js_lex.specs.declared.token.LexFault.TheVariants as lexical
 use Rattle.parse_syntax.specs.Reader.{Wrong, TooDeep}
@@ -13,7 +13,11 @@ use Rattle.parse_syntax.specs.declared.token.GrammarToken.{GrammarToken}
 use Rattle.eval_tree.specs.Tree.{Tree}
 use Rattle.js_parse.specs.Names.{NameFault}
 use Rattle.js_parse.specs.NameFaults.{offers, proto_faults}
-use Rattle.js_parse.specs.Spells.{Parses, Refused, front_of, misplaced}
+use Rattle.js_parse.specs.Spells.{Parses, Refused, misplaced}
+
+-- the tokens before the rest
+abbrev pub front_of : List GrammarToken → List GrammarToken → List GrammarToken
+front_of tokens rest = take (length tokens - length rest) tokens
 
 abbrev pub lex_fault : LexFault → ParseFault
 lex_fault lexical.Memory = fault.Memory

@@ -1,6 +1,6 @@
 // Why a text is no script.
 ghost use Rattle.std.specs.Prelude.{◌≡◌};
-ghost use Rattle.js_parse.specs.Faults.{fault_offset, fault_words};
+ghost use Rattle.js_parse.specs.Faults.{fault_report};
 ghost use Rattle.js_parse.specs.declared.fault.ParseFault.TheVariants.{Memory};
 
 use js_lex::LexFault;
@@ -36,7 +36,7 @@ pub enum ParseFault {
 impl ParseFault {
     /// The byte offset at which it is; 0 where memory ran out.
     pub fn offset(self) -> u32
-        ensures { result ≡ fault_offset self }
+        ensures { result ≡ (fault_report self).0 }
     {
         match self {
             ParseFault::Lex(fault) => fault.offset(),
@@ -51,7 +51,7 @@ impl ParseFault {
 
     /// Its message, in ASCII.
     pub fn words(self) -> &'static [u8]
-        ensures { result.now ≡ fault_words self }
+        ensures { result.now ≡ (fault_report self).1 }
     {
         match self {
             ParseFault::Lex(fault) => fault.words(),

@@ -1,9 +1,11 @@
 // The fault of a token that isn't allowed at its place.
 ghost use Rattle.std.specs.Prelude.{◌≡◌};
-ghost use Rattle.parse_syntax.specs.Reader.{Wrong, TooDeep, is_some};
+ghost use Rattle.parse_syntax.specs.Reader.{Wrong, TooDeep};
+ghost use Rattle.js_lex.specs.declared.token.Mark.TheVariants.{OpenParen, Point};
 ghost use Rattle.parse_syntax.specs.Terminals as terminals;
 ghost use Rattle.js_parse.specs.Spells as definition;
-ghost use Rattle.js_parse.specs.Spells.{front_of, misplaced};
+ghost use Rattle.js_parse.specs.Spells.{misplaced};
+ghost use Rattle.js_parse.specs.Told.{front_of};
 ghost use Rattle.js_parse.specs.Told as told;
 
 use crate::fault::ParseFault;
@@ -23,13 +25,13 @@ fn is_word(token: &GrammarToken) -> bool
 }
 
 fn is_opening(token: &GrammarToken) -> bool
-    ensures { result ≡ is_some (terminals.opening token.now) }
+    ensures { result ≡ terminals.is_mark OpenParen token.now }
 {
     matches!(token.kind, GrammarKind::Mark(Mark::OpenParen))
 }
 
 fn is_point(token: GrammarToken) -> bool
-    ensures { result ≡ is_some (terminals.point token) }
+    ensures { result ≡ terminals.is_mark Point token }
 {
     matches!(token.kind, GrammarKind::Mark(Mark::Point))
 }

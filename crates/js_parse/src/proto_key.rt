@@ -1,8 +1,8 @@
 // Keys of object literals that are `__proto__`.
 ghost use Rattle.std.specs.Prelude.{◌≡◌, [], codes, get_or, None, bytes_eq};
-ghost use Rattle.parse_syntax.specs.Reader.{is_some};
 ghost use Rattle.parse_syntax.specs.Tables.{tables_of};
-ghost use Rattle.parse_syntax.specs.Terminals as terminals;
+ghost use Rattle.js_lex.specs.declared.token.Mark.TheVariants.{Colon};
+ghost use Rattle.parse_syntax.specs.Terminals.{is_mark};
 ghost use Rattle.js_parse.specs.NameFaults.{offers, proto_behind, proto_faults};
 ghost use Rattle.js_parse.specs.NameWalk.{found_of};
 ghost use Rattle.js_parse.specs.ProtoKeys as definition;
@@ -19,7 +19,7 @@ fn opens_entry(token: GrammarToken) -> bool
 }
 
 fn is_colon(token: GrammarToken) -> bool
-    ensures { result ≡ is_some (terminals.colon token) }
+    ensures { result ≡ is_mark Colon token }
 {
     matches!(token.kind, GrammarKind::Mark(Mark::Colon))
 }

@@ -3,7 +3,7 @@ use Rattle.std.proofs.Common.{◌≡◌, ◌≤◌, ℕ, zero, suc, List, [], �
 use Rattle.std.proofs.lemmas.List.{length-append, length-map}
 use Rattle.heap_rule.specs.Layout.{IsLawfulSize}
 use Rattle.heap_table.specs.MayMake.{MayMake}
-use Rattle.run_sources.specs.Draws.{list_up_to}
+use Rattle.run_sources.specs.Draws.{joined_up_to, list_up_to}
 use Rattle.run_sources.specs.Texts.{Named, generated, named_script}
 use Rattle.js_io.specs.FilesState.{FilesState}
 use Rattle.js_eval.specs.declared.ending.End.{End}
@@ -102,7 +102,7 @@ module _ (request : Request) (before after : FilesState) (ended : Ended) (old ne
 -- ---- how many texts there are
 
 listed_length : {T : Type 0} (f : ℕ → T) (k : ℕ) → length (list_up_to f k) ≡ k
-unfolding list_up_to
+unfolding joined_up_to
 listed_length f zero = refl
 listed_length f (suc k) = let more = length-append (list_up_to f k) (f k ∷ []) in omega (arith, more, listed_length f k)
 

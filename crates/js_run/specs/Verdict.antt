@@ -11,7 +11,7 @@ use Rattle.js_eval.specs.declared.ending.End.TheVariants.{Done, Threw, Unsupport
 use Rattle.run_sources.specs.Program.{FileName, Program, in_order}
 use Rattle.run_program.specs.Kept.{HeapKept}
 use Rattle.run_program.specs.declared.ran.Ran.{Ran}
-use Rattle.js_parse.specs.Faults.{fault_offset, fault_words}
+use Rattle.js_parse.specs.Faults.{fault_report}
 
 -- what becomes of a call: the arguments are refused, a file can't be read or is too large, a source is
 -- refused, memory runs out, or files were run
@@ -103,8 +103,8 @@ large_line name = name ++ codes ": larger than 1048576 bytes\n"
 
 -- the byte offset of the fault, and its message
 abbrev pub refused_line : FileName → ParseFault → List ℕ
-refused_line name fault = (name ++ (58 ∷ [] ++ (decimal (fault_offset fault) ++ codes ": refused: ")))
-    ++ (fault_words fault ++ 10 ∷ [])
+refused_line name fault = (name ++ (58 ∷ [] ++ (decimal (fault_report fault).0 ++ codes ": refused: ")))
+    ++ ((fault_report fault).1 ++ 10 ∷ [])
 
 -- the line where memory ran out before anything was run
 abbrev pub memory_line : List ℕ

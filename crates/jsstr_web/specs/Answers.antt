@@ -8,7 +8,7 @@ use Rattle.heap_table.specs.Closing.{IsClosed}
 use Rattle.js_eval.specs.declared.ending.End.TheVariants as end
 use Rattle.js_parse.specs.declared.fault.Role.TheVariants.{Main}
 use Rattle.js_parse.specs.declared.fault.ParseFault.{ParseFault}
-use Rattle.js_parse.specs.Faults.{fault_words}
+use Rattle.js_parse.specs.Faults.{fault_report}
 use Rattle.js_parse.specs.Spells.{Refused, Refuses, Spells}
 use Rattle.run_program.specs.declared.job.Outcome.{Outcome}
 use Rattle.run_here.specs.declared.here.Here.{Here}
@@ -54,5 +54,5 @@ pub data Answers (o : WebOptions) (text : List ℕ) (before after old new : List
   runs : (script : Tree) → Spells Main [] text script → IsRun o script before after old new end
       → Answers o text before after old new end
   refused : (fault : ParseFault) → Refuses (as_read fault) (Refused Main [] text)
-      → end ≡ fault_told fault → BeginsWith (fault_words fault) before after → new ≡ old
+      → end ≡ fault_told fault → BeginsWith (fault_report fault).1 before after → new ≡ old
       → Answers o text before after old new end

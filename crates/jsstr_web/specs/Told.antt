@@ -7,7 +7,7 @@ use Rattle.eval_values.specs.declared.value.Kind.TheVariants.{RangeError, TypeEr
 use Rattle.heap_rule.specs.declared.size.HeapSize.{HeapSize}
 use Rattle.js_parse.specs.declared.fault.ParseFault.{ParseFault}
 use Rattle.js_parse.specs.declared.fault.ParseFault.TheVariants.{Memory}
-use Rattle.js_parse.specs.Faults.{fault_offset, fault_words}
+use Rattle.js_parse.specs.Faults.{fault_report}
 use Rattle.js_store.specs.declared.faults.FullReport.TheVariants.{Ids, Words, Slots}
 use Rattle.js_store.specs.declared.limit.Limit.{Limit}
 use Rattle.js_store.specs.declared.limit.Limit.TheVariants.{Bits32, Bits64}
@@ -61,11 +61,11 @@ abbrev pub fault_told : ParseFault → WebEnd
 fault_told f = record {
   status = fault_status f;
   kind = 0;
-  at = fault_offset f;
+  at = (fault_report f).0;
   want = 0;
   end = 0;
   statements = 0;
-  length = length (fault_words f);
+  length = length (fault_report f).1;
 }
 
 -- the room begins with as many of the bytes as it has places, and is as before behind them

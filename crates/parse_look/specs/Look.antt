@@ -1,7 +1,6 @@
 -- What the parser looks for at the next token.
 use Rattle.std.specs.Prelude.{ℕ, List, [], ◌∷◌, Option, Some, None}
-use Rattle.parse_syntax.specs.Lang.{keep_second}
-use Rattle.parse_syntax.specs.Reader.{TokenReader, and_then, one_of, choose, heads, succeed}
+use Rattle.parse_syntax.specs.Reader.{TokenReader, and_then, one_of, choose, heads, succeed, keep_second}
 use Rattle.parse_syntax.specs.declared.token.GrammarToken.{GrammarToken}
 use Rattle.parse_syntax.specs.declared.token.GrammarKind.TheVariants as kind
 use Rattle.js_lex.specs.declared.token.Mark.TheVariants as mark
@@ -9,7 +8,7 @@ use Rattle.parse_syntax.specs.declared.token.Word.TheVariants as word
 use Rattle.eval_tree.specs.declared.tree.Op.{Op}
 use Rattle.eval_tree.specs.declared.tree.Builtin.{Builtin}
 use Rattle.eval_tree.specs.declared.tree.Builtin.TheVariants as builtin
-use Rattle.parse_syntax.specs.Terminals.{Identifier, or_op, and_op, equal_op, compare_op, sum_op, else_word, if_word, string_word, symbol_word, json_word, object_word, uri_function, point, from_word, symbol_function, stringify_word, keys_word, directive, let_word, const_word, print_word, for_word, opening, closing, close_bracket, open_brace, close_brace, comma, semicolon, colon, question, less, assign_mark, increment, nought}
+use Rattle.parse_syntax.specs.Terminals.{Identifier, from_word, symbol_function, stringify_word, keys_word, directive, increment, nought}
 use Rattle.parse_syntax.specs.Grammar.{pair_of}
 use Rattle.parse_look.specs.declared.look.Level.{Level}
 use Rattle.parse_look.specs.declared.look.Level.TheVariants as level
@@ -17,6 +16,7 @@ use Rattle.parse_look.specs.declared.look.Opener.{Opener}
 use Rattle.parse_look.specs.declared.look.Opener.TheVariants as opener
 use Rattle.parse_look.specs.declared.look.Fixed.{Fixed}
 use Rattle.parse_look.specs.declared.look.Fixed.TheVariants as fixed
+use Rattle.parse_syntax.specs.MarksAndWords.{or_op, and_op, equal_op, compare_op, sum_op, else_word, if_word, string_word, symbol_word, json_word, object_word, uri_function, point, let_word, const_word, print_word, for_word, opening, closing, close_bracket, open_brace, close_brace, comma, semicolon, colon, question, less, assign_mark}
 
 -- an identifier or mark that is nothing but itself
 abbrev pub terminal : Fixed → GrammarToken → Option (Unit {0})

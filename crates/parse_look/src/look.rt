@@ -1,15 +1,16 @@
 // Looks at the next token.
-ghost use Rattle.std.specs.Prelude.{◌≡◌, [], ◌∷◌, ℕ, MatchOption, None, Some, IfOk, IfErr, false, true};
+ghost use Rattle.std.specs.Prelude.{◌≡◌, [], ◌∷◌, ℕ, MatchOption, None, Some, IfOk, false, true};
 ghost use Rattle.parse_syntax.specs.Reader.{Got, one_of, heads, heads_two};
 ghost use Rattle.eval_tree.specs.Tree.{expr_tree, step_tree};
 ghost use Rattle.parse_syntax.specs.Tables.{tables_of};
+ghost use Rattle.parse_syntax.specs.MarksAndWords as named;
 ghost use Rattle.parse_syntax.specs.Terminals as terminals;
-ghost use Rattle.parse_syntax.specs.Terminals.{Identifier, when};
 ghost use Rattle.parse_syntax.specs.declared.token.GrammarToken.{GrammarToken};
 ghost use Rattle.parse_syntax.specs.declared.token.GrammarKind.TheVariants as kind;
 ghost use Rattle.parse_syntax.specs.Reading.{step_mark, goes_on, read_header};
 ghost use Rattle.parse_look.specs.Look.{terminal, operators, openers, read_string_called, read_symbol_called, read_json_called, read_object_called, read_called, ident};
 ghost use Rattle.parse_look.specs.Gives.{GivesAnswer};
+ghost use Rattle.std.specs.Bool.{then_some};
 
 use crate::fault::{Fault, refused};
 use crate::object::letters;
@@ -68,7 +69,7 @@ pub fn next(tokens: &[GrammarToken]) -> Option<(GrammarToken, &[GrammarToken])>
 
 fn is_mark(fixed: Fixed, mark: Mark, after_line: bool) -> bool
     ensures { (t : GrammarToken) → t.kind ≡ kind.Mark mark → t.after_line ≡ after_line
-        → terminal fixed t ≡ when result tt }
+        → terminal fixed t ≡ then_some result tt }
 {
     match (fixed, mark) {
         (Fixed::OpenParen, Mark::OpenParen) => true,
@@ -90,7 +91,7 @@ fn is_mark(fixed: Fixed, mark: Mark, after_line: bool) -> bool
 
 fn is_word(fixed: Fixed, word: Word) -> bool
     ensures { (t : GrammarToken) (number : ℕ) → t.kind ≡ kind.Word word number
-        → terminal fixed t ≡ when result tt }
+        → terminal fixed t ≡ then_some result tt }
 {
     match (fixed, word) {
         (Fixed::Let, Word::Let) => true,
@@ -104,7 +105,7 @@ fn is_word(fixed: Fixed, word: Word) -> bool
 }
 
 fn is(fixed: Fixed, token: GrammarToken) -> bool
-    ensures { terminal fixed token ≡ when result tt }
+    ensures { terminal fixed token ≡ then_some result tt }
 {
     match token.kind {
         GrammarKind::Mark(mark) => is_mark(fixed, mark, token.after_line),
@@ -152,8 +153,8 @@ pub fn begins_step(tokens: &[GrammarToken]) -> bool
 
 /// A sign: its offset, and whether it is a minus.
 pub fn sign(tokens: &[GrammarToken]) -> Option<((u32, bool), &[GrammarToken])>
-    ensures { MatchOption result (heads terminals.sign tokens.now ≡ false)
-        (λ found. one_of terminals.sign tokens.now ≡ Got (found.0.0, found.0.1) found.1.now) }
+    ensures { MatchOption result (heads named.sign tokens.now ≡ false)
+        (λ found. one_of named.sign tokens.now ≡ Got (found.0.0, found.0.1) found.1.now) }
 {
     let (token, rest) = next(tokens)?;
     match token.kind {
@@ -274,8 +275,8 @@ pub fn next_opener(tokens: &[GrammarToken]) -> Option<Opener>
 
 /// The mark `[`: its offset.
 pub fn open_bracket(tokens: &[GrammarToken]) -> Option<(u32, &[GrammarToken])>
-    ensures { MatchOption result (heads terminals.open_bracket tokens.now ≡ false)
-        (λ found. one_of terminals.open_bracket tokens.now ≡ Got found.0 found.1.now) }
+    ensures { MatchOption result (heads named.open_bracket tokens.now ≡ false)
+        (λ found. one_of named.open_bracket tokens.now ≡ Got found.0 found.1.now) }
 {
     let (token, rest) = next(tokens)?;
     match token.kind {
@@ -385,7 +386,7 @@ fn object_called(tokens: &[GrammarToken]) -> Result<(Builtin, &[GrammarToken]), 
 // A URI handling function.
 fn uri_function(tokens: &[GrammarToken]) -> Result<((u32, Builtin), &[GrammarToken]), Fault<'_>>
     ensures { GivesAnswer (λ found. (found.0.0, found.0.1)) (λ found. found.1.now) result
-        (one_of terminals.uri_function tokens.now) }
+        (one_of named.uri_function tokens.now) }
 {
     let Some((token, rest)) = next(tokens) else {
         return Err(refused(tokens));
@@ -538,9 +539,9 @@ pub fn goes_on(tokens: &[GrammarToken]) -> bool
 
 /// The rest behind an `else` that an `if` follows.
 pub fn else_if(tokens: &[GrammarToken]) -> Option<&[GrammarToken]>
-    ensures { MatchOption result (heads_two terminals.else_word terminals.if_word tokens.now ≡ false)
-        (λ rest. (one_of terminals.else_word tokens.now ≡ Got tt rest.now)
-        × (heads_two terminals.else_word terminals.if_word tokens.now ≡ true)) }
+    ensures { MatchOption result (heads_two named.else_word named.if_word tokens.now ≡ false)
+        (λ rest. (one_of named.else_word tokens.now ≡ Got tt rest.now)
+        × (heads_two named.else_word named.if_word tokens.now ≡ true)) }
 {
     let rest = behind(tokens, Fixed::Else)?;
     let _ = behind(rest, Fixed::If)?;

@@ -3,6 +3,7 @@ ghost use Rattle.std.specs.Prelude.{◌≡◌, [], decimal, MatchOption, IfOk, f
 ghost use Rattle.parse_syntax.specs.Reader.{Got, one_of, heads};
 ghost use Rattle.eval_tree.specs.Tree.{step_tree, of_property};
 ghost use Rattle.parse_syntax.specs.Tables.{tables_of};
+ghost use Rattle.parse_syntax.specs.MarksAndWords as named;
 ghost use Rattle.parse_syntax.specs.Terminals as terminals;
 ghost use Rattle.parse_look.specs.Gives.{GivesAnswer};
 
@@ -151,8 +152,8 @@ pub fn method<'t, 'a>(
 
 /// The `{` of an object literal: its offset.
 pub fn open_literal(tokens: &[GrammarToken]) -> Option<(u32, &[GrammarToken])>
-    ensures { MatchOption result (heads terminals.open_literal tokens.now ≡ false)
-        (λ found. one_of terminals.open_literal tokens.now ≡ Got found.0 found.1.now) }
+    ensures { MatchOption result (heads named.open_literal tokens.now ≡ false)
+        (λ found. one_of named.open_literal tokens.now ≡ Got found.0 found.1.now) }
 {
     let (token, rest) = next(tokens)?;
     match token.kind {

@@ -1,7 +1,7 @@
 -- What the parser's loops read is something.
 use Rattle.std.proofs.Common.{ℕ, zero, suc}
-use Rattle.parse_syntax.specs.Lang.{Lang, Never, keep_second}
-use Rattle.parse_syntax.specs.Reader.{Answer, SyntaxFaultKind, wrong, and_then, one_of}
+use Rattle.parse_syntax.specs.Lang.{Lang, Never}
+use Rattle.parse_syntax.specs.Reader.{Answer, SyntaxFaultKind, wrong, and_then, one_of, keep_second}
 use Rattle.parse_syntax.proofs.Local.{IsEating}
 use Rattle.parse_syntax.proofs.Part.{Rooms, same_room, same_end, eats_by}
 use Rattle.parse_syntax.proofs.Heads.{begins_length}
@@ -9,8 +9,6 @@ use Rattle.parse_syntax.proofs.Loops.{then_eats}
 use Rattle.parse_syntax.specs.declared.token.GrammarToken.{GrammarToken}
 use Rattle.parse_syntax.specs.Tables.{TokenTables}
 use Rattle.eval_tree.specs.Tree.{ExprTree}
-use Rattle.parse_syntax.specs.Terminals.{comma}
-use Rattle.parse_syntax.specs.Grammar.{Which, Whole, Operand, link_of, within_room}
 use Rattle.parse_syntax.proofs.Stops.{begins_unary, is_step}
 use Rattle.parse_syntax.proofs.Expressions.{Inner, step_part, step_starts, unary_part, unary_starts, sum_part, sum_starts, comparison_part, comparison_starts, equality_part, equality_starts, conjunction_part, conjunction_starts}
 use Rattle.parse_syntax.proofs.Scripts.{lowest, inner_levels, same_expressions}
@@ -18,6 +16,8 @@ use Rattle.parse_look.specs.declared.look.Level.{Level}
 use Rattle.parse_look.specs.declared.look.Level.TheVariants as level
 use Rattle.parse_look.specs.Look.{operators}
 use Rattle.parse_statements.specs.At.{has_room, inner, step_at, operand_at}
+use Rattle.parse_syntax.specs.MarksAndWords.{comma}
+use Rattle.parse_syntax.specs.Reading.{link_of, Which, Whole, Operand, within_room}
 
 abbrev pub Any : SyntaxFaultKind → Type 0
 Any k = Unit {0}

@@ -1,8 +1,7 @@
 -- The readers of statements at their first tokens, over those that the parser's functions call.
 use Rattle.std.proofs.Common.{◌≡◌, ℕ, zero, suc, ◌-◌, ◌<◌, Bool, true, false, List, [], ◌∷◌, Option, Some, None, refl, sym, ap, ◌∙◌, subst, arith}
 use Rattle.js_lex.specs.declared.token.Mark.TheVariants as mark
-use Rattle.parse_syntax.specs.Lang.{keep_first, keep_second}
-use Rattle.parse_syntax.specs.Reader.{Answer, Got, Bad, TokenReader, ◌>>=◌, wrong, too_deep, and_then, map_by, one_of, all_of, heads, at_end, read_whole}
+use Rattle.parse_syntax.specs.Reader.{Answer, Got, Bad, TokenReader, ◌>>=◌, wrong, too_deep, and_then, map_by, one_of, all_of, heads, at_end, read_whole, keep_first, keep_second}
 use Rattle.parse_syntax.specs.declared.token.GrammarToken.{GrammarToken}
 use Rattle.parse_syntax.specs.Tables.{TokenTables}
 use Rattle.parse_syntax.specs.declared.token.GrammarKind.{GrammarKind}
@@ -11,12 +10,13 @@ use Rattle.parse_syntax.specs.declared.token.Word.TheVariants as word
 use Rattle.parse_syntax.specs.declared.token.Property.{Property}
 use Rattle.parse_syntax.proofs.Stops.{with_kind}
 use Rattle.eval_tree.specs.Tree.{StmtTree, ArmTree, block}
-use Rattle.parse_syntax.specs.Terminals.{Identifier, directive, name, semicolon, assign_mark, assign_op, let_word, const_word, print_word, open_brace, close_brace, else_word, if_word}
-use Rattle.parse_syntax.specs.Grammar.{pair_of, arm_of, if_of, inside_of, let_of, const_of, assign_of, for_of}
-use Rattle.parse_syntax.specs.Reading.{no_inside, print_of}
+use Rattle.parse_syntax.specs.Terminals.{Identifier, directive, name, assign_op}
+use Rattle.parse_syntax.specs.Grammar.{pair_of, assign_of}
+use Rattle.parse_syntax.specs.Reading.{no_inside, print_of, arm_of, if_of, inside_of, let_of, const_of, for_of}
 use Rattle.parse_syntax.specs.Reading.{goes_on, read_at, read_header, read_strict, read_statements}
 use Rattle.parse_statements.specs.At.{inner_statement, expression_at, args_at, parens_at, init_at, let_at, const_at, assign_at, print_at, statement_at, statements_at, block_at, arm_at, others_at, rest_at, if_at, for_at}
 use Rattle.parse_statements.proofs.Rooms.{room_for, no_room_for, bind_got, bind_bind, word_then, head_of, less_one}
+use Rattle.parse_syntax.specs.MarksAndWords.{semicolon, assign_mark, let_word, const_word, print_word, open_brace, close_brace, else_word, if_word}
 
 closed_by : {A B : Type 0} (f : A → B) (v : A) (a : Answer GrammarToken (Unit {0})) → ((a >>= λ _ r. Got v r) >>= λ v r. Got (f v) r) ≡ (a >>= λ _ r. Got (f v) r)
 closed_by f v (Got y r) = refl

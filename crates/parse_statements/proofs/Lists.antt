@@ -1,8 +1,8 @@
 -- The loops of statements, over plain values.
 use Rattle.std.proofs.Common.{◌≡◌, ℕ, zero, suc, ◌<◌, List, [], ◌∷◌, ◌++◌, length, map, Bool, true, false, refl, sym, ap, ◌∙◌, subst, arith}
 use Rattle.std.proofs.lemmas.List.{map_push}
-use Rattle.parse_syntax.specs.Lang.{One, both, one, keep_second, ◌▸◌}
-use Rattle.parse_syntax.specs.Reader.{Answer, Got, Bad, SyntaxFaultKind, TokenReader, one_of, all_of, and_then, heads_two, with_front}
+use Rattle.parse_syntax.specs.Lang.{One, both, one, ◌▸◌}
+use Rattle.parse_syntax.specs.Reader.{Answer, Got, Bad, SyntaxFaultKind, TokenReader, one_of, all_of, and_then, heads_two, with_front, keep_second}
 use Rattle.parse_syntax.proofs.Local.{IsEating}
 use Rattle.parse_syntax.proofs.Part.{eats_by, next_part}
 use Rattle.parse_syntax.proofs.Heads.{begins_length, over}
@@ -14,9 +14,8 @@ use Rattle.eval_tree.specs.declared.tree.Arm.{Arm}
 use Rattle.eval_tree.specs.declared.tree.Expr.{Expr}
 use Rattle.std.specs.Prelude.{Some}
 use Rattle.eval_tree.specs.Tree.{StmtTree, BlockTree, ArmTree, expr_tree, init_tree, stmt_tree, arm_tree, if_line, arms}
-use Rattle.parse_syntax.specs.Terminals.{else_word, if_word, assign_mark}
 use Rattle.parse_syntax.specs.Grammar
-use Rattle.parse_syntax.specs.Grammar.{if_of, Expression, Statement}
+use Rattle.parse_syntax.specs.Grammar.{Expression, Statement}
 use Rattle.parse_syntax.specs.Reading.{goes_on}
 use Rattle.parse_syntax.proofs.Statements.{first, arm_part, else_part}
 use Rattle.parse_syntax.proofs.Scripts.{same_expressions, same_levels, starts_at}
@@ -26,6 +25,7 @@ use Rattle.parse_statements.specs.At.{expression_at, init_at, statement_at, stat
 use Rattle.parse_statements.proofs.Eats.{Any}
 use Rattle.parse_statements.proofs.Turns.{handed_on}
 use Rattle.parse_statements.proofs.Lines.{statement_is, if_is, init_some}
+use Rattle.parse_syntax.specs.MarksAndWords.{else_word, if_word, assign_mark}
 
 module _ (tables : TokenTables) (prints : Bool) where
   pub statement_eats : (n : ℕ) → IsEating (statement_at tables prints n)

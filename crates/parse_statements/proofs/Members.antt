@@ -1,22 +1,23 @@
 -- The members of object literals, over plain values.
 use Rattle.std.proofs.Common.{◌≡◌, ℕ, ◌<◌, List, [], ◌∷◌, ◌++◌, length, map, false, refl, sym, ap, ◌∙◌, subst}
 use Rattle.std.proofs.lemmas.List.{map_push}
-use Rattle.parse_syntax.specs.Lang.{keep_second}
-use Rattle.parse_syntax.specs.Reader.{Answer, Got, Bad, TokenReader, ◌>>=◌, one_of, all_of, and_then, heads, with_front}
+use Rattle.parse_syntax.specs.Reader.{Answer, Got, Bad, TokenReader, ◌>>=◌, one_of, all_of, and_then, heads, with_front, keep_second}
 use Rattle.parse_syntax.proofs.Local.{IsEating}
 use Rattle.parse_syntax.proofs.Loops.{then_eats, keeps_on, fails_on, ends_on}
 use Rattle.parse_syntax.specs.declared.token.GrammarToken.{GrammarToken}
 use Rattle.parse_syntax.specs.Tables.{TokenTables}
 use Rattle.eval_tree.specs.declared.tree.Expr.{Expr}
 use Rattle.eval_tree.specs.Tree.{ExprTree, entry_tree}
-use Rattle.parse_syntax.specs.Terminals.{key, comma, colon, close_brace}
-use Rattle.parse_syntax.specs.Grammar.{pair_of, Whole}
+use Rattle.parse_syntax.specs.Terminals.{key}
+use Rattle.parse_syntax.specs.Grammar.{pair_of}
 use Rattle.parse_look.specs.declared.fault.Fault.{Fault}
 use Rattle.parse_look.specs.Gives.{FailsWith}
 use Rattle.parse_statements.specs.At.{inner, entry_at, members_at}
 use Rattle.parse_statements.proofs.Rooms.{head_of}
 use Rattle.parse_statements.proofs.Eats.{inner_eats}
 use Rattle.parse_statements.proofs.Turns.{handed_on, both_got, both_bad}
+use Rattle.parse_syntax.specs.MarksAndWords.{comma, colon, close_brace}
+use Rattle.parse_syntax.specs.Reading.{Whole}
 
 module _ (tables : TokenTables) (n : ℕ) where
   -- a comma and a member

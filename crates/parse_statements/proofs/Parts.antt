@@ -6,7 +6,7 @@ use Rattle.parse_syntax.specs.Tables.{TokenTables}
 use Rattle.eval_tree.specs.declared.tree.Method.{Method}
 use Rattle.eval_tree.specs.Tree as tree
 use Rattle.eval_tree.specs.Tree.{ExprTree, StepTree}
-use Rattle.parse_syntax.specs.Terminals.{member_word, property_word, method, opening, open_bracket, close_bracket, sign, question, colon}
+use Rattle.parse_syntax.specs.Terminals.{member_word, property_word, method}
 use Rattle.parse_syntax.specs.Grammar.{method_step}
 use Rattle.parse_syntax.specs.Reading.{index_read, unary_of}
 use Rattle.parse_look.specs.declared.fault.Fault.{Fault}
@@ -14,6 +14,7 @@ use Rattle.parse_look.specs.Gives.{FailsWith}
 use Rattle.parse_statements.specs.At.{args_at, member_at, step_at, unary_at, branches_at, expression_at}
 use Rattle.parse_statements.proofs.Rooms.{member_call, step_index, unary_signed, branches_some}
 use Rattle.parse_statements.proofs.Turns.{handed_on}
+use Rattle.parse_syntax.specs.MarksAndWords.{opening, open_bracket, close_bracket, sign, question, colon}
 
 module _ (tables : TokenTables) (n : ℕ) (s : List GrammarToken) where
   module _ (m : (ℕ × Method) × List ℕ) (r : List GrammarToken) (h : heads member_word s ≡ false) (p : heads (property_word tables) s ≡ false) (o : one_of (method tables) s ≡ Got m r) (y : Unit {0}) (r0 : List GrammarToken) (a : one_of opening r ≡ Got y r0) (z : 0 < n) where

@@ -1,8 +1,7 @@
 -- The readers of expressions at their first tokens, over those that the parser's functions call.
 use Rattle.std.proofs.Common.{◌≡◌, ℕ, zero, suc, ◌-◌, ◌<◌, Bool, true, false, List, [], ◌∷◌, Option, Some, None, refl, sym, ap, ◌∙◌, subst, arith}
 use Rattle.js_lex.specs.declared.token.Mark.TheVariants as mark
-use Rattle.parse_syntax.specs.Lang.{keep_first, keep_second}
-use Rattle.parse_syntax.specs.Reader.{Answer, Got, Bad, Wrong, TokenReader, ◌>>=◌, wrong, too_deep, and_then, map_by, take_or, one_of, choose, opens, heads, is_some}
+use Rattle.parse_syntax.specs.Reader.{Answer, Got, Bad, Wrong, TokenReader, ◌>>=◌, wrong, too_deep, and_then, map_by, take_or, one_of, choose, opens, heads, keep_first, keep_second}
 use Rattle.parse_syntax.proofs.Part.{then_strict}
 use Rattle.parse_syntax.proofs.Stops.{with_kind}
 use Rattle.parse_syntax.specs.declared.token.GrammarToken.{GrammarToken}
@@ -16,15 +15,17 @@ use Rattle.eval_tree.specs.declared.tree.Builtin.{Builtin}
 use Rattle.eval_tree.specs.declared.tree.Builtin.TheVariants as builtin
 use Rattle.eval_tree.specs.Tree as tree
 use Rattle.eval_tree.specs.Tree.{ExprTree, StepTree}
-use Rattle.parse_syntax.specs.Terminals.{member_word, property_word, method, key, opening, closing, open_bracket, close_bracket, open_literal, point, question, colon, sign, simple, string_word, symbol_word, json_word, object_word, uri_function, from_word, symbol_function, stringify_word, keys_word}
-use Rattle.parse_syntax.specs.Grammar.{Whole, Operand, pair_of, builtin_of, method_step, cond_of}
-use Rattle.parse_syntax.specs.Reading.{single_of, plain_string, uri_of, object_of, index_read, unary_of, branches_of}
+use Rattle.parse_syntax.specs.Terminals.{member_word, property_word, method, key, simple, from_word, symbol_function, stringify_word, keys_word}
+use Rattle.parse_syntax.specs.Grammar.{pair_of, builtin_of, method_step, cond_of}
+use Rattle.parse_syntax.specs.Reading.{single_of, plain_string, uri_of, object_of, index_read, unary_of, branches_of, Whole, Operand}
 use Rattle.parse_syntax.specs.Reading.{read_within, read_parens, read_args, read_index, read_members, read_literal, read_method_args, read_word}
 use Rattle.parse_look.specs.declared.look.Level.TheVariants as level
 use Rattle.parse_look.specs.declared.look.Opener.{Opener}
 use Rattle.parse_look.specs.declared.look.Opener.TheVariants as opener
 use Rattle.parse_look.specs.Look.{opener_of, openers, read_string_called, read_called}
 use Rattle.parse_statements.specs.At.{has_room, inner, parens_at, args_at, given_at, builtin_at, entry_at, members_at, literal_at, primary_at, member_at, step_at, post_at, unary_at, chain_at, branches_at, expression_at}
+use Rattle.std.specs.Prelude.{is_some}
+use Rattle.parse_syntax.specs.MarksAndWords.{opening, closing, open_bracket, close_bracket, open_literal, point, question, colon, sign, string_word, symbol_word, json_word, object_word, uri_function}
 
 -- answers
 

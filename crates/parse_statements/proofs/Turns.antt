@@ -1,8 +1,7 @@
 -- The loops of expressions, over plain values.
 use Rattle.std.proofs.Common.{◌≡◌, ℕ, ◌-◌, ◌<◌, List, [], ◌∷◌, ◌++◌, length, map, true, false, refl, sym, ap, ◌∙◌, subst}
 use Rattle.std.proofs.lemmas.List.{map_push}
-use Rattle.parse_syntax.specs.Lang.{keep_second}
-use Rattle.parse_syntax.specs.Reader.{Answer, Got, Bad, SyntaxFaultKind, Wrong, TooDeep, TokenReader, ◌>>=◌, one_of, all_of, and_then, heads, with_front}
+use Rattle.parse_syntax.specs.Reader.{Answer, Got, Bad, SyntaxFaultKind, Wrong, TooDeep, TokenReader, ◌>>=◌, one_of, all_of, and_then, heads, with_front, keep_second}
 use Rattle.parse_syntax.proofs.Loops.{keeps_on, fails_on, ends_on}
 use Rattle.parse_syntax.specs.declared.token.GrammarToken.{GrammarToken}
 use Rattle.parse_syntax.specs.Tables.{TokenTables}
@@ -11,9 +10,8 @@ use Rattle.eval_tree.specs.declared.tree.Expr.{Expr}
 use Rattle.eval_tree.specs.declared.tree.Link.{Link}
 use Rattle.eval_tree.specs.declared.tree.PostStep.{PostStep}
 use Rattle.eval_tree.specs.Tree.{ExprTree, LinkTree, StepTree, expr_tree, step_tree, link_tree}
-use Rattle.parse_syntax.specs.Terminals.{opening, closing, comma}
-use Rattle.parse_syntax.specs.Grammar.{link_of, chain_of, post_of, Whole}
-use Rattle.parse_syntax.specs.Reading.{step_mark}
+use Rattle.parse_syntax.specs.Grammar.{chain_of, post_of}
+use Rattle.parse_syntax.specs.Reading.{step_mark, link_of, Whole}
 use Rattle.parse_look.specs.declared.fault.Fault.{Fault}
 use Rattle.parse_look.specs.declared.fault.Fault.TheVariants as fault
 use Rattle.parse_look.specs.declared.look.Level.{Level}
@@ -23,6 +21,7 @@ use Rattle.parse_look.specs.Look.{operators}
 use Rattle.parse_statements.specs.At.{inner, operand_at, chain_at, step_at, post_at, primary_at, args_at, expression_at}
 use Rattle.parse_statements.proofs.Rooms.{head_of, inner_whole, bind_got}
 use Rattle.parse_statements.proofs.Eats.{item_eats, step_eats, link_eats}
+use Rattle.parse_syntax.specs.MarksAndWords.{opening, closing, comma}
 
 -- a fault is handed on
 pub handed_on : {A B : Type 0} (e : Fault) (a : Answer GrammarToken A) (b : Answer GrammarToken B) → ((k : SyntaxFaultKind) (rest : List GrammarToken) → a ≡ Bad k rest → b ≡ Bad k rest) → FailsWith e a → FailsWith e b

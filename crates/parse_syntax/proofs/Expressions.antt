@@ -1,9 +1,9 @@
 -- The readers of expressions are lawful and local, one level over the one below.
 use Rattle.std.proofs.Common.{◌≡◌, ℕ, ◌≤◌, List, [], ◌∷◌, ◌++◌, Bool, true, false, nat_lt, Option, Some, None, refl, ap, ◌∙◌, arith, append_assoc}
-use Rattle.std.specs.Prelude.{decimal}
+use Rattle.std.specs.Prelude.{decimal, is_some}
 use Rattle.js_lex.specs.declared.token.Mark.TheVariants as mark
-use Rattle.parse_syntax.specs.Lang.{Lang, One, one, Then, both, Mapped, mapped, Nothing, nothing, Either, left, right, Many, end, more, if_room, keep_first, keep_second, ◌▸◌, ◌◂◌}
-use Rattle.parse_syntax.specs.Reader.{TokenReader, SyntaxFaultKind, map_by, and_then, one_of, choose, is_some, heads}
+use Rattle.parse_syntax.specs.Lang.{Lang, One, one, Then, both, Mapped, mapped, Nothing, nothing, Either, left, right, Many, end, more, if_room, ◌▸◌, ◌◂◌}
+use Rattle.parse_syntax.specs.Reader.{TokenReader, SyntaxFaultKind, map_by, and_then, one_of, choose, heads, keep_first, keep_second}
 use Rattle.parse_syntax.proofs.Laws.{Holds}
 use Rattle.parse_syntax.proofs.Wider.{Begins, Starts, one_starts, then_starts, either_starts, head_gives, some_of}
 use Rattle.parse_syntax.proofs.Part.{anything, Branch, Part, both_hold, one_part, then_part, next_part, map_part, branch, sooner, part_of, choose_branch, nothing_branch, heads_test, Rooms, then_strict, map_strict, open_branch, many_part}
@@ -19,13 +19,14 @@ use Rattle.eval_tree.specs.declared.tree.Builtin.{Builtin}
 use Rattle.eval_tree.specs.Tree as tree
 use Rattle.eval_tree.specs.Tree.{ExprTree, LinkTree, StepTree}
 use Rattle.parse_syntax.specs.Tables.{TokenTables}
-use Rattle.parse_syntax.specs.Terminals.{string_word, symbol_word, json_word, object_word, uri_function, member_word, property_word, method, key, from_word, symbol_function, stringify_word, keys_word, opening, closing, open_bracket, close_bracket, open_literal, close_brace, comma, point, question, colon, sign, or_op, and_op, equal_op, compare_op, sum_op, simple}
+use Rattle.parse_syntax.specs.Terminals.{member_word, property_word, method, key, from_word, symbol_function, stringify_word, keys_word, simple}
 use Rattle.parse_syntax.specs.Grammar
-use Rattle.parse_syntax.specs.Grammar.{list_of, none_of, pair_of, method_step, builtin_of, post_of, link_of, chain_of, cond_of}
-use Rattle.parse_syntax.specs.Reading.{single_of, index_read, object_of, uri_of, plain_string, unary_of, branches_of}
+use Rattle.parse_syntax.specs.Grammar.{pair_of, method_step, builtin_of, post_of, chain_of, cond_of}
+use Rattle.parse_syntax.specs.Reading.{method_args, index, branches, single_of, index_read, object_of, uri_of, plain_string, unary_of, branches_of, list_of, none_of, link_of}
 use Rattle.parse_syntax.specs.Reading.{read_parens, read_items, read_args, read_string, read_symbol, read_json, read_uri, read_object_call, read_entry, read_entries, read_members, read_literal, read_primary, read_method_args, read_word, read_member, read_index, read_step, step_mark, read_post, read_unary, read_chain, read_sum, read_comparison, read_equality, read_conjunction, read_disjunction, read_branches, read_conditional}
 use Rattle.parse_syntax.proofs.Stops.{sample, with_kind, stops, stops_more, HasLevel, question_level, or_level, and_level, equal_level, compare_level, sum_level, step_level, opening_level, colon_level, closing_level, close_bracket_level, close_brace_level, comma_level, none_of_level, class, simple_of, opening_of, string_of, symbol_of, json_of, uri_function_of, literal_of, sign_of, begins_unary, sign_begins, primary_begins, no_closing, part, point_of, bracket_of, paren_of, member_of, property_of, is_step, point_step, bracket_step, step_no_args, entry_class, key_of, close_brace_of}
 use Rattle.parse_syntax.proofs.Stops.{object_of as object_word_of, method_of as method_word_of}
+use Rattle.parse_syntax.specs.MarksAndWords.{string_word, symbol_word, json_word, object_word, uri_function, opening, closing, open_bracket, close_bracket, open_literal, close_brace, comma, point, question, colon, sign, or_op, and_op, equal_op, compare_op, sum_op}
 
 -- a token of a lower level ends what is above it
 
@@ -135,16 +136,16 @@ module _ (P : SyntaxFaultKind → Type 0) where
         plain_no_point : (ts : List GrammarToken) (x : Builtin × List ExprTree) (rest : List GrammarToken) → Mapped plain_string (Grammar.args E) ts x → heads point (ts ++ rest) ≡ false
         plain_no_point _ _ rest (mapped a x h) = then_lacks part point_of paren_of (λ q. omega arith) a x rest h
 
-    symbol_part : Starts E begins_unary → Part P (Grammar.static_call symbol_word symbol_function E) (Grammar.static_call symbol_word symbol_function F) anything (read_symbol e) (read_symbol e')
+    symbol_part : Starts E begins_unary → Part P (Grammar.static_call word.Symbol symbol_function (Grammar.args E)) (Grammar.static_call word.Symbol symbol_function (Grammar.args F)) anything (read_symbol e) (read_symbol e')
     symbol_part st = next_part builtin_of (one_part P symbol_word (sample (kind.Word word.Symbol 0)) 0 refl) (next_part keep_second point_part (next_part pair_of function_part (args_part st)))
 
-    json_part : Part P (Grammar.json_call E) (Grammar.json_call F) anything (read_json e) (read_json e')
+    json_part : Part P (Grammar.static_call word.Json stringify_word (Mapped single_of (Grammar.parens E))) (Grammar.static_call word.Json stringify_word (Mapped single_of (Grammar.parens F))) anything (read_json e) (read_json e')
     json_part = next_part builtin_of (one_part P json_word (sample (kind.Word word.Json 0)) 0 refl) (next_part keep_second point_part (next_part pair_of stringify_part (map_part single_of parens_part)))
 
     uri_part : Starts E begins_unary → Part P (Grammar.uri_primary E) (Grammar.uri_primary F) anything (read_uri e) (read_uri e')
     uri_part st = next_part uri_of (one_part P uri_function (sample (kind.Word word.EncodeUri 0)) _ refl) (args_part st)
 
-    object_call_part : Starts E begins_unary → Part P (Grammar.static_call object_word keys_word E) (Grammar.static_call object_word keys_word F) anything (read_object_call e) (read_object_call e')
+    object_call_part : Starts E begins_unary → Part P (Grammar.static_call word.Object keys_word (Grammar.args E)) (Grammar.static_call word.Object keys_word (Grammar.args F)) anything (read_object_call e) (read_object_call e')
     object_call_part st = next_part builtin_of (one_part P object_word (sample (kind.Word word.Object 0)) 0 refl) (next_part keep_second point_part (next_part pair_of keys_part (args_part st)))
 
     -- object literals
@@ -187,10 +188,10 @@ module _ (P : SyntaxFaultKind → Type 0) where
           (λ ts x rest h s. lacks entry_class close_brace 0 0 close_brace_of (omega arith) entries_start ts x rest h))
           (record { tokens = close_brace_part.some.tokens; value = []; spells = left close_brace_part.some.tokens [] (mapped close_brace_part.some.tokens tt close_brace_part.some.spells) }))
 
-    index_part : Part P (Grammar.index E) (Grammar.index F) anything (read_index e) (read_index e')
+    index_part : Part P (index E) (index F) anything (read_index e) (read_index e')
     index_part = next_part index_read (one_part P open_bracket (sample (kind.Mark mark.OpenBracket)) 0 refl) (then_part keep_first p close_bracket_part (λ b y rest h s. one_stops close_bracket 0 1 close_bracket_level refl b y rest h))
 
-    branches_part : Part P (Grammar.branches E) (Grammar.branches F) (stops 1) (read_branches e) (read_branches e')
+    branches_part : Part P (branches E) (branches F) (stops 1) (read_branches e) (read_branches e')
     branches_part = next_part keep_second (one_part P question (sample (kind.Mark mark.Question)) tt refl) (then_part branches_of p (next_part keep_second colon_part p) (λ b y rest h s. then_stops colon 0 1 colon_level refl b y rest h))
 
   -- () is a list of arguments at each level
@@ -233,16 +234,16 @@ module _ (P : SyntaxFaultKind → Type 0) where
     From_literal = if_room room (Grammar.object_literal tables E)
 
     abbrev From_object : Lang GrammarToken ExprTree
-    From_object = Either (if_room room (Grammar.static_call object_word keys_word E)) From_literal
+    From_object = Either (if_room room (Grammar.static_call word.Object keys_word (Grammar.args E))) From_literal
 
     abbrev From_uri : Lang GrammarToken ExprTree
     From_uri = Either (if_room room (Grammar.uri_primary E)) From_object
 
     abbrev From_json : Lang GrammarToken ExprTree
-    From_json = Either (if_room room (Grammar.json_call E)) From_uri
+    From_json = Either (if_room room (Grammar.static_call word.Json stringify_word (Mapped single_of (Grammar.parens E)))) From_uri
 
     abbrev From_symbol : Lang GrammarToken ExprTree
-    From_symbol = Either (if_room room (Grammar.static_call symbol_word symbol_function E)) From_json
+    From_symbol = Either (if_room room (Grammar.static_call word.Symbol symbol_function (Grammar.args E))) From_json
 
     abbrev From_string : Lang GrammarToken ExprTree
     From_string = Either (if_room room (Grammar.string_primary E)) From_symbol
@@ -254,16 +255,16 @@ module _ (P : SyntaxFaultKind → Type 0) where
     literal_starts = room_starts room (over class 7) (first_over class open_literal 8 7 literal_of refl)
 
     object_starts : Starts From_object (over class 6)
-    object_starts = either_starts (if_room room (Grammar.static_call object_word keys_word E)) From_literal (over class 6) (room_starts room (over class 6) (first_over class object_word 7 6 object_word_of refl)) (lower class 7 6 refl literal_starts)
+    object_starts = either_starts (if_room room (Grammar.static_call word.Object keys_word (Grammar.args E))) From_literal (over class 6) (room_starts room (over class 6) (first_over class object_word 7 6 object_word_of refl)) (lower class 7 6 refl literal_starts)
 
     uri_starts : Starts From_uri (over class 5)
     uri_starts = either_starts (if_room room (Grammar.uri_primary E)) From_object (over class 5) (room_starts room (over class 5) (first_over class uri_function 6 5 uri_function_of refl)) (lower class 6 5 refl object_starts)
 
     json_starts : Starts From_json (over class 4)
-    json_starts = either_starts (if_room room (Grammar.json_call E)) From_uri (over class 4) (room_starts room (over class 4) (first_over class json_word 5 4 json_of refl)) (lower class 5 4 refl uri_starts)
+    json_starts = either_starts (if_room room (Grammar.static_call word.Json stringify_word (Mapped single_of (Grammar.parens E)))) From_uri (over class 4) (room_starts room (over class 4) (first_over class json_word 5 4 json_of refl)) (lower class 5 4 refl uri_starts)
 
     symbol_starts : Starts From_symbol (over class 3)
-    symbol_starts = either_starts (if_room room (Grammar.static_call symbol_word symbol_function E)) From_json (over class 3) (room_starts room (over class 3) (first_over class symbol_word 4 3 symbol_of refl)) (lower class 4 3 refl json_starts)
+    symbol_starts = either_starts (if_room room (Grammar.static_call word.Symbol symbol_function (Grammar.args E))) From_json (over class 3) (room_starts room (over class 3) (first_over class symbol_word 4 3 symbol_of refl)) (lower class 4 3 refl json_starts)
 
     string_starts : Starts From_string (over class 2)
     string_starts = either_starts (if_room room (Grammar.string_primary E)) From_symbol (over class 2) (room_starts room (over class 2) (first_over class string_word 3 2 string_of refl)) (lower class 3 2 refl symbol_starts)
@@ -282,21 +283,21 @@ module _ (P : SyntaxFaultKind → Type 0) where
         let literals = open_branch room room' rs open_literal (λ r. branch (literal_part (i.whole r) tables) (λ ts x h. right ts x (right ts x (right ts x (right ts x (right ts x (right ts x (right ts x (in_room room (Grammar.object_literal tables E) r ts x h)))))))))
         some_primary (deeper object_of open_literal (held_literal tables F)) (then_strict object_of open_literal (read_members tables e')) in
         let objects = choose_branch (heads object_word) (heads_test object_word)
-        (open_branch room room' rs object_word (λ r. branch (object_call_part (i.whole r) (i.first_whole r)) (λ ts x h. right ts x (right ts x (right ts x (right ts x (right ts x (right ts x (left ts x (in_room room (Grammar.static_call object_word keys_word E) r ts x h)))))))))
+        (open_branch room room' rs object_word (λ r. branch (object_call_part (i.whole r) (i.first_whole r)) (λ ts x h. right ts x (right ts x (right ts x (right ts x (right ts x (right ts x (left ts x (in_room room (Grammar.static_call word.Object keys_word (Grammar.args E)) r ts x h)))))))))
         some_primary (deeper builtin_of object_word (held_object_call F)) (then_strict builtin_of object_word (and_then keep_second (one_of point) (and_then pair_of (one_of keys_word) (read_args e')))))
-        literals (λ ts x rest h. then_heads object_word ts x rest (room_of room (Grammar.static_call object_word keys_word E) ts x h)) (λ ts x rest h s. lacks class object_word 7 7 object_word_of (omega arith) literal_starts ts x rest h) in
+        literals (λ ts x rest h. then_heads object_word ts x rest (room_of room (Grammar.static_call word.Object keys_word (Grammar.args E)) ts x h)) (λ ts x rest h s. lacks class object_word 7 7 object_word_of (omega arith) literal_starts ts x rest h) in
         let uris = choose_branch (heads uri_function) (heads_test uri_function)
         (open_branch room room' rs uri_function (λ r. branch (uri_part (i.whole r) (i.first_whole r)) (λ ts x h. right ts x (right ts x (right ts x (right ts x (right ts x (left ts x (in_room room (Grammar.uri_primary E) r ts x h))))))))
         some_primary (deeper uri_of uri_function (no_args F)) (then_strict uri_of uri_function (read_args e')))
         objects (λ ts x rest h. then_heads uri_function ts x rest (room_of room (Grammar.uri_primary E) ts x h)) (λ ts x rest h s. lacks class uri_function 6 6 uri_function_of (omega arith) object_starts ts x rest h) in
         let json = choose_branch (heads json_word) (heads_test json_word)
-        (open_branch room room' rs json_word (λ r. branch (json_part (i.whole r)) (λ ts x h. right ts x (right ts x (right ts x (right ts x (left ts x (in_room room (Grammar.json_call E) r ts x h)))))))
+        (open_branch room room' rs json_word (λ r. branch (json_part (i.whole r)) (λ ts x h. right ts x (right ts x (right ts x (right ts x (left ts x (in_room room (Grammar.static_call word.Json stringify_word (Mapped single_of (Grammar.parens E))) r ts x h)))))))
         some_primary (deeper builtin_of json_word (held_json i.held_whole)) (then_strict builtin_of json_word (and_then keep_second (one_of point) (and_then pair_of (one_of stringify_word) (map_by single_of (read_parens e'))))))
-        uris (λ ts x rest h. then_heads json_word ts x rest (room_of room (Grammar.json_call E) ts x h)) (λ ts x rest h s. lacks class json_word 5 5 json_of (omega arith) uri_starts ts x rest h) in
+        uris (λ ts x rest h. then_heads json_word ts x rest (room_of room (Grammar.static_call word.Json stringify_word (Mapped single_of (Grammar.parens E))) ts x h)) (λ ts x rest h s. lacks class json_word 5 5 json_of (omega arith) uri_starts ts x rest h) in
         let symbols = choose_branch (heads symbol_word) (heads_test symbol_word)
-        (open_branch room room' rs symbol_word (λ r. branch (symbol_part (i.whole r) (i.first_whole r)) (λ ts x h. right ts x (right ts x (right ts x (left ts x (in_room room (Grammar.static_call symbol_word symbol_function E) r ts x h))))))
+        (open_branch room room' rs symbol_word (λ r. branch (symbol_part (i.whole r) (i.first_whole r)) (λ ts x h. right ts x (right ts x (right ts x (left ts x (in_room room (Grammar.static_call word.Symbol symbol_function (Grammar.args E)) r ts x h))))))
         some_primary (deeper builtin_of symbol_word (held_symbol F)) (then_strict builtin_of symbol_word (and_then keep_second (one_of point) (and_then pair_of (one_of symbol_function) (read_args e')))))
-        json (λ ts x rest h. then_heads symbol_word ts x rest (room_of room (Grammar.static_call symbol_word symbol_function E) ts x h)) (λ ts x rest h s. lacks class symbol_word 4 4 symbol_of (omega arith) json_starts ts x rest h) in
+        json (λ ts x rest h. then_heads symbol_word ts x rest (room_of room (Grammar.static_call word.Symbol symbol_function (Grammar.args E)) ts x h)) (λ ts x rest h s. lacks class symbol_word 4 4 symbol_of (omega arith) json_starts ts x rest h) in
         let strings = choose_branch (heads string_word) (heads_test string_word)
         (open_branch room room' rs string_word (λ r. branch (string_part (i.whole r) (i.first_whole r)) (λ ts x h. right ts x (right ts x (left ts x (in_room room (Grammar.string_primary E) r ts x h)))))
         some_primary (deeper builtin_of string_word (held_string F)) (then_strict builtin_of string_word (choose (heads point) (and_then keep_second (one_of point) (and_then pair_of (one_of from_word) (read_args e'))) (map_by plain_string (read_args e')))))
@@ -316,10 +317,10 @@ module _ (P : SyntaxFaultKind → Type 0) where
     no_args_here : (ts : List GrammarToken) (x : Option (List ExprTree)) (rest : List GrammarToken) → Nothing None ts x → stops 8 rest ≡ true → heads opening (ts ++ rest) ≡ false
     no_args_here _ _ rest (nothing x h) s = none_of_level opening 8 8 opening_level (omega arith) rest s
 
-    some_method_args : Holds (Grammar.method_args room E)
+    some_method_args : Holds (method_args room E)
     some_method_args = record { tokens = []; value = None; spells = right [] None (nothing None refl) }
 
-    method_args_part : Part P (Grammar.method_args room E) (Grammar.method_args true F) (stops 8) (read_method_args room e) (read_method_args room' e')
+    method_args_part : Part P (method_args room E) (method_args true F) (stops 8) (read_method_args room e) (read_method_args room' e')
     method_args_part = part_of
         (choose_branch (heads opening) (heads_test opening)
         (open_branch room room' rs opening
@@ -334,20 +335,20 @@ module _ (P : SyntaxFaultKind → Type 0) where
     -- what stands behind a point
 
     abbrev Word : Lang GrammarToken StepTree
-    Word = Either (One member_word) (Either (One (property_word tables)) (Then method_step (One (method tables)) (Grammar.method_args room E)))
+    Word = Either (One member_word) (Either (One (property_word tables)) (Then method_step (One (method tables)) (method_args room E)))
 
     some_word : Holds Word
     some_word = record { tokens = sample (kind.Name 0 property.Length) ∷ []; value = tree.of_length; spells = left (sample (kind.Name 0 property.Length) ∷ []) tree.of_length (one (sample (kind.Name 0 property.Length)) tree.of_length refl) }
 
-    no_member : (ts : List GrammarToken) (x : StepTree) (rest : List GrammarToken) → Either (One (property_word tables)) (Then method_step (One (method tables)) (Grammar.method_args room E)) ts x → heads member_word (ts ++ rest) ≡ false
+    no_member : (ts : List GrammarToken) (x : StepTree) (rest : List GrammarToken) → Either (One (property_word tables)) (Then method_step (One (method tables)) (method_args room E)) ts x → heads member_word (ts ++ rest) ≡ false
     no_member = either_lacks member_word
         (one_lacks part member_of (property_of tables) (λ q. omega arith))
         (then_lacks part member_of (method_word_of tables) (λ q. omega arith))
 
-    methods_branch : Branch P Word (Then method_step (One (method tables)) (Grammar.method_args room E)) (Then method_step (One (method tables)) (Grammar.method_args true F)) (stops 8) (and_then method_step (one_of (method tables)) (read_method_args room e)) (and_then method_step (one_of (method tables)) (read_method_args room' e'))
+    methods_branch : Branch P Word (Then method_step (One (method tables)) (method_args room E)) (Then method_step (One (method tables)) (method_args true F)) (stops 8) (and_then method_step (one_of (method tables)) (read_method_args room e)) (and_then method_step (one_of (method tables)) (read_method_args room' e'))
     methods_branch = branch (next_part method_step (one_part P (method tables) (sample (kind.Name 0 (property.Method methods.At))) _ refl) method_args_part) (λ ts x h. right ts x (right ts x h))
 
-    word_part : Part P Word (Either (One member_word) (Either (One (property_word tables)) (Then method_step (One (method tables)) (Grammar.method_args true F)))) (stops 8) (read_word tables room e) (read_word tables room' e')
+    word_part : Part P Word (Either (One member_word) (Either (One (property_word tables)) (Then method_step (One (method tables)) (method_args true F)))) (stops 8) (read_word tables room e) (read_word tables room' e')
     word_part =
         let properties = choose_branch (heads (property_word tables)) (heads_test (property_word tables))
         (sooner (λ q h. refl) (branch (one_part P (property_word tables) (sample (kind.Name 0 property.Nothing)) _ refl) (λ ts x h. right ts x (left ts x h))))
@@ -372,16 +373,16 @@ module _ (P : SyntaxFaultKind → Type 0) where
     step_part = part_of
         (choose_branch (heads point) (heads_test point)
         (branch member_part (λ ts x h. left ts x h))
-        (open_branch room room' rs open_bracket (λ r. sooner (λ q h. refl) (branch (index_part (i.whole r)) (λ ts x h. right ts x (in_room room (Grammar.index E) r ts x h))))
+        (open_branch room room' rs open_bracket (λ r. sooner (λ q h. refl) (branch (index_part (i.whole r)) (λ ts x h. right ts x (in_room room (index E) r ts x h))))
         some_step
         (deeper index_read open_bracket (both_hold keep_first i.held_whole close_bracket_part.some))
         (then_strict index_read open_bracket (and_then keep_first e' (one_of close_bracket))))
         (λ ts x rest h. then_heads point ts x rest h)
-        (λ ts x rest h s. then_lacks part point_of bracket_of (λ q. omega arith) ts x rest (room_of room (Grammar.index E) ts x h)))
+        (λ ts x rest h s. then_lacks part point_of bracket_of (λ q. omega arith) ts x rest (room_of room (index E) ts x h)))
         some_step
 
     pub step_starts : Starts (Grammar.step tables room E) is_step
-    step_starts = either_starts (Grammar.member tables room E) (if_room room (Grammar.index E)) is_step
+    step_starts = either_starts (Grammar.member tables room E) (if_room room (index E)) is_step
         (then_starts keep_second (One point) Word is_step (one_starts point is_step point_step))
         (room_starts room is_step (then_starts index_read (One open_bracket) (E ◂ One close_bracket) is_step (one_starts open_bracket is_step bracket_step)))
 
@@ -422,7 +423,7 @@ module _ (P : SyntaxFaultKind → Type 0) where
         raised (t ∷ ts) h = primary_begins t h
 
   -- a chain of level k over what the level above ends
-  pub chain_part : (o : GrammarToken → Option (ℕ × Op)) (k k' : ℕ) → HasLevel o k → nat_lt k k' ≡ true → k ≤ k' → (t : GrammarToken) (x : ℕ × Op) → o t ≡ Some x → {L D : Lang GrammarToken ExprTree} {r r' : TokenReader GrammarToken ExprTree} → Part P L D (stops k') r r' → Part P (Grammar.chain o L) (Grammar.chain o D) (stops k) (read_chain o r) (read_chain o r')
+  pub chain_part : (o : GrammarToken → Option (ℕ × Op)) (k k' : ℕ) → HasLevel o k → nat_lt k k' ≡ true → k ≤ k' → (t : GrammarToken) (x : ℕ × Op) → o t ≡ Some x → {L D : Lang GrammarToken ExprTree} {r r' : TokenReader GrammarToken ExprTree} → Part P L D (stops k') r r' → Part P (Then chain_of L (Many (Then link_of (One o) L))) (Then chain_of D (Many (Then link_of (One o) D))) (stops k) (read_chain o r) (read_chain o r')
   chain_part o k k' of lt le t x some_op {L = L} p = then_part chain_of p (many_part (heads o) (stops k) (next_part link_of (one_part P o t x some_op) p) (record {
     test = heads_test o;
     none = refl;
@@ -456,16 +457,16 @@ module _ (P : SyntaxFaultKind → Type 0) where
     pub whole_part : Part P (Grammar.conditional tables room E U) (Grammar.conditional tables true F G) (stops 1) (read_conditional tables room e u) (read_conditional tables room' e' u')
     whole_part = then_part cond_of disjunction_part (part_of
         (choose_branch (heads question) (heads_test question)
-        (open_branch room room' rs question (λ r. branch (branches_part (i.whole r)) (λ ts x h. left ts x (in_room room (Grammar.branches E) r ts x h)))
+        (open_branch room room' rs question (λ r. branch (branches_part (i.whole r)) (λ ts x h. left ts x (in_room room (branches E) r ts x h)))
         none_here
         (deeper keep_second question (both_hold branches_of i.held_whole (both_hold keep_second colon_part.some i.held_whole)))
         (then_strict keep_second question (and_then branches_of e' (and_then keep_second (one_of colon) e'))))
         (nothing_branch P None)
-        (λ ts x rest h. then_heads question ts x rest (room_of room (Grammar.branches E) ts x h))
+        (λ ts x rest h. then_heads question ts x rest (room_of room (branches E) ts x h))
         ended)
         none_here) follows
       where
-        none_here : Holds (Either (if_room room (Grammar.branches E)) (Nothing None))
+        none_here : Holds (Either (if_room room (branches E)) (Nothing None))
         none_here = record { tokens = []; value = None; spells = right [] None (nothing None refl) }
 
         ended : (ts : List GrammarToken) (x : Option (ExprTree × ExprTree)) (rest : List GrammarToken) → Nothing None ts x → stops 1 rest ≡ true → heads question (ts ++ rest) ≡ false
@@ -474,8 +475,8 @@ module _ (P : SyntaxFaultKind → Type 0) where
         nothing_stops : (b : List GrammarToken) (y : Option (ExprTree × ExprTree)) (rest : List GrammarToken) → Nothing None b y → stops 1 rest ≡ true → stops 2 (b ++ rest) ≡ true
         nothing_stops _ _ rest (nothing x h) s = stops_more 1 2 rest (omega arith) s
 
-        follows : (b : List GrammarToken) (y : Option (ExprTree × ExprTree)) (rest : List GrammarToken) → Either (if_room room (Grammar.branches E)) (Nothing None) b y → stops 1 rest ≡ true → stops 2 (b ++ rest) ≡ true
-        follows _ _ rest (left b y h) s = then_stops question 1 2 question_level refl b y rest (room_of room (Grammar.branches E) b y h)
+        follows : (b : List GrammarToken) (y : Option (ExprTree × ExprTree)) (rest : List GrammarToken) → Either (if_room room (branches E)) (Nothing None) b y → stops 1 rest ≡ true → stops 2 (b ++ rest) ≡ true
+        follows _ _ rest (left b y h) s = then_stops question 1 2 question_level refl b y rest (room_of room (branches E) b y h)
         follows _ _ rest (right b y h) s = nothing_stops b y rest h s
 
     pub sum_starts : Starts (Grammar.additive tables room E U) begins_unary
@@ -494,4 +495,4 @@ module _ (P : SyntaxFaultKind → Type 0) where
     disjunction_starts = then_starts chain_of (Grammar.conjunction tables room E U) (Many (Then link_of (One or_op) (Grammar.conjunction tables room E U))) begins_unary conjunction_starts
 
     pub whole_starts : Starts (Grammar.conditional tables room E U) begins_unary
-    whole_starts = then_starts cond_of (Grammar.disjunction tables room E U) (Either (if_room room (Grammar.branches E)) (Nothing None)) begins_unary disjunction_starts
+    whole_starts = then_starts cond_of (Grammar.disjunction tables room E U) (Either (if_room room (branches E)) (Nothing None)) begins_unary disjunction_starts

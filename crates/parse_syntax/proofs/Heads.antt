@@ -2,9 +2,10 @@
 use Rattle.std.proofs.Common.{◌≡◌, ℕ, ◌<◌, ◌≤◌, List, [], ◌∷◌, ◌++◌, length, Bool, true, false, nat_lt, Option, Some, None, refl, sym, ap, ◌∙◌, subst, arith, append_assoc}
 use Rattle.std.proofs.lemmas.Bool.Decides.{nat_tests}
 use Rattle.parse_syntax.specs.Lang.{Lang, One, one, Then, both, Mapped, mapped, Either, left, right, if_room}
-use Rattle.parse_syntax.specs.Reader.{is_some, heads}
+use Rattle.parse_syntax.specs.Reader.{heads}
 use Rattle.parse_syntax.proofs.Laws.{Holds}
 use Rattle.parse_syntax.proofs.Wider.{Begins, Starts, one_starts, then_starts, head_gives, is_some_of}
+use Rattle.std.specs.Prelude.{is_some}
 
 module _ {T : Type 0} where
   -- a token that has a value is the first one of its kind

@@ -1,7 +1,7 @@
 -- What the reader of a whole text answers, by the grammar, at every level.
 use Rattle.std.proofs.Common.{◌≡◌, ℕ, zero, suc, ◌≤◌, List, [], ◌∷◌, ◌++◌, Bool, true, false, cond, None, refl, ap, arith, append_assoc}
-use Rattle.parse_syntax.specs.Lang.{one, left, right, Never, end, both, Many, more, nothing, keep_second}
-use Rattle.parse_syntax.specs.Reader.{Got, Bad, TokenReader, SyntaxFaultKind, TooDeep, wrong, read_whole}
+use Rattle.parse_syntax.specs.Lang.{one, left, right, Never, end, both, Many, more, nothing}
+use Rattle.parse_syntax.specs.Reader.{Got, Bad, TokenReader, SyntaxFaultKind, TooDeep, wrong, read_whole, keep_second}
 use Rattle.parse_syntax.specs.Refused.{IsRefused}
 use Rattle.parse_syntax.proofs.Laws.{Holds}
 use Rattle.parse_syntax.proofs.Wider.{Starts, head_gives}
@@ -15,14 +15,15 @@ use Rattle.parse_syntax.specs.declared.token.GrammarKind.TheVariants as kind
 use Rattle.eval_tree.specs.Tree as tree
 use Rattle.eval_tree.specs.Tree.{ExprTree, StmtTree}
 use Rattle.parse_syntax.specs.Tables.{TokenTables}
-use Rattle.parse_syntax.specs.Terminals.{else_word, directive}
-use Rattle.parse_syntax.specs.Grammar.{Whole, Operand, within_room, Expression, Statement, Statements}
-use Rattle.parse_syntax.specs.Reading.{goes_on, read_within, read_at, read_statements}
+use Rattle.parse_syntax.specs.Terminals.{directive}
+use Rattle.parse_syntax.specs.Grammar.{Expression, Statement, Statements}
+use Rattle.parse_syntax.specs.Reading.{goes_on, read_within, read_at, read_statements, Whole, Operand, within_room}
 use Rattle.parse_syntax.proofs.Stops.{sample, with_kind, stops, begins_unary}
 use Rattle.parse_syntax.proofs.Expressions as expressions
 use Rattle.parse_syntax.proofs.Expressions.{whole_part, unary_part, whole_starts}
 use Rattle.parse_syntax.proofs.Statements as statements
 use Rattle.parse_syntax.proofs.Statements.{first, directive_first, no_more, list_item, statement_part, statement_starts, strict_part}
+use Rattle.parse_syntax.specs.MarksAndWords.{else_word}
 
 module _ (tables : TokenTables) where
   -- every level of expressions

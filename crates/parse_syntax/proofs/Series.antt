@@ -1,8 +1,8 @@
 -- Items that begin with the tokens v and w, and then perhaps v and something else: no further than the first token that is not taken.
 use Rattle.std.proofs.Common.{◌≡◌, ℕ, zero, suc, ◌≤◌, List, [], ◌∷◌, ◌++◌, length, false, Option, Some, None, refl, sym, ap, ◌∙◌, subst, arith, append_assoc, length-append}
-use Rattle.parse_syntax.specs.Lang.{keep_second}
-use Rattle.parse_syntax.specs.Reader.{Answer, Got, Bad, TokenReader, ◌>>=◌, SyntaxFaultKind, and_then, one_of, succeed, choose, loop, all_of, is_some, heads, heads_two}
+use Rattle.parse_syntax.specs.Reader.{Answer, Got, Bad, TokenReader, ◌>>=◌, SyntaxFaultKind, and_then, one_of, succeed, choose, loop, all_of, heads, heads_two, keep_second}
 use Rattle.parse_syntax.proofs.Local.{SameHead, same_front, Stands, IsLocal}
+use Rattle.std.specs.Prelude.{is_some}
 
 module _ {T : Type 0} where
   -- an answer with other tokens left

@@ -2,8 +2,8 @@
 use Rattle.std.proofs.Common.{◌≡◌, ℕ, List, [], ◌∷◌, ◌++◌, Bool, true, false, cond, nat_lt, nat_eq, Option, Some, None, refl, sym, ap, arith, append_assoc}
 use Rattle.std.proofs.lemmas.Bool.Decides.{nat_tests}
 use Rattle.js_lex.specs.declared.token.Mark.TheVariants as mark
-use Rattle.parse_syntax.specs.Lang.{Lang, One, one, Then, both, Bind, Mapped, mapped, Nothing, nothing, Either, left, right, Many, end, if_room, keep_first, keep_second, ◌▸◌, ◌◂◌}
-use Rattle.parse_syntax.specs.Reader.{TokenReader, SyntaxFaultKind, map_by, and_then, and_bind, one_of, opens, all_of, is_some, heads, heads_two, allowed}
+use Rattle.parse_syntax.specs.Lang.{Lang, One, one, Then, both, Bind, Mapped, mapped, Nothing, nothing, Either, left, right, Many, end, if_room, ◌▸◌, ◌◂◌}
+use Rattle.parse_syntax.specs.Reader.{TokenReader, SyntaxFaultKind, map_by, and_then, and_bind, one_of, opens, all_of, heads, heads_two, allowed, keep_first, keep_second}
 use Rattle.parse_syntax.proofs.Laws.{Holds}
 use Rattle.parse_syntax.proofs.Local.{SameHead, IsTest}
 use Rattle.parse_syntax.proofs.Wider.{Starts, then_starts, mapped_starts, either_starts, head_gives}
@@ -16,13 +16,16 @@ use Rattle.parse_syntax.specs.declared.token.Word.TheVariants as word
 use Rattle.parse_syntax.specs.declared.token.Property.TheVariants as property
 use Rattle.eval_tree.specs.Tree.{ExprTree, StmtTree, BlockTree, block}
 use Rattle.parse_syntax.specs.Tables.{TokenTables}
-use Rattle.parse_syntax.specs.Terminals.{Identifier, when, directive, let_word, const_word, print_word, if_word, else_word, for_word, name, the_name, opening, open_brace, close_brace, semicolon, less, assign_mark, assign_op, increment, nought, bound_number}
+use Rattle.parse_syntax.specs.Terminals.{Identifier, directive, name, the_name, assign_op, increment, nought, bound_number}
 use Rattle.parse_syntax.specs.Grammar
-use Rattle.parse_syntax.specs.Grammar.{pair_of, inside_of, arm_of, if_of, let_of, const_of, assign_of, for_of}
-use Rattle.parse_syntax.specs.Reading.{no_inside, print_of}
+use Rattle.parse_syntax.specs.Grammar.{pair_of, assign_of}
+use Rattle.parse_syntax.specs.Reading.{for_header, no_inside, print_of, inside_of, arm_of, if_of, let_of, const_of, for_of}
 use Rattle.parse_syntax.specs.Reading.{goes_on, read_args, read_parens, read_block, read_init, read_let, read_const, read_assign, read_print, read_arm, read_rest, read_if, read_turns, read_header, read_for, read_statement, read_strict}
 use Rattle.parse_syntax.proofs.Stops.{sample, with_kind, stops, level_of, HasLevel, begins_unary}
 use Rattle.parse_syntax.proofs.Expressions.{one_stops, heads_stop, parens_part, args_part, no_args, held_parens, opening_part, closing_part}
+use Rattle.std.specs.Prelude.{is_some}
+use Rattle.std.specs.Bool.{then_some}
+use Rattle.parse_syntax.specs.MarksAndWords.{let_word, const_word, print_word, if_word, else_word, for_word, opening, open_brace, close_brace, semicolon, less, assign_mark}
 
 -- which statement begins with the token
 abbrev kind_first : GrammarKind → ℕ
@@ -177,7 +180,7 @@ at_semicolon_no_assign (t ∷ s) h = go t t.kind h
 
 module _ (tables : TokenTables) (prints room : Bool) (E I : Lang GrammarToken ExprTree) (S : Lang GrammarToken StmtTree) where
   for_starts : (k : ℕ) → nat_lt k 7 ≡ true → Starts (if_room room (Grammar.for_statement tables S)) (over first k)
-  for_starts k lt = record { by = λ ts x h. (then_starts (for_of tables) Grammar.for_header (Grammar.block_part S) (over first k) (first_over first for_word 7 k for_first lt)).by ts x (room_of room (Grammar.for_statement tables S) ts x h) }
+  for_starts k lt = record { by = λ ts x h. (then_starts (for_of tables) for_header (Grammar.block_part S) (over first k) (first_over first for_word 7 k for_first lt)).by ts x (room_of room (Grammar.for_statement tables S) ts x h) }
 
   abbrev pub From_if : Lang GrammarToken StmtTree
   From_if = Either (if_room room (Grammar.if_statement I S)) (if_room room (Grammar.for_statement tables S))
@@ -259,7 +262,7 @@ module _ (P : SyntaxFaultKind → Type 0) where
   same_name x = grind (arith, nat_tests)
 
   the_name_part : (x : ℕ) → Part P (One (the_name x)) (One (the_name x)) anything (one_of (the_name x)) (one_of (the_name x))
-  the_name_part x = one_part P (the_name x) (sample (kind.Name x property.Nothing)) tt (ap (λ b. when b tt) (same_name x))
+  the_name_part x = one_part P (the_name x) (sample (kind.Name x property.Nothing)) tt (ap (λ b. then_some b tt) (same_name x))
 
   turns_part : (x : Identifier) → Part P (Grammar.loop_head x) (Grammar.loop_head x) anything (read_turns x) (read_turns x)
   turns_part x =
@@ -269,7 +272,7 @@ module _ (P : SyntaxFaultKind → Type 0) where
   from_opening : Part P (One opening ▸ One let_word ▸ Bind pair_of (One name) Grammar.loop_head) (One opening ▸ One let_word ▸ Bind pair_of (One name) Grammar.loop_head) anything (and_then keep_second (one_of opening) (and_then keep_second (one_of let_word) (and_bind pair_of (one_of name) read_turns))) (and_then keep_second (one_of opening) (and_then keep_second (one_of let_word) (and_bind pair_of (one_of name) read_turns)))
   from_opening = next_part keep_second (opening_part P) (next_part keep_second let_part (bind_part pair_of name_part (λ a x h. turns_part x) (λ x. (turns_part x).local)))
 
-  header_part : Part P Grammar.for_header Grammar.for_header anything read_header read_header
+  header_part : Part P for_header for_header anything read_header read_header
   header_part = next_part keep_second (one_part P for_word (sample (kind.Word word.For 0)) tt refl) from_opening
 
   module _ (tables : TokenTables) {E H : Lang GrammarToken ExprTree} {e e' : TokenReader GrammarToken ExprTree} (p : Part P E H (stops 1) e e') where
@@ -391,8 +394,11 @@ module _ (P : SyntaxFaultKind → Type 0) where
         let lets = choose_branch (heads let_word) (heads_test let_word) (sooner (λ q h. refl) (branch (let_line_part tables k.here) (λ ts x h. right ts x (left ts x h)))) consts (λ ts x rest h. then_heads let_word ts x rest h) (λ ts x rest h q. lacks first let_word 2 2 let_first (omega arith) (const_starts tables prints room E I S) ts x rest h) in
         part_of (choose_branch (heads open_brace) (heads_test open_brace) block_branch lets (λ ts x rest h. block_heads tables prints room E I S ts x rest (room_of room (Mapped block (Grammar.block_part S)) ts x h)) (λ ts x rest h q. lacks first open_brace 1 1 open_brace_of (omega arith) (let_starts tables prints room E I S) ts x rest h)) some_statement
 
-  -- [ Directive ]
-  pub strict_part : Part P Grammar.strict Grammar.strict (no_such directive) read_strict read_strict
+  -- [ Directive ; ]
+  abbrev strict : Lang GrammarToken (Unit {0})
+  strict = Either (One directive ▸ One semicolon) (Nothing tt)
+
+  pub strict_part : Part P strict strict (no_such directive) read_strict read_strict
   strict_part = part_of
       (choose_branch (heads directive) (heads_test directive)
       (sooner (λ q h. refl) (branch (next_part keep_second (one_part P directive (sample kind.Directive) tt refl) semicolon_part) (λ ts x h. left ts x h)))

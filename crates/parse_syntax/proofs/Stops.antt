@@ -2,7 +2,7 @@
 use Rattle.std.proofs.Common.{◌≡◌, ℕ, ◌≤◌, List, [], ◌∷◌, Bool, true, false, Option, Some, None, refl, nat_lt, arith}
 use Rattle.std.proofs.lemmas.Bool.Decides.{nat_tests}
 use Rattle.js_lex.specs.declared.token.Mark.TheVariants as mark
-use Rattle.parse_syntax.specs.Reader.{is_some, heads}
+use Rattle.parse_syntax.specs.Reader.{heads}
 use Rattle.parse_syntax.proofs.Heads.{IsOf}
 use Rattle.parse_syntax.specs.declared.token.GrammarToken.{GrammarToken}
 use Rattle.parse_syntax.specs.declared.token.GrammarKind.{GrammarKind}
@@ -12,8 +12,10 @@ use Rattle.parse_syntax.specs.declared.token.Property.TheVariants as property
 use Rattle.eval_tree.specs.declared.tree.Method.{Method}
 use Rattle.eval_tree.specs.Tree.{ExprTree, StepTree}
 use Rattle.parse_syntax.specs.Tables.{TokenTables}
-use Rattle.parse_syntax.specs.Terminals.{string_word, symbol_word, json_word, object_word, uri_function, member_word, property_word, method, key, opening, closing, open_bracket, close_bracket, open_literal, close_brace, comma, point, question, colon, sign, or_op, and_op, equal_op, compare_op, sum_op, simple, constant}
+use Rattle.parse_syntax.specs.Terminals.{member_word, property_word, method, key, simple, constant}
 use Rattle.parse_syntax.specs.Reading.{step_mark}
+use Rattle.std.specs.Prelude.{is_some}
+use Rattle.parse_syntax.specs.MarksAndWords.{string_word, symbol_word, json_word, object_word, uri_function, opening, closing, open_bracket, close_bracket, open_literal, close_brace, comma, point, question, colon, sign, or_op, and_op, equal_op, compare_op, sum_op}
 
 -- a token of a kind, and the token with another kind
 

@@ -2,8 +2,8 @@
 use Rattle.std.proofs.Common.{◌≡◌, ℕ, zero, suc, ◌+◌, ◌<◌, ◌≤◌, List, [], ◌∷◌, ◌++◌, Bool, true, false, ◌⊎◌, inl, inr, refl, sym, ap, ◌∙◌, subst, arith, append_assoc, append-nil}
 use Rattle.std.proofs.lemmas.Bool.{cases_lt}
 use Rattle.std.proofs.lemmas.List.{append_cancel_right}
-use Rattle.parse_syntax.specs.Lang.{Lang, Then, both, Nothing, nothing, keep_first}
-use Rattle.parse_syntax.specs.Reader.{Got, Bad, TokenReader, SyntaxFaultKind, Wrong, TooDeep, at_end, read_whole}
+use Rattle.parse_syntax.specs.Lang.{Lang, Then, both, Nothing, nothing}
+use Rattle.parse_syntax.specs.Reader.{Got, Bad, TokenReader, SyntaxFaultKind, Wrong, TooDeep, at_end, read_whole, keep_first}
 use Rattle.parse_syntax.specs.Refused.{CanBegin, IsWrongAt, IsRefused}
 use Rattle.parse_syntax.proofs.Laws.{IsLawful, Front, parts}
 use Rattle.parse_syntax.proofs.Local.{SameHead, Stands, IsLocal}

@@ -1,7 +1,7 @@
 -- Languages that contain others, and what they begin with.
 use Rattle.std.proofs.Common.{◌≡◌, List, [], ◌∷◌, ◌++◌, Bool, true, Option, Some, None, refl}
 use Rattle.parse_syntax.specs.Lang.{Lang, One, one, Then, both, Mapped, mapped, Either, left, right, Many, end, more}
-use Rattle.parse_syntax.specs.Reader.{is_some}
+use Rattle.std.specs.Prelude.{is_some}
 
 pub some_of : {A : Type 0} (o : Option A) → is_some o ≡ true → (x : A) × (o ≡ Some x)
 some_of None e = cc

@@ -5,14 +5,6 @@ use Rattle.std.specs.Prelude.{◌≡◌, List, [], ◌∷◌, ◌++◌, Option, 
 abbrev pub Lang : Type 0 → Type 0 → Type 1
 Lang T A = List T → A → Type 0
 
--- of two values the first
-abbrev pub keep_first : {A B : Type 0} → A → B → A
-keep_first x y = x
-
--- of two values the second
-abbrev pub keep_second : {A B : Type 0} → A → B → B
-keep_second x y = y
-
 module _ {T : Type 0} where
   -- one token that has a value
   pub data One {A : Type 0} (value : T → Option A) : List T → A → Type 0 where
@@ -56,9 +48,9 @@ module _ {T : Type 0} where
   -- one after the other, with the value of the second one
   infixr 5 ◌▸◌
   abbrev pub ◌▸◌ : {A B : Type 0} → Lang T A → Lang T B → Lang T B
-  L ▸ M = Then keep_second L M
+  L ▸ M = Then (λ x y. y) L M
 
   -- one after the other, with the value of the first one
   infixr 5 ◌◂◌
   abbrev pub ◌◂◌ : {A B : Type 0} → Lang T A → Lang T B → Lang T A
-  L ◂ M = Then keep_first L M
+  L ◂ M = Then (λ x y. x) L M

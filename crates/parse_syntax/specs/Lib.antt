@@ -4,4 +4,5 @@ pub mod Refused
 pub mod Tables
 pub mod Terminals
 pub mod Grammar
+pub mod MarksAndWords
 pub mod Reading

@@ -1,6 +1,5 @@
 -- Readers: what reading from the front gives.
-use Rattle.std.specs.Prelude.{ℕ, zero, suc, List, [], ◌∷◌, ◌++◌, length, Bool, true, false, cond, Option, Some, None}
-use Rattle.parse_syntax.specs.Lang.{keep_first}
+use Rattle.std.specs.Prelude.{ℕ, zero, suc, List, [], ◌∷◌, ◌++◌, length, Bool, true, false, cond, Option, Some, None, is_some}
 
 -- what is wrong at a token: it isn't allowed there, or would be but for the limit on nesting
 pub data SyntaxFaultKind : Type 0 where
@@ -19,10 +18,12 @@ abbrev pub ◌>>=◌ : {T A B : Type 0} → Answer T A → (A → List T → Ans
 (Got x rest) >>= f = f x rest
 (Bad k rest) >>= f = Bad k rest
 
--- there is a value
-abbrev pub is_some : {A : Type 0} → Option A → Bool
-is_some None = false
-is_some (Some x) = true
+-- of two values the first, and the second
+abbrev pub keep_first : {A B : Type 0} → A → B → A
+keep_first x y = x
+
+abbrev pub keep_second : {A B : Type 0} → A → B → B
+keep_second x y = y
 
 module _ {T : Type 0} where
   abbrev pub wrong : {A : Type 0} → TokenReader T A

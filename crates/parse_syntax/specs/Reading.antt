@@ -1,20 +1,57 @@
 -- Reading scripts from the front. No public contract cites these: they are what the parser's functions give.
-use Rattle.std.specs.Prelude.{ℕ, zero, suc, Bool, true, false, cond, List, [], ◌∷◌, Option, Some, None}
+use Rattle.std.specs.Prelude.{ℕ, zero, suc, Bool, true, false, cond, List, [], ◌∷◌, Option, Some, None, is_some}
 use Rattle.js_lex.specs.declared.token.Mark.TheVariants as mark
-use Rattle.parse_syntax.specs.Lang.{keep_first, keep_second}
-use Rattle.parse_syntax.specs.Reader.{TokenReader, wrong, map_by, and_then, and_bind, one_of, choose, all_of, succeed, opens, is_some, heads, heads_two, allowed}
+use Rattle.parse_syntax.specs.Lang.{Lang, One, Then, Bind, Mapped, Nothing, Either, if_room, ◌▸◌, ◌◂◌}
+use Rattle.parse_syntax.specs.Reader.{TokenReader, wrong, map_by, and_then, and_bind, one_of, choose, all_of, succeed, opens, heads, heads_two, allowed, keep_first, keep_second}
 use Rattle.parse_syntax.specs.declared.token.GrammarToken.{GrammarToken}
 use Rattle.parse_syntax.specs.declared.token.GrammarKind.TheVariants as kind
 use Rattle.eval_tree.specs.declared.tree.Op.{Op}
 use Rattle.eval_tree.specs.declared.tree.Builtin.{Builtin}
 use Rattle.eval_tree.specs.declared.tree.Builtin.TheVariants as builtin
 use Rattle.eval_tree.specs.Tree as tree
-use Rattle.eval_tree.specs.Tree.{ExprTree, StepTree, StmtTree, BlockTree, block_of, ArmTree, exprs, block}
+use Rattle.eval_tree.specs.Tree.{ExprTree, LinkTree, StepTree, StmtTree, BlockTree, block_of, ArmTree, arms, exprs, stmts, block}
 use Rattle.parse_syntax.specs.Tables.{TokenTables}
-use Rattle.parse_syntax.specs.Terminals.{Identifier, directive, let_word, const_word, print_word, if_word, else_word, for_word, string_word, symbol_word, json_word, object_word, uri_function, name, the_name, member_word, property_word, method, key, from_word, symbol_function, stringify_word, keys_word, opening, closing, open_bracket, close_bracket, open_brace, open_literal, close_brace, comma, point, semicolon, question, colon, less, assign_mark, assign_op, increment, sign, or_op, and_op, equal_op, compare_op, sum_op, nought, bound_number, simple}
-use Rattle.parse_syntax.specs.Grammar.{list_of, none_of, pair_of, method_step, builtin_of, post_of, link_of, chain_of, cond_of, inside_of, arm_of, if_of, let_of, const_of, assign_of, for_of, Which, Whole, Operand}
+use Rattle.parse_syntax.specs.Terminals.{Identifier, directive, name, the_name, member_word, property_word, method, key, from_word, symbol_function, stringify_word, keys_word, assign_op, increment, nought, bound_number, simple}
+use Rattle.parse_syntax.specs.Grammar.{pair_of, method_step, builtin_of, post_of, chain_of, cond_of, own_names, letters, assign_of, args, loop_head, Expression, Unary}
+use Rattle.parse_syntax.specs.MarksAndWords.{let_word, const_word, print_word, if_word, else_word, for_word, string_word, symbol_word, json_word, object_word, uri_function, opening, closing, open_bracket, close_bracket, open_brace, open_literal, close_brace, comma, point, semicolon, question, colon, less, assign_mark, sign, or_op, and_op, equal_op, compare_op, sum_op}
 
 -- names for what the grammar makes of values
+
+-- a first value and those behind it, as one list
+abbrev pub list_of : {A : Type 0} → A → List A → List A
+list_of x xs = x ∷ xs
+
+-- no values, whatever the tokens spell
+abbrev pub none_of : {A B : Type 0} → A → List B
+none_of x = []
+
+-- an operator, with its offset, and the operand on its right
+abbrev pub link_of : ℕ × Op → ExprTree → LinkTree
+link_of o t = record { at = o.0; op = o.1; right = t }
+
+-- a block of these statements
+abbrev pub inside_of : List StmtTree → BlockTree
+inside_of ss = block_of (own_names ss) (stmts ss)
+
+-- a condition, and the block that it guards
+abbrev pub arm_of : ExprTree → BlockTree → ArmTree
+arm_of e b = record { test = e; body = b }
+
+-- an if statement: its first arm, and the other arms with the last block
+abbrev pub if_of : ArmTree → List ArmTree × BlockTree → StmtTree
+if_of a p = tree.if_line (arms (a ∷ p.0)) p.1
+
+-- a let of this name, with its initializer if it has one
+abbrev pub let_of : TokenTables → Identifier → Option ExprTree → StmtTree
+let_of tables x init = tree.let_line x.at (letters tables x) init
+
+-- a const of this name, with its initializer
+abbrev pub const_of : TokenTables → Identifier → ExprTree → StmtTree
+const_of tables x init = tree.const_line x.at (letters tables x) init
+
+-- a loop over a body, from its name and its bound
+abbrev pub for_of : TokenTables → Identifier × ℕ → BlockTree → StmtTree
+for_of tables h b = tree.for_line (letters tables h.0) h.1 b
 
 -- a value as a list of one
 abbrev pub single_of : {A : Type 0} → A → List A
@@ -51,6 +88,24 @@ no_inside = block_of [] tree.no_stmts
 -- a call of print with these arguments
 abbrev pub print_of : List ExprTree → StmtTree
 print_of ts = tree.print (exprs ts)
+
+-- parts of productions
+
+-- [ Args ]
+abbrev pub method_args : Bool → Lang GrammarToken ExprTree → Lang GrammarToken (Option (List ExprTree))
+method_args room E = Either (if_room room (Mapped Some (args E))) (Nothing None)
+
+-- [ E ]
+abbrev pub index : Lang GrammarToken ExprTree → Lang GrammarToken StepTree
+index E = Then tree.of_index (One open_bracket) (E ◂ One close_bracket)
+
+-- ? E : E
+abbrev pub branches : Lang GrammarToken ExprTree → Lang GrammarToken (Option (ExprTree × ExprTree))
+branches E = One question ▸ Then branches_of E (One colon ▸ E)
+
+-- for ( let x = 0 ; x < Bound ; x ++ )
+abbrev pub for_header : Lang GrammarToken (Identifier × ℕ)
+for_header = One for_word ▸ One opening ▸ One let_word ▸ Bind pair_of (One name) loop_head
 
 -- expressions
 
@@ -195,6 +250,15 @@ abbrev pub read_conditional : TokenTables → Bool → TokenReader GrammarToken 
     → TokenReader GrammarToken ExprTree
 read_conditional tables room e u = and_then cond_of (read_disjunction tables room e u)
     (choose (heads question) (opens room (heads question) (read_branches e)) (succeed None))
+
+-- an expression, and the operand of a sign
+pub data Which : Type 0 where
+  Whole Operand : Which
+
+-- either with room for so many that are open
+abbrev pub within_room : TokenTables → ℕ → Which → Lang GrammarToken ExprTree
+within_room tables n Whole = Expression tables n
+within_room tables n Operand = Unary tables n
 
 abbrev pub read_level : TokenTables → Bool → (Which → TokenReader GrammarToken ExprTree) → Which
     → TokenReader GrammarToken ExprTree

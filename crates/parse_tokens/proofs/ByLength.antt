@@ -1,33 +1,29 @@
 -- Reserved words by their length, and words that stand one behind the other.
 use Rattle.std.proofs.Common.{◌≡◌, ℕ, suc, ◌+◌, ◌<◌, ◌≤◌, Bool, true, false, cond, List, [], ◌∷◌, ◌++◌, length, take, drop, refl, sym, ap, ◌∙◌, arith, eq-eqb, eqb-true, take_at, drop_at, length-append, ◌-◌, take_all, length-drop, le_of_eq}
-use Rattle.std.specs.Prelude.{nat_eq, filter}
+use Rattle.std.specs.Prelude.{nat_eq, filter, ◌||◌}
+use Rattle.std.specs.List.{list_any}
 use Rattle.std.specs.Str.{bytes_eq}
 use Rattle.std.proofs.lemmas.Slice.Eq.{bytes_eq-Decides}
-use Rattle.parse_tokens.specs.Words.{reserved_words, kept_words, is_in, is_reserved}
+use Rattle.parse_tokens.specs.Words.{reserved_words, kept_words, is_reserved}
 use Rattle.parse_tokens.specs.Lengths.{of_length, spaced, all_have}
+
+abbrev is_in : List ℕ → List (List ℕ) → Bool
+is_in letters ws = list_any (bytes_eq letters) ws
 
 in_kept : (p : List ℕ → Bool) (letters : List ℕ) → p letters ≡ true → (ws : List (List ℕ)) → is_in letters ws ≡ is_in letters (filter p ws)
 in_kept p letters h [] = refl
 in_kept p letters h (w ∷ ws) = go (in_kept p letters h ws) (p w) refl
   where
-    other : is_in letters ws ≡ is_in letters (filter p ws) → p w ≡ false → (b : Bool) → bytes_eq letters w ≡ b → cond b true (is_in letters ws) ≡ is_in letters (filter p ws)
+    other : is_in letters ws ≡ is_in letters (filter p ws) → p w ≡ false → (b : Bool) → bytes_eq letters w ≡ b → (b || is_in letters ws) ≡ is_in letters (filter p ws)
     other ih e true same = let k : letters ≡ w = (bytes_eq-Decides letters w).0 same in let f : true ≡ false = sym h ∙ (ap p k ∙ e) in absurd (cc)
     other ih e false same = ih
 
     go : is_in letters ws ≡ is_in letters (filter p ws) → (b : Bool) → p w ≡ b → is_in letters (w ∷ ws) ≡ is_in letters (cond b (w ∷ filter p ws) (filter p ws))
-    go ih true e = ap (λ r. cond (bytes_eq letters w) true r) ih
+    go ih true e = ap (λ r. bytes_eq letters w || r) ih
     go ih false e = other ih e (bytes_eq letters w) refl
 
-in_both : (letters : List ℕ) (ws more : List (List ℕ)) → cond (is_in letters ws) true (is_in letters more) ≡ is_in letters (ws ++ more)
-in_both letters [] more = refl
-in_both letters (w ∷ ws) more = go (in_both letters ws more) (bytes_eq letters w)
-  where
-    go : cond (is_in letters ws) true (is_in letters more) ≡ is_in letters (ws ++ more) → (b : Bool) → cond (cond b true (is_in letters ws)) true (is_in letters more) ≡ cond b true (is_in letters (ws ++ more))
-    go ih true = refl
-    go ih false = ih
-
-pub in_of_length : (letters : List ℕ) → is_in letters (of_length (length letters)) ≡ is_reserved letters
-in_of_length letters = sym (in_both letters reserved_words kept_words ∙ in_kept (λ w. nat_eq (length w) (length letters)) letters (eq-eqb (length letters) (length letters) refl) (reserved_words ++ kept_words))
+pub in_of_length : (letters : List ℕ) → list_any (bytes_eq letters) (of_length (length letters)) ≡ is_reserved letters
+in_of_length letters = sym (in_kept (λ w. nat_eq (length w) (length letters)) letters (eq-eqb (length letters) (length letters) refl) (reserved_words ++ kept_words))
 
 have_length : (n : ℕ) (ws : List (List ℕ)) → all_have n (filter (λ w. nat_eq (length w) n) ws) ≡ true
 have_length n [] = refl
@@ -72,7 +68,7 @@ first_of n text (w ∷ ws) more h e =
       all = s.1;
     }
 
-pub none_left : (letters text : List ℕ) (ws : List (List ℕ)) → length text ≤ length letters → all_have (length letters) ws ≡ true → text ≡ spaced ws → false ≡ is_in letters ws
+pub none_left : (letters text : List ℕ) (ws : List (List ℕ)) → length text ≤ length letters → all_have (length letters) ws ≡ true → text ≡ spaced ws → false ≡ list_any (bytes_eq letters) ws
 none_left letters text [] less h e = refl
 none_left letters text (w ∷ ws) less h e = absurd (
     let s = split_first (length letters) w ws h in
@@ -85,15 +81,15 @@ pub is_first : (letters text word : List ℕ) (found : Bool) → length letters 
 is_first letters text word found more w f t ws h e =
     let s = first_of (length letters) text ws more h e in
     let same : bytes_eq letters s.word ≡ true = ap (bytes_eq letters) (sym s.stands ∙ sym w) ∙ (sym f ∙ t) in
-    t ∙ sym (ap (is_in letters) s.whole ∙ ap (λ b. cond b true (is_in letters s.rest)) same)
+    t ∙ sym (ap (is_in letters) s.whole ∙ ap (λ b. b || is_in letters s.rest) same)
 
 pub is_behind : (letters text word behind rest : List ℕ) (found result : Bool) → length letters < length text → word ≡ take (length letters) text → behind ≡ drop (length letters) text
     → rest ≡ take (length behind - 1) (drop 1 behind) → found ≡ bytes_eq letters word → found ≡ false
-    → ((ws : List (List ℕ)) → all_have (length letters) ws ≡ true → rest ≡ spaced ws → result ≡ is_in letters ws)
+    → ((ws : List (List ℕ)) → all_have (length letters) ws ≡ true → rest ≡ spaced ws → result ≡ list_any (bytes_eq letters) ws)
     → (ws : List (List ℕ)) → all_have (length letters) ws ≡ true → text ≡ spaced ws → result ≡ is_in letters ws
 is_behind letters text word behind rest found result more w b r f t others ws h e =
     let s = first_of (length letters) text ws more h e in
     let other : bytes_eq letters s.word ≡ false = ap (bytes_eq letters) (sym s.stands ∙ sym w) ∙ (sym f ∙ t) in
     let all : take (length behind - 1) (drop 1 behind) ≡ drop 1 behind = take_all (length behind - 1) (drop 1 behind) (le_of_eq (length-drop 1 behind)) in
     let left : rest ≡ spaced s.rest = r ∙ (all ∙ (ap (drop 1) b ∙ s.behind)) in
-    others s.rest s.all left ∙ sym (ap (is_in letters) s.whole ∙ ap (λ b. cond b true (is_in letters s.rest)) other)
+    others s.rest s.all left ∙ sym (ap (is_in letters) s.whole ∙ ap (λ b. b || is_in letters s.rest) other)

@@ -5,7 +5,8 @@ use Rattle.js_lex.specs.Tokens.{Skip, TokenOf, Lexes}
 use Rattle.js_lex.specs.Next.{Separates, nothing, more, IsNextToken}
 use Rattle.js_lex.specs.declared.token.Token.{Token as Lexed}
 use Rattle.js_lex.proofs.OneList.{after_same, one_list}
-use Rattle.parse_tokens.specs.Tokens.{is_colon, begins_colon}
+use Rattle.parse_tokens.specs.Tokens.{begins_colon}
+use Rattle.parse_tokens.specs.Steps.{is_colon}
 
 -- behind what separates tokens the same tokens follow
 skipped : (text : List ℕ) (at mid : ℕ) (ts : List Lexed) → IsUtf8 text → Separates text at mid → Lexes text at ts → Lexes text mid ts

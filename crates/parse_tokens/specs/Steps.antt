@@ -1,11 +1,15 @@
 -- What the functions give.
 use Rattle.std.specs.Prelude.{◌≡◌, ℕ, List, [], ◌∷◌, ◌++◌, Bool, true, false}
-use Rattle.std.specs.List.{position}
-use Rattle.std.specs.Str.{bytes_eq}
+use Rattle.std.specs.List.{list_any, position}
+use Rattle.std.specs.Str.{bytes_eq, chars}
 use Rattle.std.specs.Ordering.{nat_cmp}
 use Rattle.std.specs.Cmp.Lexicographic.{slice_cmp}
 use Rattle.std.specs.FinMap.{FinMap, get}
 use Rattle.js_lex.specs.declared.token.Token.{Token as Lexed}
+use Rattle.js_lex.specs.declared.token.TokenKind.{TokenKind}
+use Rattle.js_lex.specs.declared.token.TokenKind.TheVariants as kinds
+use Rattle.js_lex.specs.declared.token.Mark.TheVariants as mark
+use Rattle.js_lex.specs.Elements.{is_line_end}
 use Rattle.js_lex.specs.Tokens.{Lexes}
 use Rattle.parse_syntax.specs.declared.token.GrammarToken.{GrammarToken}
 use Rattle.parse_tokens.specs.declared.read.ScriptTokens.{ScriptTokens}
@@ -14,6 +18,14 @@ use Rattle.parse_tokens.specs.Tokens.{Before, nothing, is_key, tokens_from, afte
 -- the numbers are the places in the table
 abbrev pub Agrees : FinMap (slice_cmp nat_cmp) ℕ → List (List ℕ) → Type 0
 Agrees numbers names = (q : List ℕ) → get numbers q ≡ position (bytes_eq q) names
+
+-- whether a line end is in these bytes of a text
+abbrev pub has_line_end : List ℕ → Bool
+has_line_end bytes = list_any is_line_end (chars bytes)
+
+-- the token is a colon
+abbrev pub is_colon : TokenKind → Bool
+is_colon k = elim k [ kinds.Mark mark.Colon ↦ true | _ ↦ false ]
 
 abbrev pub is_empty : {A : Type 0} → List A → Bool
 is_empty [] = true

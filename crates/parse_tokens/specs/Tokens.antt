@@ -1,5 +1,5 @@
 -- The tokens of the grammar, and how they come from those of the text.
-use Rattle.std.specs.Prelude.{◌≡◌, ℕ, List, [], ◌∷◌, ◌++◌, length, codes, nat_lt, Bool, true, false, Option, Some, None, if◌then◌else◌}
+use Rattle.std.specs.Prelude.{◌≡◌, ◌||◌, ℕ, List, [], ◌∷◌, ◌++◌, length, codes, nat_lt, Bool, true, false, Option, Some, None, if◌then◌else◌}
 use Rattle.std.specs.Str.{bytes_eq, chars}
 use Rattle.std.specs.List.{position_or_len, list_any}
 use Rattle.js_lex.specs.declared.token.Token.{Token as Lexed}
@@ -13,7 +13,7 @@ use Rattle.parse_syntax.specs.declared.token.GrammarToken.{GrammarToken}
 use Rattle.parse_syntax.specs.declared.token.GrammarKind.{GrammarKind}
 use Rattle.parse_syntax.specs.declared.token.GrammarKind.TheVariants as kind
 use Rattle.parse_syntax.specs.declared.token.Word.{Word}
-use Rattle.parse_tokens.specs.Words.{word_meant, word_property, is_in}
+use Rattle.parse_tokens.specs.Words.{word_meant, word_property}
 
 -- The number of an identifier is its place in the table of names,
 -- which has each identifier once in source order.
@@ -42,14 +42,10 @@ pub record Before : Type 0 where
 abbrev pub nothing : Before
 nothing = record { first = true; end = 0; names = []; texts = []; keys = [] }
 
--- whether a line end is in these bytes of a text
-abbrev pub has_line_end : List ℕ → Bool
-has_line_end bytes = list_any is_line_end (chars bytes)
-
 -- the spellings of the directive; there is none with an escape (ECMA-262, "Directive Prologues and the Use
 -- Strict Directive")
 abbrev pub is_use_strict : List ℕ → Bool
-is_use_strict source = is_in source (codes "'use strict'" ∷ codes "\"use strict\"" ∷ [])
+is_use_strict source = bytes_eq source (codes "'use strict'") || bytes_eq source (codes "\"use strict\"")
 
 -- A string is the key of a member exactly where { or a comma precedes it and a colon follows it: no
 -- statement has a label, and in a conditional a question mark precedes the operand that a colon follows.
@@ -58,14 +54,10 @@ is_use_strict source = is_in source (codes "'use strict'" ∷ codes "\"use stric
 abbrev pub opens_member : TokenKind → Bool
 opens_member k = elim k [ kinds.Mark mark.OpenBrace ↦ true | kinds.Mark mark.Comma ↦ true | _ ↦ false ]
 
--- the token is a colon
-abbrev pub is_colon : TokenKind → Bool
-is_colon k = elim k [ kinds.Mark mark.Colon ↦ true | _ ↦ false ]
-
 -- the first of the tokens is a colon
 abbrev pub begins_colon : List Lexed → Bool
 begins_colon [] = false
-begins_colon (t ∷ ts) = is_colon t.kind
+begins_colon (t ∷ ts) = elim t.kind [ kinds.Mark mark.Colon ↦ true | _ ↦ false ]
 
 -- whether the token is a string that is a key, where { or a comma precedes it or not, and these tokens
 -- behind it
@@ -107,16 +99,14 @@ literals_after key before source k =
 
 -- the keys behind a token: the units of a string that is one come last
 abbrev pub keys_after : Bool → Before → TokenKind → List (List ℕ)
-keys_after key before k = elim k [
-  | kinds.Text units ↦ (if key then before.keys ++ units ∷ [] else before.keys)
-  | _ ↦ before.keys
-]
+keys_after key before k =
+    elim k [ kinds.Text units ↦ (if key then before.keys ++ units ∷ [] else before.keys) | _ ↦ before.keys ]
 
 -- the grammar's token for a token of the text, which is a key or not, where this precedes it
 abbrev pub grammar_token : List ℕ → Before → Bool → Lexed → GrammarToken
 grammar_token bytes before key t = record {
   at = t.from;
-  after_line = has_line_end (slice bytes before.end t.from);
+  after_line = list_any is_line_end (chars (slice bytes before.end t.from));
   kind = kind_of before (slice bytes t.from t.to) key t.kind;
 }
 

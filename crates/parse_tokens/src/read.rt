@@ -1,18 +1,16 @@
 // From bytes to the tokens of the grammar.
 ghost use Rattle.std.specs.Prelude.{◌≡◌, ◌≤◌, ◌<◌, ◌⊎◌, ◌∷◌, ◌++◌, [], List, ℕ, length, IfOk, IfErr, OnOk, false, if◌then◌else◌};
-ghost use Rattle.std.specs.List.{list_any};
-ghost use Rattle.std.specs.Str.{IsCharBoundary, chars};
+ghost use Rattle.std.specs.Str.{IsCharBoundary};
 ghost use Rattle.js_lex.specs.Elements.{is_line_end};
-ghost use Rattle.js_lex.specs.Spans.{slice};
 ghost use Rattle.js_lex.specs.Tokens.{LexFaultOf, FailsFrom, Lexes};
 ghost use Rattle.js_lex.specs.declared.token.Token.{Token as Lexed};
 ghost use Rattle.js_lex.specs.declared.token.LexFault.{LexFault};
 ghost use Rattle.js_lex.specs.declared.token.LexFault.TheVariants.{Memory};
 ghost use Rattle.parse_tokens.specs.Tokens as definition;
-ghost use Rattle.parse_tokens.specs.Tokens.{HasTokens, place_in, with_name, has_line_end, begins_colon, grammar_token, before_next};
+ghost use Rattle.parse_tokens.specs.Tokens.{HasTokens, place_in, with_name, begins_colon, grammar_token, before_next};
 ghost use Rattle.parse_tokens.specs.Words as words;
 ghost use Rattle.parse_syntax.specs.declared.token.GrammarToken.{GrammarToken};
-ghost use Rattle.parse_tokens.specs.Steps.{Agrees, IsScriptTokens, ScannedTo, TellsKey, before_of};
+ghost use Rattle.parse_tokens.specs.Steps.{Agrees, IsScriptTokens, ScannedTo, TellsKey, before_of, has_line_end, is_colon};
 
 use crate::numbers::Numbers;
 use crate::word::{property_named, word_named};
@@ -273,7 +271,7 @@ fn opens_member(kind: &TokenKind) -> bool
 }
 
 fn is_colon(kind: &TokenKind) -> bool
-    ensures { result ≡ definition.is_colon kind.now }
+    ensures { result ≡ is_colon kind.now }
 {
     match kind {
         TokenKind::Mark(Mark::Colon) => true,

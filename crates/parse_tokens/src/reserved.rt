@@ -1,6 +1,8 @@
 // Identifiers that can't be names, by their length.
 ghost use Rattle.std.specs.Prelude.{◌≡◌, ℕ, List, length, true};
-ghost use Rattle.parse_tokens.specs.Words.{is_in, is_reserved};
+ghost use Rattle.std.specs.List.{list_any};
+ghost use Rattle.std.specs.Str.{bytes_eq};
+ghost use Rattle.parse_tokens.specs.Words.{is_reserved};
 ghost use Rattle.parse_tokens.specs.Lengths.{of_length, spaced, all_have};
 
 /// Whether the identifier can't be a name.
@@ -13,7 +15,7 @@ pub(crate) fn is_reserved(letters: &[u8]) -> bool
 // Whether the letters are one of the identifiers, of which each has as many letters and a blank behind it.
 fn is_one_of(letters: &[u8], words: &[u8]) -> bool
     ensures { (ws : List (List ℕ)) → all_have (length letters.now) ws ≡ true → words.now ≡ spaced ws
-        → result ≡ is_in letters.now ws }
+        → result ≡ list_any (bytes_eq letters.now) ws }
 {
     if words.len() <= letters.len() {
         return false;

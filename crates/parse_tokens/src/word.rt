@@ -1,15 +1,17 @@
 // What an identifier is.
-ghost use Rattle.std.specs.Prelude.{◌≡◌};
-ghost use Rattle.eval_tree.specs.Methods.{first_there};
-ghost use Rattle.parse_tokens.specs.Words as words;
+ghost use Rattle.std.specs.Prelude.{◌≡◌, drop, find};
+ghost use Rattle.std.specs.Str.{bytes_eq};
+ghost use Rattle.eval_tree.specs.Methods.{named};
+ghost use Rattle.parse_syntax.specs.Terminals.{letters_of};
+ghost use Rattle.parse_tokens.specs.Words.{meant_words, property_names, word_meant, word_property};
 
 use crate::reserved::is_reserved;
 use eval_tree::Method;
 use parse_syntax::{Property, Word};
 
-// An identifier by which a statement begins or goes on.
-fn statement_word(letters: &[u8]) -> Option<Word>
-    ensures { result ≡ words.statement_word letters.now }
+// An identifier by which a statement begins or goes on, or an operand begins.
+fn keyword(letters: &[u8]) -> Option<Word>
+    ensures { result ≡ find (λ w. bytes_eq letters.now (letters_of w)) meant_words }
 {
     if letters == b"let".as_slice() {
         Some(Word::Let)
@@ -24,13 +26,13 @@ fn statement_word(letters: &[u8]) -> Option<Word>
     } else if letters == b"for".as_slice() {
         Some(Word::For)
     } else {
-        None
+        operand_word(letters)
     }
 }
 
 // An identifier by which an operand begins.
 fn operand_word(letters: &[u8]) -> Option<Word>
-    ensures { result ≡ words.operand_word letters.now }
+    ensures { result ≡ find (λ w. bytes_eq letters.now (letters_of w)) (drop 6 meant_words) }
 {
     if letters == b"undefined".as_slice() {
         Some(Word::Undefined)
@@ -65,18 +67,9 @@ fn operand_word(letters: &[u8]) -> Option<Word>
     }
 }
 
-fn keyword(letters: &[u8]) -> Option<Word>
-    ensures { result ≡ first_there (words.statement_word letters.now) (words.operand_word letters.now) }
-{
-    if let Some(word) = statement_word(letters) {
-        return Some(word);
-    }
-    operand_word(letters)
-}
-
 /// The identifier, where it is no name.
 pub(crate) fn word_named(letters: &[u8]) -> Option<Word>
-    ensures { result ≡ words.word_meant letters.now }
+    ensures { result ≡ word_meant letters.now }
 {
     match keyword(letters) {
         Some(word) => Some(word),
@@ -92,7 +85,7 @@ pub(crate) fn word_named(letters: &[u8]) -> Option<Word>
 
 // A name behind a point that is no method.
 fn other_property(letters: &[u8]) -> Option<Property>
-    ensures { result ≡ words.other_property letters.now }
+    ensures { result ≡ named property_names letters.now }
 {
     if letters == b"length".as_slice() {
         Some(Property::Length)
@@ -115,7 +108,7 @@ fn other_property(letters: &[u8]) -> Option<Property>
 
 /// What a name means behind a point.
 pub(crate) fn property_named(letters: &[u8]) -> Property
-    ensures { result ≡ words.word_property letters.now }
+    ensures { result ≡ word_property letters.now }
 {
     if let Some(property) = other_property(letters) {
         return property;

@@ -2,7 +2,8 @@
 ghost use Rattle.std.specs.Prelude.{◌≡◌, false, fold, map, IfOk};
 ghost use Rattle.std.specs.String.{string_bytes};
 ghost use Rattle.clap.specs.Words.{FailsBy, HasMatchesOf, app_of, fault_of, rule_of, with_rule};
-ghost use Rattle.run_command.specs.Command.{command, defaulted_rule, file_rule, flag_rule, job_rules, number_rule, option_rule, other_rules, size_rules};
+ghost use Rattle.run_command.specs.Command.{command, defaulted_rule, number_rule, option_rule};
+ghost use Rattle.run_command.specs.Rules.{file_rule, flag_rule, job_rules, other_rules, size_rules};
 
 use clap::{Arg, ArgAction, ArgMatches, Command, Error, value_parser};
 use std::alloc::{AllocError, Global};

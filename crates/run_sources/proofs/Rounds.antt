@@ -18,11 +18,11 @@ each_more f k =
     ap (joined_up_to f) more
 
 pub listed_none : {T : Type 0} (f : ℕ → T) → list_up_to f 0 ≡ []
-unfolding list_up_to
+unfolding joined_up_to
 listed_none f = refl
 
 pub listed_more : {T : Type 0} (f : ℕ → T) (k : ℕ) → list_up_to f (k + 1) ≡ list_up_to f k ++ f k ∷ []
-unfolding list_up_to
+unfolding joined_up_to
 listed_more f k =
     let more : k + 1 ≡ suc k = omega arith in
     ap (list_up_to f) more

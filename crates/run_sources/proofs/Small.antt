@@ -32,7 +32,7 @@ length-each f most (suc k) small =
     rw (length-append (joined_up_to f k) (f k)) (grind (arith, before, one))
 
 listed_all : {T : Type 0} (P : T → Type 0) (f : ℕ → T) (k : ℕ) → ((i : ℕ) → i < k → P (f i)) → All P (list_up_to f k)
-unfolding list_up_to
+unfolding joined_up_to
 listed_all P f zero each = All-nil P
 listed_all P f (suc k) each = All-push P (list_up_to f k) (f k) (listed_all P f k (λ i lt. each i (omega (arith, lt)))) (each k (omega arith))
 

@@ -16,11 +16,10 @@ state_after zero x = x
 state_after (suc k) x = next (state_after k x)
 
 -- the lists f 0, f 1 and so on, so many of them, put together
-unfoldable pub joined_up_to : (ℕ → List ℕ) → ℕ → List ℕ
+unfoldable pub joined_up_to : {T : Type 0} → (ℕ → List T) → ℕ → List T
 joined_up_to f zero = []
 joined_up_to f (suc k) = joined_up_to f k ++ f k
 
 -- the list of f 0, f 1 and so on
-unfoldable pub list_up_to : {T : Type 0} → (ℕ → T) → ℕ → List T
-list_up_to f zero = []
-list_up_to f (suc k) = list_up_to f k ++ f k ∷ []
+abbrev pub list_up_to : {T : Type 0} → (ℕ → T) → ℕ → List T
+list_up_to f k = joined_up_to (λ i. f i ∷ []) k

@@ -2,7 +2,7 @@
 -- order of the source, from the number as the first state.
 use Rattle.std.specs.Prelude.{◌+◌, ◌*◌, ◌≤◌, ◌++◌, ℕ, zero, suc, List, [], ◌∷◌, codes, length}
 use Rattle.std.specs.String.{string_bytes}
-use Rattle.run_sources.specs.Draws.{state_after, draw, joined_up_to, list_up_to, next}
+use Rattle.run_sources.specs.Draws.{state_after, draw, joined_up_to, next}
 use Rattle.run_sources.specs.Lines.{all_line, digits, generated_line, print_line, word_line}
 use Rattle.run_sources.specs.declared.texts.GeneratedText.{GeneratedText}
 
@@ -48,7 +48,8 @@ named_script n j =
 
 -- the prelude and then the scripts
 abbrev pub generated : ℕ → List Named
-generated n = record { name = codes "gen-prelude"; text = prelude n } ∷ list_up_to (named_script n) 32
+generated n = record { name = codes "gen-prelude"; text = prelude n }
+    ∷ joined_up_to (λ j. named_script n j ∷ []) 32
 
 -- what a source of the code is
 abbrev pub named_for : GeneratedText → Named

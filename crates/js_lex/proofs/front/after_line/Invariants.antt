@@ -2,7 +2,7 @@ use Rattle.std.proofs.Common.{◌≡◌, length}
 use Rattle.std.specs.Str.{chars}
 use denote.Shadow.{shadow}
 use denote.Text.{Utf8}
-use Rattle.js_lex.specs.Elements.{after_line}
+use Rattle.js_lex.specs.Reader.{after_line}
 use Rattle.js_lex.proofs.front.after_line.Given as goal
 
 abbrev pub invariant-loop-c : goal.invariant-loop-c

@@ -1,17 +1,15 @@
 use Rattle.std.proofs.Common.{◌≡◌, ℕ, length, ◌+◌, ◌*◌, map}
 use Rattle.parse_syntax.specs.Tables.{tables_of}
-use Rattle.parse_syntax.specs.Lang.{keep_second}
-use Rattle.parse_syntax.specs.Reader.{and_then, one_of, all_of, heads, with_front}
+use Rattle.parse_syntax.specs.Reader.{and_then, one_of, all_of, heads, with_front, keep_second}
 use Rattle.eval_tree.specs.Tree.{expr_tree, step_tree, link_tree, entry_tree}
-use Rattle.parse_syntax.specs.Terminals.{comma}
-use Rattle.parse_syntax.specs.Grammar.{link_of, Whole}
-use Rattle.parse_syntax.specs.Reading.{step_mark}
+use Rattle.parse_syntax.specs.Reading.{step_mark, link_of, Whole}
 use Rattle.parse_look.specs.Look.{operators}
 use Rattle.parse_statements.specs.At.{inner, step_at, operand_at}
 use Rattle.parse_look.specs.declared.look.Level.{Level}
 use Rattle.parse_look.specs.declared.look.Level.TheVariants as level
 use Rattle.parse_statements.proofs.Members.{more_at}
 use Rattle.parse_statements.proofs.expr.+expr.Given as goal
+use Rattle.parse_syntax.specs.MarksAndWords.{comma}
 
 abbrev depth : Level → ℕ
 depth level.Sum = 7

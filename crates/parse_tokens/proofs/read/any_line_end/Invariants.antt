@@ -2,7 +2,7 @@ use Rattle.std.proofs.Common.{◌≡◌, length}
 use Rattle.std.specs.Str.{chars}
 use denote.Shadow.{shadow}
 use denote.Text.{Utf8}
-use Rattle.parse_tokens.specs.Tokens.{has_line_end}
+use Rattle.parse_tokens.specs.Steps.{has_line_end}
 use Rattle.parse_tokens.proofs.read.any_line_end.Given as goal
 
 abbrev pub invariant-loop-c : goal.invariant-loop-c

@@ -2,7 +2,7 @@ use Rattle.std.proofs.Common.{◌≡◌, ◌∙◌, ap₂, refl}
 use Rattle.std.specs.Prelude.{fold}
 use Rattle.std.proofs.lemmas.Result.{IfOk-weaker}
 use Rattle.clap.specs.Words.{app_of, with_rule}
-use Rattle.run_command.specs.Command.{size_rules}
+use Rattle.run_command.specs.Rules.{size_rules}
 use Rattle.run_command.proofs.command.with_sizes.Goals as goal
 
 pub returns : goal.returns
