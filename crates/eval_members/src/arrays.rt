@@ -73,8 +73,8 @@ fn unit_by<S: Strings>(
     ensures fine { IfOk result (λ v. IsFine (S.state store.new) S.number v) }
     ensures settled { OnOk result (UnitSettled (S.state store.new) (S.number s)
         (text (S.state store.old) (S.number s)) (as_number (seen (S.state store.old) S.number index.now))) }
-    ensures did { (limit : ℕ) → GivesValue S.number (S.state store.old) (S.state store.new) result
-        (indexed at limit (Contents.text (text (S.state store.old) (S.number s)))
+    ensures did { GivesValue S.number (S.state store.old) (S.state store.new) result
+        (indexed at (S.state store.old).limit (Contents.text (text (S.state store.old) (S.number s)))
         (seen (S.state store.old) S.number index.now)) }
 {
     match index {
@@ -119,8 +119,9 @@ fn element_by<S: Strings>(
 ) -> Result<Value<S::Ref>, Stop>
     requires known { AllKnown (S.state store.now) S.number list.now }
     ensures fine { IfOk result (λ v. IsFine (S.state store.now) S.number v) }
-    ensures did { (limit : ℕ) → GivesValue S.number (S.state store.now) (S.state store.now) result
-        (indexed at limit (Contents.list (texts_seen (S.state store.now) S.number list.now))
+    ensures did { GivesValue S.number (S.state store.now) (S.state store.now) result
+        (indexed at (S.state store.now).limit
+        (Contents.list (texts_seen (S.state store.now) S.number list.now))
         (seen (S.state store.now) S.number index.now)) }
 {
     match index {
