@@ -66,17 +66,17 @@ module _ {F R : Type 0} (name : R → ℕ) where
     -- the texts of values, and then their line
     pub values_went : (c : State F) (y : List ℕ) (us : Vec R Global) → GivesTexts name a b (Ok us) (each (to_string a.limit) (all_seen a name vs)) → StoreStep b c None 0 (settle_most b name us.items) → c.history ≡ b.history → settle_most b name us.items ≤ string_words (all_seen a name vs) → y ≡ x ++ line (texts_seen b name us.items) → FollowsFlow a c x y (Ok tt) bs (on_value (line_out a.limit (all_seen a name vs)) bs (λ l. printed l bs))
     values_went c y us d s h k e =
-        converting_went (parts (length (all_seen a name vs)) (reached_units a.limit (all_seen a name vs))) a b c x y (λ o (v : Vec R Global). texts_seen o name v.items) (λ o (v : Vec R Global). AllKnown o name v.items) us (Ok tt) bs bs (each (to_string a.limit) (all_seen a name vs)) (λ ts. gave (line ts) (cost (parts (length (all_seen a name vs)) (all_text_units (all_seen a name vs))))) (λ l. printed l bs) d
+        converting_went (parts (length (all_seen a name vs)) (reached_units a.limit (all_seen a name vs))) a b c x y (λ o (v : Vec R Global). texts_seen o name v.items) (λ o (v : Vec R Global). AllKnown o name v.items) us (Ok tt) bs bs (each (to_string a.limit) (all_seen a name vs)) (λ ts. gave (line ts) (cost (parts (length (all_seen a name vs)) (total text_units (all_seen a name vs))))) (λ l. printed l bs) d
         (line_went b c x y bs (texts_seen b name us.items) (all_seen a name vs) (settle_most b name us.items) s h k e)
 
     pub values_halt : (c : State F) (y : List ℕ) (us : Vec R Global) (f : StoreFault) → GivesTexts name a b (Ok us) (each (to_string a.limit) (all_seen a name vs)) → StoreStep b c (full_only f) 0 (settle_most b name us.items) → NeverSlots (full_only f) → c.history ≡ b.history → settle_most b name us.items ≤ string_words (all_seen a name vs) → y ≡ x → FollowsFlow a c x y (Err (Store f)) bs (on_value (line_out a.limit (all_seen a name vs)) bs (λ l. printed l bs))
     values_halt c y us f d s n h k e =
-        converting_went (parts (length (all_seen a name vs)) (reached_units a.limit (all_seen a name vs))) a b c x y (λ o (v : Vec R Global). texts_seen o name v.items) (λ o (v : Vec R Global). AllKnown o name v.items) us (Err (Store f)) bs bs (each (to_string a.limit) (all_seen a name vs)) (λ ts. gave (line ts) (cost (parts (length (all_seen a name vs)) (all_text_units (all_seen a name vs))))) (λ l. printed l bs) d
+        converting_went (parts (length (all_seen a name vs)) (reached_units a.limit (all_seen a name vs))) a b c x y (λ o (v : Vec R Global). texts_seen o name v.items) (λ o (v : Vec R Global). AllKnown o name v.items) us (Err (Store f)) bs bs (each (to_string a.limit) (all_seen a name vs)) (λ ts. gave (line ts) (cost (parts (length (all_seen a name vs)) (total text_units (all_seen a name vs))))) (λ l. printed l bs) d
         (line_halts b c x y bs (texts_seen b name us.items) (all_seen a name vs) (settle_most b name us.items) f s n h k e)
 
     pub texts_halt : (n : Stop) → GivesTexts name a b (Err n) (each (to_string a.limit) (all_seen a name vs)) → FollowsFlow a b x x (Err n) bs (on_value (line_out a.limit (all_seen a name vs)) bs (λ l. printed l bs))
     texts_halt n d =
-        converting_halts {V = Vec R Global} (parts (length (all_seen a name vs)) (reached_units a.limit (all_seen a name vs))) a b x (λ o (v : Vec R Global). texts_seen o name v.items) (λ o (v : Vec R Global). AllKnown o name v.items) n bs bs (each (to_string a.limit) (all_seen a name vs)) (λ ts. gave (line ts) (cost (parts (length (all_seen a name vs)) (all_text_units (all_seen a name vs))))) (λ l. printed l bs) refl d
+        converting_halts {V = Vec R Global} (parts (length (all_seen a name vs)) (reached_units a.limit (all_seen a name vs))) a b x (λ o (v : Vec R Global). texts_seen o name v.items) (λ o (v : Vec R Global). AllKnown o name v.items) n bs bs (each (to_string a.limit) (all_seen a name vs)) (λ ts. gave (line ts) (cost (parts (length (all_seen a name vs)) (total text_units (all_seen a name vs))))) (λ l. printed l bs) refl d
 
   -- the arguments of a `print`, and then their line
   module _ (a b : State F) (x : List ℕ) (es : Exprs) (k : Context R) (g : Grows a b) (h : ContextFine a name k) where
