@@ -1,4 +1,5 @@
 -- Calls of the functions of the String constructor: arguments as numbers, and then the string.
+use Rattle.eval_builtins.specs.Parts.{number_out, made}
 use Rattle.std.proofs.Common.{arith, ◌≡◌, ℕ, zero, suc, ◌+◌, ◌≤◌, ◌<◌, List, [], ◌∷◌, ◌++◌, length, length-append, map, refl, sym, subst, ◌∙◌, true, false, nat_le, All, Vec, Global, Result, Ok, Err}
 use Rattle.std.specs.List.{list_all}
 use Rattle.js_number.specs.declared.Num.{Num}
@@ -14,7 +15,7 @@ use Rattle.eval_values.specs.declared.value.Stop.TheVariants.{Threw}
 use Rattle.js_item.specs.Seen.{Val, seen}
 use Rattle.eval_values.specs.Outcome.{Out, gave, ended, each}
 use Rattle.eval_values.specs.Need.{ids_in, words_in}
-use Rattle.eval_builtins.specs.Codes.{from_row, number_out, made}
+use Rattle.eval_builtins.specs.Codes.{from_row}
 use Rattle.js_texts.specs.Texts.{Every}
 use Rattle.js_item.specs.Fine.{IsFine}
 use Rattle.eval_builtins.specs.Numbers.{IsFor}

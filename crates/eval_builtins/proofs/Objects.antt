@@ -1,4 +1,6 @@
 -- How long the JSON text of an object is, what reading its strings takes, and its keys as an array.
+use Rattle.eval_builtins.specs.Parts.{keys_out}
+use Rattle.eval_values.specs.RowNames.{row_ids, row_words, parts_words}
 use Rattle.std.proofs.Common.{arith, ◌≡◌, ℕ, zero, suc, ◌+◌, ◌*◌, ◌<◌, ◌≤◌, Bool, true, false, Option, Some, None, List, [], ◌∷◌, map, length, length-append, refl, ap, sym, ◌∙◌, subst, Ok, Vec, Global, slice_index_or, if◌then◌else◌}
 use Rattle.std.specs.Prelude.{pos, negsuc}
 use Rattle.std.proofs.lemmas.Fmt.{length_signed_le}
@@ -26,7 +28,7 @@ use Rattle.js_object.specs.Keys.{ordered, own_keys, unit_keys}
 use Rattle.js_object.specs.Json.{number_json, bool_json, is_shown, JsonMember, part_index, more_shown, shown, text_json, json_members as parts_of, json_of}
 use Rattle.js_object.proofs.Lengths.{total, ordered_most}
 use Rattle.js_object.proofs.Seen.{own_keys_known}
-use Rattle.eval_values.specs.Need.{reads, row_ids, row_words, parts_words}
+use Rattle.eval_values.specs.Need.{reads}
 use Rattle.eval_values.specs.Conversions.{list_units}
 use Rattle.eval_values.specs.Outcome.{needing, ledger_of}
 use Rattle.eval_values.specs.Ran.{MeetsLedger, Cut}
@@ -34,7 +36,6 @@ use Rattle.eval_values.specs.Does.{GivesValue}
 use Rattle.eval_values.proofs.Compose.{cut_of_memory}
 use Rattle.eval_values.proofs.Needs.{made_most, some_most, settle_few}
 use Rattle.eval_builtins.specs.Quoting.{quoted_units, field_units, parts_in, field_parts}
-use Rattle.eval_builtins.specs.Keys.{keys_out}
 use Rattle.eval_builtins.proofs.Quoted.{quoted_most, list_most}
 
 number_most : (n : Num) → IsLawful n → length (number_json n) ≤ 17

@@ -1,4 +1,5 @@
 -- How long a string is as JSON text, and values that are their own text.
+use Rattle.eval_values.specs.Within.{gives}
 use Rattle.std.proofs.Common.{arith, ℕ, ◌+◌, ◌*◌, ◌≤◌, List, [], ◌∷◌, length, length-append, refl, Bool, true, false, nat_lt, if◌then◌else◌, Option, Some, None, Ok, Err}
 use Rattle.std.specs.Prelude.{◌&&◌}
 use Rattle.std.specs.List.{flat_map}
@@ -9,7 +10,6 @@ use Rattle.js_store.proofs.Laws.{known_has, step_refl}
 use Rattle.js_item.specs.declared.item.Item.{Item}
 use Rattle.js_item.specs.declared.item.Item.TheVariants.{Text}
 use Rattle.eval_values.specs.declared.value.Stop.{Stop}
-use Rattle.eval_values.specs.Outcome.{gives}
 use Rattle.js_item.specs.Contents.{text as text_value}
 use Rattle.eval_values.specs.Conversions.{to_string, list_units}
 use Rattle.eval_builtins.specs.Quoting.{as_text}

@@ -1,4 +1,7 @@
 -- Symbols: their keys as values, and `String` of one.
+use Rattle.eval_builtins.specs.Parts.{shown_out, registered}
+use Rattle.eval_values.specs.Within.{gives}
+use Rattle.eval_values.specs.RowNames.{row_ids, row_words}
 use Rattle.std.proofs.Common.{arith, Bool, ◌≡◌, ℕ, ◌+◌, ◌≤◌, List, [], ◌∷◌, ◌++◌, length, length-append, refl, ap, sym, ◌∙◌, subst, true, nat_le, Some, None, Result, Ok, Err}
 use Rattle.std.specs.Prelude.{codes, Contains}
 use Rattle.std.proofs.lemmas.List.{append-nil}
@@ -19,8 +22,8 @@ use Rattle.eval_values.specs.declared.value.Kind.TheVariants.{TypeError}
 use Rattle.eval_values.specs.declared.value.Stop.{Stop}
 use Rattle.eval_values.specs.declared.value.Stop.TheVariants.{Threw, Store}
 use Rattle.js_item.specs.Contents.{text, symbol}
-use Rattle.eval_values.specs.Outcome.{gives, throwing}
-use Rattle.eval_values.specs.Need.{Row, reads, ids_in, words_in, row_ids, row_words}
+use Rattle.eval_values.specs.Outcome.{throwing}
+use Rattle.eval_values.specs.Need.{Row, reads, ids_in, words_in}
 use Rattle.eval_values.specs.Conversions.{to_string, text_units, string_units}
 use Rattle.js_item.specs.Seen.{seen}
 use Rattle.js_item.specs.Fine.{IsFine}
@@ -28,7 +31,7 @@ use Rattle.eval_values.specs.Stops.{stop_of}
 use Rattle.eval_values.specs.Ran.{NextShut}
 use Rattle.eval_values.specs.Does.{GivesValue, GivesText}
 use Rattle.eval_values.proofs.Compose.{honest_full, ran_of_step, ran_of_text, did_before, cut_of_full, full_same}
-use Rattle.eval_builtins.specs.Symbols.{shown_symbol, shown_out, registered, symbol_for}
+use Rattle.eval_builtins.specs.Symbols.{shown_symbol, symbol_for}
 use Rattle.eval_values.proofs.TextArguments.{text_converts, text_fails}
 
 pub shown_length : (k : List ℕ) → length (shown_symbol k) ≡ length k + 8

@@ -1,4 +1,6 @@
 -- What the URI handling functions give, and how they stop.
+use Rattle.eval_values.specs.Within.{gives, throws}
+use Rattle.eval_values.specs.RowNames.{row_ids, row_words}
 use Rattle.std.proofs.Common.{arith, ◌≡◌, ℕ, ◌+◌, ◌<◌, ◌≤◌, List, length, refl, subst, Bool, true, false, None, Result, Ok, Err}
 use Rattle.std.specs.Prelude.{nat_le, nat_lt, if◌then◌else◌}
 use Rattle.js_store.specs.State.{State, text}
@@ -16,10 +18,10 @@ use Rattle.js_uri.specs.declared.faults.UriFault.TheVariants as fault
 use Rattle.js_item.specs.declared.item.Item.{Item}
 use Rattle.js_item.specs.declared.item.Item.TheVariants.{Text}
 use Rattle.eval_values.specs.declared.value.Stop.{Stop}
-use Rattle.eval_values.specs.Outcome.{gives, throws, ledger_of}
+use Rattle.eval_values.specs.Outcome.{ledger_of}
 use Rattle.js_item.specs.Contents.{text as text_value}
 use Rattle.eval_values.specs.declared.value.Kind.TheVariants.{RangeError}
-use Rattle.eval_values.specs.Need.{reads, row_ids, row_words, ids_in, words_in}
+use Rattle.eval_values.specs.Need.{reads, ids_in, words_in}
 use Rattle.eval_values.specs.Conversions.{to_string, text_units, string_units}
 use Rattle.eval_values.specs.Limited.{limited}
 use Rattle.eval_values.specs.Ran.{Cut}

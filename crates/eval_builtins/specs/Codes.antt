@@ -16,28 +16,17 @@ use Rattle.eval_values.specs.Conversions.{to_number, all_units}
 abbrev pub from_row : List Val → ℕ → Row
 from_row vs n = parts (length vs) (all_units vs + n)
 
--- a RangeError of such a call
-abbrev pub from_throws : {A : Type 0} → List Val → Out A
-from_throws vs = throwing (from_row vs 0) RangeError
-
 -- a number that has to be a code point
 abbrev pub point_out : List Val → Num → Out Num
-point_out vs n = if is_code_point n then gave n free else from_throws vs
-
--- an argument as a number, and then what is used of it
-abbrev pub number_out : (Num → Out Num) → ℕ → List Val → Val → Out Num
-number_out taken at vs v = converts (from_row vs 0) (to_number at v) taken
-
-abbrev pub made : List Val → List ℕ → Out Val
-made vs u = needing (from_row vs (length u)) (text u)
+point_out vs n = if is_code_point n then gave n free else throwing (from_row vs 0) RangeError
 
 -- a call of such a function: each argument in turn as a number, and then the string of these; no source text
 -- spells a call of more than 2^20 arguments
 abbrev pub from_numbers : (Num → Out Num) → (List Num → List ℕ) → ℕ → List Val → Out Val
 from_numbers taken units at vs =
-    if nat_le (length vs) 1048576
-    then bind (each (number_out taken at vs) vs) (λ ns. made vs (units ns))
-    else from_throws vs
+    if nat_le (length vs) 1048576 then bind (each (λ v. converts (from_row vs 0) (to_number at v) taken) vs)
+    (λ ns. needing (from_row vs (length (units ns))) (text (units ns)))
+    else throwing (from_row vs 0) RangeError
 
 -- "String.fromCharCode": each number modulo 2^16
 abbrev pub char_codes_call : ℕ → List Val → Out Val

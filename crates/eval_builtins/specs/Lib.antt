@@ -4,6 +4,7 @@ pub mod Symbols
 pub mod Uris
 pub mod Keys
 pub mod Builtins
+pub mod Parts
 pub mod Numbers
 pub mod UriFunctions
 pub mod Settled

@@ -5,7 +5,7 @@ use Rattle.js_number.specs.declared.Num.TheVariants.{Int}
 use Rattle.js_json.specs.Quoting.{quoted, list_text}
 use Rattle.js_object.specs.Json.{json_of}
 use Rattle.js_item.specs.Seen.{Val}
-use Rattle.js_item.specs.Contents.{Fields, no_fields, field, undefined, null, bool, number, text, symbol, list, object}
+use Rattle.js_item.specs.Contents.{Fields, no_fields, field, undefined, null, bool, number, text, list, object}
 use Rattle.eval_values.specs.Outcome.{Out, bind, needing}
 use Rattle.eval_values.specs.Need.{nothing, reads, parts}
 use Rattle.eval_values.specs.Conversions.{to_string, list_units}
@@ -20,22 +20,14 @@ whole_or_null n = null
 abbrev pub as_text : ℕ → Val → Out Val
 as_text limit v = bind (to_string limit v) (λ u. needing nothing (text u))
 
--- an array of these strings
-abbrev pub list_json : ℕ → List (List ℕ) → Out Val
-list_json limit us = bounded limit (λ n. parts (length us) (list_units us + n)) (list_text us)
-
 -- the units of the keys and of all strings of an object, at every level,
 -- and how many members it has and elements its arrays
 abbrev mutual
   pub quoted_units : Val → ℕ
-  quoted_units undefined = 0
-  quoted_units null = 0
-  quoted_units (bool b) = 0
-  quoted_units (number n) = 0
   quoted_units (text u) = length u
-  quoted_units (symbol k) = 0
   quoted_units (list us) = list_units us
   quoted_units (object fs) = field_units fs
+  quoted_units _ = 0
 
   pub field_units : Fields (List ℕ) → ℕ
   field_units no_fields = 0
@@ -43,31 +35,22 @@ abbrev mutual
 
 abbrev mutual
   pub parts_in : Val → ℕ
-  parts_in undefined = 0
-  parts_in null = 0
-  parts_in (bool b) = 0
-  parts_in (number n) = 0
-  parts_in (text u) = 0
-  parts_in (symbol k) = 0
   parts_in (list us) = length us
   parts_in (object fs) = field_parts fs
+  parts_in _ = 0
 
   pub field_parts : Fields (List ℕ) → ℕ
   field_parts no_fields = 0
   field_parts (field key value rest) = suc (parts_in value + field_parts rest)
 
--- an object ("SerializeJSONObject")
-abbrev pub stringified_object : ℕ → Fields (List ℕ) → Out Val
-stringified_object limit fs = bounded limit (λ n. parts (field_parts fs) (field_units fs + n))
-    (json_of (λ u. u) fs)
-
--- "JSON.stringify" of one value, without more arguments ("SerializeJSONProperty")
+-- "JSON.stringify" of one value, without more arguments ("SerializeJSONProperty"); undefined and a symbol
+-- give undefined
 abbrev pub stringify_call : ℕ → Val → Out Val
-stringify_call limit undefined = needing (reads 0) undefined
 stringify_call limit null = as_text limit null
 stringify_call limit (bool b) = as_text limit (bool b)
 stringify_call limit (number n) = as_text limit (whole_or_null n)
 stringify_call limit (text u) = limited limit (length u) (quoted u)
-stringify_call limit (symbol k) = needing (reads 0) undefined
-stringify_call limit (list us) = list_json limit us
-stringify_call limit (object fs) = stringified_object limit fs
+stringify_call limit (list us) = bounded limit (λ n. parts (length us) (list_units us + n)) (list_text us)
+stringify_call limit (object fs) =
+    bounded limit (λ n. parts (field_parts fs) (field_units fs + n)) (json_of (λ u. u) fs)
+stringify_call limit _ = needing (reads 0) undefined

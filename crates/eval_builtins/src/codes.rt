@@ -1,4 +1,5 @@
 // Strings of numbers (ECMA-262, "String.fromCharCode", "String.fromCodePoint").
+ghost use Rattle.eval_builtins.specs.Parts.{number_out, made as made_out};
 ghost use Rattle.std.specs.Prelude.{◌≡◌, ◌≤◌, List, [], true, All, map, length, IfOk};
 ghost use Rattle.std.specs.List.{list_all};
 ghost use Rattle.js_number.specs.Places.{IsLawful};
@@ -7,7 +8,7 @@ ghost use Rattle.js_store.specs.State.{Grows};
 ghost use Rattle.js_methods.specs.Building.{is_code_point, code_units_of};
 ghost use Rattle.js_item.specs.Seen.{Val, seen};
 ghost use Rattle.eval_values.specs.Outcome.{each};
-ghost use Rattle.eval_builtins.specs.Codes.{point_out, number_out, made as made_out};
+ghost use Rattle.eval_builtins.specs.Codes.{point_out};
 ghost use Rattle.js_texts.specs.Texts.{Every};
 ghost use Rattle.js_item.specs.Fine.{IsFine};
 ghost use Rattle.eval_values.specs.Seen.{all_seen, AllFine};

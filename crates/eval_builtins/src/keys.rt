@@ -1,4 +1,5 @@
 // `Object.keys` (ECMA-262, "Object.keys").
+ghost use Rattle.eval_builtins.specs.Parts.{keys_out};
 ghost use Rattle.std.specs.Prelude.{IfOk};
 ghost use Rattle.js_store.specs.State.{Grows};
 ghost use Rattle.js_item.specs.Seen.{seen, says, fields_mapped};
@@ -6,7 +7,7 @@ ghost use Rattle.js_item.specs.Fine.{IsFine, FineFields, strings_of};
 ghost use Rattle.eval_values.specs.Arguments.{first_of};
 ghost use Rattle.eval_values.specs.Seen.{all_seen, AllFine};
 ghost use Rattle.eval_values.specs.Does.{GivesValue};
-ghost use Rattle.eval_builtins.specs.Keys.{keys_out, keys_call};
+ghost use Rattle.eval_builtins.specs.Keys.{keys_call};
 
 use eval_values::{Kind, Stop, Value};
 use js_item::Object;

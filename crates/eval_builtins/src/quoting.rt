@@ -1,4 +1,5 @@
 // Values as JSON text (ECMA-262, "JSON.stringify").
+ghost use Rattle.eval_builtins.specs.Parts.{list_json, stringified_object};
 ghost use Rattle.std.specs.Prelude.{length, IfOk, OnOk};
 ghost use Rattle.js_number.specs.Places.{IsLawful};
 ghost use Rattle.js_store.specs.State.{Grows, IsKnown, IsSettled, text};
@@ -6,7 +7,7 @@ ghost use Rattle.js_json.specs.Quoting.{quoted};
 ghost use Rattle.js_texts.specs.Texts.{known_texts, AllKnown, AllSettled};
 ghost use Rattle.eval_values.specs.Arguments.{first_of};
 ghost use Rattle.eval_values.specs.Limited.{limited};
-ghost use Rattle.eval_builtins.specs.Quoting.{whole_or_null, as_text, list_json, stringified_object, stringify_call};
+ghost use Rattle.eval_builtins.specs.Quoting.{whole_or_null, as_text, stringify_call};
 ghost use Rattle.js_item.specs.Seen.{seen, says, fields_mapped};
 ghost use Rattle.js_item.specs.Fine.{IsFine, FineFields, Bounded, strings_of};
 ghost use Rattle.eval_values.specs.Seen.{all_seen, AllFine};

@@ -1,5 +1,6 @@
 // Symbols and `String` (ECMA-262, "String ( value )", "Symbol.for", "Symbol.keyFor").
-ghost use Rattle.std.specs.Prelude.{◌≡◌, ◌+◌, ◌++◌, ◌≤◌, ℕ, [], length, IfOk, OnOk};
+ghost use Rattle.eval_builtins.specs.Parts.{shown_out, registered};
+ghost use Rattle.std.specs.Prelude.{◌≡◌, ◌+◌, ◌++◌, ◌≤◌, ℕ, [], ◌∷◌, List, length, IfOk, OnOk};
 ghost use Rattle.js_store.specs.State.{NamesUnits, Grows, IsKnown, IsSettled, text};
 ghost use Rattle.js_store.specs.Rows.{wide_words, flat_words};
 ghost use Rattle.js_store.specs.Faults.{Uses};
@@ -8,13 +9,13 @@ ghost use Rattle.eval_values.specs.Arguments.{first_of};
 ghost use Rattle.eval_values.specs.Outcome.{needing};
 ghost use Rattle.js_item.specs.Contents;
 ghost use Rattle.eval_values.specs.Need.{reads};
-ghost use Rattle.js_item.specs.Seen.{seen};
+ghost use Rattle.js_item.specs.Seen.{Val, seen};
 ghost use Rattle.js_item.specs.Fine.{IsFine};
 ghost use Rattle.eval_values.specs.Seen.{all_seen, AllFine};
 ghost use Rattle.eval_values.specs.Does.{GivesValue};
 ghost use Rattle.eval_values.specs.Settled.{OfFirst, StringsSettled};
 ghost use Rattle.eval_builtins.specs.Settled.{ShownSettled, FirstShownSettled};
-ghost use Rattle.eval_builtins.specs.Symbols.{shown_symbol, shown_out, string_conversion, registered, string_of as string_out, symbol_for as symbol_out, key_for as key_out};
+ghost use Rattle.eval_builtins.specs.Symbols.{shown_symbol, string_conversion, symbol_for as symbol_out, key_for as key_out};
 
 use crate::quoting::give_text;
 use eval_values::{Kind, Stop, Value, to_text};
@@ -62,8 +63,8 @@ fn string_of<S: Strings>(
     ensures grows { Grows (S.state store.old) (S.state store.new) }
     ensures fine { IfOk result (λ v. IsFine (S.state store.new) S.number v) }
     ensures settled { OnOk result (ShownSettled (S.state store.new) S.number value.now) }
-    ensures did { GivesValue S.number (S.state store.old) (S.state store.new) result
-        (string_out (S.state store.old).limit (seen (S.state store.old) S.number value.now)) }
+    ensures did { (vs : List Val) → GivesValue S.number (S.state store.old) (S.state store.new) result
+        (string_conversion (S.state store.old).limit (seen (S.state store.old) S.number value.now ∷ vs)) }
 {
     match value {
         Value::Symbol(key) => show_symbol(alloc, store, *key),

@@ -1,4 +1,5 @@
 -- Calls of methods: an argument as a string, and then what is done with it.
+use Rattle.eval_members.specs.Parts.{search_answer, one_joined}
 use Rattle.std.proofs.Common.{arith, ◌≡◌, ℕ, ◌+◌, ◌≤◌, ◌<◌, List, subst, sym, length, get_or, drop, None, Result, Ok, Err}
 use Rattle.js_store.specs.State.{State, Grows, IsKnown, text}
 use Rattle.js_store.specs.Faults.{StoreStep}
@@ -10,8 +11,8 @@ use Rattle.eval_values.specs.Outcome.{Converted}
 use Rattle.eval_values.specs.Need.{reads, joins}
 use Rattle.eval_values.specs.Conversions.{to_string, all_units, first_text_units}
 use Rattle.eval_values.specs.Arguments.{first_of}
-use Rattle.eval_members.specs.Searching.{search_answer, search_call}
-use Rattle.eval_members.specs.Building.{joined_text, one_joined, concat_call}
+use Rattle.eval_members.specs.Searching.{search_call}
+use Rattle.eval_members.specs.Building.{joined_text, concat_call}
 use Rattle.js_item.specs.Fine.{IsFine}
 use Rattle.eval_values.specs.Seen.{all_seen, AllFine}
 use Rattle.eval_values.specs.Does.{GivesValue, GivesText}

@@ -1,4 +1,6 @@
 -- The elements of an array joined.
+use Rattle.eval_members.specs.Parts.{joined_with}
+use Rattle.eval_values.specs.RowNames.{parts_words}
 use Rattle.std.proofs.Common.{arith, ◌≡◌, ℕ, ◌+◌, ◌≤◌, List, [], ◌∷◌, length, subst, false, true, Result, Ok, Err}
 use Rattle.js_store.specs.State.{State, Grows, text}
 use Rattle.js_store.proofs.Laws.{settle_words_most}
@@ -9,10 +11,10 @@ use Rattle.js_item.specs.declared.item.Item.{Item}
 use Rattle.eval_values.specs.declared.value.Stop.{Stop}
 use Rattle.js_item.specs.Seen.{Val, seen}
 use Rattle.js_item.specs.Fine.{IsFine}
-use Rattle.eval_values.specs.Need.{parts, parts_words}
+use Rattle.eval_values.specs.Need.{parts}
 use Rattle.eval_values.specs.Conversions.{to_string, list_units, all_units, first_text_units}
 use Rattle.eval_values.specs.Arguments.{first_of, is_undefined}
-use Rattle.eval_members.specs.Arrays.{joined_with, join_call}
+use Rattle.eval_members.specs.Arrays.{join_call}
 use Rattle.eval_values.specs.Does.{GivesValue, GivesText}
 use Rattle.eval_values.specs.Outcome.{free}
 use Rattle.eval_values.proofs.Compose.{did_after, ran_free}

@@ -1,4 +1,5 @@
 -- Two strings joined, which may be too long for a string.
+use Rattle.eval_values.specs.RowNames.{joins_ids, joins_words}
 use Rattle.std.proofs.Common.{◌≡◌, ℕ, ◌+◌, List, ◌++◌, refl, arith, Some, Err}
 use Rattle.js_store.specs.State.{State}
 use Rattle.js_store.specs.Faults.{StoreStep, NeverSlots}
@@ -8,7 +9,7 @@ use Rattle.js_store.proofs.Laws.{joined_within}
 use Rattle.js_store.specs.declared.faults.StoreFault.{StoreFault}
 use Rattle.eval_values.specs.Stops.{stop_of}
 use Rattle.eval_values.specs.Outcome.{gave, ended, threw, cost, ledger_of}
-use Rattle.eval_values.specs.Need.{joins, joins_ids, joins_words}
+use Rattle.eval_values.specs.Need.{joins}
 use Rattle.eval_values.specs.declared.value.Kind.TheVariants.{RangeError}
 use Rattle.js_texts.specs.declared.faults.MethodFault.{MethodFault}
 use Rattle.js_texts.specs.declared.faults.MethodFault.TheVariants as method

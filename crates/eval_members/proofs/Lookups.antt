@@ -1,4 +1,5 @@
 -- Properties that are read: the key is interned, and then the object gives its value.
+use Rattle.eval_members.specs.Parts.{lacking, keyed}
 use Rattle.std.proofs.Common.{arith, ◌≡◌, ℕ, zero, suc, ◌<◌, Option, Some, None, List, [], ◌∷◌, length, refl, ap, sym, ◌∙◌, subst, Result, Ok, Err, slice_index_or}
 use Rattle.std.specs.Prelude.{unwrap_or, bytes_eq}
 use Rattle.std.specs.Option.{option_map}
@@ -26,7 +27,7 @@ use Rattle.eval_values.specs.Does.{GivesValue, GivesText}
 use Rattle.eval_values.proofs.Copied.{fine_copy}
 use Rattle.eval_values.proofs.Compose.{did_before, cut_of_memory, ran_free, ran_of_step, ran_of_text}
 use Rattle.eval_values.proofs.TextArguments.{text_then, text_converts, text_fails}
-use Rattle.eval_members.specs.Properties.{key_out, own, got, lacking, property, plain_property, keyed}
+use Rattle.eval_members.specs.Properties.{key_out, own, got, property, plain_property}
 
 -- out of memory of the evaluator's own
 pub no_memory : {F R : Type 0} (name : R → ℕ) (a b : State F) (o : Out Val) → StoreStep a b None 0 0 → b.history ≡ a.history → GivesValue {R = R} name a b (Err (Store Memory)) o

@@ -1,4 +1,6 @@
 -- New strings that calls of several parts give: nothing is made of units that are more than the limit.
+use Rattle.eval_values.specs.Within.{gives, throws, within}
+use Rattle.eval_values.specs.RowNames.{parts_ids, parts_words}
 use Rattle.std.proofs.Common.{arith, ◌≡◌, ℕ, ◌+◌, ◌<◌, ◌≤◌, List, length, refl, Bool, true, false, nat_le, if◌then◌else◌, None, Ok, Err}
 use Rattle.js_store.specs.State.{State, NamesUnits}
 use Rattle.js_store.specs.Faults.{StoreStep, NeverSlots}
@@ -11,11 +13,9 @@ use Rattle.js_texts.specs.Use.{made_words}
 use Rattle.js_item.specs.declared.item.Item.TheVariants.{Text}
 use Rattle.eval_values.specs.declared.value.Kind.TheVariants.{RangeError}
 use Rattle.eval_values.specs.declared.value.Stop.TheVariants.{Threw}
-use Rattle.eval_values.specs.Outcome.{gives, throws, ledger_of}
+use Rattle.eval_values.specs.Outcome.{ledger_of}
 use Rattle.eval_values.specs.Stops.{stop_of}
-use Rattle.eval_values.specs.Need.{parts_ids, parts_words}
 use Rattle.js_item.specs.Contents.{text as text_value}
-use Rattle.eval_values.specs.Limited.{within}
 use Rattle.eval_values.specs.Ran.{Cut}
 use Rattle.eval_values.specs.Does.{GivesValue}
 use Rattle.eval_values.proofs.Limited.{within_given, within_thrown}

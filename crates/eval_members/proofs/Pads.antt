@@ -1,4 +1,7 @@
 -- Methods that repeat a string or a filler.
+use Rattle.eval_members.specs.Parts.{filled}
+use Rattle.eval_values.specs.Within.{within}
+use Rattle.eval_values.specs.RowNames.{repeat_ids, repeat_words, pad_ids, pad_words}
 use Rattle.std.proofs.Common.{arith, ◌≡◌, ℕ, ◌+◌, ◌<◌, ◌≤◌, List, length, refl, subst, Bool, true, false, nat_le, Some, None, Result, Ok, Err}
 use Rattle.js_number.specs.declared.Num.{Num}
 use Rattle.js_store.specs.State.{State, Grows, IsKnown, text}
@@ -17,12 +20,11 @@ use Rattle.eval_values.specs.declared.value.Stop.TheVariants.{Threw}
 use Rattle.js_item.specs.Seen.{Val, seen}
 use Rattle.eval_values.specs.Outcome.{ledger_of}
 use Rattle.eval_values.specs.Conversions.{to_string, string_units}
-use Rattle.eval_values.specs.Limited.{within}
 use Rattle.eval_values.specs.Arguments.{is_undefined, second_of}
 use Rattle.eval_values.proofs.Still.{values_still}
 use Rattle.eval_values.specs.Stops.{stop_of}
-use Rattle.eval_values.specs.Need.{pads, repeat_ids, repeat_words, pad_ids, pad_words}
-use Rattle.eval_members.specs.Padding.{repeated, filled, padded}
+use Rattle.eval_values.specs.Need.{pads}
+use Rattle.eval_members.specs.Padding.{repeated, padded}
 use Rattle.js_item.specs.Fine.{IsFine}
 use Rattle.eval_values.specs.Seen.{all_seen, AllFine}
 use Rattle.eval_values.specs.Ran.{Cut}

@@ -1,4 +1,5 @@
 -- The parts of a string.
+use Rattle.eval_values.specs.RowNames.{parts_ids, parts_words}
 use Rattle.std.proofs.Common.{arith, ◌≡◌, ℕ, zero, suc, ◌+◌, ◌*◌, ◌<◌, ◌≤◌, List, [], ◌∷◌, length, ap, ◌∙◌, Bool, true, false, Option, Some, None, nat_lt, if◌then◌else◌, slice_index_or, Result, Ok, Err, refl, sym, subst, Vec, Global}
 use Rattle.std.proofs.lemmas.List.{append-nil}
 use Rattle.js_store.specs.State.{State, NamesUnits, Grows, IsKnown, text as units_of}
@@ -20,7 +21,7 @@ use Rattle.eval_values.specs.Stops.{stop_of}
 use Rattle.js_item.specs.Seen.{Val}
 use Rattle.js_item.specs.Contents.{list}
 use Rattle.eval_values.specs.Outcome.{ledger_of}
-use Rattle.eval_values.specs.Need.{reads, some_parts, parts_ids, parts_words}
+use Rattle.eval_values.specs.Need.{reads, some_parts}
 use Rattle.eval_values.specs.Conversions.{list_units, to_string, all_units, first_text_units}
 use Rattle.eval_values.specs.Arguments.{first_of, is_undefined}
 use Rattle.eval_members.specs.Arrays.{split_into, split_most}

@@ -1,4 +1,5 @@
 -- Matches replaced: both arguments as strings, and then what they give.
+use Rattle.eval_members.specs.Parts.{replacement}
 use Rattle.std.proofs.Common.{arith, ◌≡◌, ℕ, ◌+◌, ◌≤◌, List, length, subst, Result, Ok, Err}
 use Rattle.js_store.specs.State.{State, Grows, IsKnown, text}
 use Rattle.js_store.proofs.Laws.{text_still, grows_trans}
@@ -8,7 +9,7 @@ use Rattle.js_item.specs.Seen.{Val, seen}
 use Rattle.eval_values.specs.Outcome.{converting}
 use Rattle.eval_values.specs.Need.{reads}
 use Rattle.eval_values.specs.Conversions.{to_string, text_units}
-use Rattle.eval_members.specs.Replacing.{replacement, replace_call}
+use Rattle.eval_members.specs.Replacing.{replace_call}
 use Rattle.js_item.specs.Fine.{IsFine}
 use Rattle.eval_values.specs.Does.{GivesValue, GivesText}
 use Rattle.eval_values.proofs.TextArguments.{text_converts, text_fails}

@@ -10,15 +10,10 @@ use Rattle.eval_values.specs.Limited.{bounded}
 -- two strings joined, unless they are longer together than a string may be
 abbrev pub joined_text : ℕ → List ℕ → List ℕ → Out (List ℕ)
 joined_text limit u w =
-    if nat_le (length u + length w) limit
-    then gave (u ++ w) (cost joins)
-    else throwing joins RangeError
-
--- one more argument, as a string, behind what was joined so far
-abbrev pub one_joined : ℕ → List ℕ → Val → Out (List ℕ)
-one_joined limit u v = converting joins (to_string limit v) (λ w. joined_text limit u w)
+    if nat_le (length u + length w) limit then gave (u ++ w) (cost joins) else throwing joins RangeError
 
 -- "String.prototype.concat": each argument in turn
 abbrev pub concat_call : ℕ → List ℕ → List Val → Out Val
 concat_call limit u [] = bounded limit (λ r. nothing) u
-concat_call limit u (v ∷ vs) = bind (one_joined limit u v) (λ w. concat_call limit w vs)
+concat_call limit u (v ∷ vs) = bind (converting joins (to_string limit v) (λ w. joined_text limit u w))
+    (λ w. concat_call limit w vs)

@@ -9,3 +9,4 @@ pub mod Properties
 pub mod Arrays
 pub mod Members
 pub mod Settled
+pub mod Parts

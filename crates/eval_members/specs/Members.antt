@@ -43,23 +43,18 @@ use Rattle.eval_members.specs.Arrays.{list_call, split_call}
 abbrev pub length_property : Val → Out Val
 length_property undefined = throwing nothing TypeError
 length_property null = throwing nothing TypeError
-length_property (bool b) = needing nothing undefined
-length_property (number n) = needing nothing undefined
 length_property (text u) = needing nothing (number (Int (pos (length u))))
-length_property (symbol k) = needing nothing undefined
 length_property (list us) = needing nothing (number_of (length us))
 length_property (object fs) = plain_property (codes "length") fs
+length_property _ = needing nothing undefined
 
 -- the key of a symbol ("Symbol.prototype.description")
 abbrev pub description_of : Val → Out Val
 description_of undefined = throwing nothing TypeError
 description_of null = throwing nothing TypeError
-description_of (bool b) = needing nothing undefined
-description_of (number n) = needing nothing undefined
-description_of (text u) = needing nothing undefined
 description_of (symbol k) = needing nothing (text k)
-description_of (list us) = needing nothing undefined
 description_of (object fs) = plain_property (codes "description") fs
+description_of _ = needing nothing undefined
 
 -- a value that has members (ECMA-262, "RequireObjectCoercible")
 abbrev pub present : Val → Out (Unit {0})

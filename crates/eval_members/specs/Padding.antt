@@ -1,13 +1,13 @@
 -- Methods that repeat a string or a filler.
+use Rattle.eval_members.specs.Operands.{text_or}
 use Rattle.std.specs.Prelude.{ℕ, ◌+◌, List, [], ◌∷◌, length, Bool, true, false, nat_le, if◌then◌else◌}
 use Rattle.js_number.specs.declared.Num.{Num}
 use Rattle.js_number.specs.Arith.{length_of}
 use Rattle.js_methods.specs.Repeating.{is_count, repeat_of}
 use Rattle.eval_values.specs.declared.value.Kind.TheVariants.{RangeError}
 use Rattle.js_item.specs.Seen.{Val}
-use Rattle.eval_values.specs.Outcome.{Converted, Out, gave, converting, free, throwing, converts}
-use Rattle.eval_values.specs.Conversions.{to_string, string_units}
-use Rattle.eval_values.specs.Arguments.{is_undefined}
+use Rattle.eval_values.specs.Outcome.{Converted, Out, converting, throwing, converts}
+use Rattle.eval_values.specs.Conversions.{string_units}
 use Rattle.eval_values.specs.Need.{repeats, pads}
 use Rattle.eval_values.specs.Limited.{bounded}
 
@@ -20,21 +20,13 @@ repeated false limit u n = throwing (repeats (length u)) RangeError
 abbrev pub repeat_call : ℕ → List ℕ → Converted Num → Out Val
 repeat_call limit u n = converts (repeats (length u)) n (λ k. repeated (is_count k) limit u k)
 
--- a filler that isn't given is one space
-abbrev pub filler_of : ℕ → Val → Out (List ℕ)
-filler_of limit v = if is_undefined v then gave (32 ∷ []) free else to_string limit v
-
--- a filler, and then the string u with it, so that it has m units
-abbrev pub filled : ℕ → (ℕ → List ℕ → List ℕ) → List ℕ → ℕ → Val → Out Val
-filled limit pad u m f = converting (pads (length u + string_units f)) (filler_of limit f)
-    (λ w. bounded limit (λ r. pads (length u + length w)) (pad m w))
-
--- the string u padded to m units; the filler isn't looked at where u has as many
+-- the string u padded to m units, by one space where no filler is given; the filler isn't looked at where u
+-- has as many
 abbrev pub padded : ℕ → (ℕ → List ℕ → List ℕ) → List ℕ → ℕ → Val → Out Val
 padded limit pad u m f =
-    if nat_le m (length u)
-    then bounded limit (λ r. pads (length u + string_units f)) u
-    else filled limit pad u m f
+    if nat_le m (length u) then bounded limit (λ r. pads (length u + string_units f)) u
+    else converting (pads (length u + string_units f)) (text_or (32 ∷ []) limit f)
+    (λ w. bounded limit (λ r. pads (length u + length w)) (pad m w))
 
 -- "String.prototype.padStart", "String.prototype.padEnd"
 abbrev pub pad_call : ℕ → (ℕ → List ℕ → List ℕ) → List ℕ → Converted Num → Val → Out Val

@@ -1,46 +1,34 @@
 -- Properties of objects, by their keys (ECMA-262, "OrdinaryGet").
-use Rattle.std.specs.Prelude.{ℕ, ◌*◌, List, [], ◌∷◌, length, nat_le, if◌then◌else◌, Option, Some, None, unwrap_or, Bool, ◌||◌, bytes_eq, codes}
-use Rattle.js_item.specs.Contents.{Fields, undefined, null, bool, number, text, symbol, list, object}
+use Rattle.std.specs.Prelude.{ℕ, ◌*◌, List, length, nat_le, if◌then◌else◌, Option, Some, None, unwrap_or, Bool, ◌||◌, bytes_eq, codes}
+use Rattle.js_item.specs.Contents.{Fields, undefined, null, symbol, object}
 use Rattle.js_item.specs.Seen.{Val}
 use Rattle.js_item.specs.Puts.{value_by}
 use Rattle.eval_values.specs.declared.value.Kind.TheVariants.{RangeError, TypeError}
-use Rattle.eval_values.specs.Outcome.{Out, gave, bind, converting, needing, throwing, refuses}
-use Rattle.eval_values.specs.Need.{nothing, reads, ids_in, words_in}
+use Rattle.eval_values.specs.Outcome.{Out, gave, bind, converting, needing, throwing, refuses, interning}
+use Rattle.eval_values.specs.Need.{nothing, reads}
 use Rattle.eval_values.specs.Conversions.{to_string, string_units}
 
 -- the properties that objects have from their prototype, which the profile leaves out (ECMA-262, "Properties
 -- of the Object Prototype Object")
 abbrev pub is_inherited : List ℕ → Bool
-is_inherited key =
-    bytes_eq key (codes "constructor") || bytes_eq key (codes "hasOwnProperty")
-    || bytes_eq key (codes "isPrototypeOf")
-    || bytes_eq key (codes "propertyIsEnumerable") || bytes_eq key (codes "toLocaleString")
-    || bytes_eq key (codes "toString")
+is_inherited key = bytes_eq key (codes "constructor") || bytes_eq key (codes "hasOwnProperty")
+    || bytes_eq key (codes "isPrototypeOf") || bytes_eq key (codes "propertyIsEnumerable")
+    || bytes_eq key (codes "toLocaleString") || bytes_eq key (codes "toString")
     || bytes_eq key (codes "valueOf") || bytes_eq key (codes "__proto__")
-    || bytes_eq key (codes "__defineGetter__")
-    || bytes_eq key (codes "__defineSetter__") || bytes_eq key (codes "__lookupGetter__")
-    || bytes_eq key (codes "__lookupSetter__")
+    || bytes_eq key (codes "__defineGetter__") || bytes_eq key (codes "__defineSetter__")
+    || bytes_eq key (codes "__lookupGetter__") || bytes_eq key (codes "__lookupSetter__")
 
 -- the key of a read, which is interned
 abbrev pub key_out : List ℕ → Out (List ℕ)
-key_out key =
-    gave key (record {
-      interned = key ∷ [];
-      texts = [];
-      ids = ids_in (reads (2 * length key));
-      words = words_in (reads (2 * length key));
-    })
+key_out key = gave key (interning (reads (2 * length key)) key)
 
 -- the value of the own property of a key ("OrdinaryGetOwnProperty")
 abbrev pub own : List ℕ → Fields (List ℕ) → Option Val
 own key fs = value_by (λ k. bytes_eq k key) fs
 
--- an object that has no own property of the key
-abbrev pub lacking : ℕ → List ℕ → Out Val
-lacking at key = if is_inherited key then refuses at else needing nothing undefined
-
+-- what a read gives of an own property, or of an object that has none of the key
 abbrev pub got : ℕ → List ℕ → Option Val → Out Val
-got at key None = lacking at key
+got at key None = if is_inherited key then refuses at else needing nothing undefined
 got at key (Some v) = needing nothing v
 
 -- the property of a key, of a read at a place
@@ -51,33 +39,17 @@ property at key fs = bind (key_out key) (λ k. got at k (own k fs))
 abbrev pub plain_property : List ℕ → Fields (List ℕ) → Out Val
 plain_property key fs = bind (key_out key) (λ k. needing nothing (unwrap_or (own k fs) undefined))
 
--- the same of a key that a script spells; no source text spells one that is longer than a string may be
-abbrev pub spelled_property : ℕ → ℕ → List ℕ → Fields (List ℕ) → Out Val
-spelled_property at limit key fs =
-    if nat_le (length key) limit then property at key fs else throwing nothing RangeError
-
--- a property of a value by an identifier behind a point,
--- other than `length` and `description` ("Property Accessors")
+-- a property of a value by an identifier behind a point, other than `length` and `description` ("Property
+-- Accessors"); no source text spells one that is longer than a string may be
 abbrev pub property_of : ℕ → ℕ → List ℕ → Val → Out Val
 property_of at limit key undefined = throwing nothing TypeError
 property_of at limit key null = throwing nothing TypeError
-property_of at limit key (bool b) = refuses at
-property_of at limit key (number n) = refuses at
-property_of at limit key (text u) = refuses at
-property_of at limit key (symbol k) = refuses at
-property_of at limit key (list us) = refuses at
-property_of at limit key (object fs) = spelled_property at limit key fs
+property_of at limit key (object fs) =
+    if nat_le (length key) limit then property at key fs else throwing nothing RangeError
+property_of at limit key _ = refuses at
 
 -- the property of the key that an index becomes ("ToPropertyKey"), of which no key of the profile is a symbol
-abbrev pub keyed : ℕ → ℕ → Fields (List ℕ) → Val → Out Val
-keyed at limit fs i = converting (reads (string_units i)) (to_string limit i) (λ key. property at key fs)
-
 abbrev pub indexed_object : ℕ → ℕ → Fields (List ℕ) → Val → Out Val
-indexed_object at limit fs undefined = keyed at limit fs undefined
-indexed_object at limit fs null = keyed at limit fs null
-indexed_object at limit fs (bool b) = keyed at limit fs (bool b)
-indexed_object at limit fs (number n) = keyed at limit fs (number n)
-indexed_object at limit fs (text u) = keyed at limit fs (text u)
 indexed_object at limit fs (symbol k) = needing (reads 0) undefined
-indexed_object at limit fs (list us) = keyed at limit fs (list us)
-indexed_object at limit fs (object gs) = keyed at limit fs (object gs)
+indexed_object at limit fs i =
+    converting (reads (string_units i)) (to_string limit i) (λ key. property at key fs)

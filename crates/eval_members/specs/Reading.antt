@@ -1,5 +1,6 @@
 -- Methods that read single units. The operands of a call have t units.
-use Rattle.std.specs.Prelude.{ℕ, ◌+◌, List, length, Option, Some, None, pos}
+use Rattle.eval_values.specs.Conversions.{string_units}
+use Rattle.std.specs.Prelude.{ℕ, ◌+◌, List, Option, Some, None, pos}
 use Rattle.js_number.specs.declared.Num.{Num}
 use Rattle.js_number.specs.declared.Num.TheVariants.{Int}
 use Rattle.js_methods.specs.Places.{at_of, char_at_of, char_code_of, code_point_of}
@@ -12,23 +13,21 @@ abbrev pub maybe_text : Option (List ℕ) → Val
 maybe_text None = undefined
 maybe_text (Some u) = text u
 
-abbrev pub units_of_read : Option (List ℕ) → ℕ
-units_of_read None = 0
-units_of_read (Some u) = length u
-
 abbrev pub maybe_count : Option ℕ → Val
 maybe_count None = undefined
 maybe_count (Some n) = number (Int (pos n))
 
+-- a value that is read, where the operands have t units
+abbrev pub element : ℕ → Val → Out Val
+element t v = needing (reads (t + string_units v)) v
+
 -- "String.prototype.at": the one unit, or undefined
 abbrev pub at_call : ℕ → List ℕ → Converted Num → Out Val
-at_call t u n = converts (reads t) n
-    (λ k. needing (reads (t + units_of_read (at_of u k))) (maybe_text (at_of u k)))
+at_call t u n = converts (reads t) n (λ k. element t (maybe_text (at_of u k)))
 
 -- "String.prototype.charAt": the one unit, or the empty string
 abbrev pub char_at_call : ℕ → List ℕ → Converted Num → Out Val
-char_at_call t u n =
-    converts (reads t) n (λ k. needing (reads (t + length (char_at_of u k))) (text (char_at_of u k)))
+char_at_call t u n = converts (reads t) n (λ k. element t (text (char_at_of u k)))
 
 -- "String.prototype.charCodeAt": the unit as a number, or NaN
 abbrev pub char_code_call : ℕ → List ℕ → Converted Num → Out Val

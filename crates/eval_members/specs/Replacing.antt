@@ -12,13 +12,10 @@ abbrev pub two_text_units : List Val → ℕ
 two_text_units [] = 0
 two_text_units (v ∷ vs) = text_units v + first_text_units vs
 
--- a string in which p matches were replaced; none counts as one
-abbrev pub replacement : ℕ → ℕ → ℕ → List ℕ → Out Val
-replacement limit t p r = bounded limit (λ n. parts p (t + n)) r
-
--- the searched string and the template as strings, in this order, and then what they give:
--- "String.prototype.replace", "String.prototype.replaceAll"
+-- the searched string and the template as strings, in this order, and then what they give, where no match
+-- counts as one: "String.prototype.replace", "String.prototype.replaceAll"
 abbrev pub replace_call : ℕ → ℕ → ℕ → ℕ → (List ℕ → ℕ) → (List ℕ → List ℕ → List ℕ) → Val → Val → Out Val
 replace_call limit o m t count replaced w template =
     converting (reads o) (to_string limit w) (λ x.
-    converting (reads m) (to_string limit template) (λ y. replacement limit t (count x) (replaced x y)))
+    converting (reads m) (to_string limit template)
+    (λ y. bounded limit (λ n. parts (count x) (t + n)) (replaced x y)))

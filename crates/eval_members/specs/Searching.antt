@@ -17,13 +17,9 @@ place_number (Some k) = Int (pos k)
 abbrev pub place_value : Option ℕ → Val
 place_value k = number (place_number k)
 
--- what a number gives
-abbrev pub search_answer : {N : Type 0} → ℕ → (N → Val) → Converted N → Out Val
-search_answer t answer n = converts (reads t) n (λ k. needing (reads t) (answer k))
-
 -- the first argument as a string, and then what it and a number give: "String.prototype.includes",
 -- "String.prototype.indexOf", "String.prototype.lastIndexOf", "String.prototype.startsWith", and
 -- "String.prototype.endsWith", where the number may be missing
 abbrev pub search_call : {N : Type 0} → ℕ → ℕ → ℕ → (List ℕ → N → Val) → Val → Converted N → Out Val
 search_call limit o t answer w n = converting (reads o) (to_string limit w)
-    (λ x. search_answer t (answer x) n)
+    (λ x. converts (reads t) n (λ k. needing (reads t) (answer x k)))

@@ -1,4 +1,5 @@
 -- Which strings a call of a method, or an index, has read: they are settled once it gave a value.
+use Rattle.js_item.specs.Contents.{number}
 use Rattle.std.specs.Prelude.{◌≡◌, ℕ, ◌≤◌, ◌-◌, List, length, Option, Some, None, IsSome, false}
 use Rattle.js_number.specs.declared.Num.{Num}
 use Rattle.js_number.specs.Arith.{length_of}
@@ -97,6 +98,11 @@ OperandsSettled m at a b name (item.Text r) vs =
     StringOperandsSettled m at a b name (units_of a (name r)) (operands m vs)
 OperandsSettled m at a b name (item.List rs) vs = ListOperandsSettled m b name (operands m vs)
 OperandsSettled m at a b name _ vs = Unit {0}
+
+-- the number that an index is
+abbrev pub as_number : Val → Option Num
+as_number (number i) = Some i
+as_number _ = None
 
 -- the string n with the units u, where an index is a number at which it has a unit
 abbrev pub UnitSettled : {F : Type 0} → State F → ℕ → List ℕ → Option Num → Type 0

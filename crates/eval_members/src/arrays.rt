@@ -1,13 +1,15 @@
 // Elements of values, and methods of arrays (ECMA-262, "Property Accessors", "Properties of the
 // Array Prototype Object").
-ghost use Rattle.std.specs.Prelude.{◌≡◌, ℕ, ◌+◌, ◌≤◌, ◌∷◌, [], length, slice_get, IfOk, OnOk, IfSome};
+ghost use Rattle.eval_members.specs.Parts.{joined_with};
+ghost use Rattle.std.specs.Prelude.{◌≡◌, ℕ, ◌+◌, ◌≤◌, ◌∷◌, [], length, slice_get, IfOk, OnOk, Some};
 ghost use Rattle.js_number.specs.Places.{IsLawful};
 ghost use Rattle.js_store.specs.State.{Grows, IsKnown, IsSettled, text};
 ghost use Rattle.js_texts.specs.Texts.{known_texts as texts_seen, AllKnown, AllSettled};
 ghost use Rattle.eval_values.specs.Conversions.{list_units};
-ghost use Rattle.eval_members.specs.Arrays.{as_number, indexed_text, indexed_list, indexed_other, indexed, joined_with, join_call, list_call};
-ghost use Rattle.eval_members.specs.Reading.{maybe_text};
-ghost use Rattle.eval_members.specs.Settled.{IndexSettles, KeySettled, ListSettled, ListOperandsSettled, UnitSettled};
+ghost use Rattle.eval_members.specs.Arrays.{unit_at, element_at, indexed, join_call, list_call};
+ghost use Rattle.eval_members.specs.Reading.{maybe_text, element as read_element};
+ghost use Rattle.eval_members.specs.Settled.{as_number, IndexSettles, KeySettled, ListSettled, ListOperandsSettled, UnitSettled};
+ghost use Rattle.js_item.specs.Contents;
 ghost use Rattle.js_item.specs.Seen.{seen};
 ghost use Rattle.js_item.specs.Fine.{IsFine};
 ghost use Rattle.eval_values.specs.Seen.{all_seen, AllFine};
@@ -40,92 +42,110 @@ pub fn read_index<S: Strings>(
         (indexed at (S.state store.old).limit (seen (S.state store.old) S.number value.now)
         (seen (S.state store.old) S.number index.now)) }
 {
-    let number = index_number(store, index);
     match value {
         Value::Undefined | Value::Null => Err(Stop::Threw(Kind::TypeError)),
-        Value::Bool(_) | Value::Number(_) | Value::Symbol(_) => no_element(store, at, number),
-        Value::Text(s) => unit(store, at, *s, number),
-        Value::List(list) => element(store, at, list, number),
+        Value::Bool(_) | Value::Number(_) | Value::Symbol(_) => match index {
+            Value::Number(_) => Ok(Value::Undefined),
+            Value::Undefined
+            | Value::Null
+            | Value::Bool(_)
+            | Value::Text(_)
+            | Value::Symbol(_)
+            | Value::List(_)
+            | Value::Object(_) => Err(Stop::Unsupported { at }),
+        },
+        Value::Text(s) => unit_by(store, at, *s, index),
+        Value::List(list) => element_by(store, at, list, index),
         Value::Object(object) => read_indexed(alloc, store, at, object, index),
     }
 }
 
-// The number that an index is.
-fn index_number<S: Strings>(_store: &S, index: &Value<S::Ref>) -> Option<Num>
-    requires { IsFine (S.state _store.now) S.number index.now }
-    ensures value { result ≡ as_number (seen (S.state _store.now) S.number index.now) }
-    ensures lawful { IfSome result IsLawful }
+// The one unit of a string at an index that was evaluated.
+fn unit_by<S: Strings>(
+    store: &mut S,
+    at: u32,
+    s: S::Ref,
+    index: &Value<S::Ref>,
+) -> Result<Value<S::Ref>, Stop>
+    requires known { IsKnown (S.state store.old) (S.number s) }
+    requires index { IsFine (S.state store.old) S.number index.now }
+    ensures grows { Grows (S.state store.old) (S.state store.new) }
+    ensures fine { IfOk result (λ v. IsFine (S.state store.new) S.number v) }
+    ensures settled { OnOk result (UnitSettled (S.state store.new) (S.number s)
+        (text (S.state store.old) (S.number s)) (as_number (seen (S.state store.old) S.number index.now))) }
+    ensures did { GivesValue S.number (S.state store.old) (S.state store.new) result
+        (indexed at (S.state store.old).limit (Contents.text (text (S.state store.old) (S.number s)))
+        (seen (S.state store.old) S.number index.now)) }
 {
     match index {
-        Value::Number(n) => Some(*n),
+        Value::Number(n) => unit(store, s, *n),
         Value::Undefined
         | Value::Null
         | Value::Bool(_)
         | Value::Text(_)
         | Value::Symbol(_)
         | Value::List(_)
-        | Value::Object(_) => None,
-    }
-}
-
-// A value without elements.
-fn no_element<S: Strings>(_store: &S, at: u32, index: Option<Num>) -> Result<Value<S::Ref>, Stop>
-    ensures fine { IfOk result (λ v. IsFine (S.state _store.now) S.number v) }
-    ensures did { GivesValue S.number (S.state _store.now) (S.state _store.now) result
-        (indexed_other at index) }
-{
-    match index {
-        None => Err(Stop::Unsupported { at }),
-        Some(_) => Ok(Value::Undefined),
+        | Value::Object(_) => Err(Stop::Unsupported { at }),
     }
 }
 
 // The one unit of a string at an index.
-fn unit<S: Strings>(
-    store: &mut S,
-    at: u32,
-    s: S::Ref,
-    index: Option<Num>,
-) -> Result<Value<S::Ref>, Stop>
+fn unit<S: Strings>(store: &mut S, s: S::Ref, index: Num) -> Result<Value<S::Ref>, Stop>
     requires known { IsKnown (S.state store.old) (S.number s) }
-    requires lawful { IfSome index IsLawful }
+    requires lawful { IsLawful index }
     ensures grows { Grows (S.state store.old) (S.state store.new) }
     ensures fine { IfOk result (λ v. IsFine (S.state store.new) S.number v) }
     ensures settled { OnOk result (UnitSettled (S.state store.new) (S.number s)
-        (text (S.state store.old) (S.number s)) index) }
+        (text (S.state store.old) (S.number s)) (Some index)) }
     ensures did { GivesValue S.number (S.state store.old) (S.state store.new) result
-        (indexed_text at (text (S.state store.old) (S.number s)) index) }
+        (read_element (length (text (S.state store.old) (S.number s)))
+        (maybe_text (unit_at (text (S.state store.old) (S.number s)) index))) }
 {
     match index {
-        None => Err(Stop::Unsupported { at }),
-        Some(n) => match n {
-            Num::Int(k) if k >= 0 => match js_methods::at(store, s, Num::Int(k))? {
-                Some(r) => Ok(Value::Text(r)),
-                None => Ok(Value::Undefined),
-            },
-            Num::Int(_) | Num::NaN | Num::PosInf | Num::NegInf => Ok(Value::Undefined),
+        Num::Int(k) if k >= 0 => match js_methods::at(store, s, Num::Int(k))? {
+            Some(r) => Ok(Value::Text(r)),
+            None => Ok(Value::Undefined),
         },
+        Num::Int(_) | Num::NaN | Num::PosInf | Num::NegInf => Ok(Value::Undefined),
     }
 }
 
-// The element of an array at an index.
-fn element<S: Strings>(
+// The element of an array at an index that was evaluated.
+fn element_by<S: Strings>(
     store: &S,
     at: u32,
     list: &[S::Ref],
-    index: Option<Num>,
+    index: &Value<S::Ref>,
 ) -> Result<Value<S::Ref>, Stop>
     requires known { AllKnown (S.state store.now) S.number list.now }
     ensures fine { IfOk result (λ v. IsFine (S.state store.now) S.number v) }
     ensures did { GivesValue S.number (S.state store.now) (S.state store.now) result
-        (indexed_list at (texts_seen (S.state store.now) S.number list.now) index) }
+        (indexed at (S.state store.now).limit
+        (Contents.list (texts_seen (S.state store.now) S.number list.now))
+        (seen (S.state store.now) S.number index.now)) }
 {
     match index {
-        None => Err(Stop::Unsupported { at }),
-        Some(n) => match n {
-            Num::Int(k) if k >= 0 => Ok(nth(store, list, k as u64)),
-            Num::Int(_) | Num::NaN | Num::PosInf | Num::NegInf => Ok(Value::Undefined),
-        },
+        Value::Number(n) => element(store, list, *n),
+        Value::Undefined
+        | Value::Null
+        | Value::Bool(_)
+        | Value::Text(_)
+        | Value::Symbol(_)
+        | Value::List(_)
+        | Value::Object(_) => Err(Stop::Unsupported { at }),
+    }
+}
+
+// The element of an array at an index.
+fn element<S: Strings>(store: &S, list: &[S::Ref], index: Num) -> Result<Value<S::Ref>, Stop>
+    requires known { AllKnown (S.state store.now) S.number list.now }
+    ensures fine { IfOk result (λ v. IsFine (S.state store.now) S.number v) }
+    ensures did { GivesValue S.number (S.state store.now) (S.state store.now) result
+        (read_element 0 (maybe_text (element_at (texts_seen (S.state store.now) S.number list.now) index))) }
+{
+    match index {
+        Num::Int(k) if k >= 0 => Ok(nth(store, list, k as u64)),
+        Num::Int(_) | Num::NaN | Num::PosInf | Num::NegInf => Ok(Value::Undefined),
     }
 }
 

@@ -1,9 +1,10 @@
 // Methods that make longer strings.
+ghost use Rattle.eval_members.specs.Parts.{one_joined};
+ghost use Rattle.eval_values.specs.Within.{within};
 ghost use Rattle.std.specs.Prelude.{ℕ, IfOk, OnOk};
 ghost use Rattle.js_store.specs.State.{Grows, IsKnown, text};
 ghost use Rattle.js_texts.specs.Texts.{Every};
-ghost use Rattle.eval_values.specs.Limited.{within};
-ghost use Rattle.eval_members.specs.Building.{joined_text, one_joined, concat_call};
+ghost use Rattle.eval_members.specs.Building.{joined_text, concat_call};
 ghost use Rattle.js_item.specs.Seen.{seen};
 ghost use Rattle.js_item.specs.Fine.{IsFine};
 ghost use Rattle.eval_values.specs.Seen.{all_seen, AllFine};

@@ -1,4 +1,7 @@
 // Methods that repeat a string or a filler.
+ghost use Rattle.eval_members.specs.Parts.{filled};
+ghost use Rattle.eval_values.specs.Within.{within};
+ghost use Rattle.eval_values.specs.RowNames.{pad_ids, pad_words};
 ghost use Rattle.std.specs.Prelude.{◌≡◌, ◌+◌, ◌-◌, ◌∷◌, [], length, IfOk, OnOk};
 ghost use Rattle.js_store.specs.State.{NamesUnits, Grows, IsKnown, IsSettled, text};
 ghost use Rattle.js_store.specs.Faults.{Uses};
@@ -6,9 +9,7 @@ ghost use Rattle.js_texts.specs.Answers.{method_fault_of, ThrowsLong};
 ghost use Rattle.js_methods.specs.Padding as methods;
 ghost use Rattle.eval_values.specs.Conversions.{to_number};
 ghost use Rattle.eval_values.specs.Arguments.{first_of, second_of, second_units};
-ghost use Rattle.eval_values.specs.Limited.{within};
-ghost use Rattle.eval_values.specs.Need.{pad_ids, pad_words};
-ghost use Rattle.eval_members.specs.Padding.{filled, padded, pad_call, repeat_call};
+ghost use Rattle.eval_members.specs.Padding.{padded, pad_call, repeat_call};
 ghost use Rattle.eval_members.specs.Members.{padded_of};
 ghost use Rattle.eval_members.specs.Settled.{FillerSettled, PadSettled};
 ghost use Rattle.js_item.specs.Fine.{IsFine};

@@ -1,15 +1,17 @@
 // Properties of objects, by their keys (ECMA-262, "OrdinaryGet").
+ghost use Rattle.eval_members.specs.Parts.{lacking, keyed};
 ghost use Rattle.std.specs.Prelude.{◌≡◌, ◌≤◌, ◌||◌, IfOk, OnOk, bytes_eq, codes};
 ghost use Rattle.js_store.specs.State.{Grows, IsKnown, IsSettled, text};
 ghost use Rattle.js_item.specs.Fine.{IsFine, KeyFine, FineFields, Bounded, strings_of};
 ghost use Rattle.js_item.specs.Seen.{seen, says, fields_mapped};
 ghost use Rattle.std.specs.Prelude.{unwrap_or, length};
+ghost use Rattle.js_item.specs.Contents as contents;
 ghost use Rattle.js_item.specs.Contents.{undefined};
 ghost use Rattle.eval_values.specs.Outcome.{needing};
 ghost use Rattle.eval_values.specs.Need.{nothing};
 ghost use Rattle.eval_values.specs.Does.{GivesValue, GivesText};
 ghost use Rattle.eval_values.specs.Settled.{StringsSettled};
-ghost use Rattle.eval_members.specs.Properties.{is_inherited, key_out, own, lacking, got, property, plain_property, spelled_property, property_of, keyed, indexed_object};
+ghost use Rattle.eval_members.specs.Properties.{is_inherited, key_out, own, got, property, plain_property, property_of, indexed_object};
 
 use eval_values::{Kind, Stop, Value, to_text};
 use js_item::Object;
@@ -53,8 +55,8 @@ fn read_spelled<S: Strings>(
     ensures grows { Grows (S.state store.old) (S.state store.new) }
     ensures fine { IfOk result (λ v. IsFine (S.state store.new) S.number v) }
     ensures did { GivesValue S.number (S.state store.old) (S.state store.new) result
-        (spelled_property at (S.state store.old).limit key.now
-        (fields_mapped (says (S.state store.old) S.number) object.now)) }
+        (property_of at (S.state store.old).limit key.now
+        (contents.object (fields_mapped (says (S.state store.old) S.number) object.now))) }
 {
     if key.len() > store.limit() as usize {
         return Err(Stop::Threw(Kind::RangeError));

@@ -1,4 +1,5 @@
 // Methods that put a template in the place of matches.
+ghost use Rattle.eval_members.specs.Parts.{replacement};
 ghost use Rattle.std.specs.Prelude.{◌≡◌, ℕ, ◌+◌, ◌≤◌, length, IfOk, OnOk};
 ghost use Rattle.js_store.specs.State.{NamesUnits, Grows, IsKnown, IsSettled, text};
 ghost use Rattle.js_store.specs.Faults.{Uses};
@@ -6,7 +7,7 @@ ghost use Rattle.js_texts.specs.Answers.{ThrowsLong, full_of};
 ghost use Rattle.js_texts.specs.Use.{settling, made_words};
 ghost use Rattle.eval_values.specs.Conversions.{text_units, all_units, first_text_units};
 ghost use Rattle.eval_values.specs.Arguments.{first_of, second_of};
-ghost use Rattle.eval_members.specs.Replacing.{two_text_units, replacement, replace_call};
+ghost use Rattle.eval_members.specs.Replacing.{two_text_units, replace_call};
 ghost use Rattle.eval_members.specs.Members.{replaced_of, match_count};
 ghost use Rattle.js_item.specs.Seen.{seen};
 ghost use Rattle.js_item.specs.Fine.{IsFine};

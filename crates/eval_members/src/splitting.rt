@@ -1,9 +1,11 @@
 // `split`.
 ghost use Rattle.std.specs.Prelude.{◌≡◌, ℕ, ◌+◌, ◌≤◌, length, IfOk, OnOk, IfSome, None, Some, false};
+ghost use Rattle.std.specs.Option.{option_map_or};
+ghost use Rattle.js_number.specs.Arith.{modulo};
 ghost use Rattle.js_number.specs.Places.{IsLawful};
 ghost use Rattle.js_store.specs.State.{Grows, IsKnown, IsSettled, text};
 ghost use Rattle.eval_values.specs.Arguments.{first_of, second_of, end_in, is_undefined};
-ghost use Rattle.eval_members.specs.Arrays.{most_parts as most_of, split_into, split_most as split_out, split_call};
+ghost use Rattle.eval_members.specs.Arrays.{split_into, split_most as split_out, split_call};
 ghost use Rattle.js_item.specs.Fine.{IsFine};
 ghost use Rattle.eval_values.specs.Seen.{all_seen, AllFine};
 ghost use Rattle.eval_values.specs.Does.{GivesValue};
@@ -43,7 +45,7 @@ pub fn call_split<S: Strings>(
 // How many parts are requested at most.
 fn most_parts(most: Option<Num>) -> u32
     requires { IfSome most IsLawful }
-    ensures { result ≡ most_of most }
+    ensures { result ≡ option_map_or (modulo 4294967296) most 4294967295 }
 {
     match most {
         None => u32::MAX,

@@ -1,10 +1,11 @@
 -- Blocks without a frame: no name is found in one, and none is written there.
+use Rattle.eval_scopes.specs.Changes.{with_bound, all_but_first}
 use Rattle.std.proofs.Common.{arith, ◌≡◌, ℕ, ◌+◌, zero, suc, Bool, true, false, if◌then◌else◌, List, [], ◌∷◌, ◌++◌, map, refl, ap, sym, ◌∙◌, reverse}
 use Rattle.std.specs.Prelude.{OnOk, OnErr, Result, Ok, Err, is_some}
 use Rattle.std.proofs.lemmas.List.{map-append, reverse-append}
 use Rattle.eval_scopes.specs.declared.blocks.Blocks.{Blocks}
 use Rattle.eval_scopes.specs.declared.frames.Frame.{Frame as CodeFrame}
-use Rattle.eval_scopes.specs.Bindings.{Bound, BlockFrame, Bindings, bound_in, changed, is_among, inner_first, look, write, with_bound, inside, declare, all_but_first}
+use Rattle.eval_scopes.specs.Bindings.{Bound, BlockFrame, Bindings, bound_in, changed, is_among, inner_first, look, write, inside, declare}
 use Rattle.eval_scopes.specs.Seen.{frame_of, frames_of, outsides_of, hollows, with_hollows, stacked, blocks_of}
 
 abbrev pub hollowed : {T : Type 0} → ℕ → Bindings T → Bindings T

@@ -1,4 +1,5 @@
 -- Where a name stands.
+use Rattle.eval_scopes.specs.Changes.{with_bound}
 use Rattle.std.proofs.Common.{arith, ◌≡◌, ℕ, ◌+◌, ◌<◌, zero, suc, true, false, List, [], ◌∷◌, length, map, refl, ap, sym, ◌∙◌, subst, Some, None, slice_get, get_or, set, take, drop, reverse, ◌++◌, append_assoc, bytes_eq, inl, inr}
 use Rattle.std.proofs.Math.ListN.{drop_of_length-le}
 use Rattle.std.proofs.Math.Seq.{take-length}
@@ -9,7 +10,7 @@ use Rattle.std.specs.Prelude.{OnOk, OnErr, Result, Ok, Err}
 use Rattle.eval_scopes.specs.declared.frames.Frame.{Frame as CodeFrame}
 use Rattle.eval_scopes.specs.declared.scope.Scope.{Scope}
 use Rattle.eval_scopes.specs.declared.scope.Place.TheVariants.{Top, Block}
-use Rattle.eval_scopes.specs.Bindings.{Bound, BlockFrame, Bindings, bound_in, changed, is_among, look, write, with_bound, inside, declare}
+use Rattle.eval_scopes.specs.Bindings.{Bound, BlockFrame, Bindings, bound_in, changed, is_among, look, write, inside, declare}
 use Rattle.eval_scopes.specs.Seen.{bound_of, bounds_of, frame_names, frame_of, frames_of, outsides_of, blocks_of, IsPlace, IsAt, put, put_in, frame_bound, InBlock}
 use Rattle.eval_scopes.proofs.Hollows.{hollowed, spread, look_blocks, write_blocks}
 

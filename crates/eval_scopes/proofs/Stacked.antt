@@ -1,10 +1,11 @@
 -- The blocks that were entered, in front of those that were left.
+use Rattle.eval_scopes.specs.Changes.{all_but_first}
 use Rattle.std.proofs.Common.{arith, ◌≡◌, ℕ, ◌+◌, ◌-◌, ◌<◌, ◌≤◌, zero, suc, true, false, List, [], ◌∷◌, ◌++◌, length, map, refl, ap, sym, ◌∙◌, subst, get_or, set, take, bytes_eq, reverse}
 use Rattle.std.specs.Prelude.{OnOk, OnErr, Result}
 use Rattle.std.proofs.lemmas.Slice.Eq.{bytes_eq-Decides}
 use Rattle.eval_scopes.specs.declared.binding_list.Binding.{Binding}
 use Rattle.eval_scopes.specs.declared.frames.Frame.{Frame as CodeFrame}
-use Rattle.eval_scopes.specs.Bindings.{Bound, BlockFrame, declare, all_but_first}
+use Rattle.eval_scopes.specs.Bindings.{Bound, BlockFrame, declare}
 use Rattle.eval_scopes.specs.Seen.{bounds_of, frame_of, frames_of, outsides_of, hollows, with_hollows, stacked, put_in, InBlock, IsOnly}
 use Rattle.eval_scopes.proofs.Hollows.{stacked_behind, stacked_declared, stacked_same}
 use Rattle.eval_scopes.proofs.Places.{take_split, declare_on, declare_kept}

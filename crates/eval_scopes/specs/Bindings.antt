@@ -1,6 +1,6 @@
 -- The scope: a list of blocks, the innermost first, over the top (ECMA-262, "Declarative Environment
 -- Records"). V is the type of the values.
-use Rattle.std.specs.Prelude.{ℕ, Bool, true, false, List, [], ◌∷◌, ◌++◌, Option, Some, None, is_some, bytes_eq, if◌then◌else◌}
+use Rattle.std.specs.Prelude.{ℕ, Bool, true, false, List, [], ◌∷◌, ◌++◌, Option, Some, None, is_some, bytes_eq, if◌then◌else◌, drop}
 
 -- a name that was declared and evaluated, whether by `const`, and its value
 pub record Bound (V : Type 0) : Type 0 where
@@ -43,18 +43,10 @@ look (f ∷ fs) top x = inner_first (bound_in f.bound x) (is_among f.names x) (l
 abbrev pub meant : {V : Type 0} → Bindings V → List ℕ → Option (Bound V)
 meant bs x = look bs.blocks bs.top x
 
--- another value for a name that has one
-abbrev pub with_value : {V : Type 0} → Bound V → V → Bound V
-with_value b v = record { name = b.name; constant = b.constant; value = v }
-
 -- another value for the first binding with this name
 abbrev pub changed : {V : Type 0} → List (Bound V) → List ℕ → V → List (Bound V)
 changed [] x v = []
-changed (b ∷ bs) x v = if bytes_eq b.name x then with_value b v ∷ bs else b ∷ changed bs x v
-
--- the block with other bindings in the place of its own
-abbrev pub with_bound : {V : Type 0} → BlockFrame V → List (Bound V) → BlockFrame V
-with_bound f bs = record { names = f.names; bound = bs }
+changed (b ∷ bs) x v = if bytes_eq b.name x then record b { value = v } ∷ bs else b ∷ changed bs x v
 
 -- a block before the others, as the innermost
 abbrev pub inside : {V : Type 0} → BlockFrame V → Bindings V → Bindings V
@@ -66,7 +58,7 @@ abbrev pub write : {V : Type 0} → List (BlockFrame V) → List (Bound V) → L
 write [] top x v = record { blocks = []; top = changed top x v }
 write (f ∷ fs) top x v =
     if is_some (bound_in f.bound x)
-    then record { blocks = with_bound f (changed f.bound x v) ∷ fs; top = top }
+    then record { blocks = record f { bound = changed f.bound x v } ∷ fs; top = top }
     else inside f (write fs top x v)
 
 -- "SetMutableBinding" of a name that has a value
@@ -76,7 +68,7 @@ written bs x v = write bs.blocks bs.top x v
 -- one more binding, behind the others of the innermost block, or of the top where no block is entered
 abbrev pub declare : {V : Type 0} → List (BlockFrame V) → List (Bound V) → Bound V → Bindings V
 declare [] top b = record { blocks = []; top = top ++ b ∷ [] }
-declare (f ∷ fs) top b = record { blocks = with_bound f (f.bound ++ b ∷ []) ∷ fs; top = top }
+declare (f ∷ fs) top b = record { blocks = record f { bound = f.bound ++ b ∷ [] } ∷ fs; top = top }
 
 -- a declaration of the innermost block, or of the top, is evaluated ("InitializeBinding")
 abbrev pub declared : {V : Type 0} → Bindings V → Bound V → Bindings V
@@ -91,11 +83,6 @@ abbrev pub turned : {V : Type 0} → List ℕ → V → Bindings V → Bindings 
 turned x v bs =
     inside (record { names = []; bound = record { name = x; constant = false; value = v } ∷ [] }) bs
 
--- the blocks but for the innermost
-abbrev pub all_but_first : {V : Type 0} → List (BlockFrame V) → List (BlockFrame V)
-all_but_first [] = []
-all_but_first (f ∷ fs) = fs
-
 -- the innermost block is left
 abbrev pub outer : {V : Type 0} → Bindings V → Bindings V
-outer bs = record { blocks = all_but_first bs.blocks; top = bs.top }
+outer bs = record bs { blocks = drop 1 bs.blocks }

@@ -1,4 +1,5 @@
 pub mod Bindings
+pub mod Changes
 pub mod Seen
 pub mod Index
 pub mod Mask

@@ -1,4 +1,5 @@
 -- What the scope of the code denotes.
+use Rattle.eval_scopes.specs.Changes.{with_value, with_bound}
 use Rattle.std.specs.Prelude.{◌≡◌, ℕ, zero, suc, ◌<◌, length, List, [], ◌∷◌, false, map, reverse, Option, slice_get, option_and_then, unwrap_or}
 use Rattle.eval_scopes.specs.declared.binding_list.Binding.{Binding}
 use Rattle.eval_scopes.specs.declared.frames.Frame.{Frame as CodeFrame}
@@ -6,7 +7,7 @@ use Rattle.eval_scopes.specs.declared.blocks.Blocks.{Blocks}
 use Rattle.eval_scopes.specs.declared.scope.Scope.{Scope}
 use Rattle.eval_scopes.specs.declared.scope.Place.{Place}
 use Rattle.eval_scopes.specs.declared.scope.Place.TheVariants.{Top, Block}
-use Rattle.eval_scopes.specs.Bindings.{Bound, BlockFrame, Bindings, bound_in, changed, with_value, with_bound, meant, written}
+use Rattle.eval_scopes.specs.Bindings.{Bound, BlockFrame, Bindings, bound_in, changed, meant, written}
 
 abbrev pub bound_of : {T : Type 0} → Binding T → Bound T
 bound_of b = record { name = b.name; constant = b.constant; value = b.value }

@@ -1,7 +1,8 @@
 // Blocks: all that were entered. One that declares nothing has no frame and is only counted, so that
 // entering and leaving it costs next to nothing, and names are sought past it.
+ghost use Rattle.eval_scopes.specs.Changes.{all_but_first};
 ghost use Rattle.std.specs.Prelude.{◌≡◌, ◌+◌, ◌∷◌, [], false, length, List, OnOk, OnErr};
-ghost use Rattle.eval_scopes.specs.Bindings.{Bound, declare, all_but_first};
+ghost use Rattle.eval_scopes.specs.Bindings.{Bound, declare};
 ghost use Rattle.eval_scopes.specs.Seen.{blocks_of, put_in_frame, InBlock};
 
 use crate::frames::{Frame, Frames};

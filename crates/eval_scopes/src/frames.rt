@@ -1,7 +1,8 @@
 // Frames: the blocks that were entered and have one. Those that were left stay in their places, so that
 // one that is entered there later reuses their memory.
+ghost use Rattle.eval_scopes.specs.Changes.{all_but_first};
 ghost use Rattle.std.specs.Prelude.{◌≡◌, ◌<◌, ◌≤◌, ◌+◌, ◌∷◌, [], true, false, length, map, reverse, take, unwrap_or, List, OnOk, OnErr};
-ghost use Rattle.eval_scopes.specs.Bindings.{Bound, declare, all_but_first};
+ghost use Rattle.eval_scopes.specs.Bindings.{Bound, declare};
 ghost use Rattle.eval_scopes.specs.Seen.{bounds_of, frame_names, frame_of, outsides_of, hollows, with_hollows, stacked, put_in, InBlock, IsOnly};
 
 use crate::binding_list::BindingList;

@@ -1,4 +1,5 @@
 -- Methods whose result may be too long for a string.
+use Rattle.eval_values.specs.Within.{gives, throws, within}
 use Rattle.std.proofs.Common.{◌≡◌, ℕ, ◌<◌, ◌≤◌, List, refl, ap, arith, Some, None, Ok, Err}
 use Rattle.js_store.specs.State.{State, NamesUnits}
 use Rattle.js_store.specs.Faults.{StoreStep, NeverSlots}
@@ -8,14 +9,13 @@ use Rattle.js_store.specs.declared.faults.StoreFault.{StoreFault}
 use Rattle.eval_values.specs.declared.value.Stop.TheVariants.{Threw}
 use Rattle.eval_values.specs.Stops.{stop_of}
 use Rattle.js_item.specs.Seen.{Val}
-use Rattle.eval_values.specs.Outcome.{ledger_of, gives, throws}
+use Rattle.eval_values.specs.Outcome.{ledger_of}
 use Rattle.js_item.specs.Contents.{text}
 use Rattle.eval_values.specs.declared.value.Kind.TheVariants.{RangeError}
 use Rattle.js_texts.specs.declared.faults.MethodFault.{MethodFault}
 use Rattle.js_texts.specs.declared.faults.MethodFault.TheVariants.{Store as MethodStore}
 use Rattle.js_texts.specs.declared.faults.MethodFault.TheVariants as method
 use Rattle.js_item.specs.declared.item.Item.TheVariants.{Text}
-use Rattle.eval_values.specs.Limited.{within}
 use Rattle.std.specs.Prelude.{nat_le, if◌then◌else◌, true, false, length}
 use Rattle.eval_values.specs.Ran.{Cut}
 use Rattle.eval_values.specs.Does.{GivesValue}

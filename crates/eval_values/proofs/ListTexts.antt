@@ -1,4 +1,5 @@
 -- The string of an array: its elements joined by commas.
+use Rattle.eval_values.specs.RowNames.{parts_ids, parts_words}
 use Rattle.std.proofs.Common.{arith, ◌≡◌, ℕ, ◌+◌, ◌*◌, ◌<◌, ◌≤◌, List, length, [], refl, Bool, true, false, nat_le, if◌then◌else◌, None, Ok, Err}
 use Rattle.js_store.specs.State.{State, NamesUnits}
 use Rattle.js_store.specs.Faults.{StoreStep, NeverSlots}
@@ -13,7 +14,6 @@ use Rattle.eval_values.specs.declared.value.Kind.TheVariants.{RangeError}
 use Rattle.eval_values.specs.declared.value.Stop.TheVariants.{Threw}
 use Rattle.eval_values.specs.Outcome.{gave, ended, threw, ledger_of}
 use Rattle.eval_values.specs.Stops.{stop_of}
-use Rattle.eval_values.specs.Need.{parts_ids, parts_words}
 use Rattle.eval_values.specs.Conversions.{list_units, comma_joined, list_string}
 use Rattle.eval_values.specs.Ran.{Cut}
 use Rattle.eval_values.specs.Does.{GivesText}

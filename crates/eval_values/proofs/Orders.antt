@@ -1,4 +1,5 @@
 -- Comparisons: of two strings that were settled, of two keys, and of any two values.
+use Rattle.eval_values.specs.RowNames.{row_ids, row_words}
 use Rattle.std.proofs.Common.{arith, ◌≡◌, ℕ, ◌+◌, List, length, refl, sym, ◌∙◌, ap, subst, Bool, true, false, Some, None, Result, Ok, Err}
 use Rattle.std.specs.Prelude.{Option, IsTrue, ◌↔◌, bytes_eq}
 use Rattle.std.specs.declared.cmp.Ordering.{Ordering}
@@ -14,7 +15,7 @@ use Rattle.eval_values.specs.declared.value.Stop.{Stop}
 use Rattle.eval_values.specs.declared.value.Stop.TheVariants.{Store}
 use Rattle.js_item.specs.Seen.{Val, seen}
 use Rattle.eval_values.specs.Outcome.{gave, free, cost, bind}
-use Rattle.eval_values.specs.Need.{reads, row_ids, row_words}
+use Rattle.eval_values.specs.Need.{reads}
 use Rattle.eval_values.specs.Operators.{primitive}
 use Rattle.eval_values.specs.Comparing.{compared, order_primitives, order_out}
 use Rattle.js_item.specs.Fine.{IsFine}

@@ -1,8 +1,8 @@
 -- The arguments of a call, and their conversions.
-use Rattle.std.specs.Prelude.{ℕ, List, [], ◌∷◌, Option, Some, None, Bool, true, false}
+use Rattle.std.specs.Prelude.{ℕ, List, [], ◌∷◌, Option, Some, None, Bool, true, false, drop}
 use Rattle.js_number.specs.declared.Num.{Num}
 use Rattle.js_item.specs.Seen.{Val}
-use Rattle.js_item.specs.Contents.{undefined, null, bool, number, text, symbol, list, object}
+use Rattle.js_item.specs.Contents.{undefined}
 use Rattle.eval_values.specs.Outcome.{Converted, into, fails}
 use Rattle.eval_values.specs.Conversions.{to_number, text_units}
 
@@ -12,8 +12,7 @@ first_of [] = undefined
 first_of (v ∷ vs) = v
 
 abbrev pub second_of : List Val → Val
-second_of [] = undefined
-second_of (v ∷ vs) = first_of vs
+second_of vs = first_of (drop 1 vs)
 
 abbrev pub is_undefined : Val → Bool
 is_undefined undefined = true
@@ -30,10 +29,4 @@ some_number (fails e) = fails e
 -- a number, where undefined is none: an end or a count that isn't given
 abbrev pub end_in : ℕ → Val → Converted (Option Num)
 end_in at undefined = into None
-end_in at null = some_number (to_number at null)
-end_in at (bool b) = some_number (to_number at (bool b))
-end_in at (number n) = some_number (to_number at (number n))
-end_in at (text u) = some_number (to_number at (text u))
-end_in at (symbol k) = some_number (to_number at (symbol k))
-end_in at (list us) = some_number (to_number at (list us))
-end_in at (object fs) = some_number (to_number at (object fs))
+end_in at v = some_number (to_number at v)

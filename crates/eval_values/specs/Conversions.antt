@@ -1,13 +1,13 @@
 -- Conversions of values.
 use Rattle.std.specs.Prelude.{ℕ, ◌+◌, List, [], ◌∷◌, length, nat_eq, nat_le, if◌then◌else◌, pos, Bool, true, false, not, codes, is_some, bytes_eq}
 use Rattle.js_number.specs.declared.Num.{Num}
-use Rattle.js_number.specs.declared.Num.TheVariants.{Int, NaN, PosInf, NegInf}
+use Rattle.js_number.specs.declared.Num.TheVariants.{Int, NaN}
 use Rattle.js_number.specs.Arith.{text_of}
 use Rattle.js_texts.specs.Joined.{joined as joined_list}
 use Rattle.eval_values.specs.declared.value.Kind.TheVariants.{RangeError, TypeError}
 use Rattle.js_item.specs.Seen.{Val}
 use Rattle.js_item.specs.Contents.{Fields, undefined, null, bool, number, text, symbol, list, object}
-use Rattle.js_item.specs.Puts.{place_by}
+use Rattle.js_item.specs.Puts.{value_by}
 use Rattle.eval_values.specs.Outcome.{Converted, into, fails, Out, gave, ended, threw, unsupported, free, cost, throwing}
 use Rattle.eval_values.specs.Need.{reads, parts}
 
@@ -15,14 +15,14 @@ use Rattle.eval_values.specs.Need.{reads, parts}
 abbrev pub spelled : List ℕ → Out (List ℕ)
 spelled u = gave u (cost (reads (length u)))
 
-abbrev pub boolean_text : Bool → List ℕ
-boolean_text true = codes "true"
-boolean_text false = codes "false"
+-- the sum of what f gives of each element
+abbrev pub total : {A : Type 0} → (A → ℕ) → List A → ℕ
+total f [] = 0
+total f (x ∷ xs) = f x + total f xs
 
 -- the units of several strings together
 abbrev pub list_units : List (List ℕ) → ℕ
-list_units [] = 0
-list_units (u ∷ us) = length u + list_units us
+list_units us = total length us
 
 -- the elements joined by commas
 abbrev pub comma_joined : List (List ℕ) → List ℕ
@@ -38,45 +38,33 @@ list_string limit us =
 
 -- whether an object has an own property `toString`, whose value is no function of the profile
 abbrev pub own_to_string : Fields (List ℕ) → Bool
-own_to_string fs = is_some (place_by (λ k. bytes_eq k (codes "toString")) fs)
+own_to_string fs = is_some (value_by (λ k. bytes_eq k (codes "toString")) fs)
 
--- the string of an object ("OrdinaryToPrimitive", "Object.prototype.toString")
-abbrev pub object_string : Fields (List ℕ) → Out (List ℕ)
-object_string fs =
-    if own_to_string fs then ended (threw TypeError) free else spelled (codes "[object Object]")
-
--- ECMA-262, "ToString"
+-- ECMA-262, "ToString"; of an object "OrdinaryToPrimitive" and "Object.prototype.toString"
 abbrev pub to_string : ℕ → Val → Out (List ℕ)
 to_string limit undefined = spelled (codes "undefined")
 to_string limit null = spelled (codes "null")
-to_string limit (bool b) = spelled (boolean_text b)
+to_string limit (bool b) = spelled (if b then codes "true" else codes "false")
 to_string limit (number n) = spelled (text_of n)
 to_string limit (text u) = gave u free
 to_string limit (symbol k) = ended (threw TypeError) free
 to_string limit (list us) = list_string limit us
-to_string limit (object fs) = object_string fs
+to_string limit (object fs) =
+    if own_to_string fs then ended (threw TypeError) free else spelled (codes "[object Object]")
 
 -- whether a value's primitive value is a string (ECMA-262, "ToPrimitive")
 abbrev pub is_text : Val → Bool
-is_text undefined = false
-is_text null = false
-is_text (bool b) = false
-is_text (number n) = false
 is_text (text u) = true
-is_text (symbol k) = false
 is_text (list us) = true
 is_text (object fs) = true
-
-abbrev pub one_or_zero : Bool → Num
-one_or_zero true = Int (pos 1)
-one_or_zero false = Int (pos 0)
+is_text _ = false
 
 -- ECMA-262, "ToNumber", in an operation at a place, where the script ends with a string, an array or an
 -- object, of which the profile leaves it out
 abbrev pub to_number : ℕ → Val → Converted Num
 to_number at undefined = into NaN
 to_number at null = into (Int (pos 0))
-to_number at (bool b) = into (one_or_zero b)
+to_number at (bool b) = into (if b then Int (pos 1) else Int (pos 0))
 to_number at (number n) = into n
 to_number at (text u) = fails (unsupported at)
 to_number at (symbol k) = fails (threw TypeError)
@@ -85,10 +73,8 @@ to_number at (object fs) = if own_to_string fs then fails (threw TypeError) else
 
 abbrev pub number_truth : Num → Bool
 number_truth (Int (pos n)) = not (nat_eq n 0)
-number_truth (Int _) = true
 number_truth NaN = false
-number_truth PosInf = true
-number_truth NegInf = true
+number_truth _ = true
 
 -- ECMA-262, "ToBoolean"
 abbrev pub to_boolean : Val → Bool
@@ -97,39 +83,22 @@ to_boolean null = false
 to_boolean (bool b) = b
 to_boolean (number n) = number_truth n
 to_boolean (text u) = not (nat_eq (length u) 0)
-to_boolean (symbol k) = true
-to_boolean (list us) = true
-to_boolean (object fs) = true
+to_boolean _ = true
 
 -- the units of a value that is a string, or of the elements of an array, and of all such values
 abbrev pub string_units : Val → ℕ
-string_units undefined = 0
-string_units null = 0
-string_units (bool b) = 0
-string_units (number n) = 0
 string_units (text u) = length u
-string_units (symbol k) = 0
 string_units (list us) = list_units us
-string_units (object fs) = 0
+string_units _ = 0
 
 abbrev pub all_units : List Val → ℕ
-all_units [] = 0
-all_units (v ∷ vs) = string_units v + all_units vs
+all_units vs = total string_units vs
 
 -- the same of values that were converted by ToString, where an array counts as its string does
 abbrev pub text_units : Val → ℕ
-text_units undefined = 0
-text_units null = 0
-text_units (bool b) = 0
-text_units (number n) = 0
 text_units (text u) = length u
-text_units (symbol k) = 0
 text_units (list us) = length (comma_joined us)
-text_units (object fs) = 0
-
-abbrev pub all_text_units : List Val → ℕ
-all_text_units [] = 0
-all_text_units (v ∷ vs) = text_units v + all_text_units vs
+text_units _ = 0
 
 -- the same of the arguments of a call, of which the first one was converted
 abbrev pub first_text_units : List Val → ℕ

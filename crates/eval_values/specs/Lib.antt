@@ -1,5 +1,6 @@
 pub mod Outcome
 pub mod Need
+pub mod RowNames
 pub mod Conversions
 pub mod Operators
 pub mod Comparing
@@ -10,3 +11,4 @@ pub mod Ran
 pub mod Does
 pub mod Stops
 pub mod Limited
+pub mod Within

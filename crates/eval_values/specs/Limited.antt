@@ -3,23 +3,15 @@ use Rattle.std.specs.Prelude.{ℕ, ◌+◌, List, length, nat_le, if◌then◌el
 use Rattle.eval_values.specs.declared.value.Kind.TheVariants.{RangeError}
 use Rattle.js_item.specs.Seen.{Val}
 use Rattle.js_item.specs.Contents.{text}
-use Rattle.eval_values.specs.Outcome.{Out, gives, throws, needing, throwing}
+use Rattle.eval_values.specs.Outcome.{Out, needing, throwing}
 use Rattle.eval_values.specs.Need.{Row, reads}
 
--- a string, unless it is longer than a string may be; it needs so many ids, and words by the units of the
--- result, of which there are none where it throws
-abbrev pub within : ℕ → ℕ → (ℕ → ℕ) → List ℕ → Out Val
-within limit ids words w =
-    if nat_le (length w) limit
-    then gives (text w) ids (words (length w))
-    else throws RangeError ids (words 0)
-
--- the same by the row of the operation, where its result has so many units
+-- a string, unless it is longer than a string may be, by the row of the operation, where its result has so
+-- many units
 abbrev pub bounded : ℕ → (ℕ → Row) → List ℕ → Out Val
 bounded limit row w =
-    if nat_le (length w) limit
-    then needing (row (length w)) (text w)
-    else throwing (row 0) RangeError
+    if nat_le (length w) limit then needing (row (length w)) (text w) else throwing (row 0) RangeError
 
+-- the same for an operation of one part
 abbrev pub limited : ℕ → ℕ → List ℕ → Out Val
 limited limit t w = bounded limit (λ r. reads (t + r)) w

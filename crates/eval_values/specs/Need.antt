@@ -19,48 +19,18 @@ abbrev pub some_parts : ℕ → ℕ
 some_parts zero = 1
 some_parts (suc p) = suc p
 
-abbrev pub row_ids : ℕ
-row_ids = 8
-
-abbrev pub row_words : ℕ → ℕ
-row_words t = 2 * t + 24
-
-abbrev pub joins_ids : ℕ
-joins_ids = 8
-
-abbrev pub joins_words : ℕ
-joins_words = 24
-
-abbrev pub parts_ids : ℕ → ℕ
-parts_ids p = 4 * some_parts p + 4
-
-abbrev pub parts_words : ℕ → ℕ → ℕ
-parts_words p t = 2 * t + 8 * some_parts p + 16
-
-abbrev pub repeat_ids : ℕ
-repeat_ids = 96
-
-abbrev pub repeat_words : ℕ → ℕ
-repeat_words n = 2 * n + 512
-
-abbrev pub pad_ids : ℕ
-pad_ids = 128
-
-abbrev pub pad_words : ℕ → ℕ
-pad_words n = 2 * n + 1024
-
 abbrev pub ids_in : Row → ℕ
 ids_in nothing = 0
-ids_in (reads t) = row_ids
-ids_in joins = joins_ids
-ids_in (parts p t) = parts_ids p
-ids_in (repeats n) = repeat_ids
-ids_in (pads n) = pad_ids
+ids_in (reads t) = 8
+ids_in joins = 8
+ids_in (parts p t) = 4 * some_parts p + 4
+ids_in (repeats n) = 96
+ids_in (pads n) = 128
 
 abbrev pub words_in : Row → ℕ
 words_in nothing = 0
-words_in (reads t) = row_words t
-words_in joins = joins_words
-words_in (parts p t) = parts_words p t
-words_in (repeats n) = repeat_words n
-words_in (pads n) = pad_words n
+words_in (reads t) = 2 * t + 24
+words_in joins = 24
+words_in (parts p t) = 2 * t + 8 * some_parts p + 16
+words_in (repeats n) = 2 * n + 512
+words_in (pads n) = 2 * n + 1024

@@ -4,8 +4,8 @@ use Rattle.js_number.specs.declared.Num.{Num}
 use Rattle.js_number.specs.Arith.{sum, difference, negative}
 use Rattle.eval_values.specs.declared.value.Kind.TheVariants.{RangeError}
 use Rattle.js_item.specs.Seen.{Val}
-use Rattle.js_item.specs.Contents.{undefined, null, bool, number, text, symbol, list, object}
-use Rattle.eval_values.specs.Outcome.{Converted, into, fails, threw, unsupported, Out, gave, free, bind, needing, throwing, refuses, converts}
+use Rattle.js_item.specs.Contents.{bool, number, text, list, object}
+use Rattle.eval_values.specs.Outcome.{Converted, into, fails, threw, Out, gave, free, bind, needing, throwing, refuses, converts}
 use Rattle.eval_values.specs.Need.{nothing, joins}
 use Rattle.eval_values.specs.Conversions.{to_string, to_number, to_boolean, is_text}
 
@@ -22,24 +22,19 @@ sum_in at v w = converts nothing (to_number at v)
 -- two conversions of which one that throws goes before one that ends the script otherwise, whatever its side
 abbrev pub paired : {A B : Type 0} → Converted A → Converted B → Converted (A × B)
 paired (into m) (into n) = into (m, n)
-paired (into m) (fails e) = fails e
-paired (fails (threw k)) n = fails (threw k)
-paired (fails (unsupported at)) (into n) = fails (unsupported at)
-paired (fails (unsupported at)) (fails e) = fails e
+paired (fails (threw k)) _ = fails (threw k)
+paired _ (fails e) = fails e
+paired (fails e) _ = fails e
 
 abbrev pub difference_in : ℕ → Val → Val → Out Val
 difference_in at v w = converts nothing (paired (to_number at v) (to_number at w))
     (λ p. in_profile at (difference p.0 p.1))
 
-abbrev pub negative_in : ℕ → Val → Out Val
-negative_in at v = converts nothing (to_number at v) (λ n. needing nothing (number (negative n)))
-
 -- two strings joined, unless they are longer together than a string may be; where nothing is joined,
 -- it needs nothing
 abbrev pub concatenated : ℕ → List ℕ → List ℕ → Out Val
 concatenated limit u w =
-    if nat_le (length u + length w) limit
-    then needing joins (text (u ++ w))
+    if nat_le (length u + length w) limit then needing joins (text (u ++ w))
     else throwing nothing RangeError
 
 -- two primitive values as strings, joined
@@ -49,22 +44,13 @@ joined_strings limit v w = bind (to_string limit v)
 
 -- the primitive value of a value: an array or an object becomes its string (ECMA-262, "ToPrimitive")
 abbrev pub primitive : ℕ → Val → Out Val
-primitive limit undefined = gave undefined free
-primitive limit null = gave null free
-primitive limit (bool b) = gave (bool b) free
-primitive limit (number n) = gave (number n) free
-primitive limit (text u) = gave (text u) free
-primitive limit (symbol k) = gave (symbol k) free
 primitive limit (list us) = bind (to_string limit (list us)) (λ u. gave (text u) free)
 primitive limit (object fs) = bind (to_string limit (object fs)) (λ u. gave (text u) free)
+primitive limit v = gave v free
 
 -- the sum of two primitive values, of which a string makes both strings
-abbrev pub added : Bool → ℕ → ℕ → Val → Val → Out Val
-added true at limit v w = joined_strings limit v w
-added false at limit v w = sum_in at v w
-
 abbrev pub plus_primitives : ℕ → ℕ → Val → Val → Out Val
-plus_primitives at limit v w = added (is_text v || is_text w) at limit v w
+plus_primitives at limit v w = if is_text v || is_text w then joined_strings limit v w else sum_in at v w
 
 -- arrays and objects become strings before anything else; what ends early has needed its conversions alone
 abbrev pub plus : ℕ → ℕ → Val → Val → Out Val
@@ -73,5 +59,5 @@ plus at limit v w =
 
 -- unary minus, or else `!`
 abbrev pub unary_out : Bool → ℕ → Val → Out Val
-unary_out true at v = negative_in at v
+unary_out true at v = converts nothing (to_number at v) (λ n. needing nothing (number (negative n)))
 unary_out false at v = needing nothing (bool (not (to_boolean v)))

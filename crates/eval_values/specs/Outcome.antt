@@ -22,13 +22,12 @@ abbrev pub free : Ledger
 free = record { interned = []; texts = []; ids = 0; words = 0 }
 
 abbrev pub both : Ledger → Ledger → Ledger
-both l m =
-    record {
-      interned = l.interned ++ m.interned;
-      texts = l.texts ++ m.texts;
-      ids = l.ids + m.ids;
-      words = l.words + m.words;
-    }
+both l m = record {
+  interned = l.interned ++ m.interned;
+  texts = l.texts ++ m.texts;
+  ids = l.ids + m.ids;
+  words = l.words + m.words;
+}
 
 -- what ends a script early: a throw completion, or a place that the profile leaves out
 pub data Ending : Type 0 where
@@ -69,33 +68,26 @@ each f (x ∷ xs) = bind (f x) (λ a. mapped (λ ys. a ∷ ys) (each f xs))
 
 -- the strings that a value is or that it has as elements
 abbrev pub texts_of : Val → List (List ℕ)
-texts_of undefined = []
-texts_of null = []
-texts_of (bool b) = []
-texts_of (number n) = []
 texts_of (text u) = u ∷ []
-texts_of (symbol k) = []
 texts_of (list us) = us
-texts_of (object fs) = []
+texts_of _ = []
 
 -- a number as it is written, or a count of elements; no source text spells one past the range,
 -- and no array has as many
 abbrev pub number_of : ℕ → Val
 number_of n = if nat_le n 9007199254740991 then number (Int (pos n)) else undefined
 
--- the value of an expression, which needs so much
-abbrev pub gives : Val → ℕ → ℕ → Out Val
-gives v ids words = gave v (record { interned = []; texts = texts_of v; ids = ids; words = words })
-
-abbrev pub throws : Kind → ℕ → ℕ → Out Val
-throws k ids words = ended (threw k) (record { interned = []; texts = []; ids = ids; words = words })
-
--- the same by the row of the operation
-abbrev pub needing : Row → Val → Out Val
-needing row v = gives v (ids_in row) (words_in row)
-
+-- what an operation of this row needs
 abbrev pub cost : Row → Ledger
 cost row = record { interned = []; texts = []; ids = ids_in row; words = words_in row }
+
+-- the same, with a list that is interned
+abbrev pub interning : Row → List ℕ → Ledger
+interning row u = record (cost row) { interned = u ∷ [] }
+
+-- the value of an expression by such an operation
+abbrev pub needing : Row → Val → Out Val
+needing row v = gave v (record (cost row) { texts = texts_of v })
 
 abbrev pub throwing : {A : Type 0} → Row → Kind → Out A
 throwing row k = ended (threw k) (cost row)
@@ -104,15 +96,12 @@ throwing row k = ended (threw k) (cost row)
 abbrev pub refuses : {A : Type 0} → ℕ → Out A
 refuses at = ended (unsupported at) free
 
--- an operation that a conversion ends: where it throws, the operands count, by this row
-abbrev pub ends : {A : Type 0} → Row → Ending → Out A
-ends row (threw k) = throwing row k
-ends row (unsupported at) = refuses at
-
--- a conversion within an operation, and then what has its value
+-- a conversion within an operation, and then what has its value; where it throws, the operands count, by this
+-- row
 abbrev pub converts : {A B : Type 0} → Row → Converted A → (A → Out B) → Out B
 converts row (into x) go = go x
-converts row (fails e) go = ends row e
+converts row (fails (threw k)) go = throwing row k
+converts row (fails (unsupported at)) go = refuses at
 
 -- the same where the conversion makes a string
 abbrev pub converting : {A B : Type 0} → Row → Out A → (A → Out B) → Out B

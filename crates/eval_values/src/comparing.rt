@@ -1,14 +1,19 @@
 // Comparisons of values (ECMA-262, "IsStrictlyEqual", "IsLessThan").
-ghost use Rattle.std.specs.Prelude.{◌≡◌, ◌+◌, length, OnOk, bytes_eq, true, Some};
+ghost use Rattle.std.specs.Prelude.{◌≡◌, ◌+◌, length, OnOk, bytes_eq, true, Some, not, if◌then◌else◌};
 ghost use Rattle.js_number.specs.Places.{IsLawful};
 ghost use Rattle.js_search.specs.Order.{units_cmp};
 ghost use Rattle.js_store.specs.State.{Grows, IsKnown, IsSettled, text};
 ghost use Rattle.js_store.specs.Rows.{wide_words};
 ghost use Rattle.js_store.specs.Faults.{fault_of, Uses};
-ghost use Rattle.eval_values.specs.Outcome.{gave, free};
+ghost use Rattle.js_item.specs.Contents;
+ghost use Rattle.js_texts.specs.Texts.{known_texts as texts_seen};
+ghost use Rattle.eval_values.specs.Outcome.{gave, free, converts};
+ghost use Rattle.eval_values.specs.Need.{nothing};
+ghost use Rattle.eval_values.specs.Conversions.{to_number};
+ghost use Rattle.eval_values.specs.Operators.{paired};
 ghost use Rattle.eval_values.specs.Comparing;
-ghost use Rattle.eval_values.specs.Comparing.{compared, same_out, same_as_text, same_as_list, same_as_object, order_out, order_primitives, order_numbers, order_text, number_order};
-ghost use Rattle.js_item.specs.Seen.{seen};
+ghost use Rattle.eval_values.specs.Comparing.{compared, same_out, order_out, order_primitives, number_order};
+ghost use Rattle.js_item.specs.Seen.{seen, says, fields_mapped};
 ghost use Rattle.js_item.specs.Fine.{IsFine};
 ghost use Rattle.eval_values.specs.Seen.{IsKey, TextSettled, OneOrSettled, TextRead, TextsRead};
 ghost use Rattle.eval_values.specs.Does.{GivesPlain};
@@ -16,6 +21,7 @@ ghost use Rattle.eval_values.specs.Settled.{StringsSettled};
 
 use crate::operators::{to_primitive, two_numbers};
 use crate::value::{Stop, Value};
+use js_item::Object;
 use js_number::Num;
 use js_store::{StoreFault, Strings};
 use std::alloc::Global;
@@ -37,82 +43,96 @@ pub fn is_same<S: Strings>(
         (seen (S.state store.old) S.number left.now) (seen (S.state store.old) S.number right.now)) }
 {
     match left {
-        Value::Undefined => Ok(is_undefined_too(store, right)),
-        Value::Null => Ok(is_null_too(store, right)),
-        Value::Bool(b) => Ok(is_bool_too(store, *b, right)),
-        Value::Number(n) => Ok(is_number_too(store, *n, right)),
-        Value::Text(s) => is_text_too(store, *s, right),
-        Value::Symbol(s) => is_symbol_too(store, *s, right),
-        Value::List(_) => is_list_too(store, at, right),
-        Value::Object(_) => is_object_too(store, at, right),
+        Value::Undefined => is_undefined_too(store, at, right),
+        Value::Null => is_null_too(store, at, right),
+        Value::Bool(b) => is_bool_too(store, at, *b, right),
+        Value::Number(n) => is_number_too(store, at, *n, right),
+        Value::Text(s) => is_text_too(store, at, *s, right),
+        Value::Symbol(s) => is_symbol_too(store, at, *s, right),
+        Value::List(list) => is_list_too(store, at, list, right),
+        Value::Object(object) => is_object_too(store, at, object, right),
     }
 }
 
-fn is_undefined_too<S: Strings>(_store: &S, value: &Value<S::Ref>) -> bool
-    ensures { result ≡ Comparing.is_undefined_too (seen (S.state _store.now) S.number value.now) }
+fn is_undefined_too<S: Strings>(_store: &S, _at: u32, value: &Value<S::Ref>) -> Result<bool, Stop>
+    ensures { GivesPlain (S.state _store.now) (S.state _store.now) result
+        (same_out _at Contents.undefined (seen (S.state _store.now) S.number value.now)) }
 {
     match value {
-        Value::Undefined => true,
+        Value::Undefined => Ok(true),
         Value::Null
         | Value::Bool(_)
         | Value::Number(_)
         | Value::Text(_)
         | Value::Symbol(_)
         | Value::List(_)
-        | Value::Object(_) => false,
+        | Value::Object(_) => Ok(false),
     }
 }
 
-fn is_null_too<S: Strings>(_store: &S, value: &Value<S::Ref>) -> bool
-    ensures { result ≡ Comparing.is_null_too (seen (S.state _store.now) S.number value.now) }
+fn is_null_too<S: Strings>(_store: &S, _at: u32, value: &Value<S::Ref>) -> Result<bool, Stop>
+    ensures { GivesPlain (S.state _store.now) (S.state _store.now) result
+        (same_out _at Contents.null (seen (S.state _store.now) S.number value.now)) }
 {
     match value {
-        Value::Null => true,
+        Value::Null => Ok(true),
         Value::Undefined
         | Value::Bool(_)
         | Value::Number(_)
         | Value::Text(_)
         | Value::Symbol(_)
         | Value::List(_)
-        | Value::Object(_) => false,
+        | Value::Object(_) => Ok(false),
     }
 }
 
-fn is_bool_too<S: Strings>(_store: &S, b: bool, value: &Value<S::Ref>) -> bool
-    ensures { result ≡ Comparing.is_bool_too b (seen (S.state _store.now) S.number value.now) }
+fn is_bool_too<S: Strings>(
+    _store: &S,
+    _at: u32,
+    b: bool,
+    value: &Value<S::Ref>,
+) -> Result<bool, Stop>
+    ensures { GivesPlain (S.state _store.now) (S.state _store.now) result
+        (same_out _at (Contents.bool b) (seen (S.state _store.now) S.number value.now)) }
 {
     match value {
-        Value::Bool(other) => same_bool(b, *other),
+        Value::Bool(other) => Ok(same_bool(b, *other)),
         Value::Undefined
         | Value::Null
         | Value::Number(_)
         | Value::Text(_)
         | Value::Symbol(_)
         | Value::List(_)
-        | Value::Object(_) => false,
+        | Value::Object(_) => Ok(false),
     }
 }
 
 fn same_bool(b: bool, other: bool) -> bool
-    ensures { result ≡ Comparing.same_bool b other }
+    ensures { result ≡ (if b then other else not other) }
 {
     if b { other } else { !other }
 }
 
-fn is_number_too<S: Strings>(_store: &S, n: Num, value: &Value<S::Ref>) -> bool
+fn is_number_too<S: Strings>(
+    _store: &S,
+    _at: u32,
+    n: Num,
+    value: &Value<S::Ref>,
+) -> Result<bool, Stop>
     requires number { IsLawful n }
     requires value { IsFine (S.state _store.now) S.number value.now }
-    ensures { result ≡ Comparing.is_number_too n (seen (S.state _store.now) S.number value.now) }
+    ensures { GivesPlain (S.state _store.now) (S.state _store.now) result
+        (same_out _at (Contents.number n) (seen (S.state _store.now) S.number value.now)) }
 {
     match value {
-        Value::Number(other) => is_equal(order_of(n, *other)),
+        Value::Number(other) => Ok(is_equal(order_of(n, *other))),
         Value::Undefined
         | Value::Null
         | Value::Bool(_)
         | Value::Text(_)
         | Value::Symbol(_)
         | Value::List(_)
-        | Value::Object(_) => false,
+        | Value::Object(_) => Ok(false),
     }
 }
 
@@ -125,13 +145,19 @@ fn is_equal(order: Option<Ordering>) -> bool
     }
 }
 
-fn is_text_too<S: Strings>(store: &mut S, s: S::Ref, value: &Value<S::Ref>) -> Result<bool, Stop>
+fn is_text_too<S: Strings>(
+    store: &mut S,
+    _at: u32,
+    s: S::Ref,
+    value: &Value<S::Ref>,
+) -> Result<bool, Stop>
     requires string { IsKnown (S.state store.old) (S.number s) }
     requires value { IsFine (S.state store.old) S.number value.now }
     ensures grows { Grows (S.state store.old) (S.state store.new) }
     ensures read { OnOk result (TextRead (S.state store.new) S.number (S.number s) value.now) }
     ensures did { GivesPlain (S.state store.old) (S.state store.new) result
-        (same_as_text (text (S.state store.old) (S.number s)) (seen (S.state store.old) S.number value.now)) }
+        (same_out _at (Contents.text (text (S.state store.old) (S.number s)))
+        (seen (S.state store.old) S.number value.now)) }
 {
     match value {
         Value::Text(other) => same_texts(store, s, *other),
@@ -148,6 +174,7 @@ fn is_text_too<S: Strings>(store: &mut S, s: S::Ref, value: &Value<S::Ref>) -> R
 // There is one interned string of each key.
 fn is_symbol_too<S: Strings>(
     store: &mut S,
+    _at: u32,
     key: S::Ref,
     value: &Value<S::Ref>,
 ) -> Result<bool, Stop>
@@ -155,8 +182,8 @@ fn is_symbol_too<S: Strings>(
     requires value { IsFine (S.state store.old) S.number value.now }
     ensures grows { Grows (S.state store.old) (S.state store.new) }
     ensures did { GivesPlain (S.state store.old) (S.state store.new) result
-        (gave (Comparing.is_symbol_too (text (S.state store.old) (S.number key))
-        (seen (S.state store.old) S.number value.now)) free) }
+        (same_out _at (Contents.symbol (text (S.state store.old) (S.number key)))
+        (seen (S.state store.old) S.number value.now)) }
 {
     match value {
         Value::Symbol(other) => Ok(store.same(key, *other)),
@@ -170,9 +197,15 @@ fn is_symbol_too<S: Strings>(
     }
 }
 
-fn is_list_too<S: Strings>(_store: &S, at: u32, value: &Value<S::Ref>) -> Result<bool, Stop>
+fn is_list_too<S: Strings>(
+    _store: &S,
+    at: u32,
+    _list: &[S::Ref],
+    value: &Value<S::Ref>,
+) -> Result<bool, Stop>
     ensures { GivesPlain (S.state _store.now) (S.state _store.now) result
-        (same_as_list at (seen (S.state _store.now) S.number value.now)) }
+        (same_out at (Contents.list (texts_seen (S.state _store.now) S.number _list.now))
+        (seen (S.state _store.now) S.number value.now)) }
 {
     match value {
         Value::List(_) => Err(Stop::Unsupported { at }),
@@ -186,9 +219,15 @@ fn is_list_too<S: Strings>(_store: &S, at: u32, value: &Value<S::Ref>) -> Result
     }
 }
 
-fn is_object_too<S: Strings>(_store: &S, at: u32, value: &Value<S::Ref>) -> Result<bool, Stop>
+fn is_object_too<S: Strings>(
+    _store: &S,
+    at: u32,
+    _object: &Object<S::Ref>,
+    value: &Value<S::Ref>,
+) -> Result<bool, Stop>
     ensures { GivesPlain (S.state _store.now) (S.state _store.now) result
-        (same_as_object at (seen (S.state _store.now) S.number value.now)) }
+        (same_out at (Contents.object (fields_mapped (says (S.state _store.now) S.number) _object.now))
+        (seen (S.state _store.now) S.number value.now)) }
 {
     match value {
         Value::Object(_) => Err(Stop::Unsupported { at }),
@@ -322,7 +361,7 @@ fn compare_text<S: Strings>(
     ensures left_settled { OnOk result (IsSettled (S.state store.new) (S.number s)) }
     ensures right_settled { OnOk result (TextSettled (S.state store.new) S.number right.now) }
     ensures did { GivesPlain (S.state store.old) (S.state store.new) result
-        (order_text at (text (S.state store.old) (S.number s))
+        (order_primitives at (Contents.text (text (S.state store.old) (S.number s)))
         (seen (S.state store.old) S.number right.now)) }
 {
     match right {
@@ -365,8 +404,9 @@ fn compare_numbers<S: Strings>(
     ensures left_settled { OnOk result (TextSettled (S.state store.new) S.number left.now) }
     ensures right_settled { OnOk result (TextSettled (S.state store.new) S.number right.now) }
     ensures did { GivesPlain (S.state store.old) (S.state store.new) result
-        (order_numbers at (seen (S.state store.old) S.number left.now)
-        (seen (S.state store.old) S.number right.now)) }
+        (converts nothing (paired (to_number at (seen (S.state store.old) S.number left.now))
+        (to_number at (seen (S.state store.old) S.number right.now)))
+        (λ p. gave (number_order p.0 p.1) free)) }
 {
     let (m, n) = two_numbers(store, at, left, right)?;
     Ok(order_of(m, n))

@@ -9,7 +9,7 @@ ghost use Rattle.js_texts.specs.Use.{made_words};
 ghost use Rattle.js_store.specs.Rows.{wide_words, settle_words};
 ghost use Rattle.js_item.specs.Contents;
 ghost use Rattle.eval_values.specs.Outcome.{each, fails};
-ghost use Rattle.eval_values.specs.Conversions.{spelled, to_string, is_text, to_number, to_boolean, number_truth, list_string, object_string, own_to_string, comma_joined, text_units};
+ghost use Rattle.eval_values.specs.Conversions.{spelled, to_string, is_text, to_number, to_boolean, number_truth, list_string, own_to_string, comma_joined, text_units};
 ghost use Rattle.js_texts.specs.Texts.{known_texts as texts_seen, Every, AllKnown, AllSettled, settle_most};
 ghost use Rattle.eval_values.specs.Stops.{converted_of, ending_of};
 ghost use Rattle.js_item.specs.Seen.{seen, says, fields_mapped};
@@ -89,7 +89,8 @@ fn object_text<S: Strings>(
     ensures short { IfOk result (λ r. length (text (S.state store.new) (S.number r)) ≤ 40) }
     ensures settled { IfOk result (λ r. IsSettled (S.state store.new) (S.number r)) }
     ensures did { GivesText S.number (S.state store.old) (S.state store.new) result
-        (object_string (fields_mapped (says (S.state store.old) S.number) object.now)) }
+        (to_string (S.state store.old).limit
+        (Contents.object (fields_mapped (says (S.state store.old) S.number) object.now))) }
 {
     if has_to_string(store, object) {
         Err(Stop::Threw(Kind::TypeError))

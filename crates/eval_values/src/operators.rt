@@ -1,12 +1,12 @@
 // Operators on values (ECMA-262, "Additive Operators" and "Unary Operators").
-ghost use Rattle.std.specs.Prelude.{◌≡◌, ◌≤◌, ◌+◌, ◌||◌, length, IfOk, OnOk, IfSome, None};
+ghost use Rattle.std.specs.Prelude.{◌≡◌, ◌≤◌, ◌+◌, ◌||◌, length, IfOk, OnOk, IfSome, None, true};
 ghost use Rattle.js_number.specs.Places.{IsLawful};
 ghost use Rattle.js_store.specs.State.{Grows, IsKnown, text};
 ghost use Rattle.js_store.specs.Faults.{Uses};
 ghost use Rattle.js_item.specs.Contents;
 ghost use Rattle.eval_values.specs.Outcome.{gave, bind, free};
 ghost use Rattle.eval_values.specs.Conversions.{is_text, to_number, to_string};
-ghost use Rattle.eval_values.specs.Operators.{in_profile, sum_in, paired, difference_in, negative_in, concatenated, joined_strings, primitive, plus as sum_out, plus_primitives as primitive_sum, unary_out};
+ghost use Rattle.eval_values.specs.Operators.{in_profile, sum_in, paired, difference_in, concatenated, joined_strings, primitive, plus as sum_out, plus_primitives as primitive_sum, unary_out};
 ghost use Rattle.eval_values.specs.Stops.{converted_of};
 ghost use Rattle.js_item.specs.Seen.{seen};
 ghost use Rattle.js_item.specs.Fine.{IsFine};
@@ -136,7 +136,7 @@ fn negate<S: Strings>(store: &mut S, at: u32, value: &Value<S::Ref>) -> Result<V
     ensures grows { Grows (S.state store.old) (S.state store.new) }
     ensures fine { IfOk result (λ v. IsFine (S.state store.new) S.number v) }
     ensures did { GivesValue S.number (S.state store.old) (S.state store.new) result
-        (negative_in at (seen (S.state store.old) S.number value.now)) }
+        (unary_out true at (seen (S.state store.old) S.number value.now)) }
 {
     let n = number_of(store, at, value)?;
     Ok(Value::Number(n.neg()))

@@ -1,10 +1,11 @@
 -- What each operation on bindings keeps: that all values may be used.
+use Rattle.eval_scopes.specs.Changes.{with_value, with_bound}
 use Rattle.std.proofs.Common.{ℕ, List, [], ◌∷◌, ◌++◌, Bool, true, false, Option, Some, None, is_some, bytes_eq, if◌then◌else◌}
 use Rattle.js_store.specs.State.{State}
 use Rattle.js_texts.specs.Texts.{Every}
 use Rattle.js_item.specs.declared.item.Item.{Item}
 use Rattle.js_item.specs.Fine.{IsFine}
-use Rattle.eval_scopes.specs.Bindings.{Bound, BlockFrame, Bindings, bound_in, is_among, inner_first, look, meant, with_value, changed, with_bound, inside, write, written, declare, declared, entered, turned, outer}
+use Rattle.eval_scopes.specs.Bindings.{Bound, BlockFrame, Bindings, bound_in, is_among, inner_first, look, meant, changed, inside, write, written, declare, declared, entered, turned, outer}
 use Rattle.js_eval.specs.Seen.{BoundsFine, BindingsFine}
 
 module _ {F R : Type 0} (s : State F) (name : R → ℕ) where

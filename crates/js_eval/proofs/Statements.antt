@@ -1,4 +1,5 @@
 -- Statements in a context: a value and then what is done with it, blocks, arms, and statements in order.
+use Rattle.js_eval.specs.Pieces.{sum_of_both}
 use Rattle.std.proofs.Common.{arith, ◌≡◌, ℕ, ◌+◌, ◌<◌, List, length, get_or, drop, map, refl, ap, sym, ◌∙◌, subst, Bool, true, false, if◌then◌else◌, None, Result, Ok, Err}
 use Rattle.js_store.specs.State.{State, Grows}
 use Rattle.js_store.specs.Faults.{StoreStep}
@@ -27,7 +28,7 @@ use Rattle.eval_values.proofs.Still.{seen_still}
 use Rattle.eval_scopes.specs.Bindings.{Bindings, meant, entered, turned, outer}
 use Rattle.js_eval.specs.declared.context.Context.{Context}
 use Rattle.js_eval.specs.Expression.{EvalContext, read_out, expr_out}
-use Rattle.js_eval.specs.Script.{Flow, on_value, with_bindings, sum_of_both, stmt_flow, stmts_flow, block_flow, arms_flow, turn_flow}
+use Rattle.js_eval.specs.Script.{Flow, on_value, with_bindings, stmt_flow, stmts_flow, block_flow, arms_flow, turn_flow}
 use Rattle.js_eval.specs.Seen.{ContextFine, context_bindings, scope_of}
 use Rattle.js_eval.specs.Flows.{FollowsFlow, told}
 use Rattle.js_eval.proofs.Stays.{context_bindings_still, scope_still}

@@ -12,8 +12,7 @@ use Rattle.js_item.specs.Seen.{Val}
 use Rattle.eval_values.specs.Outcome.{Out, gave, ended, threw, unsupported}
 use Rattle.eval_scopes.specs.Bindings.{Bound}
 use Rattle.js_texts.specs.Texts.{full_only}
-use Rattle.js_eval.specs.Script as meant
-use Rattle.js_eval.specs.Script.{Flow, need_ids, need_words}
+use Rattle.js_eval.specs.Script.{Flow, flow_ledger}
 use Rattle.eval_values.specs.Ran.{Interns, InternsSome}
 use Rattle.js_eval.specs.Flows.{WroteSome}
 
@@ -31,10 +30,10 @@ pub record Finished {F : Type 0} (a b : State F) (x y : List ℕ) (after : List 
   pub end_is : end ≡ script_end m.out
   pub lines : y ≡ x ++ concat m.lines
   pub bindings : after ≡ m.bindings.top
-  pub interned : Interns a.history b.history (meant.interned m)
-  pub texts : (u : List ℕ) → Contains (meant.texts m) u → (n : ℕ) × NamesUnits b n u
-  pub within_ids : b.used_ids ≤ a.used_ids + need_ids m
-  pub within_words : b.used_words ≤ a.used_words + need_words m
+  pub interned : Interns a.history b.history (flow_ledger m).interned
+  pub texts : (u : List ℕ) → Contains (flow_ledger m).texts u → (n : ℕ) × NamesUnits b n u
+  pub within_ids : b.used_ids ≤ a.used_ids + (flow_ledger m).ids
+  pub within_words : b.used_words ≤ a.used_words + (flow_ledger m).words
 
 -- the store was full or memory ran out: a full store's report is true, the first ones of the lines were
 -- written whole, the history grew by the first ones of what is meant to be interned (on a full string table
@@ -42,9 +41,9 @@ pub record Finished {F : Type 0} (a b : State F) (x y : List ℕ) (after : List 
 pub record Interrupted {F : Type 0} (a b : State F) (x y : List ℕ) (f : StoreFault) (m : Flow) : Type 0 where
   pub honest : Honest b (full_only f)
   pub lines : WroteSome x y m.lines
-  pub interned : InternsSome b f a.history (meant.interned m)
-  pub within_ids : b.used_ids + ids_wanted (Some f) ≤ a.used_ids + need_ids m
-  pub within_words : b.used_words + words_wanted (Some f) ≤ a.used_words + need_words m
+  pub interned : InternsSome b f a.history (flow_ledger m).interned
+  pub within_ids : b.used_ids + ids_wanted (Some f) ≤ a.used_ids + (flow_ledger m).ids
+  pub within_words : b.used_words + words_wanted (Some f) ≤ a.used_words + (flow_ledger m).words
 
 -- from the state a to the state b the script came to this end: Done, Threw and Unsupported are ends by its
 -- meaning, and with Full and Memory the store or a lack of memory stopped it

@@ -57,10 +57,6 @@ operated GreaterEq at limit v w = truth_of is_at_least (order_out at limit v w)
 operated Plus at limit v w = plus at limit v w
 operated Minus at limit v w = difference_in at v w
 
--- an operator on a value and what is on its right
-abbrev pub linked : Op → ℕ → ℕ → Val → Out Val → Out Val
-linked op at limit v right = if decides op v then gave v free else bind right (λ w. operated op at limit v w)
-
 abbrev mutual
   -- what an expression comes to in a scope ("Evaluation" of "Expression"): its value or its end, with what it
   -- needs
@@ -86,7 +82,8 @@ abbrev mutual
   pub links_out : Links → EvalContext → Val → Out Val
   links_out no_links s v = gave v free
   links_out (link at op right rest) s v =
-      bind (linked op at s.limit v (expr_out right s)) (λ x. links_out rest s x)
+      bind (if decides op v then gave v free else bind (expr_out right s) (λ w. operated op at s.limit v w))
+      (λ x. links_out rest s x)
 
   -- the steps behind a value
   pub steps_out : StepList → EvalContext → Val → Out Val
@@ -112,6 +109,10 @@ abbrev mutual
   pub exprs_out : Exprs → EvalContext → Out (List Val)
   exprs_out no_exprs s = gave [] free
   exprs_out (expr first rest) s = bind (expr_out first s) (λ v. mapped (λ vs. v ∷ vs) (exprs_out rest s))
+
+-- an operator on a value and what is on its right
+abbrev pub linked : Op → ℕ → ℕ → Val → Out Val → Out Val
+linked op at limit v right = if decides op v then gave v free else bind right (λ w. operated op at limit v w)
 
 -- one link, and one step
 abbrev pub link_out : LinkTree → EvalContext → Val → Out Val

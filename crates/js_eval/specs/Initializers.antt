@@ -1,13 +1,13 @@
 -- Object literals (ECMA-262, "Object Initializer").
-use Rattle.std.specs.Prelude.{ℕ, suc, ◌+◌, List, [], ◌∷◌, length, nat_le, ◌&&◌, if◌then◌else◌, bytes_eq}
+use Rattle.std.specs.Prelude.{ℕ, suc, ◌+◌, List, length, nat_le, ◌&&◌, if◌then◌else◌, bytes_eq}
 use Rattle.eval_tree.specs.Tree.{Entries, no_entries, entry}
 use Rattle.js_item.specs.Contents.{Fields, object, count}
 use Rattle.js_item.specs.Fine.{depth}
 use Rattle.js_item.specs.Puts.{put_by}
 use Rattle.js_item.specs.Seen.{Val}
 use Rattle.eval_values.specs.declared.value.Kind.TheVariants.{RangeError}
-use Rattle.eval_values.specs.Outcome.{Ledger, Out, gave, ended, threw, free, cost, refuses}
-use Rattle.eval_values.specs.Need.{parts}
+use Rattle.eval_values.specs.Outcome.{Ledger, Out, gave, free, cost, refuses, interning, throwing}
+use Rattle.eval_values.specs.Need.{parts, nothing}
 
 -- how many members a literal has, and the units of its keys
 abbrev pub members_in : Entries → ℕ
@@ -26,9 +26,7 @@ literal_cost members = cost (parts (members_in members) (key_units members))
 -- a key is interned, unless it is longer than a string may be
 abbrev pub key_interned : ℕ → List ℕ → Out (List ℕ)
 key_interned limit key =
-    if nat_le (length key) limit
-    then gave key (record { interned = key ∷ []; texts = []; ids = 0; words = 0 })
-    else ended (threw RangeError) free
+    if nat_le (length key) limit then gave key (interning nothing key) else throwing nothing RangeError
 
 -- a property of the object gets a value, in its place where there is one of this key
 -- ("CreateDataPropertyOrThrow")

@@ -2,6 +2,7 @@ pub mod Initializers
 pub mod Expression
 pub mod Paid
 pub mod Script
+pub mod Pieces
 pub mod Seen
 pub mod Flows
 pub mod Evaluates

@@ -1,17 +1,18 @@
 -- What statements and a script mean: how they end, the lines that they print, and the bindings that they
 -- leave.
+use Rattle.std.specs.Option.{option_map_or}
 use Rattle.std.specs.Prelude.{ℕ, zero, suc, ◌+◌, Bool, true, false, List, [], ◌∷◌, ◌++◌, length, nat_le, if◌then◌else◌, Option, Some, None, pos}
 use Rattle.js_number.specs.declared.Num.TheVariants.{Int}
 use Rattle.js_json.specs.Printing.{line}
 use Rattle.eval_tree.specs.declared.tree.Op.TheVariants.{Plus}
-use Rattle.eval_tree.specs.Tree.{ExprTree, Exprs, StmtTree, block, let_line, const_line, assign, append, print, if_line, for_line, Stmts, no_stmts, stmt, BlockTree, block_of, Arms, no_arms, arm, Tree}
+use Rattle.eval_tree.specs.Tree.{StmtTree, block, let_line, const_line, assign, append, print, if_line, for_line, Stmts, no_stmts, stmt, BlockTree, block_of, Arms, no_arms, arm, Tree}
 use Rattle.eval_scopes.specs.Bindings.{Bound, Bindings, meant, written, declared, entered, turned, outer}
 use Rattle.eval_values.specs.declared.value.Kind.TheVariants.{RangeError, TypeError, ReferenceError}
 use Rattle.js_item.specs.Seen.{Val}
 use Rattle.js_item.specs.Contents.{undefined, number}
-use Rattle.eval_values.specs.Outcome.{Out, gave, ended, threw, after_ledger, bind, converting, each, free, cost, ledger_of}
-use Rattle.eval_values.specs.Need.{reads, parts, ids_in, words_in}
-use Rattle.eval_values.specs.Conversions.{to_string, to_boolean, string_units, text_units, all_units, all_text_units}
+use Rattle.eval_values.specs.Outcome.{Out, gave, ended, threw, after_ledger, bind, converting, each, free, cost, ledger_of, interning, throwing, Ledger}
+use Rattle.eval_values.specs.Need.{reads, parts, nothing}
+use Rattle.eval_values.specs.Conversions.{to_string, to_boolean, string_units, text_units, all_units, total}
 use Rattle.js_eval.specs.Expression.{EvalContext, read_out, operated, expr_out, exprs_out}
 
 -- what statements come to: how they end and what they need, the lines that they print, and the bindings that
@@ -64,25 +65,7 @@ reached_units limit (v ∷ vs) =
 -- the line of a `print`: all its arguments, then their strings
 abbrev pub line_out : ℕ → List Val → Out (List ℕ)
 line_out limit vs = converting (parts (length vs) (reached_units limit vs)) (each (to_string limit) vs)
-    (λ us. gave (line us) (cost (parts (length vs) (all_text_units vs))))
-
--- the line of a print, whose arguments are evaluated from left to right
-abbrev pub print_out : Exprs → EvalContext → Out (List ℕ)
-print_out args s = bind (exprs_out args s) (λ vs. line_out s.limit vs)
-
--- one line
-abbrev pub printed : List ℕ → Bindings Val → Flow
-printed l bs = record { out = gave tt free; lines = l ∷ []; bindings = bs }
-
--- the value of a `let`
-abbrev pub init_out : Option ExprTree → EvalContext → Out Val
-init_out (Some e) s = expr_out e s
-init_out None s = gave undefined free
-
--- `x += e`: what the name means is read first
-abbrev pub sum_of_both : ℕ → List ℕ → ExprTree → EvalContext → Out Val
-sum_of_both at x e s =
-    bind (read_out (meant s.bindings x)) (λ v. bind (expr_out e s) (λ w. operated Plus at s.limit v w))
+    (λ us. gave (line us) (cost (parts (length vs) (total text_units vs))))
 
 -- the innermost block is left, whatever the end
 abbrev pub left : Flow → Flow
@@ -105,13 +88,20 @@ abbrev mutual
   -- what a statement comes to in a scope ("Evaluation" of "StatementListItem")
   pub stmt_flow : StmtTree → EvalContext → Flow
   stmt_flow (block b) s = block_flow b s
-  stmt_flow (let_line at x init) s = on_value (init_out init s) s.bindings (λ v. declares x false s v)
+  stmt_flow (let_line at x init) s =
+      on_value (option_map_or (λ e. expr_out e s) init (gave undefined free)) s.bindings
+      (λ v. declares x false s v)
   stmt_flow (const_line at x e) s = on_value (expr_out e s) s.bindings (λ v. declares x true s v)
   stmt_flow (assign at x e) s =
       on_value (expr_out e s) s.bindings (λ v. assigned (meant s.bindings x) x v s.bindings)
+  -- `x += e`: what the name means is read first
   stmt_flow (append at name_at x e) s =
-      on_value (sum_of_both at x e s) s.bindings (λ v. assigned (meant s.bindings x) x v s.bindings)
-  stmt_flow (print args) s = on_value (print_out args s) s.bindings (λ l. printed l s.bindings)
+      on_value
+      (bind (read_out (meant s.bindings x)) (λ v. bind (expr_out e s) (λ w. operated Plus at s.limit v w)))
+      s.bindings (λ v. assigned (meant s.bindings x) x v s.bindings)
+  -- the arguments are evaluated from left to right
+  stmt_flow (print args) s = on_value (bind (exprs_out args s) (λ vs. line_out s.limit vs)) s.bindings
+      (λ l. record { out = gave tt free; lines = l ∷ []; bindings = s.bindings })
   stmt_flow (if_line arms rest) s = arms_flow arms (λ q. block_flow rest q) s
   stmt_flow (for_line x n b) s =
       turns (λ i cs. left (block_flow b (with_bindings s (turned x (number (Int (pos i))) cs))))
@@ -139,14 +129,7 @@ turn_flow x b s i bs = left (block_flow b (with_bindings s (turned x (number (In
 -- a literal is interned; no source text spells one past the limit
 abbrev pub literal_out : ℕ → List ℕ → Out (List ℕ)
 literal_out limit u =
-    if nat_le (length u) limit
-    then gave u (record {
-      interned = u ∷ [];
-      texts = [];
-      ids = ids_in (reads (length u));
-      words = words_in (reads (length u));
-    })
-    else ended (threw RangeError) free
+    if nat_le (length u) limit then gave u (interning (reads (length u)) u) else throwing nothing RangeError
 
 -- the literals first, and then what has them; the bindings are those of the top
 abbrev pub with_top : List (Bound Val) → Bindings Val
@@ -160,17 +143,5 @@ meaning t top limit = on_value (each (literal_out limit) t.literals) (with_top t
 
 -- what a meaning interns, in order; the strings that its expressions gave; and what it needs of a store at
 -- most
-abbrev pub interned : Flow → List (List ℕ)
-interned m = (ledger_of m.out).interned
-
--- the strings that the expressions of a meaning gave
-abbrev pub texts : Flow → List (List ℕ)
-texts m = (ledger_of m.out).texts
-
--- how many ids a meaning needs of a store at most
-abbrev pub need_ids : Flow → ℕ
-need_ids m = (ledger_of m.out).ids
-
--- how many content words a meaning needs of a store at most
-abbrev pub need_words : Flow → ℕ
-need_words m = (ledger_of m.out).words
+abbrev pub flow_ledger : Flow → Ledger
+flow_ledger m = ledger_of m.out

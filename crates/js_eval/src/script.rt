@@ -1,4 +1,5 @@
 // Statements, and whole scripts.
+ghost use Rattle.js_eval.specs.Pieces.{printed, sum_of_both, init_out};
 ghost use Rattle.std.specs.Prelude.{◌≡◌, ℕ, List, Option, IfOk, pos};
 ghost use Rattle.js_store.specs.State.{Grows};
 ghost use Rattle.eval_tree.specs.Tree;
@@ -12,7 +13,7 @@ ghost use Rattle.eval_values.specs.Seen.{all_seen, AllFine};
 ghost use Rattle.js_item.specs.Fine.{IsFine};
 ghost use Rattle.eval_values.specs.Does.{GivesValue, GivesPlain};
 ghost use Rattle.eval_values.specs.Conversions.{to_boolean};
-ghost use Rattle.js_eval.specs.Script.{on_value, printed, init_out, sum_of_both, line_out, stmt_flow, stmts_flow, block_flow, arms_flow, turn_flow, turns as turns_flow, meaning};
+ghost use Rattle.js_eval.specs.Script.{on_value, line_out, stmt_flow, stmts_flow, block_flow, arms_flow, turn_flow, turns as turns_flow, meaning};
 ghost use Rattle.js_eval.specs.Seen.{ContextFine, BoundsFine, bounds_seen, context_bindings, scope_of};
 ghost use Rattle.js_eval.specs.Flows.{FollowsFlow, WentTop, told};
 ghost use Rattle.js_eval.specs.Expression.{expr_out};

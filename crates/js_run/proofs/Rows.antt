@@ -11,13 +11,13 @@ use Rattle.run_sources.specs.Spelling.{Spell, FirstRefused}
 use Rattle.run_program.specs.declared.ran.Ran.{Ran}
 use Rattle.run_program.specs.Ran.{IsRan}
 use Rattle.js_run.specs.Asked.{AreTexts, names_of, setup_of}
-use Rattle.js_run.specs.Verdict.{Verdict, BadWords, NotRead, TooLarge, Refused, NoMemory, WasRun, report_of, kept_of, status_of, ends_of, unread_line, large_line}
+use Rattle.js_run.specs.Verdict.{Verdict, BadWords, NotRead, TooLarge, Refused, NoMemory, WasRun, report_of, kept_of, status_of, ends_of}
 use Rattle.js_run.specs.Moment.{Moment, Ended}
 use Rattle.js_run.specs.Cause.{HasCauseBy, OfTexts, names_in}
-use Rattle.js_io.specs.Report.{TakesAll, IsEnd, Report, Refusal, Printed, Sinks}
+use Rattle.js_io.specs.Report.{TakesAll, IsTold, IsEnd, Report, Refusal, Printed, Sinks}
 use Rattle.js_run.specs.Outcome.{CallOutcome}
 use Rattle.js_run.specs.Rows as row
-use Rattle.js_run.specs.Rows.{NoFault, IsWant, OrWant, Exactly, IsFileFault, IsToldLarge, IsNoScript, IsToldRefused, HasRefusalStatus, IsRefusalTold, IsMemory, HasProgram, Prints, PrintsAll, PrintsEarly, PrintsFull, IsCutShort, IsHonest, IsRanTo, IsDone}
+use Rattle.js_run.specs.Rows.{NoFault, OrWant, Exactly, IsFileFault, IsToldLarge, IsNoScript, IsToldRefused, HasRefusalStatus, IsRefusalTold, IsMemory, HasRun, Prints, PrintsAll, PrintsEarly, PrintsFull, IsCutShort, IsHonest, IsDone}
 use Rattle.js_run.proofs.Contents.{OneScript, NoneRefused, not_large, read_small, none_refused, same_trees, texts_read, texts_same}
 use Rattle.js_run.proofs.Ends.{IsRunStatus, status_is, done_status, done_out, done_err, early_status, full_first, complete}
 
@@ -69,23 +69,23 @@ refused_words ended old new (WasRun names ran) why end kept = absurd why
 
 -- 3
 
-file_fault : (words : List (List ℕ)) (request : Option Request) (old new : FilesState) (v : Verdict) → request_of words ≡ request → HasCauseBy request old new v → status_in (report_of v) ≡ 3 → IsFileFault words old new
-file_fault words (Some request) old new (NotRead name) lawful why is = record {
-  request = request;
-  lawful = lawful;
-  why = inl (subst (λ (n : FileName). IsUnread old new (in_order (names_of request.asked)) n) (sym why.blames) why);
-}
-file_fault words (Some request) old new (TooLarge name) lawful why is = record {
-  request = request;
-  lawful = lawful;
-  why = inr (subst (λ (n : FileName). IsLarge old new (in_order (names_of request.asked)) n) (sym why.blames) why);
-}
-file_fault words request old new BadWords lawful why is = absurd (omega (arith, is))
-file_fault words request old new (Refused name fault) lawful why is = absurd (omega (arith, is))
-file_fault words request old new NoMemory lawful why is = absurd (omega (arith, is))
-file_fault words request old new (WasRun names ran) lawful why is = absurd (not_ran _ 3 (status_is (ends_of ran)) is (omega arith) (omega arith))
-file_fault words None old new (NotRead name) lawful why is = absurd why
-file_fault words None old new (TooLarge name) lawful why is = absurd why
+-- the file that isn't read is the one that is blamed
+blamed_read : (request : Option Request) (old new : FilesState) (name : FileName) → HasCauseBy request old new (NotRead name) → HasCauseBy request old new (NotRead new.blamed)
+blamed_read None old new name why = absurd why
+blamed_read (Some request) old new name why = subst (λ (n : FileName). IsUnread old new (in_order (names_of request.asked)) n) (sym why.blames) why
+
+blamed_large : (request : Option Request) (old new : FilesState) (name : FileName) → HasCauseBy request old new (TooLarge name) → HasCauseBy request old new (TooLarge new.blamed)
+blamed_large None old new name why = absurd why
+blamed_large (Some request) old new name why = subst (λ (n : FileName). IsLarge old new (in_order (names_of request.asked)) n) (sym why.blames) why
+
+file_fault : (request : Option Request) (old new : FilesState) (v : Verdict) → HasCauseBy request old new v → status_in (report_of v) ≡ 3
+    → HasCauseBy request old new (NotRead new.blamed) ⊎ HasCauseBy request old new (TooLarge new.blamed)
+file_fault request old new (NotRead name) why is = inl (blamed_read request old new name why)
+file_fault request old new (TooLarge name) why is = inr (blamed_large request old new name why)
+file_fault request old new BadWords why is = absurd (omega (arith, is))
+file_fault request old new (Refused name fault) why is = absurd (omega (arith, is))
+file_fault request old new NoMemory why is = absurd (omega (arith, is))
+file_fault request old new (WasRun names ran) why is = absurd (not_ran _ 3 (status_is (ends_of ran)) is (omega arith) (omega arith))
 
 -- a read that failed was counted
 counted : (before after : ℕ) → after ≡ next_count before → NoFault before after → ⊥
@@ -125,14 +125,13 @@ large_end words ended old new large (WasRun names ran) why end kept = absurd (to
 
 -- 4
 
-no_script : (words : List (List ℕ)) (request : Option Request) (old new : FilesState) (v : Verdict) → request_of words ≡ request → HasCauseBy request old new v → status_in (report_of v) ≡ 4 → IsNoScript words old new
-no_script words (Some request) old new (Refused name fault) lawful why is = record { request = request; lawful = lawful; name = name; fault = fault; refused = why }
-no_script words None old new (Refused name fault) lawful why is = absurd why
-no_script words request old new BadWords lawful why is = absurd (omega (arith, is))
-no_script words request old new (NotRead name) lawful why is = absurd (omega (arith, is))
-no_script words request old new (TooLarge name) lawful why is = absurd (omega (arith, is))
-no_script words request old new NoMemory lawful why is = absurd (omega (arith, is))
-no_script words request old new (WasRun names ran) lawful why is = absurd (not_ran _ 4 (status_is (ends_of ran)) is (omega arith) (omega arith))
+no_script : (words : List (List ℕ)) (old new : FilesState) (v : Verdict) → HasCauseBy (request_of words) old new v → status_in (report_of v) ≡ 4 → IsNoScript words old new
+no_script words old new (Refused name fault) why is = (name, (fault, why))
+no_script words old new BadWords why is = absurd (omega (arith, is))
+no_script words old new (NotRead name) why is = absurd (omega (arith, is))
+no_script words old new (TooLarge name) why is = absurd (omega (arith, is))
+no_script words old new NoMemory why is = absurd (omega (arith, is))
+no_script words old new (WasRun names ran) why is = absurd (not_ran _ 4 (status_is (ends_of ran)) is (omega arith) (omega arith))
 
 -- a told file among those that were read isn't too large
 told_not_large : (request : Request) (old new : FilesState) (sources : Program Named) (name : FileName) → row.AreTold old.held (in_order (names_of request.asked))
@@ -168,58 +167,38 @@ no_six ended six (inl two) = omega (arith, six, two)
 no_six ended six (inr (inl three)) = omega (arith, six, three)
 no_six ended six (inr (inr four)) = omega (arith, six, four)
 
-refusal_told : (words : List (List ℕ)) (request : Option Request) (ended : Ended) (old new : Moment) (v : Verdict) → request_of words ≡ request → HasCauseBy request old.files new.files v
+refusal_of : (words : List (List ℕ)) (ended : Ended) (old new : Moment) (v : Verdict) (status : ℕ) (line : List ℕ) → report_of v ≡ Refusal status line → HasCauseBy (request_of words) old.files new.files v
+    → IsTold status line ended.code old.sinks new.sinks → ended.kept ≡ None → IsRefusalTold words ended old new
+refusal_of words ended old new v status line same why told kept = record {
+  verdict = v;
+  cause = why;
+  line = line;
+  is = same ∙ ap (λ c. Refusal c line) (sym told.status);
+  told = record { status = refl; silent = told.silent; told = told.told };
+  kept = kept;
+}
+
+refusal_told : (words : List (List ℕ)) (ended : Ended) (old new : Moment) (v : Verdict) → HasCauseBy (request_of words) old.files new.files v
     → IsEnd (report_of v) ended.code old.sinks new.sinks → ended.kept ≡ kept_of v → HasRefusalStatus ended → IsRefusalTold words ended old new
-refusal_told words request ended old new BadWords lawful why end kept is = record {
-  line = _;
-  is = row.IsLine.bad_words end.status;
-  told = record { status = refl; silent = end.silent; told = end.told };
-  kept = kept;
-}
-refusal_told words None ended old new (NotRead name) lawful why end kept is = absurd why
-refusal_told words (Some request) ended old new (NotRead name) lawful why end kept is = record {
-  line = _;
-  is = subst (λ (n : FileName). row.IsLine words ended.code old.files new.files (unread_line n)) why.blames
-      (row.IsLine.unread end.status request lawful (subst (λ (n : FileName). IsUnread old.files new.files (in_order (names_of request.asked)) n) (sym why.blames) why));
-  told = record { status = refl; silent = end.silent; told = end.told };
-  kept = kept;
-}
-refusal_told words None ended old new (TooLarge name) lawful why end kept is = absurd why
-refusal_told words (Some request) ended old new (TooLarge name) lawful why end kept is = record {
-  line = _;
-  is = subst (λ (n : FileName). row.IsLine words ended.code old.files new.files (large_line n)) why.blames
-      (row.IsLine.large end.status request lawful (subst (λ (n : FileName). IsLarge old.files new.files (in_order (names_of request.asked)) n) (sym why.blames) why));
-  told = record { status = refl; silent = end.silent; told = end.told };
-  kept = kept;
-}
-refusal_told words None ended old new (Refused name fault) lawful why end kept is = absurd why
-refusal_told words (Some request) ended old new (Refused name fault) lawful why end kept is = record {
-  line = _;
-  is = row.IsLine.refused end.status request lawful name fault why;
-  told = record { status = refl; silent = end.silent; told = end.told };
-  kept = kept;
-}
-refusal_told words request ended old new NoMemory lawful why end kept is = absurd (no_six ended end.status is)
-refusal_told words request ended old new (WasRun names ran) lawful why end kept is =
+refusal_told words ended old new BadWords why end kept is = refusal_of words ended old new BadWords 2 _ refl why end kept
+refusal_told words ended old new (NotRead name) why end kept is = refusal_of words ended old new (NotRead name) 3 _ refl why end kept
+refusal_told words ended old new (TooLarge name) why end kept is = refusal_of words ended old new (TooLarge name) 3 _ refl why end kept
+refusal_told words ended old new (Refused name fault) why end kept is = refusal_of words ended old new (Refused name fault) 4 _ refl why end kept
+refusal_told words ended old new NoMemory why end kept is = absurd (no_six ended end.status is)
+refusal_told words ended old new (WasRun names ran) why end kept is =
     absurd (not_refusal ended (status_of (ends_of ran)) (status_is (ends_of ran)) (code_of (report_of (WasRun names ran)) ended.code old.sinks new.sinks end) is)
 
 -- 0, 1, 5, 6 and 7
 
 record RanTo (words : List (List ℕ)) (ended : Ended) (old new : Moment) : Type 0 where
-  run : HasProgram words old.files new.files
-  ran : Ran
-  program : IsRan (setup_of run.request) run.trees.prelude run.trees.scripts ran
-  end : IsEnd (report_of (WasRun (names_in run.sources) ran)) ended.code old.sinks new.sinks
-  kept : ended.kept ≡ Some ran.kept
+  run : HasRun words ended old new
+  end : IsEnd (report_of (WasRun run.names run.ran)) ended.code old.sinks new.sinks
 
 ran_to_end : (words : List (List ℕ)) (request : Request) (ended : Ended) (old new : Moment) (names : Program FileName) (ran : Ran) → request_of words ≡ Some request → OfTexts request old.files new.files (WasRun names ran)
     → IsEnd (report_of (WasRun names ran)) ended.code old.sinks new.sinks → ended.kept ≡ Some ran.kept → RanTo words ended old new
 ran_to_end words request ended old new names ran lawful why end kept = record {
-  run = record { request = request; lawful = lawful; sources = why.sources; texts = why.texts; quiet = why.quiet; trees = why.cause.trees; spell = why.cause.spell };
-  ran = ran;
-  program = why.cause.program;
-  end = subst (λ (ns : Program FileName). IsEnd (report_of (WasRun ns ran)) ended.code old.sinks new.sinks) why.cause.named end;
-  kept = kept;
+  run = record { request = request; lawful = lawful; names = names; ran = ran; came = why; kept = kept };
+  end = end;
 }
 
 other : (code status : ℕ) → code ≡ status → (code < 2) ⊎ ((code ≡ 5) ⊎ (code ≡ 7)) → 2 ≤ status → status < 7 → (status ≡ 5 → ⊥) → ⊥
@@ -241,24 +220,24 @@ ran_only words (Some request) ended old new (WasRun names ran) lawful why end ke
 prints : (words : List (List ℕ)) (status : ℕ) (ended : Ended) (old new : Moment) → status < 7 → ended.code ≡ status → RanTo words ended old new → Prints words status ended old new
 prints words status ended old new small is r = by r.end
   where
-    by : IsEnd (report_of (WasRun (names_in r.run.sources) r.ran)) ended.code old.sinks new.sinks → Prints words status ended old new
-    by (inl whole) = record { run = r.run; ran = r.ran; program = r.program; ends = sym whole.status ∙ is; out = whole.out; err = whole.err; kept = r.kept }
+    by : IsEnd (report_of (WasRun r.run.names r.run.ran)) ended.code old.sinks new.sinks → Prints words status ended old new
+    by (inl whole) = record { run = r.run; ends = sym whole.status ∙ is; out = whole.out; err = whole.err }
     by (inr (inl cut)) = absurd (omega (arith, cut.status, is, small))
     by (inr (inr cut)) = absurd (omega (arith, cut.status, is, small))
 
 prints_all : (words : List (List ℕ)) (ended : Ended) (old new : Moment) → Prints words 0 ended old new → PrintsAll words ended old new
 prints_all words ended old new p = record {
   prints = p;
-  meant = done_status p.run.request p.run.trees p.ran p.program p.ends;
-  out = subst (λ (l : List ℕ). TakesAll old.sinks.out new.sinks.out l) (done_out p.run.request p.run.trees p.ran p.program p.ends) p.out;
-  err = subst (λ (l : List ℕ). TakesAll old.sinks.err new.sinks.err l) (done_err p.run.request p.run.trees p.ran p.program (names_in p.run.sources) p.ends) p.err;
+  meant = done_status p.run.request p.run.came.cause.trees p.run.ran p.run.came.cause.program p.ends;
+  out = subst (λ (l : List ℕ). TakesAll old.sinks.out new.sinks.out l) (done_out p.run.request p.run.came.cause.trees p.run.ran p.run.came.cause.program p.ends) p.out;
+  err = subst (λ (l : List ℕ). TakesAll old.sinks.err new.sinks.err l) (done_err p.run.request p.run.came.cause.trees p.run.ran p.run.came.cause.program p.run.names p.ends) p.err;
 }
 
 prints_early : (words : List (List ℕ)) (ended : Ended) (old new : Moment) → Prints words 1 ended old new → PrintsEarly words ended old new
-prints_early words ended old new p = record { prints = p; meant = early_status p.run.request p.run.trees p.ran p.program p.ends }
+prints_early words ended old new p = record { prints = p; meant = early_status p.run.request p.run.came.cause.trees p.run.ran p.run.came.cause.program p.ends }
 
 prints_full : (words : List (List ℕ)) (ended : Ended) (old new : Moment) → Prints words 5 ended old new → PrintsFull words ended old new
-prints_full words ended old new p = record { prints = p; full = full_first p.run.request p.run.trees p.ran p.program p.ends }
+prints_full words ended old new p = record { prints = p; full = full_first p.run.request p.run.came.cause.trees p.run.ran p.run.came.cause.program p.ends }
 
 -- memory was wanting
 
@@ -276,9 +255,9 @@ memory_end words (Some request) ended old new (WasRun names ran) lawful why end 
 cut_short : (words : List (List ℕ)) (ended : Ended) (old new : Moment) → ended.code ≡ 7 → RanTo words ended old new → IsCutShort words ended old new
 cut_short words ended old new is r = by r.end
   where
-    by : IsEnd (report_of (WasRun (names_in r.run.sources) r.ran)) ended.code old.sinks new.sinks → IsCutShort words ended old new
-    by (inl whole) = absurd (not_seven (status_of (ends_of r.ran)) (status_is (ends_of r.ran)) (sym whole.status ∙ is))
-    by (inr cut) = record { run = r.run; ran = r.ran; program = r.program; cut = cut; kept = r.kept }
+    by : IsEnd (report_of (WasRun r.run.names r.run.ran)) ended.code old.sinks new.sinks → IsCutShort words ended old new
+    by (inl whole) = absurd (not_seven (status_of (ends_of r.run.ran)) (status_is (ends_of r.run.ran)) (sym whole.status ∙ is))
+    by (inr cut) = record { run = r.run; cut = cut }
 
 honest_end : OneScript → NoneRefused → (words : List (List ℕ)) (ended : Ended) (old new : Moment) (honest : IsHonest words old.files new.files) (v : Verdict) → HasCauseBy (Some honest.request) old.files new.files v
     → IsEnd (report_of v) ended.code old.sinks new.sinks → ended.kept ≡ kept_of v → IsDone words ended old new honest
@@ -315,7 +294,7 @@ module _ (words : List (List ℕ)) (ended : Ended) (old new : Moment) (one : One
   )
 
   pub read_row : ended.code ≡ 3 → IsFileFault words old.files new.files
-  read_row is = file_fault words (request_of words) old.files new.files o.verdict refl o.cause (decided _ _ 3 ends is (omega arith))
+  read_row is = file_fault (request_of words) old.files new.files o.verdict o.cause (decided _ _ 3 ends is (omega arith))
 
   pub quiet_row : (ended.code ≡ 3 → ⊥) → IsQuiet old.files new.files
   quiet_row other = quiet_but (request_of words) ended.code old new o.verdict o.cause o.ending other
@@ -324,13 +303,13 @@ module _ (words : List (List ℕ)) (ended : Ended) (old new : Moment) (one : One
   large_row large = large_end words ended old new large o.verdict (because (Some large.request) large.lawful) o.ending o.kept
 
   pub script_row : ended.code ≡ 4 → IsNoScript words old.files new.files
-  script_row is = no_script words (request_of words) old.files new.files o.verdict refl o.cause (decided _ _ 4 ends is (omega arith))
+  script_row is = no_script words old.files new.files o.verdict o.cause (decided _ _ 4 ends is (omega arith))
 
   pub refused_row : IsToldRefused words old.files new.files → OrWant 4 ended old new
   refused_row told = refused_end one none words ended old new told o.verdict (because (Some told.request) told.lawful) o.ending o.kept
 
   pub told_row : HasRefusalStatus ended → IsRefusalTold words ended old new
-  told_row is = refusal_told words (request_of words) ended old new o.verdict refl o.cause o.ending o.kept is
+  told_row is = refusal_told words ended old new o.verdict o.cause o.ending o.kept is
 
   ran_to : (ended.code < 2) ⊎ ((ended.code ≡ 5) ⊎ (ended.code ≡ 7)) → RanTo words ended old new
   ran_to is = ran_only words (request_of words) ended old new o.verdict refl o.cause o.ending o.kept is

@@ -1,6 +1,6 @@
 -- Helpers: no public contract reaches these definitions.
 -- What the parts of a call answer in the code, and what that reports.
-use Rattle.std.specs.Prelude.{◌≡◌, ◌≤◌, ⊤, List, Option, None, Some, length, map}
+use Rattle.std.specs.Prelude.{◌≡◌, ◌≤◌, ◌++◌, ⊤, ℕ, codes, List, Option, None, Some, length, map}
 use Rattle.js_eval.specs.declared.ending.End.{End}
 use Rattle.run_program.specs.declared.job.Outcome.{Outcome}
 use Rattle.run_program.specs.declared.ran.Ran.{Ran}
@@ -10,8 +10,16 @@ use Rattle.run_sources.specs.declared.stop.ScriptsFault.{ScriptsFault}
 use Rattle.run_sources.specs.declared.stop.ScriptsFault.TheVariants as stop
 use Rattle.run_sources.specs.Program.{FileName}
 use Rattle.js_run.specs.Moment.{Ended}
-use Rattle.js_run.specs.Verdict.{Verdict, report_of, kept_of, unread_line, large_line, refused_line, memory_line}
+use Rattle.js_run.specs.Verdict.{Verdict, report_of, kept_of, refused_line, memory_line}
 use Rattle.js_io.specs.Report.{IsEnd, Sinks, Report, Refusal}
+
+-- the line of a file that can't be read
+abbrev pub unread_line : FileName → List ℕ
+unread_line name = name ++ codes ": cannot be read\n"
+
+-- the line of a file that is too large
+abbrev pub large_line : FileName → List ℕ
+large_line name = name ++ codes ": larger than 1048576 bytes\n"
 
 abbrev pub stop_report : ScriptsFault → Report
 stop_report (stop.NotRead name) = Refusal 3 (unread_line name.now)

@@ -14,8 +14,7 @@ names_of (made_from number) = record { prelude = None; scripts = [] }
 -- The sources are those of the files, as far as files are reported, and none is too large; or those that are
 -- generated from the number.
 abbrev pub AreTexts : Asked → (FileName → Option (List ℕ)) → Program Named → Type 0
-AreTexts (files prelude scripts) held sources =
-    AreRead held (record { prelude = prelude; scripts = scripts }) sources
+AreTexts (files prelude scripts) held sources = AreRead held (names_of (files prelude scripts)) sources
 AreTexts (made_from number) held sources = sources ≡ program_from (generated number)
 
 -- sources that are generated from a number count as `--summary`

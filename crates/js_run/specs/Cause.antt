@@ -48,8 +48,6 @@ HasCauseBy None old new NoMemory = IsQuiet old new
 HasCauseBy None old new _ = ⊥
 HasCauseBy (Some request) old new BadWords = ⊥
 HasCauseBy (Some request) old new NoMemory = IsQuiet old new
-HasCauseBy (Some request) old new (NotRead name) =
-    IsUnread old new (in_order (names_of request.asked)) name
-HasCauseBy (Some request) old new (TooLarge name) =
-    IsLarge old new (in_order (names_of request.asked)) name
+HasCauseBy (Some request) old new (NotRead name) = IsUnread old new (in_order (names_of request.asked)) name
+HasCauseBy (Some request) old new (TooLarge name) = IsLarge old new (in_order (names_of request.asked)) name
 HasCauseBy (Some request) old new verdict = OfTexts request old new verdict

@@ -16,16 +16,15 @@ use Rattle.run_program.specs.Fits.{Fits}
 use Rattle.run_program.specs.Tells.{RanOut}
 use Rattle.run_command.specs.Words.{Request, request_of}
 use Rattle.run_sources.specs.Program.{FileName, Program, in_order}
-use Rattle.run_sources.specs.Reading.{Read, IsQuiet, IsUnread, IsLarge}
 use Rattle.run_sources.specs.Spelling.{Spell, FirstRefused}
 use Rattle.run_program.specs.declared.ran.Ran.{Ran}
 use Rattle.run_program.specs.Ran.{IsRan, setup_sizes, state_kept}
 use Rattle.js_run.specs.Asked.{AreTexts, names_of, setup_of}
 use Rattle.js_run.specs.Meant.{all_flows, status_meant, out_meant, ends_meant}
-use Rattle.js_run.specs.Verdict.{WasRun, Refused, report_of, status_of, ends_of, out_of, err_of, words_line, unread_line, large_line, refused_line, memory_line, end_lines}
+use Rattle.js_run.specs.Verdict.{WasRun, Refused, report_of, status_of, ends_of, out_of, err_of, memory_line, end_lines, Verdict, NotRead, TooLarge}
 use Rattle.js_run.specs.Moment.{Moment, Ended}
-use Rattle.js_run.specs.Cause.{OfTexts, names_in}
-use Rattle.js_io.specs.Report.{TakesAll, IsTold, IsCutAtOut, IsCutAtErr, IsEnd, Printed}
+use Rattle.js_run.specs.Cause.{OfTexts, names_in, HasCauseBy}
+use Rattle.js_io.specs.Report.{TakesAll, IsTold, IsCutAtOut, IsCutAtErr, IsEnd, Printed, Refusal}
 
 -- no fault was counted, and the count isn't the last value of its counter
 abbrev pub NoFault : ℕ → ℕ → Type 0
@@ -51,14 +50,11 @@ abbrev pub AreTold : (FileName → Option (List ℕ)) → List FileName → Type
 AreTold held names = Every (λ name. (bytes : List ℕ) × (held name ≡ Some bytes)) names
 
 -- a file wasn't read, the one that is blamed: its read failed, or it is too large. All before it were read.
-pub record IsFileFault (words : List (List ℕ)) (old new : FilesState) : Type 0 where
-  pub request : Request
-  pub lawful : request_of words ≡ Some request
-  pub why : IsUnread old new (in_order (names_of request.asked)) new.blamed
-      ⊎ IsLarge old new (in_order (names_of request.asked)) new.blamed
+abbrev pub IsFileFault : List (List ℕ) → FilesState → FilesState → Type 0
+IsFileFault words old new = HasCauseBy (request_of words) old new (NotRead new.blamed)
+    ⊎ HasCauseBy (request_of words) old new (TooLarge new.blamed)
 
--- no read failed, and the first file that isn't reported to have at most so many bytes is reported to have
--- more
+-- no read failed, and a file is reported to have more bytes than a file may have
 pub record IsToldLarge (words : List (List ℕ)) (old new : FilesState) : Type 0 where
   pub request : Request
   pub lawful : request_of words ≡ Some request
@@ -66,9 +62,6 @@ pub record IsToldLarge (words : List (List ℕ)) (old new : FilesState) : Type 0
   pub name : FileName
   pub after : List FileName
   pub split : in_order (names_of request.asked) ≡ before ++ name ∷ after
-  pub sources : List Named
-  pub read : Read old.held before sources
-  pub told : AreTold old.held before
   pub bytes : List ℕ
   pub is : old.held name ≡ Some bytes
   pub larger : FILE_MAX < length bytes
@@ -77,12 +70,9 @@ pub record IsToldLarge (words : List (List ℕ)) (old new : FilesState) : Type 0
 -- ---- 4
 
 -- all files were read or the sources were generated, and one of them is the first that spells no script
-pub record IsNoScript (words : List (List ℕ)) (old new : FilesState) : Type 0 where
-  pub request : Request
-  pub lawful : request_of words ≡ Some request
-  pub name : FileName
-  pub fault : ParseFault
-  pub refused : OfTexts request old new (Refused name fault)
+abbrev pub IsNoScript : List (List ℕ) → FilesState → FilesState → Type 0
+IsNoScript words old new = (name : FileName) × (fault : ParseFault)
+    × HasCauseBy (request_of words) old new (Refused name fault)
 
 -- no read failed, all files are reported and not too large, and one of the sources is the first that spells
 -- no script
@@ -99,68 +89,54 @@ pub record IsToldRefused (words : List (List ℕ)) (old new : FilesState) : Type
 
 -- ---- 2, 3 and 4
 
--- the line of a refusal, by its status
-pub data IsLine (words : List (List ℕ)) (code : ℕ) (old new : FilesState) : List ℕ → Type 0 where
-  bad_words : code ≡ 2 → IsLine words code old new words_line
-  unread : code ≡ 3 → (request : Request) → request_of words ≡ Some request
-      → IsUnread old new (in_order (names_of request.asked)) new.blamed
-      → IsLine words code old new (unread_line new.blamed)
-  large : code ≡ 3 → (request : Request) → request_of words ≡ Some request
-      → IsLarge old new (in_order (names_of request.asked)) new.blamed
-      → IsLine words code old new (large_line new.blamed)
-  refused : code ≡ 4 → (request : Request) → request_of words ≡ Some request
-      → (name : FileName) (fault : ParseFault) → OfTexts request old new (Refused name fault)
-      → IsLine words code old new (refused_line name fault)
-
 -- the statuses of what isn't run, unless memory runs out
 abbrev pub HasRefusalStatus : Ended → Type 0
 HasRefusalStatus ended = (ended.code ≡ 2) ⊎ ((ended.code ≡ 3) ⊎ (ended.code ≡ 4))
 
--- out received nothing, and err the line; or, where a write to err failed, a prefix of it. Nothing is kept.
+-- A verdict that has its cause is a refusal of this status, by a line: out received nothing, and err the
+-- line; or, where a write to err failed, a prefix of it. Nothing is kept.
 pub record IsRefusalTold (words : List (List ℕ)) (ended : Ended) (old new : Moment) : Type 0 where
+  pub verdict : Verdict
+  pub cause : HasCauseBy (request_of words) old.files new.files verdict
   pub line : List ℕ
-  pub is : IsLine words ended.code old.files new.files line
+  pub is : report_of verdict ≡ Refusal ended.code line
   pub told : IsTold ended.code line ended.code old.sinks new.sinks
   pub kept : ended.kept ≡ None
 
 -- ---- 0, 1, 5, 6 and 7
 
--- a program was run: all files were read or the sources were generated, and they spell it
-pub record HasProgram (words : List (List ℕ)) (old new : FilesState) : Type 0 where
+-- A program was run on the heap that is kept: all files were read or the sources were generated, and they
+-- spell it. What each file's end and lines are by its meaning, and what the heap holds, is in `came`.
+pub record HasRun (words : List (List ℕ)) (ended : Ended) (old new : Moment) : Type 0 where
   pub request : Request
   pub lawful : request_of words ≡ Some request
-  pub sources : Program Named
-  pub texts : AreTexts request.asked old.held sources
-  pub quiet : IsQuiet old new
-  pub trees : Program Tree
-  pub spell : Spell sources trees
-
--- The program was run on the heap that is kept, the status is that of the first file that didn't end Done,
--- and all was written: out received exactly what the scripts printed, with the line `interned N` where it is
--- asked for, and err the lines of the files that didn't end Done.
--- What each file's end and lines are by its meaning, and what the heap holds, is in `program`.
-pub record Prints (words : List (List ℕ)) (status : ℕ) (ended : Ended) (old new : Moment) : Type 0 where
-  pub run : HasProgram words old.files new.files
+  pub names : Program FileName
   pub ran : Ran
-  pub program : IsRan (setup_of run.request) run.trees.prelude run.trees.scripts ran
-  pub ends : status_of (ends_of ran) ≡ status
-  pub out : TakesAll old.sinks.out new.sinks.out (out_of ran)
-  pub err : TakesAll old.sinks.err new.sinks.err (err_of (names_in run.sources) ran)
+  pub came : OfTexts request old.files new.files (WasRun names ran)
   pub kept : ended.kept ≡ Some ran.kept
+
+-- The program was run, the status is that of the first file that didn't end Done, and all was written: out
+-- received exactly what the scripts printed, with the line `interned N` where it is asked for, and err the
+-- lines of the files that didn't end Done.
+pub record Prints (words : List (List ℕ)) (status : ℕ) (ended : Ended) (old new : Moment) : Type 0 where
+  pub run : HasRun words ended old new
+  pub ends : status_of (ends_of run.ran) ≡ status
+  pub out : TakesAll old.sinks.out new.sinks.out (out_of run.ran)
+  pub err : TakesAll old.sinks.err new.sinks.err (err_of run.names run.ran)
 
 -- the same where every file ended Done, which is status 0: all as it is meant, and err received nothing
 pub record PrintsAll (words : List (List ℕ)) (ended : Ended) (old new : Moment) : Type 0 where
   pub prints : Prints words 0 ended old new
-  pub meant : status_meant prints.run.request prints.run.trees ≡ 0
+  pub meant : status_meant prints.run.request prints.run.came.cause.trees ≡ 0
   pub out : TakesAll old.sinks.out new.sinks.out
-      (out_meant prints.run.request prints.run.trees prints.ran.interned)
+      (out_meant prints.run.request prints.run.came.cause.trees prints.run.ran.interned)
   pub err : TakesAll old.sinks.err new.sinks.err []
 
 -- the same where the first file that didn't end Done threw or is unsupported: it is also the first that isn't
 -- meant to end Done
 pub record PrintsEarly (words : List (List ℕ)) (ended : Ended) (old new : Moment) : Type 0 where
   pub prints : Prints words 1 ended old new
-  pub meant : status_meant prints.run.request prints.run.trees ≡ 1
+  pub meant : status_meant prints.run.request prints.run.came.cause.trees ≡ 1
 
 -- the first of some files that didn't end Done ended Full, where what it reports had run out
 pub record FirstFull {F : Type 0} (z : StoreSizes) (s : State F) (means : List Flow)
@@ -179,8 +155,8 @@ pub record FirstFull {F : Type 0} (z : StoreSizes) (s : State F) (means : List F
 pub record PrintsFull (words : List (List ℕ)) (ended : Ended) (old new : Moment) : Type 0 where
   pub prints : Prints words 5 ended old new
   pub full : FirstFull (setup_sizes (setup_of prints.run.request))
-      (state_kept (setup_of prints.run.request) prints.ran.kept)
-      (all_flows prints.run.request prints.run.trees) prints.program.files
+      (state_kept (setup_of prints.run.request) prints.run.ran.kept)
+      (all_flows prints.run.request prints.run.came.cause.trees) prints.run.came.cause.program.files
 
 -- memory ran out: before a file was run, or while the first one ran that didn't end Done
 abbrev pub IsMemory : List (List ℕ) → Ended → Moment → Moment → Type 0
@@ -189,12 +165,9 @@ IsMemory words ended old new = IsWant ended old new ⊎ Prints words 6 ended old
 -- the program was run, and a write failed: one to out after a prefix of what it prints, and err received
 -- nothing; or one to err
 pub record IsCutShort (words : List (List ℕ)) (ended : Ended) (old new : Moment) : Type 0 where
-  pub run : HasProgram words old.files new.files
-  pub ran : Ran
-  pub program : IsRan (setup_of run.request) run.trees.prelude run.trees.scripts ran
-  pub cut : IsCutAtOut (out_of ran) ended.code old.sinks new.sinks
-      ⊎ IsCutAtErr (out_of ran) (err_of (names_in run.sources) ran) ended.code old.sinks new.sinks
-  pub kept : ended.kept ≡ Some ran.kept
+  pub run : HasRun words ended old new
+  pub cut : IsCutAtOut (out_of run.ran) ended.code old.sinks new.sinks
+      ⊎ IsCutAtErr (out_of run.ran) (err_of run.names run.ran) ended.code old.sinks new.sinks
 
 -- ---- honest files
 

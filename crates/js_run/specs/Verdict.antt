@@ -1,4 +1,5 @@
 -- What becomes of a call, and what is reported of it: the status and the bytes for each sink.
+use Rattle.std.specs.Option.{option_map_or}
 use Rattle.std.specs.Prelude.{ℕ, List, [], ◌∷◌, ◌++◌, codes, decimal, map, Option, None, Some, option_to_list, flat_map}
 use Rattle.js_io.specs.Report.{Report, Refusal, Printed}
 use Rattle.js_parse.specs.declared.fault.ParseFault.{ParseFault}
@@ -32,8 +33,7 @@ ends_of ran = map (λ o. o.end) (option_to_list ran.prelude ++ ran.scripts.items
 
 -- the line of the number of different strings, where they were counted
 abbrev pub count_line : Option ℕ → List ℕ
-count_line None = []
-count_line (Some count) = codes "interned " ++ (decimal count ++ 10 ∷ [])
+count_line counted = option_map_or (λ count. codes "interned " ++ (decimal count ++ 10 ∷ [])) counted []
 
 -- the bytes for out: what the scripts printed, and the line of the number of different strings
 abbrev pub out_of : Ran → List ℕ
@@ -64,9 +64,8 @@ end_line name Memory = name ++ codes ": out of memory\n"
 
 -- the lines of files of these names with these ends, in order
 abbrev pub end_lines : List FileName → List End → List ℕ
-end_lines [] ends = []
-end_lines (name ∷ names) [] = []
 end_lines (name ∷ names) (e ∷ es) = end_line name e ++ end_lines names es
+end_lines _ _ = []
 
 -- the bytes for err: a line for each file that didn't end Done
 abbrev pub err_of : Program FileName → Ran → List ℕ
@@ -89,18 +88,6 @@ status_of (e ∷ es) = status_or e (status_of es)
 
 -- ---- the lines of refusals
 
--- the line of refused arguments
-abbrev pub words_line : List ℕ
-words_line = codes "jsstr: the words are refused\n"
-
--- the line of a file that can't be read
-abbrev pub unread_line : FileName → List ℕ
-unread_line name = name ++ codes ": cannot be read\n"
-
--- the line of a file that is too large
-abbrev pub large_line : FileName → List ℕ
-large_line name = name ++ codes ": larger than 1048576 bytes\n"
-
 -- the byte offset of the fault, and its message
 abbrev pub refused_line : FileName → ParseFault → List ℕ
 refused_line name fault = (name ++ (58 ∷ [] ++ (decimal (fault_report fault).0 ++ codes ": refused: ")))
@@ -114,9 +101,9 @@ memory_line = codes "jsstr: out of memory\n"
 
 -- what is reported of a verdict
 abbrev pub report_of : Verdict → Report
-report_of BadWords = Refusal 2 words_line
-report_of (NotRead name) = Refusal 3 (unread_line name)
-report_of (TooLarge name) = Refusal 3 (large_line name)
+report_of BadWords = Refusal 2 (codes "jsstr: the words are refused\n")
+report_of (NotRead name) = Refusal 3 (name ++ codes ": cannot be read\n")
+report_of (TooLarge name) = Refusal 3 (name ++ codes ": larger than 1048576 bytes\n")
 report_of (Refused name fault) = Refusal 4 (refused_line name fault)
 report_of NoMemory = Refusal 6 memory_line
 report_of (WasRun names ran) = Printed (status_of (ends_of ran)) (out_of ran) (err_of names ran)

@@ -13,8 +13,7 @@ use Rattle.js_item.specs.Seen.{Val}
 use Rattle.eval_values.specs.Ran.{NextShut}
 use Rattle.js_eval.specs.declared.ending.End.{End}
 use Rattle.js_eval.specs.declared.ending.End.TheVariants.{Done, Threw, Unsupported, Full, Memory}
-use Rattle.js_eval.specs.Script as meant
-use Rattle.js_eval.specs.Script.{Flow, need_ids, need_words}
+use Rattle.js_eval.specs.Script.{Flow, flow_ledger}
 use Rattle.js_eval.specs.Evaluates.{Finished, Interrupted, Evaluates}
 use Rattle.run_program.specs.declared.job.Job.{Job}
 use Rattle.run_program.specs.declared.job.Outcome.{Outcome}
@@ -164,8 +163,8 @@ module _ {F : Type 0} (mean : Job → Flow) (a b : State F) (g : Grows a b) (j :
       ran_part p (record {
         index = index;
         ended = subst (λ (x : End). HasJobEnd b (mean j) o.lines x p) (sym e) (as_end p whole);
-        within_ids = subst (λ (x : Option StoreFault). p.ids + ids_wanted x ≤ need_ids (mean j)) (sym fault_is) (omega (arith, h.within_ids, g.used_ids));
-        within_words = subst (λ (x : Option StoreFault). p.words + words_wanted x ≤ need_words (mean j)) (sym fault_is) (omega (arith, h.within_words, g.used_words));
+        within_ids = subst (λ (x : Option StoreFault). p.ids + ids_wanted x ≤ (flow_ledger (mean j)).ids) (sym fault_is) (omega (arith, h.within_ids, g.used_ids));
+        within_words = subst (λ (x : Option StoreFault). p.words + words_wanted x ≤ (flow_ledger (mean j)).words) (sym fault_is) (omega (arith, h.within_words, g.used_words));
       }) h.interned.grown (omega (arith, g.used_ids)) (omega (arith, g.used_words))
 
   from_broken : (end : End) (f : StoreFault) → o.end ≡ end → fault_in end ≡ Some f → ((p : JobUse) → Broken b (mean j) o.lines f p → HasJobEnd b (mean j) o.lines end p)
@@ -186,8 +185,8 @@ module _ {F : Type 0} (mean : Job → Flow) (a b : State F) (g : Grows a b) (j :
       ran_part p (record {
         index = index;
         ended = subst (λ (x : End). HasJobEnd b (mean j) o.lines x p) (sym e) (as_end p broken);
-        within_ids = subst (λ (x : Option StoreFault). p.ids + ids_wanted x ≤ need_ids (mean j)) (sym fault_is) (omega (arith, h.within_ids, g.used_ids));
-        within_words = subst (λ (x : Option StoreFault). p.words + words_wanted x ≤ need_words (mean j)) (sym fault_is) (omega (arith, h.within_words, g.used_words));
+        within_ids = subst (λ (x : Option StoreFault). p.ids + ids_wanted x ≤ (flow_ledger (mean j)).ids) (sym fault_is) (omega (arith, h.within_ids, g.used_ids));
+        within_words = subst (λ (x : Option StoreFault). p.words + words_wanted x ≤ (flow_ledger (mean j)).words) (sym fault_is) (omega (arith, h.within_words, g.used_words));
       }) h.interned.interns.grown (omega (arith, g.used_ids)) (omega (arith, g.used_words))
 
   pub ran_one : (after : List (Bound Val)) (end : End) → o.end ≡ end → Evaluates a b [] o.lines after end (mean j) → RanJobs mean a b (j ∷ []) (o ∷ [])
@@ -207,15 +206,15 @@ module _ {F : Type 0} (mean : Job → Flow) (a b : State F) (g : Grows a b) (j :
         lines_left = (mean j).lines;
         lines_split = refl;
         lines_are = empty;
-        left = meant.interned (mean j);
+        left = (flow_ledger (mean j)).interned;
         interned = refl;
         next = tt;
       } in
       ran_part p (record {
         index = index;
         ended = subst (λ (x : End). HasJobEnd b (mean j) o.lines x p) (sym e) broken;
-        within_ids = subst (λ (x : End). 0 + ids_wanted (fault_in x) ≤ need_ids (mean j)) (sym e) (omega arith);
-        within_words = subst (λ (x : End). 0 + words_wanted (fault_in x) ≤ need_words (mean j)) (sym e) (omega arith);
+        within_ids = subst (λ (x : End). 0 + ids_wanted (fault_in x) ≤ (flow_ledger (mean j)).ids) (sym e) (omega arith);
+        within_words = subst (λ (x : End). 0 + words_wanted (fault_in x) ≤ (flow_ledger (mean j)).words) (sym e) (omega arith);
       }) (ap (λ x. x.history) same ∙ sym (append-nil a.history)) (omega (arith, ap (λ x. x.used_ids) same)) (omega (arith, ap (λ x. x.used_words) same))
 
 -- what the jobs used, with the want of any one report besides, is at most what they need

@@ -17,7 +17,7 @@ use Rattle.eval_values.specs.Ran.{NextShut}
 use Rattle.js_eval.specs.declared.ending.End.{End}
 use Rattle.js_eval.specs.declared.ending.End.TheVariants.{Done, Threw, Unsupported, Full, Memory}
 use Rattle.js_eval.specs.Evaluates.{script_end}
-use Rattle.js_eval.specs.Script.{Flow, interned, need_words}
+use Rattle.js_eval.specs.Script.{Flow, flow_ledger}
 use Rattle.heap_intern.specs.Counting.{different}
 use Rattle.heap_session.specs.Sessions.{SessionFrame}
 use Rattle.heap_session.specs.Whole.{HasWholeCounts}
@@ -61,10 +61,10 @@ module _ {F : Type 0} (s : State F) (m : Flow) (lines : List ℕ) (p : JobUse) w
   whole_of (Full r) h is = absurd (never_full m.out r is)
   whole_of Memory h is = absurd (never_memory m.out is)
 
-  lists_whole : (e : End) → Whole s m lines e p → FirstLists (keys_of p.pairs) (interned m)
+  lists_whole : (e : End) → Whole s m lines e p → FirstLists (keys_of p.pairs) (flow_ledger m).interned
   lists_whole e h = record { left = []; split = sym h.interned ∙ sym (append-nil (keys_of p.pairs)) }
 
-  first_lists_of : (e : End) → HasJobEnd s m lines e p → FirstLists (keys_of p.pairs) (interned m)
+  first_lists_of : (e : End) → HasJobEnd s m lines e p → FirstLists (keys_of p.pairs) (flow_ledger m).interned
   first_lists_of Done h = lists_whole Done h
   first_lists_of (Threw k) h = lists_whole (Threw k) h
   first_lists_of (Unsupported at) h = lists_whole (Unsupported at) h
@@ -98,40 +98,40 @@ module _ {F : Type 0} (s : State F) where
   listed_meant [] h u c = c
   listed_meant (f ∷ fs) h u c = let first = first_lists_of s f.mean f.lines f.part f.end h.0.ended in
       let d = subst (λ (x : List (List ℕ)). Contains x u) (map-append (λ (q : List ℕ × ℕ). q.0) f.part.pairs (pairs_of (parts_of fs))) c in
-      ⊎_elim (λ a. Contains-append_left (interned f.mean) (lists_interned (means_of fs)) u (subst (λ (x : List (List ℕ)). Contains x u) (sym first.split) (Contains-append_left (keys_of f.part.pairs) first.left u a)))
-      (λ b. Contains-append_right (interned f.mean) (lists_interned (means_of fs)) u (listed_meant fs h.1 u b)) (Contains-append_cases (keys_of f.part.pairs) (keys_of (pairs_of (parts_of fs))) u d)
+      ⊎_elim (λ a. Contains-append_left (flow_ledger f.mean).interned (lists_interned (means_of fs)) u (subst (λ (x : List (List ℕ)). Contains x u) (sym first.split) (Contains-append_left (keys_of f.part.pairs) first.left u a)))
+      (λ b. Contains-append_right (flow_ledger f.mean).interned (lists_interned (means_of fs)) u (listed_meant fs h.1 u b)) (Contains-append_cases (keys_of f.part.pairs) (keys_of (pairs_of (parts_of fs))) u d)
 
   -- where each end is the meaning's they are all of those
   listed_all : (fs : List RunFile) → Every (WasFileRun s) fs → Every IsAsMeant fs → keys_of (pairs_of (parts_of fs)) ≡ lists_interned (means_of fs)
   listed_all [] h m = refl
   listed_all (f ∷ fs) h m = map-append (λ (q : List ℕ × ℕ). q.0) f.part.pairs (pairs_of (parts_of fs))
-      ∙ (ap (λ x. x ++ keys_of (pairs_of (parts_of fs))) (whole_of s f.mean f.lines f.part f.end h.0.ended m.0).interned ∙ ap (λ x. interned f.mean ++ x) (listed_all fs h.1 m.1))
+      ∙ (ap (λ x. x ++ keys_of (pairs_of (parts_of fs))) (whole_of s f.mean f.lines f.part f.end h.0.ended m.0).interned ∙ ap (λ x. (flow_ledger f.mean).interned ++ x) (listed_all fs h.1 m.1))
 
-each_meant : (fs : List RunFile) → Every (λ f. (u : List ℕ) → Contains (interned f.mean) u → Contains (lists_interned (means_of fs)) u) fs
+each_meant : (fs : List RunFile) → Every (λ f. (u : List ℕ) → Contains (flow_ledger f.mean).interned u → Contains (lists_interned (means_of fs)) u) fs
 each_meant [] = tt
-each_meant (f ∷ fs) = ((λ u c. Contains-append_left (interned f.mean) (lists_interned (means_of fs)) u c), every_map (λ g k u c. Contains-append_right (interned f.mean) (lists_interned (means_of fs)) u (k u c)) fs (each_meant fs))
+each_meant (f ∷ fs) = ((λ u c. Contains-append_left (flow_ledger f.mean).interned (lists_interned (means_of fs)) u c), every_map (λ g k u c. Contains-append_right (flow_ledger f.mean).interned (lists_interned (means_of fs)) u (k u c)) fs (each_meant fs))
 
 -- what is known of one file and of all together
 record Facts {F : Type 0} (s : State F) (means : List Flow) (f : RunFile) : Type 0 where
   came : WasFileRun s f
   ids : s.used_ids + ids_wanted (fault_in f.end) ≤ ids_needed means
   words : s.used_words + words_wanted (fault_in f.end) ≤ words_needed means
-  lists : (u : List ℕ) → Contains (interned f.mean) u → Contains (lists_interned means) u
+  lists : (u : List ℕ) → Contains (flow_ledger f.mean).interned u → Contains (lists_interned means) u
 
 module _ (s : State SessionFrame) (means : List Flow) (all : HasWholeCounts s) (sound : Sound s) (into : (u : List ℕ) → Contains (keys_of s.history) u → Contains (lists_interned means) u) where
-  module _ (m : Flow) (lines : List ℕ) (p : JobUse) (lists : (u : List ℕ) → Contains (interned m) u → Contains (lists_interned means) u) where
+  module _ (m : Flow) (lines : List ℕ) (p : JobUse) (lists : (u : List ℕ) → Contains (flow_ledger m).interned u → Contains (lists_interned means) u) where
     ids_out : (at want end : ℕ) → Broken s m lines (store.Full (Ids at want end)) p → s.used_ids + want ≤ ids_needed means → RanOut s.sizes s means m p (Ids at want end)
     ids_out at want end b w = let r = b.reports in (omega (arith, r.0, r.1, r.2, r.3, all.low_ids, all.ids), omega (arith, r.0, r.1, r.2, r.3, all.low_ids, w))
 
-    words_out : (at want end : ℕ) → Broken s m lines (store.Full (Words at want end)) p → p.words + want ≤ need_words m → s.used_words + want ≤ words_needed means → RanOut s.sizes s means m p (Words at want end)
+    words_out : (at want end : ℕ) → Broken s m lines (store.Full (Words at want end)) p → p.words + want ≤ (flow_ledger m).words → s.used_words + want ≤ words_needed means → RanOut s.sizes s means m p (Words at want end)
     words_out at want end b n w = let r = b.reports in (omega (arith, r.0, r.1, r.2, all.low_words, n), omega (arith, r.0, r.1, r.2, all.low_words, w))
 
-    next_out : (n : ℕ) (left : List (List ℕ)) → interned m ≡ keys_of p.pairs ++ left → NextShut s (store.Full (Slots n)) left → SlotsRanOut s.sizes s means m p
+    next_out : (n : ℕ) (left : List (List ℕ)) → (flow_ledger m).interned ≡ keys_of p.pairs ++ left → NextShut s (store.Full (Slots n)) left → SlotsRanOut s.sizes s means m p
     next_out n [] split shut = absurd shut
     next_out n (u ∷ us) split shut =
         let held : different s.history ≡ s.sizes.slots = all.shut u shut in
         let missing : (i : ℕ) → Interned s u i → ⊥ = λ i c. sound.shut_apart u i shut c in
-        let here : Contains (interned m) u = subst (λ (x : List (List ℕ)). Contains x u) (sym split) (Contains-append_right (keys_of p.pairs) (u ∷ us) u (0, omega arith, refl)) in
+        let here : Contains (flow_ledger m).interned u = subst (λ (x : List (List ℕ)). Contains x u) (sym split) (Contains-append_right (keys_of p.pairs) (u ∷ us) u (0, omega arith, refl)) in
         let more = more_different (keys_of s.history) (lists_interned means) u (λ c. let t = called s.history u c in missing t.0 t.1) into (lists u here) in
         let e = different_lists s.history in record {
           held = held;
@@ -142,7 +142,7 @@ module _ (s : State SessionFrame) (means : List Flow) (all : HasWholeCounts s) (
           unfit = omega (arith, held, more, e);
         }
 
-    end_tells : (e : End) → HasJobEnd s m lines e p → p.words + words_wanted (fault_in e) ≤ need_words m → s.used_ids + ids_wanted (fault_in e) ≤ ids_needed means → s.used_words + words_wanted (fault_in e) ≤ words_needed means
+    end_tells : (e : End) → HasJobEnd s m lines e p → p.words + words_wanted (fault_in e) ≤ (flow_ledger m).words → s.used_ids + ids_wanted (fault_in e) ≤ ids_needed means → s.used_words + words_wanted (fault_in e) ≤ words_needed means
         → EndTells s.sizes s means m p e
     end_tells Done h n i w = h.end_is
     end_tells (Threw k) h n i w = h.end_is
@@ -176,7 +176,7 @@ every_both f (x ∷ xs) p q = (f x p.0 q.0, every_both f xs p.1 q.1)
 module _ (z : StoreSizes) (s : State SessionFrame) (means : List Flow) (files : List RunFile) (all : HasWholeCounts s) (sound : Sound s) (run : AreRun z s files) (first : AreFirst means files) where
   front : (u : List ℕ) → Contains (lists_interned (means_of files)) u → Contains (lists_interned means) u
   front u c = subst (λ (ms : List Flow). Contains (lists_interned ms) u) (sym first.split)
-      (subst (λ (x : List (List ℕ)). Contains x u) (sym (flat_map-append interned (means_of files) first.rest)) (Contains-append_left (lists_interned (means_of files)) (lists_interned first.rest) u c))
+      (subst (λ (x : List (List ℕ)). Contains x u) (sym (flat_map-append (λ m. (flow_ledger m).interned) (means_of files) first.rest)) (Contains-append_left (lists_interned (means_of files)) (lists_interned first.rest) u c))
 
   into_meant : (u : List ℕ) → Contains (keys_of s.history) u → Contains (lists_interned means) u
   into_meant u c = front u (listed_meant s files run.each u (subst (λ (h : List (List ℕ × ℕ)). Contains (keys_of h) u) run.history c))
@@ -188,7 +188,7 @@ module _ (z : StoreSizes) (s : State SessionFrame) (means : List Flow) (files : 
   words_all = subst (λ (ms : List Flow). words_needed (means_of files) ≤ words_needed ms) (sym first.split) (words_front (means_of files) first.rest)
 
   abbrev WordsOf : RunFile → Type 0
-  WordsOf f = (s.used_words + words_wanted (fault_in f.end) ≤ words_needed means) × ((u : List ℕ) → Contains (interned f.mean) u → Contains (lists_interned means) u)
+  WordsOf f = (s.used_words + words_wanted (fault_in f.end) ≤ words_needed means) × ((u : List ℕ) → Contains (flow_ledger f.mean).interned u → Contains (lists_interned means) u)
 
   abbrev IdsOf : RunFile → Type 0
   IdsOf f = s.used_ids + ids_wanted (fault_in f.end) ≤ ids_needed means

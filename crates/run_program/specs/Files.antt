@@ -6,7 +6,7 @@ use Rattle.js_texts.specs.Texts.{Every}
 use Rattle.js_eval.specs.declared.ending.End.{End}
 use Rattle.js_eval.specs.declared.ending.End.TheVariants.{Done, Full, Memory}
 use Rattle.js_eval.specs.Evaluates.{script_end}
-use Rattle.js_eval.specs.Script.{Flow, need_ids, need_words}
+use Rattle.js_eval.specs.Script.{Flow, flow_ledger}
 use Rattle.run_program.specs.declared.job.Job.{Job}
 use Rattle.run_program.specs.declared.job.Outcome.{Outcome}
 use Rattle.run_program.specs.Jobs.{JobUse, HasJobEnd, fault_in, pairs_of, ids_of, words_of}
@@ -31,8 +31,8 @@ parts_of files = map (λ f. f.part) files
 -- asked for besides, is at most its need.
 pub record WasFileRun {F : Type 0} (s : State F) (f : RunFile) : Type 0 where
   pub ended : HasJobEnd s f.mean f.lines f.end f.part
-  pub within_ids : f.part.ids + ids_wanted (fault_in f.end) ≤ need_ids f.mean
-  pub within_words : f.part.words + words_wanted (fault_in f.end) ≤ need_words f.mean
+  pub within_ids : f.part.ids + ids_wanted (fault_in f.end) ≤ (flow_ledger f.mean).ids
+  pub within_words : f.part.words + words_wanted (fault_in f.end) ≤ (flow_ledger f.mean).words
 
 -- On a heap of these sizes these files were run, and nothing else was done: the history is what they
 -- interned, in their order, and what was used is what they used.

@@ -1,10 +1,11 @@
 -- What scripts may ask of a heap by their meanings, and when its sizes are enough for all of them.
-use Rattle.std.specs.Prelude.{ℕ, ◌+◌, ◌≤◌, List, [], ◌∷◌, nat_eq, flat_map, Option, Some, None}
+use Rattle.eval_values.specs.Conversions.{total}
+use Rattle.std.specs.Prelude.{ℕ, ◌≤◌, List, [], ◌∷◌, nat_eq, flat_map, Option, Some, None}
 use Rattle.std.specs.Cmp.Lexicographic.{pointwise}
 use Rattle.std.specs.Set.{distinct_count}
 use Rattle.js_store.specs.State.{StoreSizes}
 use Rattle.eval_values.specs.Outcome.{Out, gave, ended}
-use Rattle.js_eval.specs.Script.{Flow, interned, need_ids, need_words}
+use Rattle.js_eval.specs.Script.{Flow, flow_ledger}
 
 -- What is meant by a prelude, if there is one, and by scripts. Where the prelude doesn't come to the end of
 -- its statements, no script is run.
@@ -18,19 +19,16 @@ abbrev pub all_meant : Option Flow → List Flow → List Flow
 all_meant None scripts = scripts
 all_meant (Some prelude) scripts = prelude ∷ after_prelude prelude.out scripts
 
--- the needs of all together
+-- the ids and the content words that all need together
 abbrev pub ids_needed : List Flow → ℕ
-ids_needed [] = 0
-ids_needed (m ∷ ms) = need_ids m + ids_needed ms
+ids_needed means = total (λ m. (flow_ledger m).ids) means
 
--- how many content words all files need together
 abbrev pub words_needed : List Flow → ℕ
-words_needed [] = 0
-words_needed (m ∷ ms) = need_words m + words_needed ms
+words_needed means = total (λ m. (flow_ledger m).words) means
 
--- the lists of units that all intern, in order, and how many different ones there are among some
+-- the lists of units that all intern, in order
 abbrev pub lists_interned : List Flow → List (List ℕ)
-lists_interned means = flat_map interned means
+lists_interned means = flat_map (λ m. (flow_ledger m).interned) means
 
 -- how many different lists of units there are among these
 unfoldable pub count_different : List (List ℕ) → ℕ

@@ -1,5 +1,6 @@
 -- What jobs leave that were run on one heap: each outcome in its job's place, and what all did together.
-use Rattle.std.specs.Prelude.{◌≡◌, ℕ, ◌+◌, ◌<◌, ◌≤◌, List, [], ◌∷◌, ◌++◌, length, map, max, All, Contains, Option, Some, None, IsSome, IsTrue}
+use Rattle.eval_values.specs.Conversions.{total}
+use Rattle.std.specs.Prelude.{◌≡◌, ℕ, ◌+◌, ◌<◌, ◌≤◌, List, [], ◌∷◌, ◌++◌, length, map, max, All, Contains, Option, Some, None, IsSome, IsTrue, flat_map}
 use Rattle.std.specs.List.{concat}
 use Rattle.js_store.specs.State.{State, NamesUnits, Grows}
 use Rattle.js_store.specs.Faults.{ids_wanted, words_wanted}
@@ -14,8 +15,7 @@ use Rattle.eval_values.specs.Ran.{NextShut}
 use Rattle.js_eval.specs.declared.ending.End.{End}
 use Rattle.js_eval.specs.declared.ending.End.TheVariants.{Full, Memory}
 use Rattle.js_eval.specs.Evaluates.{script_end}
-use Rattle.js_eval.specs.Script as meant
-use Rattle.js_eval.specs.Script.{Flow, meaning, need_ids, need_words}
+use Rattle.js_eval.specs.Script.{Flow, meaning, flow_ledger}
 use Rattle.js_eval.specs.Seen.{BoundsFine, bounds_seen}
 use Rattle.heap_rule.specs.Paths.{StartsWith}
 use Rattle.heap_read.specs.declared.string.JsStr.{JsStr}
@@ -59,8 +59,8 @@ pub record Whole {F : Type 0} (s : State F) (m : Flow) (lines : List ℕ) (end :
     (part : JobUse) : Type 0 where
   pub end_is : end ≡ script_end m.out
   pub lines_are : lines ≡ concat m.lines
-  pub interned : map (λ p. p.0) part.pairs ≡ meant.interned m
-  pub texts : (u : List ℕ) → Contains (meant.texts m) u → (n : ℕ) × NamesUnits s n u
+  pub interned : map (λ p. p.0) part.pairs ≡ (flow_ledger m).interned
+  pub texts : (u : List ℕ) → Contains (flow_ledger m).texts u → (n : ℕ) × NamesUnits s n u
 
 -- A job that a full store or lack of memory ended: the report is true, the first ones of the lines are there,
 -- each of them whole, and the first ones of what is meant were interned. Where the string table was full the
@@ -73,7 +73,7 @@ pub record Broken {F : Type 0} (s : State F) (m : Flow) (lines : List ℕ) (faul
   pub lines_split : m.lines ≡ lines_done ++ lines_left
   pub lines_are : lines ≡ concat lines_done
   pub left : List (List ℕ)
-  pub interned : meant.interned m ≡ map (λ p. p.0) part.pairs ++ left
+  pub interned : (flow_ledger m).interned ≡ map (λ p. p.0) part.pairs ++ left
   pub next : NextShut s fault left
 
 -- a job came to this end: its own, or that of a full store or lack of memory
@@ -88,8 +88,8 @@ pub record CameOf {F : Type 0} (s : State F) (m : Flow) (job : Job) (outcome : O
     (part : JobUse) : Type 0 where
   pub index : outcome.index ≡ job.index
   pub ended : HasJobEnd s m outcome.lines outcome.end part
-  pub within_ids : part.ids + ids_wanted (fault_in outcome.end) ≤ need_ids m
-  pub within_words : part.words + words_wanted (fault_in outcome.end) ≤ need_words m
+  pub within_ids : part.ids + ids_wanted (fault_in outcome.end) ≤ (flow_ledger m).ids
+  pub within_words : part.words + words_wanted (fault_in outcome.end) ≤ (flow_ledger m).words
 
 -- three lists of one length, and so it is at each place
 abbrev pub AtEach : {X Y Z : Type 0} → (X → Y → Z → Type 0) → List X → List Y → List Z → Type 0
@@ -102,18 +102,14 @@ AtEach P (x ∷ xs) (y ∷ ys) [] = ⊥
 
 -- what the parts are together, in the order of the jobs
 abbrev pub pairs_of : List JobUse → List (List ℕ × ℕ)
-pairs_of [] = []
-pairs_of (p ∷ ps) = p.pairs ++ pairs_of ps
+pairs_of parts = flat_map (λ p. p.pairs) parts
 
--- how many ids the parts used together
+-- the ids and the content words that the parts used together
 abbrev pub ids_of : List JobUse → ℕ
-ids_of [] = 0
-ids_of (p ∷ ps) = p.ids + ids_of ps
+ids_of parts = total (λ p. p.ids) parts
 
--- how many content words the parts used together
 abbrev pub words_of : List JobUse → ℕ
-words_of [] = 0
-words_of (p ∷ ps) = p.words + words_of ps
+words_of parts = total (λ p. p.words) parts
 
 -- Between two moments these jobs were run and nothing else. Each outcome is in its job's place. What
 -- stays of the store stays: its heap, share, sizes and limit, the history at its split, and all that is
@@ -136,11 +132,11 @@ Runs before after env jobs outcomes = RanJobs (means before env) before after jo
 -- what the jobs need together, and the greatest request that one of their reports has
 abbrev pub job_ids_needed : (Job → Flow) → List Job → ℕ
 job_ids_needed mean [] = 0
-job_ids_needed mean (j ∷ js) = need_ids (mean j) + job_ids_needed mean js
+job_ids_needed mean (j ∷ js) = (flow_ledger (mean j)).ids + job_ids_needed mean js
 
 abbrev pub job_words_needed : (Job → Flow) → List Job → ℕ
 job_words_needed mean [] = 0
-job_words_needed mean (j ∷ js) = need_words (mean j) + job_words_needed mean js
+job_words_needed mean (j ∷ js) = (flow_ledger (mean j)).words + job_words_needed mean js
 
 abbrev pub most_ids_wanted : List Outcome → ℕ
 most_ids_wanted [] = 0

@@ -1,6 +1,7 @@
 -- What is meant by a prelude, if there is one, and by scripts that begin with the bindings which the prelude
 -- is meant to leave.
-use Rattle.std.specs.Prelude.{ℕ, List, [], map, Option, Some, None}
+use Rattle.std.specs.Option.{option_map_or}
+use Rattle.std.specs.Prelude.{ℕ, List, [], map, Option, option_map}
 use Rattle.eval_tree.specs.Tree.{Tree}
 use Rattle.eval_scopes.specs.Bindings.{Bound}
 use Rattle.js_item.specs.Seen.{Val}
@@ -8,13 +9,11 @@ use Rattle.js_eval.specs.Script.{Flow, meaning}
 
 -- the prelude begins with no bindings
 abbrev pub prelude_meant : ℕ → Option Tree → Option Flow
-prelude_meant limit None = None
-prelude_meant limit (Some tree) = Some (meaning tree [] limit)
+prelude_meant limit prelude = option_map (λ tree. meaning tree [] limit) prelude
 
 -- the bindings at the top that are left then; none without a prelude
 abbrev pub left_by : Option Flow → List (Bound Val)
-left_by None = []
-left_by (Some flow) = flow.bindings.top
+left_by prelude = option_map_or (λ flow. flow.bindings.top) prelude []
 
 -- each script by itself, from those bindings
 abbrev pub scripts_meant : ℕ → Option Tree → List Tree → List Flow

@@ -8,7 +8,7 @@ use Rattle.js_texts.specs.Texts.{Every}
 use Rattle.js_eval.specs.declared.ending.End.{End}
 use Rattle.js_eval.specs.declared.ending.End.TheVariants.{Full, Memory}
 use Rattle.js_eval.specs.Evaluates.{script_end}
-use Rattle.js_eval.specs.Script.{Flow, interned, need_words}
+use Rattle.js_eval.specs.Script.{Flow, flow_ledger}
 use Rattle.heap_rule.specs.Paths.{IsLegal}
 use Rattle.heap_intern.specs.Counting.{different}
 use Rattle.heap_session.specs.Sessions.{SessionFrame}
@@ -24,7 +24,7 @@ pub record SlotsRanOut {F : Type 0} (z : StoreSizes) (s : State F) (means : List
   pub held : different s.history ≡ z.slots
   pub next : List ℕ
   pub left : List (List ℕ)
-  pub split : interned m ≡ keys_of part.pairs ++ next ∷ left
+  pub split : (flow_ledger m).interned ≡ keys_of part.pairs ++ next ∷ left
   pub missing : (n : ℕ) → Interned s next n → ⊥
   pub unfit : z.slots < count_different (lists_interned means)
 
@@ -34,7 +34,7 @@ pub record SlotsRanOut {F : Type 0} (z : StoreSizes) (s : State F) (means : List
 abbrev pub RanOut : {F : Type 0} → StoreSizes → State F → List Flow → Flow → JobUse → FullReport → Type 0
 RanOut z s means m part (Ids at want end) = (s.used_ids ≡ z.ids) × (z.ids < ids_needed means)
 RanOut z s means m part (Words at want end) =
-    (z.words < s.used_words + need_words m) × (z.words < words_needed means)
+    (z.words < s.used_words + (flow_ledger m).words) × (z.words < words_needed means)
 RanOut z s means m part (Slots slots) = SlotsRanOut z s means m part
 
 -- an end is the meaning's, or Full for what ran out, or out of memory

@@ -1,3 +1,4 @@
+use Rattle.eval_builtins.specs.Parts.{number_out}
 use Rattle.std.proofs.Common.{arith, List, Ok, Err, refl, sym, subst, ◌∙◌}
 use Rattle.std.proofs.Math.ListN.{drop_of_length-le}
 use Rattle.std.proofs.lemmas.Result.{err_from_is_err_and}
@@ -5,7 +6,6 @@ use Rattle.js_number.specs.declared.Num.{Num}
 use Rattle.js_store.specs.declared.faults.StoreFault.TheVariants.{Memory}
 use Rattle.eval_values.specs.declared.value.Stop.TheVariants.{Store}
 use Rattle.eval_values.specs.Outcome.{Out}
-use Rattle.eval_builtins.specs.Codes.{number_out}
 use Rattle.js_item.specs.Seen.{seen}
 use Rattle.eval_values.specs.Seen.{all_seen}
 use Rattle.eval_builtins.specs.Numbers.{IsFor}

@@ -1,9 +1,9 @@
+use Rattle.eval_builtins.specs.Parts.{number_out}
 use Rattle.std.proofs.Common.{◌≡◌, ◌≤◌, drop, length, map, Result, Vec, Global}
 use Rattle.js_number.specs.declared.Num.{Num}
 use Rattle.js_store.specs.State.{State}
 use Rattle.eval_values.specs.declared.value.Stop.{Stop}
 use Rattle.eval_values.specs.Outcome.{each}
-use Rattle.eval_builtins.specs.Codes.{number_out}
 use Rattle.js_texts.specs.Texts.{Every}
 use Rattle.js_item.specs.Seen.{seen}
 use Rattle.eval_values.specs.Seen.{all_seen}

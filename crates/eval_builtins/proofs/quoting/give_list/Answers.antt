@@ -1,10 +1,10 @@
+use Rattle.eval_values.specs.RowNames.{parts_ids, parts_words}
 use Rattle.std.proofs.Common.{arith, ◌+◌, ◌*◌, length}
 use Rattle.std.proofs.lemmas.Result.{err_from_is_err_and}
 use Rattle.js_json.specs.Quoting.{list_text}
 use Rattle.js_texts.specs.Texts.{known_texts, settle_most}
 use Rattle.js_texts.specs.Use.{made_words}
 use Rattle.js_texts.proofs.Lengths.{made_ids_most}
-use Rattle.eval_values.specs.Need.{parts_ids, parts_words}
 use Rattle.eval_values.specs.Conversions.{list_units}
 use Rattle.eval_values.proofs.Limited.{within_given, within_ends}
 use Rattle.eval_values.proofs.Needs.{some_most, settle_few, made_most}

@@ -1,3 +1,5 @@
+use Rattle.eval_values.specs.Within.{within}
+use Rattle.eval_values.specs.RowNames.{parts_ids, parts_words}
 use Rattle.std.proofs.Common.{arith, ℕ, List, ◌+◌, ◌*◌, sym, subst, length, Ok, Err}
 use Rattle.std.proofs.lemmas.Result.{err_from_is_err_and}
 use Rattle.js_texts.specs.Use.{made_words}
@@ -8,9 +10,7 @@ use Rattle.js_object.specs.Json.{json_of}
 use Rattle.js_item.specs.Fine.{strings_of}
 use Rattle.js_object.proofs.Readable.{fine_fields_readable}
 use Rattle.js_object.proofs.Seen.{json_mapped}
-use Rattle.eval_values.specs.Need.{parts_ids, parts_words}
 use Rattle.js_item.specs.declared.item.Item.TheVariants.{Text}
-use Rattle.eval_values.specs.Limited.{within}
 use Rattle.eval_values.specs.Stops.{stop_of}
 use Rattle.eval_values.specs.Does.{GivesValue}
 use Rattle.eval_values.proofs.Limited.{within_given, within_ends}

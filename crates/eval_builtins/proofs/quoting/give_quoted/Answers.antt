@@ -1,3 +1,4 @@
+use Rattle.eval_values.specs.RowNames.{row_ids, row_words}
 use Rattle.std.proofs.Common.{arith, ◌+◌, length}
 use Rattle.std.proofs.lemmas.Result.{err_from_is_err_and}
 use Rattle.js_store.specs.State.{text}
@@ -5,7 +6,6 @@ use Rattle.js_store.proofs.Laws.{settle_words_most}
 use Rattle.js_texts.specs.Use.{settling, made_words}
 use Rattle.js_texts.proofs.Lengths.{made_ids_most}
 use Rattle.js_json.specs.Quoting.{quoted}
-use Rattle.eval_values.specs.Need.{row_ids, row_words}
 use Rattle.eval_values.proofs.Limited.{within_given, within_ends}
 use Rattle.eval_values.proofs.Needs.{made_most}
 use Rattle.eval_builtins.proofs.Quoted.{quoted_most}

@@ -1,10 +1,10 @@
+use Rattle.eval_values.specs.RowNames.{row_ids, row_words}
 use Rattle.std.proofs.Common.{arith, ◌+◌, length}
 use Rattle.std.proofs.lemmas.Result.{err_from_is_err_and}
 use Rattle.js_store.specs.State.{text}
 use Rattle.js_store.specs.Rows.{wide_words, flat_words}
 use Rattle.js_store.proofs.Laws.{flat_words_most}
 use Rattle.eval_builtins.specs.Symbols.{shown_symbol}
-use Rattle.eval_values.specs.Need.{row_ids, row_words}
 use Rattle.eval_values.proofs.Limited.{within_given}
 use Rattle.eval_builtins.proofs.SymbolKeys.{shown_length, shown_stops}
 use Rattle.eval_builtins.proofs.symbols.give_shown.Goals as goal

@@ -1,10 +1,10 @@
+use Rattle.eval_values.specs.RowNames.{row_ids, row_words}
 use Rattle.std.proofs.Common.{arith, ◌+◌}
 use Rattle.std.proofs.lemmas.Result.{err_from_is_err_and}
 use Rattle.js_units.specs.Text.{well}
 use Rattle.js_store.specs.State.{text}
 use Rattle.js_store.proofs.Laws.{flat_words_most}
 use Rattle.js_methods.proofs.WellFormed.{well_length}
-use Rattle.eval_values.specs.Need.{row_ids, row_words}
 use Rattle.eval_values.proofs.Limited.{within_given, within_ends}
 use Rattle.eval_members.proofs.cutting.call_to_well_formed.Goals as goal
 

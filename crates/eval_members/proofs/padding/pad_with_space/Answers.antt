@@ -1,8 +1,8 @@
+use Rattle.eval_values.specs.RowNames.{pad_ids, pad_words}
 use Rattle.std.proofs.Common.{arith, ℕ, ◌+◌, List, length, [], ◌∷◌}
 use Rattle.std.proofs.lemmas.Result.{err_from_is_err_and}
 use Rattle.js_store.specs.State.{text}
 use Rattle.eval_members.specs.Members.{padded_of}
-use Rattle.eval_values.specs.Need.{pad_ids, pad_words}
 use Rattle.eval_values.proofs.Limited.{within_stops}
 use Rattle.eval_members.proofs.padding.pad_with_space.Goals as goal
 

@@ -1,8 +1,8 @@
+use Rattle.eval_members.specs.Parts.{lacking}
 use Rattle.std.proofs.Common.{arith, ◌∙◌}
 use Rattle.std.proofs.lemmas.Result.{err_from_is_err_and}
 use Rattle.js_store.specs.State.{text}
 use Rattle.js_store.proofs.Laws.{step_after}
-use Rattle.eval_members.specs.Properties.{lacking}
 use Rattle.eval_members.proofs.Lookups.{no_memory}
 use Rattle.eval_members.proofs.properties.lack.Goals as goal
 

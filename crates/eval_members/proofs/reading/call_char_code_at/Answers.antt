@@ -1,9 +1,9 @@
+use Rattle.eval_values.specs.RowNames.{row_ids, row_words}
 use Rattle.std.proofs.Common.{arith, length, ◌+◌}
 use Rattle.std.proofs.lemmas.Result.{err_from_is_err_and}
 use Rattle.js_store.specs.State.{text}
 use Rattle.js_methods.specs.Places.{char_code_of}
 use Rattle.js_item.specs.Contents.{number as number_value}
-use Rattle.eval_values.specs.Need.{row_ids, row_words}
 use Rattle.eval_values.specs.Conversions.{all_units}
 use Rattle.eval_values.specs.Seen.{all_seen}
 use Rattle.eval_values.proofs.Limited.{row_stops}

@@ -1,8 +1,8 @@
+use Rattle.eval_values.specs.RowNames.{row_ids, row_words}
 use Rattle.std.proofs.Common.{arith, length, ◌+◌}
 use Rattle.std.proofs.lemmas.Result.{err_from_is_err_and}
 use Rattle.js_store.specs.State.{text}
 use Rattle.js_methods.specs.Places.{code_point_of}
-use Rattle.eval_values.specs.Need.{row_ids, row_words}
 use Rattle.eval_values.specs.Conversions.{all_units}
 use Rattle.eval_values.specs.Seen.{all_seen}
 use Rattle.eval_members.specs.Reading.{maybe_count}

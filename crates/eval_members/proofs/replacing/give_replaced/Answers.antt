@@ -1,9 +1,9 @@
+use Rattle.eval_values.specs.RowNames.{parts_words}
 use Rattle.std.proofs.Common.{arith, ◌+◌, ◌≤◌, length, ℕ}
 use Rattle.std.proofs.lemmas.Result.{err_from_is_err_and}
 use Rattle.js_store.specs.State.{State, text}
 use Rattle.js_store.proofs.Laws.{settle_words_most}
 use Rattle.js_texts.specs.Use.{settling}
-use Rattle.eval_values.specs.Need.{parts_words}
 use Rattle.eval_members.specs.Members.{replaced_of, match_count}
 use Rattle.eval_values.proofs.Needs.{some_part}
 use Rattle.eval_members.proofs.Made.{parts_stops}

@@ -1,3 +1,4 @@
+use Rattle.eval_members.specs.Parts.{search_answer}
 use Rattle.std.proofs.Common.{length, ◌+◌, Err}
 use Rattle.std.proofs.lemmas.Result.{err_from_is_err_and}
 use Rattle.js_store.specs.State.{text}
@@ -8,7 +9,6 @@ use Rattle.eval_values.specs.Conversions.{to_string, all_units, first_text_units
 use Rattle.eval_values.specs.Need.{reads}
 use Rattle.eval_values.specs.Arguments.{first_of}
 use Rattle.eval_values.specs.Stops.{converted_of}
-use Rattle.eval_members.specs.Searching.{search_answer}
 use Rattle.eval_values.specs.Seen.{all_seen}
 use Rattle.eval_values.proofs.TextArguments.{text_fails}
 use Rattle.eval_values.proofs.Still.{values_fine_still}

@@ -1,9 +1,9 @@
+use Rattle.eval_values.specs.RowNames.{row_ids, row_words}
 use Rattle.std.proofs.Common.{arith}
 use Rattle.std.proofs.lemmas.Result.{err_from_is_err_and}
 use Rattle.js_store.specs.State.{text}
 use Rattle.js_methods.specs.Searching.{ends_at}
 use Rattle.js_item.specs.Contents.{bool}
-use Rattle.eval_values.specs.Need.{row_ids, row_words}
 use Rattle.eval_values.proofs.Limited.{row_stops}
 use Rattle.eval_members.proofs.searching.find_end.Goals as goal
 

@@ -1,7 +1,8 @@
+use Rattle.js_eval.specs.Pieces.{sum_of_both}
 use Rattle.std.proofs.lemmas.Result.{err_from_is_err_and}
 use Rattle.eval_tree.specs.Tree.{expr_tree}
 use Rattle.eval_scopes.specs.Bindings.{meant}
-use Rattle.js_eval.specs.Script.{sum_of_both, assigned}
+use Rattle.js_eval.specs.Script.{assigned}
 use Rattle.js_eval.specs.Seen.{context_bindings, scope_of}
 use Rattle.js_eval.proofs.Statements.{then_went, then_halts}
 use Rattle.js_eval.proofs.script.append_at.Goals as goal

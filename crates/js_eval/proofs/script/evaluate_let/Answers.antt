@@ -1,7 +1,8 @@
+use Rattle.js_eval.specs.Pieces.{init_out}
 use Rattle.std.proofs.lemmas.Result.{err_from_is_err_and}
 use Rattle.std.proofs.Common.{false}
 use Rattle.eval_tree.specs.Tree.{init_tree}
-use Rattle.js_eval.specs.Script.{init_out, declares}
+use Rattle.js_eval.specs.Script.{declares}
 use Rattle.js_eval.specs.Seen.{context_bindings, scope_of}
 use Rattle.js_eval.proofs.Statements.{then_went, then_halts}
 use Rattle.js_eval.proofs.script.evaluate_let.Goals as goal

@@ -1,4 +1,4 @@
-use Rattle.js_run.specs.Verdict.{unread_line, large_line}
+use Rattle.js_run.specs.Answer.{unread_line, large_line}
 use Rattle.js_run.proofs.Told.{told}
 use Rattle.js_run.proofs.telling.tell_stop.Goals as goal
 
