@@ -178,7 +178,7 @@ def read_code(crate, path):
         item = Item(crate, path, number + 1, head.group(2), head.group(1))
         item.comment = comment_above(source.lines, number, "///|//")
         end = end_of(source.lines, number)
-        item.text = [(at + 1, source.lines[at]) for at in range(number, end + 1) if not source.lines[at].strip().startswith("//")]
+        item.text = [(at + 1, source.lines[at]) for at in range(number, end + 1)]
         source.items.append(item)
         source.names[item.name] = item
         number = end + 1

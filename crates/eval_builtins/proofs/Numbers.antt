@@ -29,13 +29,16 @@ same_items : (ns : List Num) → map (λ n. n) ns ≡ ns
 same_items [] = refl
 same_items (n ∷ ns) = cc (same_items ns)
 
-pub as_numbers : {F : Type 0} (a b : State F) (which : Codes) (r : Result (Vec Num Global) Stop) (o : Out (List Num)) → ComesTo a b (λ s (v : Vec Num Global). map (λ n. n) v.items) (λ s (v : Vec Num Global). Every (λ n. IsFor which n) v.items) r o → GivesNumbers a b which r o
+pub as_numbers : {F : Type 0} (a b : State F) (which : Codes) (r : Result (Vec Num Global) Stop) (o : Out (List Num)) → ComesTo a b
+    (λ s (v : Vec Num Global). map (λ n. n) v.items) (λ s (v : Vec Num Global). Every (λ n. IsFor which n) v.items) r o → GivesNumbers a b which r o
 as_numbers a b which (Ok v) (gave x l) d = record { is = sym (same_items v.items) ∙ d.is; good = d.good; ran = d.ran }
 as_numbers a b which (Ok v) (ended e l) d = absurd d
 as_numbers a b which (Err s) o d = d
 
 -- a number that was told in a state that is the first one
-pub as_first : {F R : Type 0} (name : R → ℕ) (a b c d : State F) (which : Codes) (at : ℕ) (vs : List Val) (v : Item R) (r : Result Num Stop) → b ≡ a → d ≡ c → GivesNumber b d which r (number_out (taken_of which vs) at vs (seen b name v)) → GivesNumber a c which r (number_out (taken_of which vs) at vs (seen a name v))
+pub as_first : {F R : Type 0} (name : R → ℕ) (a b c d : State F) (which : Codes) (at : ℕ) (vs : List Val) (v : Item R) (r : Result Num Stop)
+    → b ≡ a → d ≡ c → GivesNumber b d which r (number_out (taken_of which vs) at vs (seen b name v)) → GivesNumber a c which r
+    (number_out (taken_of which vs) at vs (seen a name v))
 as_first name a b c d which at vs v r e f h =
     subst (λ (q : State _). GivesNumber a q which r (number_out (taken_of which vs) at vs (seen a name v))) f
     (subst (λ (q : State _). GivesNumber q d which r (number_out (taken_of which vs) at vs (seen q name v))) e h)
@@ -62,8 +65,15 @@ module _ {F R : Type 0} (name : R → ℕ) (a : State F) (which : Codes) (at : �
   pub codes_throws : 1048576 < length vs → GivesValue name a a (Err (Threw RangeError)) (codes_call which at vs)
   codes_throws l = rw (no_room l) (refl, ran_of_step (ids_in (from_row vs 0)) (words_in (from_row vs 0)) (step_refl a) refl (omega arith) (omega arith))
 
-  pub codes_stops : (b : State F) (n : Stop) → length vs ≤ 1048576 → GivesNumbers a b which (Err n) (each (number_out (taken_of which vs) at vs) vs) → GivesValue name a b (Err n) (codes_call which at vs)
-  codes_stops b n l d = rw (room l) (did_stop {W = Item R} a b (λ s (v : Vec Num Global). v.items) (λ s (v : Vec Num Global). Every (IsFor which) v.items) (λ s v. seen s name v) (λ s v. IsFine s name v) n (each (number_out (taken_of which vs) at vs) vs) (λ ns. made vs (units_of which ns)) d)
+  pub codes_stops : (b : State F) (n : Stop) → length vs ≤ 1048576 → GivesNumbers a b which (Err n)
+      (each (number_out (taken_of which vs) at vs) vs) → GivesValue name a b (Err n) (codes_call which at vs)
+  codes_stops b n l d = rw (room l) (did_stop {W = Item R} a b (λ s (v : Vec Num Global). v.items)
+      (λ s (v : Vec Num Global). Every (IsFor which) v.items) (λ s v. seen s name v) (λ s v. IsFine s name v) n
+      (each (number_out (taken_of which vs) at vs) vs) (λ ns. made vs (units_of which ns)) d)
 
-  pub codes_does : (b c : State F) (ns : Vec Num Global) (r : Result (Item R) Stop) → length vs ≤ 1048576 → GivesNumbers a b which (Ok ns) (each (number_out (taken_of which vs) at vs) vs) → GivesValue name b c r (made vs (units_of which ns.items)) → GivesValue name a c r (codes_call which at vs)
-  codes_does b c ns r l d e = rw (room l) (did_bind a b c (λ s (v : Vec Num Global). v.items) (λ s (v : Vec Num Global). Every (IsFor which) v.items) (λ s v. seen s name v) (λ s v. IsFine s name v) ns r (each (number_out (taken_of which vs) at vs) vs) (λ ms. made vs (units_of which ms)) d e)
+  pub codes_does : (b c : State F) (ns : Vec Num Global) (r : Result (Item R) Stop) → length vs ≤ 1048576 → GivesNumbers a b which (Ok ns)
+      (each (number_out (taken_of which vs) at vs) vs) → GivesValue name b c r (made vs (units_of which ns.items)) → GivesValue name a c r
+      (codes_call which at vs)
+  codes_does b c ns r l d e = rw (room l) (did_bind a b c (λ s (v : Vec Num Global). v.items)
+      (λ s (v : Vec Num Global). Every (IsFor which) v.items) (λ s v. seen s name v) (λ s v. IsFine s name v) ns r
+      (each (number_out (taken_of which vs) at vs) vs) (λ ms. made vs (units_of which ms)) d e)

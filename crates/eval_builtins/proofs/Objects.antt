@@ -1,7 +1,39 @@
 -- How long the JSON text of an object is, what reading its strings takes, and its keys as an array.
 use Rattle.eval_builtins.specs.Parts.{keys_out}
 use Rattle.eval_values.specs.RowNames.{row_ids, row_words, parts_words}
-use Rattle.std.proofs.Common.{arith, ◌≡◌, ℕ, zero, suc, ◌+◌, ◌*◌, ◌<◌, ◌≤◌, Bool, true, false, Option, Some, None, List, [], ◌∷◌, map, length, length-append, refl, ap, sym, ◌∙◌, subst, Ok, Vec, Global, slice_index_or, if◌then◌else◌}
+use Rattle.std.proofs.Common.{
+  arith,
+  ◌≡◌,
+  ℕ,
+  zero,
+  suc,
+  ◌+◌,
+  ◌*◌,
+  ◌<◌,
+  ◌≤◌,
+  Bool,
+  true,
+  false,
+  Option,
+  Some,
+  None,
+  List,
+  [],
+  ◌∷◌,
+  map,
+  length,
+  length-append,
+  refl,
+  ap,
+  sym,
+  ◌∙◌,
+  subst,
+  Ok,
+  Vec,
+  Global,
+  slice_index_or,
+  if◌then◌else◌,
+}
 use Rattle.std.specs.Prelude.{pos, negsuc}
 use Rattle.std.proofs.lemmas.Fmt.{length_signed_le}
 use Rattle.std.proofs.lemmas.List.{append-nil}
@@ -92,7 +124,14 @@ module _ {R : Type 0} (say : R → List ℕ) (s : KnownStrings) (name : R → �
     fields_most : (fs : Fields R) → FineFields s name fs → total part_len (parts_of say fs) ≤ 21 * field_parts (fields_mapped say fs) + 6 * field_units (fields_mapped say fs)
     fields_most no_fields h = omega arith
     fields_most (field key value rest) h =
-        omega (arith, part_most (say key) (text_json say value) (is_shown value) (17 + 21 * parts_in (content_mapped say value) + 6 * quoted_units (content_mapped say value)) (text_most value h.1), quoted_most (say key), fields_most rest h.2)
+        omega (
+          arith,
+          part_most (say key) (text_json say value) (is_shown value)
+              (17 + 21 * parts_in (content_mapped say value) + 6 * quoted_units (content_mapped say value)) (text_most value h.1),
+          quoted_most
+              (say key),
+          fields_most rest h.2,
+        )
 
   pub json_most : (fs : Fields R) → FineFields s name fs → length (json_of say fs) ≤ 2 + 21 * field_parts (fields_mapped say fs) + 6 * field_units (fields_mapped say fs)
   json_most fs h = omega (arith, json_len say fs, fields_most fs h)
@@ -125,7 +164,8 @@ module _ {F R : Type 0} (s : State F) (name : R → ℕ) where
 -- the keys of an object as an array
 module _ {F R : Type 0} (name : R → ℕ) where
   -- each of known strings has a number
-  texts_have : (s : State F) (rs : List R) → AllKnown s name rs → (u : List ℕ) (k : ℕ) → k < length (known_texts s name rs) → slice_index_or (known_texts s name rs) k u ≡ u → (n : ℕ) × NamesUnits s n u
+  texts_have : (s : State F) (rs : List R) → AllKnown s name rs → (u : List ℕ) (k : ℕ) → k < length (known_texts s name rs) → slice_index_or
+      (known_texts s name rs) k u ≡ u → (n : ℕ) × NamesUnits s n u
   texts_have s [] h u k l e = absurd (omega (arith, l))
   texts_have s (r ∷ rs) h u zero l e = (name r, known_has s (name r) h.0 ∙ ap Some e)
   texts_have s (r ∷ rs) h u (suc k) l e = texts_have s rs h.1 u k (omega (arith, l)) e
@@ -143,7 +183,8 @@ module _ {F R : Type 0} (name : R → ℕ) where
     pub keys_known : (rs : List R) → FineFields (strings_of a) name fs → rs ≡ own_keys a name fs → AllKnown b name rs
     keys_known rs fine e = all_known_still name a b rs s.grows (subst (λ (q : List R). AllKnown a name q) (sym e) (own_keys_known a name fs (fine_keys (strings_of a) name fs fine)))
 
-    pub keys_given : (v : Vec R Global) → FineFields (strings_of a) name fs → v.items ≡ own_keys a name fs → map (says a name) v.items ≡ unit_keys (fields_mapped (says a name) fs) → GivesValue name a b (Ok (item.List v)) (keys_out (fields_mapped (says a name) fs))
+    pub keys_given : (v : Vec R Global) → FineFields (strings_of a) name fs → v.items ≡ own_keys a name fs → map (says a name) v.items ≡
+        unit_keys (fields_mapped (says a name) fs) → GivesValue name a b (Ok (item.List v)) (keys_out (fields_mapped (says a name) fs))
     keys_given v fine e u =
         let known : AllKnown a name v.items = subst (λ (q : List R). AllKnown a name q) (sym e) (own_keys_known a name fs (fine_keys (strings_of a) name fs fine)) in
         let k : AllKnown b name v.items = keys_known v.items fine e in
@@ -151,4 +192,5 @@ module _ {F R : Type 0} (name : R → ℕ) where
         subst (λ (q : List (List ℕ)). GivesValue name a b (Ok (item.List v)) (needing (reads (list_units q)) (list q))) same (record { is = refl; good = k; ran = ran_keys v.items k })
 
     pub no_keys : (f : StoreFault) → f ≡ Memory → Cut a b f (ledger_of (keys_out (fields_mapped (says a name) fs)))
-    no_keys f e = subst (λ (g : StoreFault). Cut a b g (ledger_of (keys_out (fields_mapped (says a name) fs)))) (sym e) (cut_of_memory (ledger_of (keys_out (fields_mapped (says a name) fs))) s h (omega arith) (omega arith))
+    no_keys f e = subst (λ (g : StoreFault). Cut a b g (ledger_of (keys_out (fields_mapped (says a name) fs)))) (sym e)
+        (cut_of_memory (ledger_of (keys_out (fields_mapped (says a name) fs))) s h (omega arith) (omega arith))

@@ -36,7 +36,8 @@ all_most (c ∷ ps) = omega (arith, length-append (quoted_point c) (flat_map quo
 points_most : (us : List ℕ) → length (points us) ≤ length us
 points_most [] = omega arith
 points_most (u ∷ []) = omega arith
-points_most (u ∷ v ∷ us) = either (is_lead u && is_trail v) (pair_value u v ∷ points us) (u ∷ points (v ∷ us)) (length (u ∷ v ∷ us)) (omega (arith, points_most us)) (omega (arith, points_most (v ∷ us)))
+points_most (u ∷ v ∷ us) = either (is_lead u && is_trail v) (pair_value u v ∷ points us) (u ∷ points (v ∷ us)) (length (u ∷ v ∷ us))
+    (omega (arith, points_most us)) (omega (arith, points_most (v ∷ us)))
 
 -- a unit has six at most, beside the two quotes
 pub quoted_most : (us : List ℕ) → length (quoted us) ≤ 2 + 6 * length us

@@ -49,7 +49,8 @@ module _ {F R : Type 0} (name : R → ℕ) where
   one_more : (b : State F) (h : List (List ℕ × ℕ)) (k : List ℕ) (n : ℕ) → b.history ≡ h ++ (k, n) ∷ [] → Interned b k n
   one_more b h k n e = subst (λ (q : List (List ℕ × ℕ)). Contains q (k, n)) (sym e) (Contains-append_right h ((k, n) ∷ []) (k, n) (0, omega arith, refl))
 
-  pub registered_given : (a b : State F) (t : ℕ) (k : List ℕ) (settled : Bool) (r : R) → NamesUnits b (name r) k → StoreStep a b None 1 (intern_words settled (length k)) → b.history ≡ a.history ++ (k, name r) ∷ [] → length k ≤ t + 40 → GivesValue name a b (Ok (Symbol r)) (registered t k)
+  pub registered_given : (a b : State F) (t : ℕ) (k : List ℕ) (settled : Bool) (r : R) → NamesUnits b (name r) k → StoreStep a b None 1
+      (intern_words settled (length k)) → b.history ≡ a.history ++ (k, name r) ∷ [] → length k ≤ t + 40 → GivesValue name a b (Ok (Symbol r)) (registered t k)
   registered_given a b t k settled r z s h l =
       let e : units_of b (name r) ≡ k = has_text b (name r) k z in
       record {
@@ -71,7 +72,9 @@ module _ {F R : Type 0} (name : R → ℕ) where
   next_shut b Memory k h = tt
 
   -- the key was not interned: on a full string table it is shut
-  pub registered_cut : (a b : State F) (t : ℕ) (k : List ℕ) (settled : Bool) (f : StoreFault) → StoreStep a b (Some f) 1 (intern_words settled (length k)) → b.history ≡ a.history → SlotsShut b (Some f) k → length k ≤ t + 40 → GivesValue {R = R} name a b (Err (Store f)) (registered t k)
+  pub registered_cut : (a b : State F) (t : ℕ) (k : List ℕ) (settled : Bool) (f : StoreFault) → StoreStep a b (Some f) 1
+      (intern_words settled (length k)) → b.history ≡ a.history → SlotsShut b (Some f) k → length k ≤ t + 40 → GivesValue {R = R} name a b
+      (Err (Store f)) (registered t k)
   registered_cut a b t k settled f s h n l = record {
     grows = s.grows;
     honest = honest_full b f s.honest;
@@ -81,21 +84,27 @@ module _ {F R : Type 0} (name : R → ℕ) where
   }
 
   -- a key as a string, and then its symbol
-  pub symbol_does : (a b c : State F) (v : Item R) (w : R) (r : Result (Item R) Stop) → length (units_of b (name w)) ≤ text_units (seen a name v) + 40 → GivesText name a b (Ok w) (to_string a.limit (seen a name v)) → ((t : ℕ) → length (units_of b (name w)) ≤ t + 40 → GivesValue name b c r (registered t (units_of b (name w)))) → GivesValue name a c r (symbol_for a.limit (seen a name v))
-  symbol_does a b c v w r l d f = text_converts name (reads (string_units (seen a name v))) a b c w r (to_string a.limit (seen a name v)) (λ k. registered (text_units (seen a name v)) k) d (f (text_units (seen a name v)) l)
+  pub symbol_does : (a b c : State F) (v : Item R) (w : R) (r : Result (Item R) Stop) → length (units_of b (name w)) ≤ text_units
+      (seen a name v) + 40 → GivesText name a b (Ok w) (to_string a.limit (seen a name v)) → ((t : ℕ) → length (units_of b (name w)) ≤ t + 40
+      → GivesValue name b c r (registered t (units_of b (name w)))) → GivesValue name a c r (symbol_for a.limit (seen a name v))
+  symbol_does a b c v w r l d f = text_converts name (reads (string_units (seen a name v))) a b c w r (to_string a.limit (seen a name v))
+      (λ k. registered (text_units (seen a name v)) k) d (f (text_units (seen a name v)) l)
 
   pub symbol_ends : (a b : State F) (v : Item R) (n : Stop) → GivesText name a b (Err n) (to_string a.limit (seen a name v)) → GivesValue name a b (Err n) (symbol_for a.limit (seen a name v))
   symbol_ends a b v n d = text_fails name (reads (string_units (seen a name v))) a b n (to_string a.limit (seen a name v)) (λ k. registered (text_units (seen a name v)) k) d
 
   -- the length of a key that was told, and then what is shown
-  pub shown_after : (a b c : State F) (s : R) (r : Result (Item R) Stop) → StoreStep a b None 0 0 → b.history ≡ a.history → IsKnown a (name s) → GivesValue name b c r (shown_out b.limit (units_of b (name s))) → GivesValue name a c r (shown_out a.limit (units_of a (name s)))
+  pub shown_after : (a b c : State F) (s : R) (r : Result (Item R) Stop) → StoreStep a b None 0 0 → b.history ≡ a.history → IsKnown a
+      (name s) → GivesValue name b c r (shown_out b.limit (units_of b (name s))) → GivesValue name a c r (shown_out a.limit (units_of a (name s)))
   shown_after a b c s r x g k z =
       let one = subst (λ (q : ℕ). GivesValue name b c r (shown_out q (units_of b (name s)))) x.grows.limit z in
       let two = subst (λ (q : List ℕ). GivesValue name b c r (shown_out a.limit q)) (text_still x.grows (name s) k) one in
       did_before a b c (λ o v. seen o name v) (λ o v. IsFine o name v) r (shown_out a.limit (units_of a (name s))) x g two
 
   -- what is shown of a symbol, where it isn't too long and the store refused
-  pub shown_stops : (a b : State F) {i k : ℕ} (u : List ℕ) (f : MethodFault) → length (shown_symbol u) ≤ a.limit → IsStoreFault f → StoreStep a b (full_part f) i k → b.history ≡ a.history → NeverSlots (full_part f) → i ≤ row_ids → k ≤ row_words (length (shown_symbol u)) → GivesValue {R = R} name a b (Err (stop_of f)) (shown_out a.limit u)
+  pub shown_stops : (a b : State F) {i k : ℕ} (u : List ℕ) (f : MethodFault) → length (shown_symbol u) ≤ a.limit → IsStoreFault f →
+      StoreStep a b (full_part f) i k → b.history ≡ a.history → NeverSlots (full_part f) → i ≤ row_ids → k ≤ row_words
+      (length (shown_symbol u)) → GivesValue {R = R} name a b (Err (stop_of f)) (shown_out a.limit u)
   shown_stops a b u (method.Store f) l e s h n p q =
       let fits : nat_le (length (shown_symbol u)) a.limit ≡ true = grind (arith, l) in
       let s' = rw (full_same f) at s in

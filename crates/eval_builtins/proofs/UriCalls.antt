@@ -46,7 +46,8 @@ made_most limit us = go (nat_lt limit (length us))
 
 module _ {F : Type 0} {a b : State F} (limit t : ℕ) where
   -- the store refused before the list was there
-  uri_cut : (us : List ℕ) (f : StoreFault) {k : ℕ} → StoreStep a b (full_only f) 1 k → b.history ≡ a.history → NeverSlots (full_only f) → k ≤ wide_words t + made_words limit us → Cut a b f (ledger_of (limited limit t us))
+  uri_cut : (us : List ℕ) (f : StoreFault) {k : ℕ} → StoreStep a b (full_only f) 1 k → b.history ≡ a.history → NeverSlots (full_only f) → k
+      ≤ wide_words t + made_words limit us → Cut a b f (ledger_of (limited limit t us))
   uri_cut us f {k = k} s h n q = go (nat_le (length us) limit) refl
     where
       go : (v : Bool) → nat_le (length us) limit ≡ v → Cut a b f (ledger_of (if v then gives (text_value us) row_ids (row_words (t + length us)) else throws RangeError row_ids (row_words (t + 0))))
@@ -54,11 +55,13 @@ module _ {F : Type 0} {a b : State F} (limit t : ℕ) where
       go false e = cut_of_full f _ s h n (omega arith) (let l : limit < length us = grind (arith, e) in omega (arith, q, made_none limit us l))
 
 module _ {F R : Type 0} (name : R → ℕ) (a b : State F) (limit t : ℕ) where
-  pub uri_given : (o : UriOutcome) (r : R) {k : ℕ} → HasUriOutcome b (name r) o → IsUriWithin limit o → StoreStep a b None 1 k → b.history ≡ a.history → k ≤ wide_words t + outcome_words limit o → GivesValue name a b (Ok (Text r)) (uri_value limit t o)
+  pub uri_given : (o : UriOutcome) (r : R) {k : ℕ} → HasUriOutcome b (name r) o → IsUriWithin limit o → StoreStep a b None 1 k → b.history ≡
+      a.history → k ≤ wide_words t + outcome_words limit o → GivesValue name a b (Ok (Text r)) (uri_value limit t o)
   uri_given (Ok us) r {k = k} z w s h q = within_given name a b {k = k} limit row_ids (λ n. row_words (t + n)) us r z w s h (omega arith) (omega (arith, q, made_most limit us))
   uri_given (Err at) r z w s h q = absurd z
 
-  pub uri_stops : (o : UriOutcome) (f : UriFault) {k : ℕ} → IsThrown f limit o → StoreStep a b (uri_full_part f) 1 k → b.history ≡ a.history → NeverSlots (uri_full_part f) → k ≤ wide_words t + outcome_words limit o → GivesValue {R = R} name a b (Err (uri_stop f)) (uri_value limit t o)
+  pub uri_stops : (o : UriOutcome) (f : UriFault) {k : ℕ} → IsThrown f limit o → StoreStep a b (uri_full_part f) 1 k → b.history ≡ a.history
+      → NeverSlots (uri_full_part f) → k ≤ wide_words t + outcome_words limit o → GivesValue {R = R} name a b (Err (uri_stop f)) (uri_value limit t o)
   uri_stops (Ok us) (fault.Malformed at) w s h n q = absurd w
   uri_stops (Err p) (fault.Malformed at) w s h n q = (refl, ran_of_step (ids_in (reads t)) (words_in (reads t)) s h (omega arith) (omega (arith, q)))
   uri_stops (Ok us) (fault.RangeError c) {k = k} w s h n q = within_thrown name a b {k = k} limit row_ids (λ n. row_words (t + n)) us w.0 s h (omega arith) (omega (arith, q, made_none limit us w.0))
@@ -70,7 +73,10 @@ module _ {F R : Type 0} (name : R → ℕ) (a b : State F) (limit t : ℕ) where
 
 module _ {F R : Type 0} (name : R → ℕ) (f : List ℕ → UriOutcome) where
   -- a value as a string, and then what the function makes of it
-  pub uri_does : (a b c : State F) (v : Item R) (s : R) (r : Result (Item R) Stop) → b.limit ≡ a.limit → settle_words (b.settled (name s)) (length (text b (name s))) ≤ wide_words (text_units (seen a name v)) → GivesText name a b (Ok s) (to_string a.limit (seen a name v)) → ((t : ℕ) → settling b (name s) ≤ wide_words t → GivesValue name b c r (uri_value b.limit t (f (text b (name s))))) → GivesValue name a c r (uri_call f a.limit (seen a name v))
+  pub uri_does : (a b c : State F) (v : Item R) (s : R) (r : Result (Item R) Stop) → b.limit ≡ a.limit → settle_words (b.settled (name s))
+      (length (text b (name s))) ≤ wide_words (text_units (seen a name v)) → GivesText name a b (Ok s)
+      (to_string a.limit (seen a name v)) → ((t : ℕ) → settling b (name s) ≤ wide_words t → GivesValue name b c r
+      (uri_value b.limit t (f (text b (name s))))) → GivesValue name a c r (uri_call f a.limit (seen a name v))
   uri_does a b c v s r e l d g =
       let t = text_units (seen a name v) in
       text_converts name (reads (string_units (seen a name v))) a b c s r (to_string a.limit (seen a name v)) (λ us. uri_value a.limit t (f us)) d

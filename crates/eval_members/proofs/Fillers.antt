@@ -36,14 +36,17 @@ on_ok_pair (Err e) P Q H K f h = tt
 
 module _ {F R E A : Type 0} (name : R → ℕ) (a b c : State F) (g : Grows b c) (w : R) (n : ℕ) (r : Result A E) (cut : CutsFiller n (length (text b (name w))) → OnOk r (IsSettled c (name w))) where
   -- the string of an array, where it isn't too long
-  joined_units : (fits : Bool) (us : List (List ℕ)) → GivesText name a b (Ok w) (if fits then gave (comma_joined us) (cost (parts (length us) (list_units us + length (comma_joined us)))) else throwing (parts (length us) (list_units us)) RangeError) → text b (name w) ≡ comma_joined us
+  joined_units : (fits : Bool) (us : List (List ℕ)) → GivesText name a b (Ok w)
+      (if fits then gave (comma_joined us) (cost (parts (length us) (list_units us + length (comma_joined us)))) else throwing
+      (parts (length us) (list_units us)) RangeError) → text b (name w) ≡ comma_joined us
   joined_units true us d = d.is
   joined_units false us d = absurd d
 
   of_units : (u : List ℕ) (v : Item R) → text b (name w) ≡ u → IsTextOf b name v (name w) → CutsFiller n (length u) → OnOk r (StringsSettled c name v)
   of_units u v e o h = on_ok_weaker r (λ k. strings_read name b c g v (name w) o k) (cut (subst (λ (z : List ℕ). CutsFiller n (length z)) (sym e) h))
 
-  of_value : (v : Item R) → GivesText name a b (Ok w) (to_string a.limit (first_of (all_seen a name (v ∷ [])))) → IsTextOf b name v (name w) → CutsFiller n (text_units (first_of (all_seen a name (v ∷ [])))) → OnOk r (StringsSettled c name v)
+  of_value : (v : Item R) → GivesText name a b (Ok w) (to_string a.limit (first_of (all_seen a name (v ∷ [])))) → IsTextOf b name v (name w)
+      → CutsFiller n (text_units (first_of (all_seen a name (v ∷ [])))) → OnOk r (StringsSettled c name v)
   of_value item.Undefined d o h = on_ok_always r (Unit {0}) tt
   of_value item.Null d o h = on_ok_always r (Unit {0}) tt
   of_value (item.Bool x) d o h = on_ok_always r (Unit {0}) tt
@@ -55,11 +58,13 @@ module _ {F R E A : Type 0} (name : R → ℕ) (a b c : State F) (g : Grows b c)
       of_units (comma_joined us) (item.List rs) (joined_units (nat_le (length (comma_joined us)) a.limit) us d) o h
   of_value (item.Object fs) d o h = on_ok_always r (Unit {0}) tt
 
-  of_second : (vs : List (Item R)) → GivesText name a b (Ok w) (to_string a.limit (second_of (all_seen a name vs))) → IsSecondText b name vs (name w) → CutsFiller n (second_units (all_seen a name vs)) → OnOk r (OfSecond (λ v. StringsSettled c name v) vs)
+  of_second : (vs : List (Item R)) → GivesText name a b (Ok w) (to_string a.limit (second_of (all_seen a name vs))) → IsSecondText b name vs
+      (name w) → CutsFiller n (second_units (all_seen a name vs)) → OnOk r (OfSecond (λ v. StringsSettled c name v) vs)
   of_second [] d o h = on_ok_always r (Unit {0}) tt
   of_second (v ∷ []) d o h = on_ok_always r (Unit {0}) tt
   of_second (v ∷ x ∷ vs) d o h = of_value x d o h
 
   -- a filler that became the string w
-  pub filler_read : (vs : List (Item R)) → GivesText name a b (Ok w) (to_string a.limit (second_of (all_seen a name vs))) → IsSecondText b name vs (name w) → OnOk r (FillerSettled c name n (second_units (all_seen a name vs)) vs)
+  pub filler_read : (vs : List (Item R)) → GivesText name a b (Ok w) (to_string a.limit (second_of (all_seen a name vs))) → IsSecondText b
+      name vs (name w) → OnOk r (FillerSettled c name n (second_units (all_seen a name vs)) vs)
   filler_read vs d o = on_ok_pair r _ _ _ _ (λ h. second_elements name b c g vs (name w) o) (λ h. of_second vs d o h)

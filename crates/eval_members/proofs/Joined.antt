@@ -20,7 +20,9 @@ use Rattle.eval_values.specs.Does.{GivesText}
 use Rattle.eval_values.proofs.Compose.{cut_of_step, ran_of_step}
 
 -- two strings that were not joined
-joined_cut : {F : Type 0} {a b : State F} {f : StoreFault} (limit : ℕ) (u w : List ℕ) → StoreStep a b (Some f) (join_ids (length u) (length w)) (join_words (length u) (length w)) → b.history ≡ a.history → NeverSlots (Some f) → Cut a b f (ledger_of (joined_text limit u w))
+joined_cut : {F : Type 0} {a b : State F} {f : StoreFault} (limit : ℕ) (u w : List ℕ) → StoreStep a b (Some f)
+    (join_ids (length u) (length w)) (join_words (length u) (length w)) → b.history ≡ a.history → NeverSlots (Some f) → Cut a b f
+    (ledger_of (joined_text limit u w))
 joined_cut {a = a} {b = b} {f = f} limit u w s0 h n =
     let s = joined_within (length u) (length w) s0 in
     elim (nat_le (length u + length w) limit) as (λ v. Cut a b f (ledger_of (if v then gave (u ++ w) (cost joins) else ended (threw RangeError) (cost joins)))) [
@@ -29,7 +31,9 @@ joined_cut {a = a} {b = b} {f = f} limit u w s0 h n =
     ]
 
 -- the same by a method's fault
-pub joined_stops : {F R : Type 0} (name : R → ℕ) (a b : State F) (limit : ℕ) (u w : List ℕ) (f : MethodFault) → IsLong f limit (length u + length w) → StoreStep a b (method_part f) (join_ids (length u) (length w)) (join_words (length u) (length w)) → b.history ≡ a.history → NeverSlots (method_part f) → GivesText {R = R} name a b (Err (stop_of f)) (joined_text limit u w)
+pub joined_stops : {F R : Type 0} (name : R → ℕ) (a b : State F) (limit : ℕ) (u w : List ℕ) (f : MethodFault) → IsLong f limit
+    (length u + length w) → StoreStep a b (method_part f) (join_ids (length u) (length w)) (join_words (length u) (length w)) → b.history ≡
+    a.history → NeverSlots (method_part f) → GivesText {R = R} name a b (Err (stop_of f)) (joined_text limit u w)
 joined_stops name a b limit u w (method.Store f) l s h n = joined_cut limit u w s h n
 joined_stops name a b limit u w (method.RangeError c) l s0 h n =
     let s = joined_within (length u) (length w) s0 in

@@ -85,30 +85,40 @@ module _ {F R : Type 0} (name : R → ℕ) (a b : State F) (s : StoreStep a b No
     pub plain_given : GivesValue name a b (Ok w) (needing nothing (unwrap_or (own (units_of a (name key)) (fields_mapped (says a name) fs)) undefined))
     plain_given = subst (λ (q : Option Val). GivesValue name a b (Ok w) (needing nothing (unwrap_or q undefined))) (sym (own_is (Some (content_of v)) e)) value_given
 
-  pub plain_none : value_by (names_key a name key) fs ≡ None → GivesValue {R = R} name a b (Ok item.Undefined) (needing nothing (unwrap_or (own (units_of a (name key)) (fields_mapped (says a name) fs)) undefined))
+  pub plain_none : value_by (names_key a name key) fs ≡ None → GivesValue {R = R} name a b (Ok item.Undefined)
+      (needing nothing (unwrap_or (own (units_of a (name key)) (fields_mapped (says a name) fs)) undefined))
   plain_none e = subst (λ (q : Option Val). GivesValue {R = R} name a b (Ok item.Undefined) (needing nothing (unwrap_or q undefined))) (sym (own_is None e))
       (record { is = refl; good = tt; ran = ran_of_step 0 0 s h (omega arith) (omega arith) })
 
   -- none was found
-  pub got_none : (c : State F) (r : Result (Item R) Stop) (at : ℕ) → IsKnown a (name key) → value_by (names_key a name key) fs ≡ None → GivesValue name b c r (lacking at (units_of b (name key))) → GivesValue name a c r (got at (units_of a (name key)) (own (units_of a (name key)) (fields_mapped (says a name) fs)))
+  pub got_none : (c : State F) (r : Result (Item R) Stop) (at : ℕ) → IsKnown a (name key) → value_by (names_key a name key) fs ≡ None →
+      GivesValue name b c r (lacking at (units_of b (name key))) → GivesValue name a c r
+      (got at (units_of a (name key)) (own (units_of a (name key)) (fields_mapped (says a name) fs)))
   got_none c r at k e d = subst (λ (q : Option Val). GivesValue name a c r (got at (units_of a (name key)) q)) (sym (own_is None e))
       (did_before a b c (λ o x. seen o name x) (λ o x. IsFine o name x) r (lacking at (units_of a (name key))) s h
       (subst (λ (q : List ℕ). GivesValue name b c r (lacking at q)) (text_still s.grows (name key) k) d))
 
 -- a key that was interned, and then the value
-module _ {F R : Type 0} (name : R → ℕ) (a b c : State F) (g : Grows a b) (fs : Fields R) (fine : FineFields (strings_of a) name fs) (k : R) (u : List ℕ) (r : Result (Item R) Stop) (d : GivesText name a b (Ok k) (key_out u)) where
-  pub property_does : (at : ℕ) → GivesValue name b c r (got at (units_of b (name k)) (own (units_of b (name k)) (fields_mapped (says b name) fs))) → GivesValue name a c r (property at u (fields_mapped (says a name) fs))
+module _ {F R : Type 0} (name : R → ℕ) (a b c : State F) (g : Grows a b) (fs : Fields R) (fine : FineFields
+    (strings_of a) name fs) (k : R) (u : List ℕ) (r : Result (Item R) Stop) (d : GivesText name a b (Ok k) (key_out u)) where
+  pub property_does : (at : ℕ) → GivesValue name b c r (got at (units_of b (name k))
+      (own (units_of b (name k)) (fields_mapped (says b name) fs))) → GivesValue name a c r (property at u (fields_mapped (says a name) fs))
   property_does at e = text_then name a b c k r (key_out u) (λ x. got at x (own x (fields_mapped (says a name) fs))) d
       (subst (λ (q : Fields (List ℕ)). GivesValue name b c r (got at (units_of b (name k)) (own (units_of b (name k)) q))) (fields_mapped_still a b name g fs fine) e)
 
-  pub plain_does : GivesValue name b c r (needing nothing (unwrap_or (own (units_of b (name k)) (fields_mapped (says b name) fs)) undefined)) → GivesValue name a c r (plain_property u (fields_mapped (says a name) fs))
+  pub plain_does : GivesValue name b c r (needing nothing (unwrap_or (own (units_of b (name k)) (fields_mapped (says b name) fs))
+      undefined)) → GivesValue name a c r (plain_property u (fields_mapped (says a name) fs))
   plain_does e = text_then name a b c k r (key_out u) (λ x. needing nothing (unwrap_or (own x (fields_mapped (says a name) fs)) undefined)) d
       (subst (λ (q : Fields (List ℕ)). GivesValue name b c r (needing nothing (unwrap_or (own (units_of b (name k)) q) undefined))) (fields_mapped_still a b name g fs fine) e)
 
 -- an index that became a string, and then the property of that key
-pub keyed_does : {F R : Type 0} (name : R → ℕ) (a b c : State F) → Grows a b → (fs : Fields R) → FineFields (strings_of a) name fs → (at : ℕ) (v : Val) (w : R) (r : Result (Item R) Stop) → GivesText name a b (Ok w) (to_string a.limit v) → GivesValue name b c r (property at (units_of b (name w)) (fields_mapped (says b name) fs)) → GivesValue name a c r (keyed at a.limit (fields_mapped (says a name) fs) v)
+pub keyed_does : {F R : Type 0} (name : R → ℕ) (a b c : State F) → Grows a b → (fs : Fields R) → FineFields
+    (strings_of a) name fs → (at : ℕ) (v : Val) (w : R) (r : Result (Item R) Stop) → GivesText name a b (Ok w) (to_string a.limit v) →
+    GivesValue name b c r (property at (units_of b (name w)) (fields_mapped (says b name) fs)) → GivesValue name a c r
+    (keyed at a.limit (fields_mapped (says a name) fs) v)
 keyed_does name a b c g fs fine at v w r d e = text_converts name (reads (string_units v)) a b c w r (to_string a.limit v) (λ k. property at k (fields_mapped (says a name) fs)) d
     (subst (λ (q : Fields (List ℕ)). GivesValue name b c r (property at (units_of b (name w)) q)) (fields_mapped_still a b name g fs fine) e)
 
-pub keyed_fails : {F R : Type 0} (name : R → ℕ) (a b : State F) (fs : Fields (List ℕ)) (at : ℕ) (v : Val) (n : Stop) → GivesText {R = R} name a b (Err n) (to_string a.limit v) → GivesValue {R = R} name a b (Err n) (keyed at a.limit fs v)
+pub keyed_fails : {F R : Type 0} (name : R → ℕ) (a b : State F) (fs : Fields (List ℕ)) (at : ℕ) (v : Val) (n : Stop) → GivesText {R = R}
+    name a b (Err n) (to_string a.limit v) → GivesValue {R = R} name a b (Err n) (keyed at a.limit fs v)
 keyed_fails name a b fs at v n d = text_fails name (reads (string_units v)) a b n (to_string a.limit v) (λ k. property at k fs) d

@@ -39,17 +39,21 @@ module _ {F : Type 0} {a b : State F} {i k : ℕ} (limit : ℕ) (u : List ℕ) (
   repeat_cut true f s m = within_cut limit repeat_ids (λ r. repeat_words (length u)) (repeat_of u n) s h m p q q
   repeat_cut false f s m = cut_of_step _ s h m p q
 
-  repeat_thrown : {R : Type 0} (name : R → ℕ) (c : Cause) (counts : Bool) → IsCountFault counts c limit (length (repeat_of u n)) → StoreStep a b None i k → GivesValue name a b (Err (Threw RangeError)) (repeated counts limit u n)
+  repeat_thrown : {R : Type 0} (name : R → ℕ) (c : Cause) (counts : Bool) → IsCountFault counts c limit (length (repeat_of u n)) → StoreStep
+      a b None i k → GivesValue name a b (Err (Threw RangeError)) (repeated counts limit u n)
   repeat_thrown name c true l s = within_thrown name a b limit repeat_ids (λ r. repeat_words (length u)) (repeat_of u n) l.0 s h p q
   repeat_thrown name c false l s = (refl, ran_of_step repeat_ids (repeat_words (length u)) s h p q)
 
-  pub repeat_stops : {R : Type 0} (name : R → ℕ) (f : MethodFault) → IsRepeatFault f (is_count n) limit (length (repeat_of u n)) → StoreStep a b (method_part f) i k → NeverSlots (method_part f) → GivesValue name a b (Err (stop_of f)) (repeated (is_count n) limit u n)
+  pub repeat_stops : {R : Type 0} (name : R → ℕ) (f : MethodFault) → IsRepeatFault f (is_count n) limit (length (repeat_of u n)) → StoreStep
+      a b (method_part f) i k → NeverSlots (method_part f) → GivesValue name a b (Err (stop_of f)) (repeated (is_count n) limit u n)
   repeat_stops name (method.Store f) l s m = repeat_cut (is_count n) f s m
   repeat_stops name (method.RangeError c) l s m = repeat_thrown name c (is_count n) l s
 
 module _ {F R : Type 0} (name : R → ℕ) (a b c : State F) (pad : List ℕ → ℕ → List ℕ → List ℕ) (s : R) (m : ℕ) (f : Val) where
   -- a string that has as many units
-  pub pads_itself : (r : Result (Item R) Stop) → StoreStep a b None 0 0 → b.history ≡ a.history → IsKnown a (name s) → m ≤ length (text a (name s)) → ((ids : ℕ) (words : ℕ → ℕ) → GivesValue name b c r (within b.limit ids words (text b (name s)))) → GivesValue name a c r (padded a.limit (pad (text a (name s))) (text a (name s)) m f)
+  pub pads_itself : (r : Result (Item R) Stop) → StoreStep a b None 0 0 → b.history ≡ a.history → IsKnown a (name s) → m ≤ length
+      (text a (name s)) → ((ids : ℕ) (words : ℕ → ℕ) → GivesValue name b c r (within b.limit ids words (text b (name s)))) → GivesValue name a
+      c r (padded a.limit (pad (text a (name s))) (text a (name s)) m f)
   pads_itself r t h k l d =
       let has : nat_le m (length (text a (name s))) ≡ true = grind (arith, l) in
       let words : ℕ → ℕ = λ k. pad_words (length (text a (name s)) + string_units f) in
@@ -57,16 +61,25 @@ module _ {F R : Type 0} (name : R → ℕ) (a b c : State F) (pad : List ℕ →
       (subst (λ (q : ℕ × List ℕ). GivesValue name b c r (within q.0 pad_ids words q.1)) (cc (t.grows.limit, text_still t.grows (name s) k)) (d pad_ids words)))
 
   -- a filler that is given, as a string
-  pub fills_text : (w : R) (r : Result (Item R) Stop) → Grows a b → IsKnown a (name s) → is_undefined f ≡ false → GivesText name a b (Ok w) (to_string a.limit f) → GivesValue name b c r (within b.limit pad_ids (λ k. pad_words (length (text b (name s)) + length (text b (name w)))) (pad (text b (name s)) m (text b (name w)))) → GivesValue name a c r (filled a.limit (pad (text a (name s))) (text a (name s)) m f)
+  pub fills_text : (w : R) (r : Result (Item R) Stop) → Grows a b → IsKnown a (name s) → is_undefined f ≡ false → GivesText name a b (Ok w)
+      (to_string a.limit f) → GivesValue name b c r (within b.limit pad_ids
+      (λ k. pad_words (length (text b (name s)) + length (text b (name w)))) (pad (text b (name s)) m (text b (name w)))) → GivesValue name a
+      c r (filled a.limit (pad (text a (name s))) (text a (name s)) m f)
   fills_text w r g k e x d =
-      rw e (text_converts name (pads (length (text a (name s)) + string_units f)) a b c w r (to_string a.limit f) (λ v. within a.limit pad_ids (λ k. pad_words (length (text a (name s)) + length v)) (pad (text a (name s)) m v)) x
-      (subst (λ (q : ℕ × List ℕ). GivesValue name b c r (within q.0 pad_ids (λ k. pad_words (length q.1 + length (text b (name w)))) (pad q.1 m (text b (name w))))) (cc (g.limit, text_still g (name s) k)) d))
+      rw e (text_converts name (pads (length (text a (name s)) + string_units f)) a b c w r (to_string a.limit f)
+      (λ v. within a.limit pad_ids (λ k. pad_words (length (text a (name s)) + length v)) (pad (text a (name s)) m v)) x
+      (subst (λ (q : ℕ × List ℕ). GivesValue name b c r (within q.0 pad_ids (λ k. pad_words (length q.1 + length (text b (name w))))
+      (pad q.1 m (text b (name w))))) (cc (g.limit, text_still g (name s) k)) d))
 
   pub fill_stops : (n : Stop) → is_undefined f ≡ false → GivesText name a b (Err n) (to_string a.limit f) → GivesValue name a b (Err n) (filled a.limit (pad (text a (name s))) (text a (name s)) m f)
-  fill_stops n e x = rw e (text_fails name (pads (length (text a (name s)) + string_units f)) a b n (to_string a.limit f) (λ v. within a.limit pad_ids (λ k. pad_words (length (text a (name s)) + length v)) (pad (text a (name s)) m v)) x)
+  fill_stops n e x = rw e (text_fails name (pads (length (text a (name s)) + string_units f)) a b n (to_string a.limit f)
+      (λ v. within a.limit pad_ids (λ k. pad_words (length (text a (name s)) + length v)) (pad (text a (name s)) m v)) x)
 
 -- a string that has fewer units, where the filler is the second argument
-pub pads_more : {F R : Type 0} (name : R → ℕ) (a b c : State F) (pad : List ℕ → ℕ → List ℕ → List ℕ) (s : R) (m : ℕ) (vs : List (Item R)) (r : Result (Item R) Stop) → StoreStep a b None 0 0 → b.history ≡ a.history → IsKnown a (name s) → AllFine a name vs → length (text a (name s)) < m → GivesValue name b c r (filled b.limit (pad (text b (name s))) (text b (name s)) m (second_of (all_seen b name vs))) → GivesValue name a c r (padded a.limit (pad (text a (name s))) (text a (name s)) m (second_of (all_seen a name vs)))
+pub pads_more : {F R : Type 0} (name : R → ℕ) (a b c : State F) (pad : List ℕ → ℕ → List ℕ → List ℕ) (s : R) (m : ℕ) (vs : List
+    (Item R)) (r : Result (Item R) Stop) → StoreStep a b None 0 0 → b.history ≡ a.history → IsKnown a (name s) → AllFine a name vs → length
+    (text a (name s)) < m → GivesValue name b c r (filled b.limit (pad (text b (name s))) (text b (name s)) m
+    (second_of (all_seen b name vs))) → GivesValue name a c r (padded a.limit (pad (text a (name s))) (text a (name s)) m (second_of (all_seen a name vs)))
 pads_more name a b c pad s m vs r t h k f l d =
     let lacks : nat_le m (length (text a (name s))) ≡ false = grind (arith, l) in
     let u = text a (name s) in

@@ -1,5 +1,39 @@
 -- The bindings in use, in front of those that were left in place, with their index and their mask.
-use Rattle.std.proofs.Common.{arith, ◌≡◌, ℕ, ◌+◌, ◌<◌, ◌≤◌, zero, suc, max, true, false, Bool, List, [], ◌∷◌, ◌++◌, length, map, refl, ap, sym, ◌∙◌, subst, Some, None, slice_get, get_or, set, take, bytes_eq, ◌⊎◌, inl, inr}
+use Rattle.std.proofs.Common.{
+  arith,
+  ◌≡◌,
+  ℕ,
+  ◌+◌,
+  ◌<◌,
+  ◌≤◌,
+  zero,
+  suc,
+  max,
+  true,
+  false,
+  Bool,
+  List,
+  [],
+  ◌∷◌,
+  ◌++◌,
+  length,
+  map,
+  refl,
+  ap,
+  sym,
+  ◌∙◌,
+  subst,
+  Some,
+  None,
+  slice_get,
+  get_or,
+  set,
+  take,
+  bytes_eq,
+  ◌⊎◌,
+  inl,
+  inr,
+}
 use Rattle.std.specs.Prelude.{IsSome, bit_or}
 use Rattle.std.specs.Int.{bit_at}
 use Rattle.std.specs.Ordering.{nat_cmp}
@@ -28,10 +62,12 @@ pub bit_kept : (a b i : ℕ) → bit_at a i ≡ 1 → bit_at (bit_or a b) i ≡ 
 bit_kept a b i m = bit_at_or a b i ∙ (ap (λ (q : ℕ). max q (bit_at b i)) m ∙ max_one (bit_at b i) (bit_at-lt b i))
 
 -- the mask of one more name
-pub marks_next : (bits more : ℕ) (ns : List (List ℕ)) (i : ℕ) (n : List ℕ) → i < length ns → n ≡ get_or ns i n → Marks more (key_of n) → ((k : ℕ) → Marks bits k → Marks more k) → MarksTo bits ns i → MarksTo more ns (i + 1)
+pub marks_next : (bits more : ℕ) (ns : List (List ℕ)) (i : ℕ) (n : List ℕ) → i < length ns → n ≡ get_or ns i n → Marks more
+    (key_of n) → ((k : ℕ) → Marks bits k → Marks more k) → MarksTo bits ns i → MarksTo more ns (i + 1)
 marks_next bits more ns i n l p here kept h = one_more (λ m. Marks more (key_of m)) ns i n l p here (λ j m k e. kept (key_of m) (h j m k e))
 
-marks_push : (bits more : ℕ) (ns : List (List ℕ)) (x : List ℕ) (n : ℕ) → n ≡ length ns → Marks more (key_of x) → ((k : ℕ) → Marks bits k → Marks more k) → MarksTo bits ns n → MarksTo more (ns ++ x ∷ []) (n + 1)
+marks_push : (bits more : ℕ) (ns : List (List ℕ)) (x : List ℕ) (n : ℕ) → n ≡ length ns → Marks more
+    (key_of x) → ((k : ℕ) → Marks bits k → Marks more k) → MarksTo bits ns n → MarksTo more (ns ++ x ∷ []) (n + 1)
 marks_push bits more ns x n s here kept h = λ j m l e. elim (leb_tells n j) [
   | inr q ↦ kept (key_of m) (h j m q.1 (front_get ns x m j (omega (arith, q.1, s)) e))
   | inl q ↦ (
@@ -53,7 +89,8 @@ pub unmarked_names : (ns : List (List ℕ)) (x : List ℕ) (bits key : ℕ) (r :
 unmarked_names ns x bits key r e t f h = none_among ns x (λ j n l g. differs n x bits key r e t f (h j n l g))
 
 module _ {T : Type 0} where
-  pub unmarked : (all bs : List (Binding T)) (n : ℕ) (first : List (ℕ × ℕ)) (x : List ℕ) (bits key : ℕ) (r : Bool) → take n all ≡ bs → IsBindingList all n first bits → key ≡ key_of x → (Marks bits key → r ≡ true) → r ≡ false → bound_in (bounds_of bs) x ≡ None
+  pub unmarked : (all bs : List (Binding T)) (n : ℕ) (first : List (ℕ × ℕ)) (x : List ℕ) (bits key : ℕ) (r : Bool) → take n all ≡ bs →
+      IsBindingList all n first bits → key ≡ key_of x → (Marks bits key → r ≡ true) → r ≡ false → bound_in (bounds_of bs) x ≡ None
   unmarked all bs n first x bits key r v h e t f =
       subst (λ (q : List (Binding T)). bound_in (bounds_of q) x ≡ None) v
       (none_at (take n all) x (λ j b l g. differs b.name x bits key r e t f (h.marks j b.name (omega (arith, l, length_taken n all h.within)) (names_get (take n all) j b g))))
@@ -76,7 +113,8 @@ module _ {T : Type 0} where
   set_length : (bs cs : List (Binding T)) (i : ℕ) (v : T) → bounds_of cs ≡ put (bounds_of bs) i v → length cs ≡ length bs
   set_length bs cs i v e = sym (length-map cs bound_of) ∙ (ap length e ∙ (put_length (bounds_of bs) i v ∙ length-map bs bound_of))
 
-  pub set_list : (n : ℕ) (bs cs : List (Binding T)) (i : ℕ) (v : T) (first : List (ℕ × ℕ)) (mask : ℕ) → bounds_of cs ≡ put (bounds_of bs) i v → IsBindingList bs n first mask → IsBindingList cs n first mask
+  pub set_list : (n : ℕ) (bs cs : List (Binding T)) (i : ℕ) (v : T) (first : List (ℕ × ℕ)) (mask : ℕ) → bounds_of cs ≡ put (bounds_of bs) i
+      v → IsBindingList bs n first mask → IsBindingList cs n first mask
   set_list n bs cs i v first mask e h =
       let names : binding_names (take n cs) ≡ binding_names (take n bs) = names_put (take n bs) (take n cs) i v (set_used n bs cs i v e) in
       record {
@@ -89,13 +127,18 @@ module _ {T : Type 0} where
   used_within n i all bs v w l = omega (arith, l, ap length v, w, length_taken n all w)
 
   -- one more binding in use
-  pub grown_list : (n : ℕ) (bs cs : List (Binding T)) (x : List ℕ) (first next : List (ℕ × ℕ)) (mask more key : ℕ) → key ≡ key_of x → binding_names (take (n + 1) cs) ≡ binding_names (take n bs) ++ x ∷ [] → n + 1 ≤ length cs → IsBindingList bs n first mask → ((ns : List (List ℕ)) → n ≤ length ns → IsIndexTo first ns n → IsIndexTo next ns n) → IsSome (lookup (is_at (nat_cmp key)) next) ⊎ (n < few) → Marks more key → ((k : ℕ) → Marks mask k → Marks more k) → IsBindingList cs (n + 1) next more
+  pub grown_list : (n : ℕ) (bs cs : List (Binding T)) (x : List ℕ) (first next : List (ℕ × ℕ)) (mask more key : ℕ) → key ≡ key_of x →
+      binding_names (take (n + 1) cs) ≡ binding_names (take n bs) ++ x ∷ [] → n + 1 ≤ length cs → IsBindingList bs
+      n first mask → ((ns : List (List ℕ)) → n ≤ length ns → IsIndexTo first ns n → IsIndexTo next ns n) → IsSome
+      (lookup (is_at (nat_cmp key)) next) ⊎ (n < few) → Marks more key → ((k : ℕ) → Marks mask k → Marks more k) → IsBindingList cs (n + 1) next more
   grown_list n bs cs x first next mask more key e names w h indexed found here kept =
       let ns : List (List ℕ) = binding_names (take n bs) in
       let many : n ≡ length ns = sym (length-map (take n bs) (λ b. b.name) ∙ length_taken n bs h.within) in
       let old : IsIndexTo first ns n = subst (λ (q : ℕ). IsIndexTo first ns q) (sym many) h.index in
       let new : IsIndex next ns = subst (λ (q : ℕ). IsIndexTo next ns q) many (indexed ns (omega (arith, many)) old) in
-      let there : IsSome (lookup (is_at (nat_cmp (key_of x))) next) ⊎ (length ns < few) = subst (λ (q : ℕ). IsSome (lookup (is_at (nat_cmp q)) next) ⊎ (length ns < few)) e (subst (λ (q : ℕ). IsSome (lookup (is_at (nat_cmp key)) next) ⊎ (q < few)) many found) in
+      let there : IsSome (lookup (is_at (nat_cmp (key_of x))) next) ⊎ (length ns < few) = subst
+      (λ (q : ℕ). IsSome (lookup (is_at (nat_cmp q)) next) ⊎ (length ns < few)) e
+      (subst (λ (q : ℕ). IsSome (lookup (is_at (nat_cmp key)) next) ⊎ (q < few)) many found) in
       record {
         within = w;
         index = subst (λ (q : List (List ℕ)). IsIndex next q) (sym names) (index_push next ns x there new);
@@ -105,7 +148,8 @@ module _ {T : Type 0} where
   pub names_pushed : (n : ℕ) (bs cs : List (Binding T)) (b : Binding T) → take (n + 1) cs ≡ take n bs ++ b ∷ [] → binding_names (take (n + 1) cs) ≡ binding_names (take n bs) ++ b.name ∷ []
   names_pushed n bs cs b e = ap binding_names e ∙ names_push (take n bs) b
 
-  pub names_bound : (n : ℕ) (bs cs : List (Binding T)) (b : Bound T) → bounds_of (take (n + 1) cs) ≡ bounds_of (take n bs) ++ b ∷ [] → binding_names (take (n + 1) cs) ≡ binding_names (take n bs) ++ b.name ∷ []
+  pub names_bound : (n : ℕ) (bs cs : List (Binding T)) (b : Bound T) → bounds_of (take (n + 1) cs) ≡ bounds_of (take n bs) ++ b ∷ [] →
+      binding_names (take (n + 1) cs) ≡ binding_names (take n bs) ++ b.name ∷ []
   names_bound n bs cs b e =
       bounds_names (take (n + 1) cs)
       ∙ (ap (λ (q : List (Bound T)). map (λ c. c.name) q) e
@@ -123,14 +167,18 @@ module _ {T : Type 0} where
   left_within (b ∷ bs) zero x h = omega arith
   left_within (b ∷ bs) (suc i) x h = omega (arith, left_within bs i x h)
 
-  again : (bs : List (Binding T)) (k : ℕ) (r : Binding T) (x : List ℕ) (constant : Bool) (v : T) → r ≡ get_or bs k r → IsLeft bs k x → bounds_of (take (suc k) (set bs k (record { name = r.name; constant = constant; value = v }))) ≡ bounds_of (take k bs) ++ record { name = x; constant = constant; value = v } ∷ []
+  again : (bs : List (Binding T)) (k : ℕ) (r : Binding T) (x : List ℕ) (constant : Bool) (v : T) → r ≡ get_or bs k r → IsLeft bs k x →
+      bounds_of (take (suc k) (set bs k (record { name = r.name; constant = constant; value = v }))) ≡ bounds_of
+      (take k bs) ++ record { name = x; constant = constant; value = v } ∷ []
   again [] k r x constant v p h = absurd h
   again (b ∷ bs) zero r x constant v p h =
       let n : r.name ≡ x = ap (λ (q : Binding T). q.name) p ∙ h in
       ap (λ (q : List ℕ). record { name = q; constant = constant; value = v } ∷ []) n
   again (b ∷ bs) (suc k) r x constant v p h = ap (λ q. bound_of b ∷ q) (again bs k r x constant v p h)
 
-  pub bound_again : (bs : List (Binding T)) (k : ℕ) (r : Binding T) (x : List ℕ) (constant : Bool) (v : T) → r ≡ get_or bs k r → IsLeft bs k x → bounds_of (take (k + 1) (set bs k (record { name = r.name; constant = constant; value = v }))) ≡ bounds_of (take k bs) ++ record { name = x; constant = constant; value = v } ∷ []
+  pub bound_again : (bs : List (Binding T)) (k : ℕ) (r : Binding T) (x : List ℕ) (constant : Bool) (v : T) → r ≡ get_or bs k r → IsLeft bs k
+      x → bounds_of (take (k + 1) (set bs k (record { name = r.name; constant = constant; value = v }))) ≡ bounds_of
+      (take k bs) ++ record { name = x; constant = constant; value = v } ∷ []
   bound_again bs k r x constant v p h =
       let m : k + 1 ≡ suc k = omega arith in
       ap (λ (q : ℕ). bounds_of (take q (set bs k (record { name = r.name; constant = constant; value = v })))) m ∙ again bs k r x constant v p h

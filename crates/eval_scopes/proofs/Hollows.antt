@@ -27,7 +27,9 @@ write_hollows : {T : Type 0} (n : ℕ) (fs : List (BlockFrame T)) (top : List (B
 write_hollows zero fs top x v = refl
 write_hollows (suc n) fs top x v = ap (λ q. inside (record { names = []; bound = [] }) q) (write_hollows n fs top x v)
 
-write_first : {T : Type 0} (t : Bool) (n : ℕ) (ns : List ℕ) (f g : BlockFrame T) (fs : List (BlockFrame T)) (top : List (Bound T)) (w u : Bindings T) → w ≡ hollowed n (spread ns u) → (if t then record { blocks = g ∷ hollows n (with_hollows ns fs); top = top } else inside f w) ≡ spread (n ∷ ns) (if t then record { blocks = g ∷ fs; top = top } else inside f u)
+write_first : {T : Type 0} (t : Bool) (n : ℕ) (ns : List ℕ) (f g : BlockFrame T) (fs : List (BlockFrame T)) (top : List (Bound T))
+    (w u : Bindings T) → w ≡ hollowed n (spread ns u) → (if t then record { blocks = g ∷ hollows n (with_hollows ns fs); top = top } else
+    inside f w) ≡ spread (n ∷ ns) (if t then record { blocks = g ∷ fs; top = top } else inside f u)
 write_first true n ns f g fs top w u e = refl
 write_first false n ns f g fs top w u e = ap (λ q. inside f q) e
 
@@ -47,7 +49,8 @@ declare_with (n ∷ ns) (f ∷ fs) top b = refl
 pub look_blocks : {T : Type 0} (b : Blocks T) (top : List (Bound T)) (x : List ℕ) → look (blocks_of b) top x ≡ look (frames_of b.frames) top x
 look_blocks b top x = look_hollows b.hollow (stacked b.frames) top x ∙ look_with (outsides_of b.frames) (frames_of b.frames) top x
 
-pub write_blocks : {T : Type 0} (b : Blocks T) (top : List (Bound T)) (x : List ℕ) (v : T) → write (blocks_of b) top x v ≡ hollowed b.hollow (spread (outsides_of b.frames) (write (frames_of b.frames) top x v))
+pub write_blocks : {T : Type 0} (b : Blocks T) (top : List (Bound T)) (x : List ℕ) (v : T) → write (blocks_of b) top x v ≡ hollowed b.hollow
+    (spread (outsides_of b.frames) (write (frames_of b.frames) top x v))
 write_blocks b top x v = write_hollows b.hollow (stacked b.frames) top x v ∙ ap (λ q. hollowed b.hollow q) (write_with (outsides_of b.frames) (frames_of b.frames) top x v)
 
 -- one more frame, the innermost
@@ -61,7 +64,9 @@ pub stacked_behind : {T : Type 0} (fs : List (CodeFrame T)) (f : CodeFrame T) �
 stacked_behind fs f = ap (λ q. with_hollows q (frames_of (fs ++ f ∷ []))) (outsides_behind fs f) ∙ ap (λ q. with_hollows (f.outside ∷ outsides_of fs) q) (frames_behind fs f)
 
 -- a binding of a block, told of frames alone, is one among frames with the same numbers
-pub stacked_declared : {T E : Type 0} (r : Result (Unit {0}) E) (fs gs : List (CodeFrame T)) (b : Bound T) → outsides_of gs ≡ outsides_of fs → OnOk r ((top : List (Bound T)) → record { blocks = frames_of gs; top = top } ≡ declare (frames_of fs) top b) → OnOk r ((top : List (Bound T)) → record { blocks = stacked gs; top = top } ≡ declare (stacked fs) top b)
+pub stacked_declared : {T E : Type 0} (r : Result (Unit {0}) E) (fs gs : List (CodeFrame T)) (b : Bound T) → outsides_of gs ≡ outsides_of
+    fs → OnOk r ((top : List (Bound T)) → record { blocks = frames_of gs; top = top } ≡ declare (frames_of fs) top
+    b) → OnOk r ((top : List (Bound T)) → record { blocks = stacked gs; top = top } ≡ declare (stacked fs) top b)
 stacked_declared (Err s) fs gs b e h = tt
 stacked_declared (Ok v) fs gs b e h = λ top.
     ap (λ q. record { blocks = with_hollows q (frames_of gs); top = top }) e

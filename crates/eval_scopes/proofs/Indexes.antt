@@ -1,5 +1,40 @@
 -- The index of names by their keys.
-use Rattle.std.proofs.Common.{arith, ◌≡◌, ℕ, ◌<◌, min, zero, suc, ◌+◌, true, false, Bool, List, [], ◌∷◌, ◌++◌, length, length-append, map, refl, ap, sym, ◌∙◌, subst, if◌then◌else◌, Option, Some, None, option_map, slice_get, get_or, bytes_eq, ◌⊎◌, inl, inr}
+use Rattle.std.proofs.Common.{
+  arith,
+  ◌≡◌,
+  ℕ,
+  ◌<◌,
+  min,
+  zero,
+  suc,
+  ◌+◌,
+  true,
+  false,
+  Bool,
+  List,
+  [],
+  ◌∷◌,
+  ◌++◌,
+  length,
+  length-append,
+  map,
+  refl,
+  ap,
+  sym,
+  ◌∙◌,
+  subst,
+  if◌then◌else◌,
+  Option,
+  Some,
+  None,
+  option_map,
+  slice_get,
+  get_or,
+  bytes_eq,
+  ◌⊎◌,
+  inl,
+  inr,
+}
 use Rattle.std.specs.Prelude.{IsSome, MatchOption}
 use Rattle.std.specs.Ordering.{nat_cmp}
 use Rattle.std.specs.Map.{lookup}
@@ -32,7 +67,8 @@ next_stands ns n k m None e s h = λ j x f l g q. elim (leb_tells m j) [
       elim (s (ap key_of one ∙ q)) [ inl t ↦ (let no : false ≡ true = t in cc) | inr t ↦ absurd (omega (arith, f, same, t)) ])
 ]
 
-pub index_next : (first : List (ℕ × ℕ)) (ns : List (List ℕ)) (n : List ℕ) (m : ℕ) → slice_get ns m ≡ Some n → IsSome (lookup (is_at (nat_cmp (key_of n))) first) ⊎ (m < few) → IsIndexTo first ns m → IsIndexTo first ns (m + 1)
+pub index_next : (first : List (ℕ × ℕ)) (ns : List (List ℕ)) (n : List ℕ) (m : ℕ) → slice_get ns m ≡ Some n → IsSome
+    (lookup (is_at (nat_cmp (key_of n))) first) ⊎ (m < few) → IsIndexTo first ns m → IsIndexTo first ns (m + 1)
 index_next first ns n m e s h = λ k. next_stands ns n k m (lookup (is_at (nat_cmp k)) first) e (λ q. subst (λ (i : ℕ). IsSome (lookup (is_at (nat_cmp i)) first) ⊎ (m < few)) q s) (h k)
 
 -- a name behind others
@@ -67,12 +103,14 @@ none_to ns x k f i e m h b = λ j n l g. elim (leb_tells f j) [
 ]
 
 -- what the index says of a name whose key is k, where none of the first few is the name
-pub start_at : (first : List (ℕ × ℕ)) (ns : List (List ℕ)) (x : List ℕ) (k f i : ℕ) → k ≡ key_of x → f ≡ min few (length ns) → NoneAmong ns x f → IsIndex first ns → Some i ≡ lookup (is_at (nat_cmp k)) first → NoneAmong ns x i
+pub start_at : (first : List (ℕ × ℕ)) (ns : List (List ℕ)) (x : List ℕ) (k f i : ℕ) → k ≡ key_of x → f ≡ min few (length ns) → NoneAmong ns
+    x f → IsIndex first ns → Some i ≡ lookup (is_at (nat_cmp k)) first → NoneAmong ns x i
 start_at first ns x k f i e m h b s =
     let t : StandFrom ns k (length ns) (Some i) = subst (λ (o : Option ℕ). StandFrom ns k (length ns) o) (sym s) (b k) in
     none_to ns x k f i e m h t.1
 
-pub no_start_at : (first : List (ℕ × ℕ)) (ns : List (List ℕ)) (x : List ℕ) (k f : ℕ) → k ≡ key_of x → f ≡ min few (length ns) → NoneAmong ns x f → IsIndex first ns → None ≡ lookup (is_at (nat_cmp k)) first → NoneAmong ns x (length ns)
+pub no_start_at : (first : List (ℕ × ℕ)) (ns : List (List ℕ)) (x : List ℕ) (k f : ℕ) → k ≡ key_of x → f ≡ min few (length ns) → NoneAmong ns
+    x f → IsIndex first ns → None ≡ lookup (is_at (nat_cmp k)) first → NoneAmong ns x (length ns)
 no_start_at first ns x k f e m h b s =
     let t : StandFrom ns k (length ns) None = subst (λ (o : Option ℕ). StandFrom ns k (length ns) o) (sym s) (b k) in
     none_to ns x k f (length ns) e m h t
@@ -119,14 +157,17 @@ named_among bs x i h = λ j c l e. h j c.name l (names_get bs j c e)
 pub few_names : {T : Type 0} (bs : List (Binding T)) (f : ℕ) → f ≡ min few (length bs) → f ≡ min few (length (binding_names bs))
 few_names bs f e = e ∙ ap (λ q. min few q) (sym (length-map bs (λ b. b.name)))
 
-pub binding_start : {T : Type 0} (first : List (ℕ × ℕ)) (bs : List (Binding T)) (x : List ℕ) (k f i : ℕ) → k ≡ key_of x → f ≡ min few (length bs) → NoneNamed bs x f → IsIndex first (binding_names bs) → Some i ≡ lookup (is_at (nat_cmp k)) first → NoneNamed bs x i
+pub binding_start : {T : Type 0} (first : List (ℕ × ℕ)) (bs : List (Binding T)) (x : List ℕ) (k f i : ℕ) → k ≡ key_of x → f ≡ min few
+    (length bs) → NoneNamed bs x f → IsIndex first (binding_names bs) → Some i ≡ lookup (is_at (nat_cmp k)) first → NoneNamed bs x i
 binding_start first bs x k f i e m h b s = named_among bs x i (start_at first (binding_names bs) x k f i e (few_names bs f m) (among_names bs x f h) b s)
 
-pub found_or_none : {T : Type 0} (r : Option ℕ) (bs : List (Binding T)) (x : List ℕ) (n : ℕ) → n ≡ length bs → MatchOption r (NoneNamed bs x n) (λ i. IsAt (bounds_of bs) x i) → MatchOption r (bound_in (bounds_of bs) x ≡ None) (λ i. IsAt (bounds_of bs) x i)
+pub found_or_none : {T : Type 0} (r : Option ℕ) (bs : List (Binding T)) (x : List ℕ) (n : ℕ) → n ≡ length bs → MatchOption r
+    (NoneNamed bs x n) (λ i. IsAt (bounds_of bs) x i) → MatchOption r (bound_in (bounds_of bs) x ≡ None) (λ i. IsAt (bounds_of bs) x i)
 found_or_none None bs x n e h = none_at bs x (subst (λ (q : ℕ). NoneNamed bs x q) e h)
 found_or_none (Some i) bs x n e h = h
 
-pub no_binding_start : {T : Type 0} (first : List (ℕ × ℕ)) (bs : List (Binding T)) (x : List ℕ) (k f : ℕ) → k ≡ key_of x → f ≡ min few (length bs) → NoneNamed bs x f → IsIndex first (binding_names bs) → None ≡ lookup (is_at (nat_cmp k)) first → bound_in (bounds_of bs) x ≡ None
+pub no_binding_start : {T : Type 0} (first : List (ℕ × ℕ)) (bs : List (Binding T)) (x : List ℕ) (k f : ℕ) → k ≡ key_of x → f ≡ min few
+    (length bs) → NoneNamed bs x f → IsIndex first (binding_names bs) → None ≡ lookup (is_at (nat_cmp k)) first → bound_in (bounds_of bs) x ≡ None
 no_binding_start first bs x k f e m h b s =
     let none : NoneAmong (binding_names bs) x (length (binding_names bs)) = no_start_at first (binding_names bs) x k f e (few_names bs f m) (among_names bs x f h) b s in
     none_at bs x (named_among bs x (length bs) (subst (λ (q : ℕ). NoneAmong (binding_names bs) x q) (length-map bs (λ b. b.name)) none))

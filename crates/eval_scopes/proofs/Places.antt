@@ -1,6 +1,39 @@
 -- Where a name stands.
 use Rattle.eval_scopes.specs.Changes.{with_bound}
-use Rattle.std.proofs.Common.{arith, ◌≡◌, ℕ, ◌+◌, ◌<◌, zero, suc, true, false, List, [], ◌∷◌, length, map, refl, ap, sym, ◌∙◌, subst, Some, None, slice_get, get_or, set, take, drop, reverse, ◌++◌, append_assoc, bytes_eq, inl, inr}
+use Rattle.std.proofs.Common.{
+  arith,
+  ◌≡◌,
+  ℕ,
+  ◌+◌,
+  ◌<◌,
+  zero,
+  suc,
+  true,
+  false,
+  List,
+  [],
+  ◌∷◌,
+  length,
+  map,
+  refl,
+  ap,
+  sym,
+  ◌∙◌,
+  subst,
+  Some,
+  None,
+  slice_get,
+  get_or,
+  set,
+  take,
+  drop,
+  reverse,
+  ◌++◌,
+  append_assoc,
+  bytes_eq,
+  inl,
+  inr,
+}
 use Rattle.std.proofs.Math.ListN.{drop_of_length-le}
 use Rattle.std.proofs.Math.Seq.{take-length}
 use Rattle.std.proofs.lemmas.Bool.Decides.{leb_tells}
@@ -21,7 +54,8 @@ later : {T : Type 0} (b : Bound T) (bs : List (Bound T)) (x : List ℕ) (i : ℕ
 later b bs x i e h = record { within = omega (arith, h.within); reads = rw e h.reads; writes = λ v. rw e (ap (λ q. b ∷ q) (h.writes v)) }
 
 -- the first binding of a name
-pub first_at : {T : Type 0} (bs : List (Binding T)) (x : List ℕ) (i : ℕ) (b : Binding T) → i < length bs → b ≡ get_or bs i b → bytes_eq b.name x ≡ true → ((k : ℕ) (c : Binding T) → k < i → slice_get bs k ≡ Some c → bytes_eq c.name x ≡ false) → IsAt (bounds_of bs) x i
+pub first_at : {T : Type 0} (bs : List (Binding T)) (x : List ℕ) (i : ℕ) (b : Binding T) → i < length bs → b ≡ get_or bs i b → bytes_eq
+    b.name x ≡ true → ((k : ℕ) (c : Binding T) → k < i → slice_get bs k ≡ Some c → bytes_eq c.name x ≡ false) → IsAt (bounds_of bs) x i
 first_at {T} [] x i b l p e h = absurd (omega (arith, l))
 first_at {T} (c ∷ bs) x zero b l p e h = front (bound_of c) (bounds_of bs) x (subst (λ (q : Binding T). bytes_eq q.name x ≡ true) p e)
 first_at {T} (c ∷ bs) x (suc i) b l p e h = later (bound_of c) (bounds_of bs) x i (h 0 c (omega arith) refl) (first_at bs x i b (omega (arith, l)) p e (λ k d m q. h (suc k) d (omega (arith, m)) q))
@@ -62,18 +96,21 @@ frame_get [] k f l p = absurd (omega (arith, l))
 frame_get (g ∷ fs) zero f l p = cc p
 frame_get (g ∷ fs) (suc k) f l p = frame_get fs k f (omega (arith, l)) p
 
-pub got_block : {T : Type 0} (fs : List (CodeFrame T)) (k i : ℕ) (f : CodeFrame T) (b : Binding T) → InBlock fs k i → f ≡ get_or fs k f → b ≡ get_or f.bound i b → Some (bound_of b) ≡ frame_bound (slice_get (map frame_of fs) k) i
+pub got_block : {T : Type 0} (fs : List (CodeFrame T)) (k i : ℕ) (f : CodeFrame T) (b : Binding T) → InBlock fs k i → f ≡ get_or fs k f → b
+    ≡ get_or f.bound i b → Some (bound_of b) ≡ frame_bound (slice_get (map frame_of fs) k) i
 got_block fs k i f b h p q = sym (ap (λ o. frame_bound o i) (frame_get fs k f (in_block fs k i h) p) ∙ bound_get f.bound i b (at_block fs k i f h p) q)
 
 -- a list around one of its elements
-pub put_in_set : {T : Type 0} (fs : List (CodeFrame T)) (k i : ℕ) (v : T) (f g : CodeFrame T) → k < length fs → f ≡ get_or fs k f → g.names ≡ f.names → bounds_of g.bound ≡ put (bounds_of f.bound) i v → map frame_of (set fs k g) ≡ put_in (map frame_of fs) k i v
+pub put_in_set : {T : Type 0} (fs : List (CodeFrame T)) (k i : ℕ) (v : T) (f g : CodeFrame T) → k < length fs → f ≡ get_or fs k f → g.names
+    ≡ f.names → bounds_of g.bound ≡ put (bounds_of f.bound) i v → map frame_of (set fs k g) ≡ put_in (map frame_of fs) k i v
 put_in_set {T} [] k i v f g l p m e = absurd (omega (arith, l))
 put_in_set {T} (h ∷ fs) zero i v f g l p m e =
     let a : frame_of g ≡ with_bound (frame_of f) (put (bounds_of f.bound) i v) = cc (m, e) in
     ap (λ q. q ∷ map frame_of fs) (a ∙ ap (λ (q : CodeFrame T). with_bound (frame_of q) (put (bounds_of q.bound) i v)) p)
 put_in_set {T} (h ∷ fs) (suc k) i v f g l p m e = ap (λ q. frame_of h ∷ q) (put_in_set fs k i v f g (omega (arith, l)) p m e)
 
-put_in_split : {T : Type 0} (fs : List (CodeFrame T)) (k i : ℕ) (v : T) (f : CodeFrame T) → k < length fs → f ≡ get_or fs k f → put_in (map frame_of fs) k i v ≡ map frame_of (take k fs) ++ with_bound (frame_of f) (put (bounds_of f.bound) i v) ∷ map frame_of (drop (suc k) fs)
+put_in_split : {T : Type 0} (fs : List (CodeFrame T)) (k i : ℕ) (v : T) (f : CodeFrame T) → k < length fs → f ≡ get_or fs k f → put_in
+    (map frame_of fs) k i v ≡ map frame_of (take k fs) ++ with_bound (frame_of f) (put (bounds_of f.bound) i v) ∷ map frame_of (drop (suc k) fs)
 put_in_split {T} [] k i v f l p = absurd (omega (arith, l))
 put_in_split {T} (h ∷ fs) zero i v f l p = ap (λ (q : CodeFrame T). with_bound (frame_of q) (put (bounds_of q.bound) i v) ∷ map frame_of fs) (sym p)
 put_in_split {T} (h ∷ fs) (suc k) i v f l p = ap (λ q. frame_of h ∷ q) (put_in_split fs k i v f (omega (arith, l)) p)
@@ -108,7 +145,9 @@ pub frames_split : {T : Type 0} (fs gs : List (CodeFrame T)) (f : CodeFrame T) �
 frames_split fs gs f = ap (λ q. reverse q) (map-append frame_of fs (f ∷ gs)) ∙ reverse_split (map frame_of fs) (map frame_of gs) (frame_of f)
 
 -- a declaration in the innermost block
-pub declare_last : {T : Type 0} (fs : List (CodeFrame T)) (k : ℕ) (f g : CodeFrame T) (top : List (Bound T)) (b : Bound T) → length fs ≡ suc k → f ≡ get_or fs k f → g.names ≡ f.names → bounds_of g.bound ≡ bounds_of f.bound ++ b ∷ [] → record { blocks = frames_of (set fs k g); top = top } ≡ declare (frames_of fs) top b
+pub declare_last : {T : Type 0} (fs : List (CodeFrame T)) (k : ℕ) (f g : CodeFrame T) (top : List (Bound T)) (b : Bound T) → length fs ≡ suc
+    k → f ≡ get_or fs k f → g.names ≡ f.names → bounds_of g.bound ≡ bounds_of f.bound ++ b ∷
+    [] → record { blocks = frames_of (set fs k g); top = top } ≡ declare (frames_of fs) top b
 declare_last fs k f g top b l p m e =
     let h : k < length fs = omega arith in
     let last : drop (suc k) fs ≡ [] = drop_of_length-le fs {i = suc k} (omega arith) in
@@ -168,7 +207,9 @@ module _ {T : Type 0} (fs : List (CodeFrame T)) (top : List (Bound T)) (x : List
       sym h.looks ∙ (ap (λ q. look q top x) taken ∙ one)
 
   -- the block has it
-  sought_block : (i : ℕ) → Sought fs top x (suc k) → IsAt (bounds_of f.bound) x i → (look (frames_of fs) top x ≡ frame_bound (slice_get (map frame_of fs) k) i) × ((v : T) → write (frames_of fs) top x v ≡ record { blocks = reverse (put_in (map frame_of fs) k i v); top = top })
+  sought_block : (i : ℕ) → Sought fs top x (suc k) → IsAt (bounds_of f.bound) x i →
+      (look (frames_of fs) top x ≡ frame_bound (slice_get (map frame_of fs) k) i) × ((v : T) → write (frames_of fs) top x
+      v ≡ record { blocks = reverse (put_in (map frame_of fs) k i v); top = top })
   sought_block i h a =
       let t = some_at (bounds_of f.bound) i a.within in
       let e : bound_in (bounds_of f.bound) x ≡ Some t.0 = a.reads ∙ t.1 in
@@ -176,15 +217,19 @@ module _ {T : Type 0} (fs : List (CodeFrame T)) (top : List (Bound T)) (x : List
       let there : frame_bound (slice_get (map frame_of fs) k) i ≡ Some t.0 = ap (λ o. frame_bound o i) (frame_get fs k f l p) ∙ t.1 in (
         sym h.looks ∙ (ap (λ q. look q top x) taken ∙ (one ∙ sym there)),
         λ v.
-            let two : write (frame_of f ∷ frames_of (take k fs)) top x v ≡ record { blocks = with_bound (frame_of f) (changed (bounds_of f.bound) x v) ∷ frames_of (take k fs); top = top } = rw e refl in
-            let three : reverse (put_in (map frame_of fs) k i v) ≡ frames_of (drop (suc k) fs) ++ with_bound (frame_of f) (put (bounds_of f.bound) i v) ∷ frames_of (take k fs) = ap (λ q. reverse q) (put_in_split fs k i v f l p) ∙ reverse_split (map frame_of (take k fs)) (map frame_of (drop (suc k) fs)) (with_bound (frame_of f) (put (bounds_of f.bound) i v)) in
+            let two : write (frame_of f ∷ frames_of (take k fs)) top x
+            v ≡ record { blocks = with_bound (frame_of f) (changed (bounds_of f.bound) x v) ∷ frames_of (take k fs); top = top } = rw e refl in
+            let three : reverse (put_in (map frame_of fs) k i v) ≡ frames_of (drop (suc k) fs) ++ with_bound (frame_of f)
+            (put (bounds_of f.bound) i v) ∷ frames_of (take k fs) = ap (λ q. reverse q) (put_in_split fs k i v f l p) ∙ reverse_split
+            (map frame_of (take k fs)) (map frame_of (drop (suc k) fs)) (with_bound (frame_of f) (put (bounds_of f.bound) i v)) in
             sym (h.writes v)
             ∙ (ap (λ q. with_front (frames_of (drop (suc k) fs)) q) (ap (λ q. write q top x v) taken ∙ two)
             ∙ (ap (λ q. record { blocks = frames_of (drop (suc k) fs) ++ with_bound (frame_of f) q ∷ frames_of (take k fs); top = top }) (a.writes v)
             ∙ ap (λ q. record { blocks = q; top = top }) (sym three))),
       )
 
-pub block_place : {T : Type 0} (s : Scope T) (x : List ℕ) (n k i : ℕ) (f : CodeFrame T) → n ≡ suc k → k < length s.blocks.frames → f ≡ get_or s.blocks.frames k f → Sought s.blocks.frames (bounds_of s.top) x n → IsAt (bounds_of f.bound) x i → IsPlace s x (Block k i)
+pub block_place : {T : Type 0} (s : Scope T) (x : List ℕ) (n k i : ℕ) (f : CodeFrame T) → n ≡ suc k → k < length s.blocks.frames → f ≡
+    get_or s.blocks.frames k f → Sought s.blocks.frames (bounds_of s.top) x n → IsAt (bounds_of f.bound) x i → IsPlace s x (Block k i)
 block_place s x n k i f e l p h a =
     let b = s.blocks in
     let h' : Sought b.frames (bounds_of s.top) x (suc k) = subst (λ q. Sought b.frames (bounds_of s.top) x q) e h in
@@ -196,7 +241,8 @@ block_place s x n k i f e l p h a =
       writes = λ v. write_blocks b (bounds_of s.top) x v ∙ ap (λ q. hollowed b.hollow (spread (outsides_of b.frames) q)) (t.1 v);
     }
 
-sought_top : {T : Type 0} (fs : List (CodeFrame T)) (top : List (Bound T)) (x : List ℕ) (n : ℕ) → n ≡ 0 → Sought fs top x n → (look (frames_of fs) top x ≡ bound_in top x) × ((v : T) → write (frames_of fs) top x v ≡ record { blocks = frames_of fs; top = changed top x v })
+sought_top : {T : Type 0} (fs : List (CodeFrame T)) (top : List (Bound T)) (x : List ℕ) (n : ℕ) → n ≡ 0 → Sought fs top x n →
+    (look (frames_of fs) top x ≡ bound_in top x) × ((v : T) → write (frames_of fs) top x v ≡ record { blocks = frames_of fs; top = changed top x v })
 sought_top fs top x n e h =
     let h' : Sought fs top x 0 = subst (λ q. Sought fs top x q) e h in
     (sym h'.looks, λ v. sym (h'.writes v) ∙ ap (λ q. record { blocks = q; top = changed top x v }) (append-nil (frames_of fs)))
@@ -208,7 +254,8 @@ get_at (y ∷ xs) zero x l e = cc e
 get_at (y ∷ xs) (suc i) x l e = get_at xs i x (omega (arith, l)) e
 
 -- what holds of all before a place, and of what stands there
-pub one_more : {X : Type 0} (P : X → Type 0) (xs : List X) (i : ℕ) (x : X) → i < length xs → x ≡ get_or xs i x → P x → ((j : ℕ) (y : X) → j < i → slice_get xs j ≡ Some y → P y) → (j : ℕ) (y : X) → j < i + 1 → slice_get xs j ≡ Some y → P y
+pub one_more : {X : Type 0} (P : X → Type 0) (xs : List X) (i : ℕ) (x : X) → i < length xs → x ≡ get_or xs i x
+    → P x → ((j : ℕ) (y : X) → j < i → slice_get xs j ≡ Some y → P y) → (j : ℕ) (y : X) → j < i + 1 → slice_get xs j ≡ Some y → P y
 one_more P xs i x l p e h = λ j y k g. elim (leb_tells i j) [
   | inr q ↦ h j y q.1 g
   | inl q ↦ (
@@ -226,10 +273,12 @@ top_place s x n i e h a =
     record {
       within = w;
       reads = look_blocks b (bounds_of s.top) x ∙ (t.0 ∙ a.reads);
-      writes = λ v. write_blocks b (bounds_of s.top) x v ∙ ap (λ q. hollowed b.hollow (spread (outsides_of b.frames) q)) (t.1 v ∙ ap (λ q. record { blocks = frames_of b.frames; top = q }) (a.writes v));
+      writes = λ v. write_blocks b (bounds_of s.top) x v ∙ ap (λ q. hollowed b.hollow (spread (outsides_of b.frames) q))
+          (t.1 v ∙ ap (λ q. record { blocks = frames_of b.frames; top = q }) (a.writes v));
     }
 
-pub no_place : {T : Type 0} (s : Scope T) (x : List ℕ) (n : ℕ) → n ≡ 0 → Sought s.blocks.frames (bounds_of s.top) x n → bound_in (bounds_of s.top) x ≡ None → look (blocks_of s.blocks) (bounds_of s.top) x ≡ None
+pub no_place : {T : Type 0} (s : Scope T) (x : List ℕ) (n : ℕ) → n ≡ 0 → Sought s.blocks.frames (bounds_of s.top) x n → bound_in
+    (bounds_of s.top) x ≡ None → look (blocks_of s.blocks) (bounds_of s.top) x ≡ None
 no_place s x n e h a = look_blocks s.blocks (bounds_of s.top) x ∙ ((sought_top s.blocks.frames (bounds_of s.top) x n e h).0 ∙ a)
 
 -- a list with the same block in one place
@@ -238,12 +287,15 @@ frame_kept [] k f g l p e = absurd (omega (arith, l))
 frame_kept (h ∷ fs) zero f g l p e = cc (p, e)
 frame_kept (h ∷ fs) (suc k) f g l p e = ap (λ q. frame_of h ∷ q) (frame_kept fs k f g (omega (arith, l)) p e)
 
-pub declare_kept : {T E : Type 0} (r : Result (Unit {0}) E) (fs : List (CodeFrame T)) (k : ℕ) (f g : CodeFrame T) → length fs ≡ k + 1 → f ≡ get_or fs k f → g.names ≡ f.names → OnErr r (g.bound ≡ f.bound) → OnErr r (frames_of (set fs k g) ≡ frames_of fs)
+pub declare_kept : {T E : Type 0} (r : Result (Unit {0}) E) (fs : List (CodeFrame T)) (k : ℕ) (f g : CodeFrame T) → length fs ≡ k + 1 → f ≡
+    get_or fs k f → g.names ≡ f.names → OnErr r (g.bound ≡ f.bound) → OnErr r (frames_of (set fs k g) ≡ frames_of fs)
 declare_kept (Ok v) fs k f g l p m e = tt
 declare_kept (Err s) fs k f g l p m e =
     let same : frame_of g ≡ frame_of f = cc (m, e) in
     ap (λ q. reverse q) (frame_kept fs k f g (omega (arith, l)) p same)
 
-pub declare_on : {T : Type 0} {E : Type 0} (r : Result (Unit {0}) E) (fs : List (CodeFrame T)) (k : ℕ) (f g : CodeFrame T) (b : Bound T) → length fs ≡ k + 1 → f ≡ get_or fs k f → g.names ≡ f.names → OnOk r (bounds_of g.bound ≡ bounds_of f.bound ++ b ∷ []) → OnOk r ((top : List (Bound T)) → record { blocks = frames_of (set fs k g); top = top } ≡ declare (frames_of fs) top b)
+pub declare_on : {T : Type 0} {E : Type 0} (r : Result (Unit {0}) E) (fs : List (CodeFrame T)) (k : ℕ) (f g : CodeFrame T) (b : Bound T) →
+    length fs ≡ k + 1 → f ≡ get_or fs k f → g.names ≡ f.names → OnOk r (bounds_of g.bound ≡ bounds_of f.bound ++ b ∷
+    []) → OnOk r ((top : List (Bound T)) → record { blocks = frames_of (set fs k g); top = top } ≡ declare (frames_of fs) top b)
 declare_on (Ok v) fs k f g b l p m e = λ top. declare_last fs k f g top b (omega (arith, l)) p m e
 declare_on (Err s) fs k f g b l p m e = tt

@@ -51,33 +51,46 @@ put_taken (suc n) [] k i v = refl
 put_taken (suc n) (f ∷ fs) zero i v = refl
 put_taken (suc n) (f ∷ fs) (suc k) i v = ap (λ q. f ∷ q) (put_taken n fs k i v)
 
-pub put_stacked : {T : Type 0} (n : ℕ) (fs gs : List (CodeFrame T)) (k i : ℕ) (v : T) → map frame_of gs ≡ put_in (map frame_of fs) k i v → map frame_of (take n gs) ≡ put_in (map frame_of (take n fs)) k i v
+pub put_stacked : {T : Type 0} (n : ℕ) (fs gs : List (CodeFrame T)) (k i : ℕ) (v : T) → map frame_of gs ≡ put_in (map frame_of fs) k i v →
+    map frame_of (take n gs) ≡ put_in (map frame_of (take n fs)) k i v
 put_stacked n fs gs k i v e = map_taken frame_of n gs ∙ (ap (λ q. take n q) e ∙ (put_taken n (map frame_of fs) k i v ∙ ap (λ q. put_in q k i v) (sym (map_taken frame_of n fs))))
 
 -- a block with another binding stays inside as many
-pub outsides_kept : {T : Type 0} (fs : List (CodeFrame T)) (k : ℕ) (f g : CodeFrame T) → k < length fs → f ≡ get_or fs k f → g.outside ≡ f.outside → map (λ (h : CodeFrame T). h.outside) (set fs k g) ≡ map (λ (h : CodeFrame T). h.outside) fs
+pub outsides_kept : {T : Type 0} (fs : List (CodeFrame T)) (k : ℕ) (f g : CodeFrame T) → k < length fs → f ≡ get_or fs k f → g.outside ≡
+    f.outside → map (λ (h : CodeFrame T). h.outside) (set fs k g) ≡ map (λ (h : CodeFrame T). h.outside) fs
 outsides_kept [] k f g l p e = absurd (omega (arith, l))
 outsides_kept {T} (h ∷ fs) zero f g l p e = ap (λ q. q ∷ map (λ (h : CodeFrame T). h.outside) fs) (e ∙ ap (λ (q : CodeFrame T). q.outside) p)
 outsides_kept (h ∷ fs) (suc k) f g l p e = ap (λ q. h.outside ∷ q) (outsides_kept fs k f g (omega (arith, l)) p e)
 
-outsides_taken : {T : Type 0} (n : ℕ) (fs gs : List (CodeFrame T)) → map (λ (h : CodeFrame T). h.outside) gs ≡ map (λ (h : CodeFrame T). h.outside) fs → outsides_of (take n gs) ≡ outsides_of (take n fs)
+outsides_taken : {T : Type 0} (n : ℕ) (fs gs : List (CodeFrame T)) → map (λ (h : CodeFrame T). h.outside) gs ≡ map
+    (λ (h : CodeFrame T). h.outside) fs → outsides_of (take n gs) ≡ outsides_of (take n fs)
 outsides_taken {T} n fs gs e =
     let of : CodeFrame T → ℕ = λ h. h.outside in
     ap (λ q. reverse q) (map_taken of n gs ∙ (ap (λ q. take n q) e ∙ sym (map_taken of n fs)))
 
-pub put_in_stack : {T : Type 0} (n : ℕ) (fs gs : List (CodeFrame T)) (k i : ℕ) (v : T) → map frame_of gs ≡ put_in (map frame_of fs) k i v → map (λ (h : CodeFrame T). h.outside) gs ≡ map (λ (h : CodeFrame T). h.outside) fs → stacked (take n gs) ≡ with_hollows (outsides_of (take n fs)) (reverse (put_in (map frame_of (take n fs)) k i v))
+pub put_in_stack : {T : Type 0} (n : ℕ) (fs gs : List (CodeFrame T)) (k i : ℕ) (v : T) → map frame_of gs ≡ put_in (map frame_of fs) k i
+    v → map (λ (h : CodeFrame T). h.outside) gs ≡ map (λ (h : CodeFrame T). h.outside) fs → stacked (take n gs) ≡ with_hollows
+    (outsides_of (take n fs)) (reverse (put_in (map frame_of (take n fs)) k i v))
 put_in_stack n fs gs k i v p e =
     ap (λ q. with_hollows q (frames_of (take n gs))) (outsides_taken n fs gs e)
     ∙ ap (λ q. with_hollows (outsides_of (take n fs)) (reverse q)) (put_stacked n fs gs k i v p)
 
 -- one more binding of the block that was entered last
-pub declare_taken : {T E : Type 0} (r : Result (Unit {0}) E) (fs : List (CodeFrame T)) (k : ℕ) (f g : CodeFrame T) (b : Bound T) → k < length fs → f ≡ get_or fs k f → g.names ≡ f.names → g.outside ≡ f.outside → OnOk r (bounds_of g.bound ≡ bounds_of f.bound ++ b ∷ []) → OnOk r ((top : List (Bound T)) → record { blocks = stacked (take (k + 1) (set fs k g)); top = top } ≡ declare (stacked (take (k + 1) fs)) top b)
+pub declare_taken : {T E : Type 0} (r : Result (Unit {0}) E) (fs : List (CodeFrame T)) (k : ℕ) (f g : CodeFrame T) (b : Bound T) → k <
+    length fs → f ≡ get_or fs k f → g.names ≡ f.names → g.outside ≡ f.outside → OnOk r
+    (bounds_of g.bound ≡ bounds_of f.bound ++ b ∷ []) → OnOk r ((top : List (Bound T)) → record {
+      blocks = stacked
+          (take (k + 1) (set fs k g));
+      top = top;
+    } ≡ declare (stacked (take (k + 1) fs)) top b)
 declare_taken {T} r fs k f g b l p m o e =
     stacked_declared r (take (k + 1) fs) (take (k + 1) (set fs k g)) b (outsides_taken (k + 1) fs (set fs k g) (outsides_kept fs k f g l p o))
     (subst (λ (q : List (CodeFrame T)). OnOk r ((top : List (Bound T)) → record { blocks = frames_of q; top = top } ≡ declare (frames_of (take (k + 1) fs)) top b)) (sym (set_taken (k + 1) fs k g))
     (declare_on r (take (k + 1) fs) k f g b (length_taken (k + 1) fs (omega (arith, l))) (p ∙ sym (get_taken (k + 1) fs k f (omega arith))) m e))
 
-pub declare_taken_kept : {T E : Type 0} (r : Result (Unit {0}) E) (fs : List (CodeFrame T)) (k : ℕ) (f g : CodeFrame T) → k < length fs → f ≡ get_or fs k f → g.names ≡ f.names → g.outside ≡ f.outside → OnErr r (g.bound ≡ f.bound) → OnErr r (stacked (take (k + 1) (set fs k g)) ≡ stacked (take (k + 1) fs))
+pub declare_taken_kept : {T E : Type 0} (r : Result (Unit {0}) E) (fs : List (CodeFrame T)) (k : ℕ) (f g : CodeFrame T) → k < length fs → f
+    ≡ get_or fs k f → g.names ≡ f.names → g.outside ≡ f.outside → OnErr r (g.bound ≡ f.bound) → OnErr r
+    (stacked (take (k + 1) (set fs k g)) ≡ stacked (take (k + 1) fs))
 declare_taken_kept {T} r fs k f g l p m o e =
     stacked_same r (take (k + 1) fs) (take (k + 1) (set fs k g)) (outsides_taken (k + 1) fs (set fs k g) (outsides_kept fs k f g l p o))
     (subst (λ (q : List (CodeFrame T)). OnErr r (frames_of q ≡ frames_of (take (k + 1) fs))) (sym (set_taken (k + 1) fs k g))
@@ -89,7 +102,8 @@ set_next [] k y l = absurd (omega (arith, l))
 set_next (x ∷ xs) zero y l = refl
 set_next (x ∷ xs) (suc k) y l = ap (λ q. x ∷ q) (set_next xs k y (omega (arith, l)))
 
-pub entered_on : {T : Type 0} (fs : List (CodeFrame T)) (k : ℕ) (g : CodeFrame T) (f : BlockFrame T) (n : ℕ) → k < length fs → frame_of g ≡ f → g.outside ≡ n → stacked (take (k + 1) (set fs k g)) ≡ f ∷ hollows n (stacked (take k fs))
+pub entered_on : {T : Type 0} (fs : List (CodeFrame T)) (k : ℕ) (g : CodeFrame T) (f : BlockFrame T) (n : ℕ) → k < length fs → frame_of g ≡
+    f → g.outside ≡ n → stacked (take (k + 1) (set fs k g)) ≡ f ∷ hollows n (stacked (take k fs))
 entered_on {T} fs k g f n l e o =
     let m : k + 1 ≡ suc k = omega arith in
     ap (λ (q : ℕ). stacked (take q (set fs k g))) m
@@ -98,7 +112,8 @@ entered_on {T} fs k g f n l e o =
     ∙ (ap (λ (q : BlockFrame T). q ∷ hollows g.outside (stacked (take k fs))) e ∙ ap (λ q. f ∷ hollows q (stacked (take k fs))) o)))
 
 -- the innermost block that has a frame is left
-pub left_one : {T : Type 0} (fs : List (CodeFrame T)) (n : ℕ) (f : CodeFrame T) → 0 < n → n ≤ length fs → f ≡ get_or fs (n - 1) f → hollows f.outside (stacked (take (n - 1) fs)) ≡ all_but_first (stacked (take n fs))
+pub left_one : {T : Type 0} (fs : List (CodeFrame T)) (n : ℕ) (f : CodeFrame T) → 0 < n → n ≤ length fs → f ≡ get_or fs (n - 1) f → hollows
+    f.outside (stacked (take (n - 1) fs)) ≡ all_but_first (stacked (take n fs))
 left_one fs n f z l p =
     let k = n - 1 in
     let e : n ≡ suc k = omega (arith, z) in

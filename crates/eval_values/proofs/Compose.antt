@@ -110,7 +110,8 @@ cut_before s h r = record {
 }
 
 -- a call that uses nothing, and then an evaluation
-pub did_before : {F V A : Type 0} (a b c : State F) (see : State F → V → A) (fine : State F → V → Type 0) (r : Result V Stop) (o : Out A) → StoreStep a b None 0 0 → b.history ≡ a.history → ComesTo b c see fine r o → ComesTo a c see fine r o
+pub did_before : {F V A : Type 0} (a b c : State F) (see : State F → V → A) (fine : State F → V → Type 0) (r : Result V Stop) (o : Out A) →
+    StoreStep a b None 0 0 → b.history ≡ a.history → ComesTo b c see fine r o → ComesTo a c see fine r o
 did_before a b c see fine (Ok v) (gave x m) s h d = record { is = d.is; good = d.good; ran = ran_before s h d.ran }
 did_before a b c see fine (Ok v) (ended e m) s h d = absurd d
 did_before a b c see fine (Err (Threw k)) (gave x m) s h d = absurd d
@@ -122,7 +123,8 @@ did_before a b c see fine (Err (Unsupported k)) (ended (unsupported n) m) s h d 
 did_before a b c see fine (Err (Store f)) (gave x m) s h d = cut_before s h d
 did_before a b c see fine (Err (Store f)) (ended e m) s h d = cut_before s h d
 
-pub did_after : {F V A : Type 0} (a b c : State F) (see : State F → V → A) (fine : State F → V → Type 0) (l : Ledger) (r : Result V Stop) (o : Out A) → MeetsLedger a b l → ComesTo b c see fine r o → ComesTo a c see fine r (after_ledger l o)
+pub did_after : {F V A : Type 0} (a b c : State F) (see : State F → V → A) (fine : State F →
+    V → Type 0) (l : Ledger) (r : Result V Stop) (o : Out A) → MeetsLedger a b l → ComesTo b c see fine r o → ComesTo a c see fine r (after_ledger l o)
 did_after a b c see fine l (Ok v) (gave x m) r d = record { is = d.is; good = d.good; ran = ran_both r d.ran }
 did_after a b c see fine l (Ok v) (ended e m) r d = absurd d
 did_after a b c see fine l (Err (Threw k)) (gave x m) r d = absurd d
@@ -135,7 +137,9 @@ did_after a b c see fine l (Err (Store f)) (gave x m) r d = ran_cut r d
 did_after a b c see fine l (Err (Store f)) (ended e m) r d = ran_cut r d
 
 -- a value, and then what is done with it
-pub did_bind : {F V A W B : Type 0} (a b c : State F) (see : State F → V → A) (fine : State F → V → Type 0) (see' : State F → W → B) (fine' : State F → W → Type 0) (v : V) (r : Result W Stop) (o : Out A) (go : A → Out B) → ComesTo a b see fine (Ok v) o → ComesTo b c see' fine' r (go (see b v)) → ComesTo a c see' fine' r (bind o go)
+pub did_bind : {F V A W B : Type 0} (a b c : State F) (see : State F → V → A) (fine : State F → V → Type 0) (see' : State F
+    → W → B) (fine' : State F → W → Type 0) (v : V) (r : Result W Stop) (o : Out A) (go : A → Out B) → ComesTo a b see fine (Ok v) o → ComesTo
+    b c see' fine' r (go (see b v)) → ComesTo a c see' fine' r (bind o go)
 did_bind a b c see fine see' fine' v r (gave x l) go d e =
     did_after a b c see' fine' l r (go x) d.ran (subst (λ y. ComesTo b c see' fine' r (go y)) d.is e)
 did_bind a b c see fine see' fine' v r (ended n l) go d e = absurd d
@@ -145,7 +149,8 @@ cut_after l (gave x m) c = cut_more m c
 cut_after l (ended e m) c = cut_more m c
 
 -- a stop, and then nothing
-pub did_stop : {F V A W B : Type 0} (a b : State F) (see : State F → V → A) (fine : State F → V → Type 0) (see' : State F → W → B) (fine' : State F → W → Type 0) (s : Stop) (o : Out A) (go : A → Out B) → ComesTo a b see fine (Err s) o → ComesTo a b see' fine' (Err s) (bind o go)
+pub did_stop : {F V A W B : Type 0} (a b : State F) (see : State F → V → A) (fine : State F → V → Type 0) (see' : State F
+    → W → B) (fine' : State F → W → Type 0) (s : Stop) (o : Out A) (go : A → Out B) → ComesTo a b see fine (Err s) o → ComesTo a b see' fine' (Err s) (bind o go)
 did_stop a b see fine see' fine' (Threw k) (gave x l) go d = absurd d
 did_stop a b see fine see' fine' (Threw k) (ended (threw n) l) go d = d
 did_stop a b see fine see' fine' (Threw k) (ended (unsupported n) l) go d = absurd d
@@ -166,7 +171,8 @@ never_next b (Full (Words x y z)) us h = tt
 never_next b Memory us h = tt
 
 -- a chain of calls that was refused
-pub cut_of_step : {F : Type 0} {a b : State F} {f : StoreFault} {i w : ℕ} (l : Ledger) → StoreStep a b (Some f) i w → b.history ≡ a.history → NeverSlots (Some f) → i ≤ l.ids → w ≤ l.words → Cut a b f l
+pub cut_of_step : {F : Type 0} {a b : State F} {f : StoreFault} {i w : ℕ} (l : Ledger) → StoreStep a b (Some f) i w → b.history ≡ a.history
+    → NeverSlots (Some f) → i ≤ l.ids → w ≤ l.words → Cut a b f l
 cut_of_step {a = a} {b = b} {f = f} l s h n p q = record {
   grows = s.grows;
   honest = honest_full b f s.honest;
@@ -198,12 +204,14 @@ cut_of_memory {a = a} l s h p q = record {
 }
 
 -- a chain of calls of which the last may have found no memory itself
-pub cut_of_full : {F : Type 0} {a b : State F} {i w : ℕ} (f : StoreFault) (l : Ledger) → StoreStep a b (full_only f) i w → b.history ≡ a.history → NeverSlots (full_only f) → i ≤ l.ids → w ≤ l.words → Cut a b f l
+pub cut_of_full : {F : Type 0} {a b : State F} {i w : ℕ} (f : StoreFault) (l : Ledger) → StoreStep a b (full_only f) i w → b.history ≡
+    a.history → NeverSlots (full_only f) → i ≤ l.ids → w ≤ l.words → Cut a b f l
 cut_of_full (Full r) l s h n p q = cut_of_step l s h n p q
 cut_of_full Memory l s h n p q = cut_of_memory l s h p q
 
 -- a chain of calls that was made whole, interned nothing and gave nothing
-pub ran_of_step : {F : Type 0} {a b : State F} {i w : ℕ} (ids words : ℕ) → StoreStep a b None i w → b.history ≡ a.history → i ≤ ids → w ≤ words → MeetsLedger a b (record { interned = []; texts = []; ids = ids; words = words })
+pub ran_of_step : {F : Type 0} {a b : State F} {i w : ℕ} (ids words : ℕ) → StoreStep a b None i w → b.history ≡ a.history → i ≤ ids → w ≤
+    words → MeetsLedger a b (record { interned = []; texts = []; ids = ids; words = words })
 ran_of_step {a = a} ids words s h p q = record {
   grows = s.grows;
   history = record { pairs = []; grown = h ∙ sym (append-nil a.history); same = refl };
@@ -222,7 +230,8 @@ one_text w u zero l e = e
 one_text w u (suc k) l e = absurd (omega (arith, l))
 
 -- a chain of calls that gave one string
-pub ran_of_text : {F : Type 0} {a b : State F} {i k : ℕ} (ids words : ℕ) (w : List ℕ) (n : ℕ) → NamesUnits b n w → StoreStep a b None i k → b.history ≡ a.history → i ≤ ids → k ≤ words → MeetsLedger a b (record { interned = []; texts = w ∷ []; ids = ids; words = words })
+pub ran_of_text : {F : Type 0} {a b : State F} {i k : ℕ} (ids words : ℕ) (w : List ℕ) (n : ℕ) → NamesUnits b n w → StoreStep a b None i k →
+    b.history ≡ a.history → i ≤ ids → k ≤ words → MeetsLedger a b (record { interned = []; texts = w ∷ []; ids = ids; words = words })
 ran_of_text {a = a} {b = b} ids words w n z s h p q = record {
   grows = s.grows;
   history = record { pairs = []; grown = h ∙ sym (append-nil a.history); same = refl };
@@ -232,14 +241,18 @@ ran_of_text {a = a} {b = b} ids words w n z s h p q = record {
 }
 
 -- a conversion within an operation, and then what is done with its value
-pub did_convert : {F V A W B : Type 0} (row : Row) (a b c : State F) (see : State F → V → A) (fine : State F → V → Type 0) (see' : State F → W → B) (fine' : State F → W → Type 0) (v : V) (r : Result W Stop) (o : Out A) (go : A → Out B) → ComesTo a b see fine (Ok v) o → ComesTo b c see' fine' r (go (see b v)) → ComesTo a c see' fine' r (converting row o go)
+pub did_convert : {F V A W B : Type 0} (row : Row) (a b c : State F) (see : State F → V → A) (fine : State F → V → Type 0) (see' : State F
+    → W → B) (fine' : State F → W → Type 0) (v : V) (r : Result W Stop) (o : Out A) (go : A → Out B) → ComesTo a b see fine (Ok v) o → ComesTo
+    b c see' fine' r (go (see b v)) → ComesTo a c see' fine' r (converting row o go)
 did_convert row a b c see fine see' fine' v r (gave x l) go d e =
     did_after a b c see' fine' l r (go x) d.ran (subst (λ y. ComesTo b c see' fine' r (go y)) d.is e)
 did_convert row a b c see fine see' fine' v r (ended (threw n) l) go d e = absurd d
 did_convert row a b c see fine see' fine' v r (ended (unsupported n) l) go d e = absurd d
 
 -- a conversion that stops an operation
-pub did_fail : {F V A W B : Type 0} (row : Row) (a b : State F) (see : State F → V → A) (fine : State F → V → Type 0) (see' : State F → W → B) (fine' : State F → W → Type 0) (s : Stop) (o : Out A) (go : A → Out B) → ComesTo a b see fine (Err s) o → ComesTo a b see' fine' (Err s) (converting row o go)
+pub did_fail : {F V A W B : Type 0} (row : Row) (a b : State F) (see : State F → V → A) (fine : State F → V → Type 0) (see' : State F
+    → W → B) (fine' : State F → W → Type 0) (s : Stop) (o : Out A) (go : A → Out B) → ComesTo a b see fine (Err s) o → ComesTo a b see' fine'
+    (Err s) (converting row o go)
 did_fail row a b see fine see' fine' (Threw k) (gave x l) go d = absurd d
 did_fail row a b see fine see' fine' (Threw k) (ended (threw n) l) go d = (d.0, ran_both d.1 (ran_of_step (ids_in row) (words_in row) (step_refl b) refl (omega arith) (omega arith)))
 did_fail row a b see fine see' fine' (Threw k) (ended (unsupported n) l) go d = absurd d

@@ -13,7 +13,8 @@ use Rattle.eval_values.specs.Ran.{ComesTo}
 use Rattle.eval_values.specs.Stops.{abrupt_stop, ending_of}
 use Rattle.eval_values.proofs.Compose.{did_before, ran_of_step}
 
-module _ {F V A B : Type 0} (a b : State F) (see : State F → V → A) (fine : State F → V → Type 0) (row : Row) (s : StoreStep a b None 0 0) (h : b.history ≡ a.history) (q : Converted B) (go : B → Out A) where
+module _ {F V A B : Type 0} (a b : State F) (see : State F → V → A) (fine : State F → V → Type 0) (row : Row) (s : StoreStep a
+    b None 0 0) (h : b.history ≡ a.history) (q : Converted B) (go : B → Out A) where
   -- one that was refused
   pub refused : (r : Abrupt) → fails (ending_of r) ≡ q → ComesTo a b see fine (Err (abrupt_stop r)) (converts row q go)
   refused (abrupt.Threw k) e = subst (λ (p : Converted B). ComesTo a b see fine (Err (Threw k)) (converts row p go)) e (refl, ran_of_step (ids_in row) (words_in row) s h (omega arith) (omega arith))

@@ -26,25 +26,39 @@ abbrev pub each_behind : {X A : Type 0} → (X → Out A) → List X → List A 
 each_behind f [] found = gave found free
 each_behind f (x ∷ xs) found = bind (f x) (λ a. each_behind f xs (found ++ a ∷ []))
 
-module _ {F V A X : Type 0} (see : State F → V → A) (fine : State F → V → Type 0) (a b : State F) (f : X → Out A) (vs : List V) (xs : List X) (i : ℕ) (x : X) (l : i < length xs) (p : x ≡ get_or xs i x) where
+module _ {F V A X : Type 0} (see : State F → V → A) (fine : State F → V → Type 0)
+    (a b : State F) (f : X → Out A) (vs : List V) (xs : List X) (i : ℕ) (x : X) (l : i < length xs) (p : x ≡ get_or xs i x) where
   -- one element, and then those after it
-  pub each_turn : (c : State F) (v : V) (r : Result (Vec V Global) Stop) → ((w : V) → fine a w → see b w ≡ see a w) → Every (λ w. fine a w) vs → ComesTo a b see fine (Ok v) (f x) → ComesTo b c (λ s (w : Vec V Global). map (λ y. see s y) w.items) (λ s (w : Vec V Global). Every (λ y. fine s y) w.items) r (each_behind f (drop (i + 1) xs) (map (λ y. see b y) (vs ++ v ∷ []))) → ComesTo a c (λ s (w : Vec V Global). map (λ y. see s y) w.items) (λ s (w : Vec V Global). Every (λ y. fine s y) w.items) r (each_behind f (drop i xs) (map (λ y. see a y) vs))
+  pub each_turn : (c : State F) (v : V) (r : Result (Vec V Global) Stop) → ((w : V) → fine a w → see b w ≡ see a w) → Every (λ w. fine a w)
+      vs → ComesTo a b see fine (Ok v) (f x) → ComesTo b c (λ s (w : Vec V Global). map (λ y. see s y) w.items)
+      (λ s (w : Vec V Global). Every (λ y. fine s y) w.items) r (each_behind f (drop (i + 1) xs) (map (λ y. see b y) (vs ++ v ∷ []))) →
+      ComesTo a c (λ s (w : Vec V Global). map (λ y. see s y) w.items) (λ s (w : Vec V Global). Every (λ y. fine s y) w.items) r
+      (each_behind f (drop i xs) (map (λ y. see a y) vs))
   each_turn c v r g h d k =
       let same : map (λ y. see b y) (vs ++ v ∷ []) ≡ map (λ y. see a y) vs ++ see b v ∷ [] = map_push (λ y. see b y) vs v ∙ ap (λ q. q ++ see b v ∷ []) (map_same g vs h) in
-      subst (λ (q : List X). ComesTo a c (λ s (w : Vec V Global). map (λ y. see s y) w.items) (λ s (w : Vec V Global). Every (λ y. fine s y) w.items) r (each_behind f q (map (λ y. see a y) vs))) (sym (drop_at xs i x l p))
-      (did_bind a b c see fine (λ s (w : Vec V Global). map (λ y. see s y) w.items) (λ s (w : Vec V Global). Every (λ y. fine s y) w.items) v r (f x) (λ w. each_behind f (drop (i + 1) xs) (map (λ y. see a y) vs ++ w ∷ [])) d
+      subst (λ (q : List X). ComesTo a c (λ s (w : Vec V Global). map (λ y. see s y) w.items)
+      (λ s (w : Vec V Global). Every (λ y. fine s y) w.items) r (each_behind f q (map (λ y. see a y) vs))) (sym (drop_at xs i x l p))
+      (did_bind a b c see fine (λ s (w : Vec V Global). map (λ y. see s y) w.items) (λ s (w : Vec V Global). Every (λ y. fine s y) w.items)
+      v r (f x) (λ w. each_behind f (drop (i + 1) xs) (map (λ y. see a y) vs ++ w ∷ [])) d
       (subst (λ (q : List A). ComesTo b c (λ s (w : Vec V Global). map (λ y. see s y) w.items) (λ s (w : Vec V Global). Every (λ y. fine s y) w.items) r (each_behind f (drop (i + 1) xs) q)) same k))
 
-  pub each_halt : (n : Stop) → ComesTo a b see fine (Err n) (f x) → ComesTo a b (λ s (w : Vec V Global). map (λ y. see s y) w.items) (λ s (w : Vec V Global). Every (λ y. fine s y) w.items) (Err n) (each_behind f (drop i xs) (map (λ y. see a y) vs))
+  pub each_halt : (n : Stop) → ComesTo a b see fine (Err n) (f x) → ComesTo a b (λ s (w : Vec V Global). map (λ y. see s y) w.items)
+      (λ s (w : Vec V Global). Every (λ y. fine s y) w.items) (Err n) (each_behind f (drop i xs) (map (λ y. see a y) vs))
   each_halt n d =
-      subst (λ (q : List X). ComesTo a b (λ s (w : Vec V Global). map (λ y. see s y) w.items) (λ s (w : Vec V Global). Every (λ y. fine s y) w.items) (Err n) (each_behind f q (map (λ y. see a y) vs))) (sym (drop_at xs i x l p))
-      (did_stop {W = Vec V Global} a b see fine (λ s (w : Vec V Global). map (λ y. see s y) w.items) (λ s (w : Vec V Global). Every (λ y. fine s y) w.items) n (f x) (λ w. each_behind f (drop (i + 1) xs) (map (λ y. see a y) vs ++ w ∷ [])) d)
+      subst (λ (q : List X). ComesTo a b (λ s (w : Vec V Global). map (λ y. see s y) w.items)
+      (λ s (w : Vec V Global). Every (λ y. fine s y) w.items) (Err n) (each_behind f q (map (λ y. see a y) vs))) (sym (drop_at xs i x l p))
+      (did_stop {W = Vec V Global} a b see fine (λ s (w : Vec V Global). map (λ y. see s y) w.items)
+      (λ s (w : Vec V Global). Every (λ y. fine s y) w.items) n (f x) (λ w. each_behind f (drop (i + 1) xs) (map (λ y. see a y) vs ++ w ∷ [])) d)
 
   -- an element, and no room to note its value
-  pub each_full : (v : V) → ComesTo a b see fine (Ok v) (f x) → ComesTo a b (λ s (w : Vec V Global). map (λ y. see s y) w.items) (λ s (w : Vec V Global). Every (λ y. fine s y) w.items) (Err (Store Memory)) (each_behind f (drop i xs) (map (λ y. see a y) vs))
+  pub each_full : (v : V) → ComesTo a b see fine (Ok v) (f x) → ComesTo a b (λ s (w : Vec V Global). map (λ y. see s y) w.items)
+      (λ s (w : Vec V Global). Every (λ y. fine s y) w.items) (Err (Store Memory)) (each_behind f (drop i xs) (map (λ y. see a y) vs))
   each_full v d =
-      subst (λ (q : List X). ComesTo a b (λ s (w : Vec V Global). map (λ y. see s y) w.items) (λ s (w : Vec V Global). Every (λ y. fine s y) w.items) (Err (Store Memory)) (each_behind f q (map (λ y. see a y) vs))) (sym (drop_at xs i x l p))
-      (did_bind {W = Vec V Global} a b b see fine (λ s (w : Vec V Global). map (λ y. see s y) w.items) (λ s (w : Vec V Global). Every (λ y. fine s y) w.items) v (Err (Store Memory)) (f x) (λ w. each_behind f (drop (i + 1) xs) (map (λ y. see a y) vs ++ w ∷ [])) d
+      subst (λ (q : List X). ComesTo a b (λ s (w : Vec V Global). map (λ y. see s y) w.items)
+      (λ s (w : Vec V Global). Every (λ y. fine s y) w.items) (Err (Store Memory)) (each_behind f q (map (λ y. see a y) vs))) (sym (drop_at xs i x l p))
+      (did_bind {W = Vec V Global} a b b see fine (λ s (w : Vec V Global). map (λ y. see s y) w.items)
+      (λ s (w : Vec V Global). Every (λ y. fine s y) w.items) v (Err (Store Memory)) (f x)
+      (λ w. each_behind f (drop (i + 1) xs) (map (λ y. see a y) vs ++ w ∷ [])) d
       (cut_of_memory (ledger_of (each_behind f (drop (i + 1) xs) (map (λ y. see a y) vs ++ see b v ∷ []))) (step_refl b) refl (omega arith) (omega arith)))
 
   pub fine_turn : (v : V) → ((w : V) → fine a w → fine b w) → Every (λ w. fine a w) vs → fine b v → Every (λ w. fine b w) (vs ++ v ∷ [])

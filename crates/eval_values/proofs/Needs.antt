@@ -35,7 +35,8 @@ made_none limit r l =
     rw past refl
 
 -- a method that was refused, or found no memory itself
-pub cut_of_part : {F : Type 0} {a b : State F} {i w : ℕ} (f : StoreFault) (l : Ledger) → StoreStep a b (full_part (MethodStore f)) i w → b.history ≡ a.history → NeverSlots (full_part (MethodStore f)) → i ≤ l.ids → w ≤ l.words → Cut a b f l
+pub cut_of_part : {F : Type 0} {a b : State F} {i w : ℕ} (f : StoreFault) (l : Ledger) → StoreStep a b (full_part (MethodStore f)) i w →
+    b.history ≡ a.history → NeverSlots (full_part (MethodStore f)) → i ≤ l.ids → w ≤ l.words → Cut a b f l
 cut_of_part (Full r) l s h n p q = cut_of_step l s h n p q
 cut_of_part Memory l s h n p q = cut_of_memory l s h p q
 

@@ -36,5 +36,6 @@ module _ {F R : Type 0} (name : R → ℕ) (a b : State F) (fs : Fields (List �
   pub string_throws : own_to_string fs ≡ true → GivesText name a b (Err (Threw TypeError)) (if own_to_string fs then ended (threw TypeError) free else spelled (codes "[object Object]"))
   string_throws e = rw e (refl, ran_of_step 0 0 s h (omega arith) (omega arith))
 
-  pub string_made : (c : State F) (r : Result R Stop) → own_to_string fs ≡ false → GivesText name b c r (spelled (codes "[object Object]")) → GivesText name a c r (if own_to_string fs then ended (threw TypeError) free else spelled (codes "[object Object]"))
+  pub string_made : (c : State F) (r : Result R Stop) → own_to_string fs ≡ false → GivesText name b c r (spelled (codes "[object Object]"))
+      → GivesText name a c r (if own_to_string fs then ended (threw TypeError) free else spelled (codes "[object Object]"))
   string_made c r e d = rw e (did_before a b c (λ q v. text q (name v)) (λ q v. IsKnown q (name v)) r (spelled (codes "[object Object]")) s h d)

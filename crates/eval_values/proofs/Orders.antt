@@ -38,14 +38,17 @@ pub keys_same : {F : Type 0} (a b : State F) (k l : List ℕ) (r : Bool) → Sto
 keys_same a b k l r s h e = record { is = same_is r k l e; good = tt; ran = ran_of_step 0 0 s h (omega arith) (omega arith) }
 
 -- two strings of which one could not be settled
-pub compared_cut : {F A : Type 0} (a b : State F) (x : A) (u w : List ℕ) (f : StoreFault) → StoreStep a b (Some f) 0 (wide_words (length u) + wide_words (length w)) → b.history ≡ a.history → NeverSlots (Some f) → GivesPlain a b (Err (Store f)) (compared x u w)
+pub compared_cut : {F A : Type 0} (a b : State F) (x : A) (u w : List ℕ) (f : StoreFault) → StoreStep a b (Some f) 0
+    (wide_words (length u) + wide_words (length w)) → b.history ≡ a.history → NeverSlots (Some f) → GivesPlain a b (Err (Store f)) (compared x u w)
 compared_cut a b x u w f s h n = cut_of_step (cost (reads (length u + length w))) s h n (omega arith) (omega arith)
 
-compared_given : {F A : Type 0} (a b : State F) (x y : A) (u w : List ℕ) → y ≡ x → StoreStep a b None 0 (wide_words (length u) + wide_words (length w)) → b.history ≡ a.history → GivesPlain a b (Ok y) (compared x u w)
+compared_given : {F A : Type 0} (a b : State F) (x y : A) (u w : List ℕ) → y ≡ x → StoreStep a b None 0
+    (wide_words (length u) + wide_words (length w)) → b.history ≡ a.history → GivesPlain a b (Ok y) (compared x u w)
 compared_given a b x y u w e s h = record { is = e; good = tt; ran = ran_of_step row_ids (row_words (length u + length w)) s h (omega arith) (omega arith) }
 
 -- two strings that were settled, and then compared
-module _ {F : Type 0} (a b c : State F) (m n : ℕ) (k : IsKnown a m) (l : IsKnown a n) (s : StoreStep a b None 0 (wide_words (length (text a m)) + wide_words (length (text a n)))) (h : b.history ≡ a.history) (t : StoreStep b c None 0 0) (i : c.history ≡ b.history) where
+module _ {F : Type 0} (a b c : State F) (m n : ℕ) (k : IsKnown a m) (l : IsKnown a n) (s : StoreStep a b None 0
+    (wide_words (length (text a m)) + wide_words (length (text a n)))) (h : b.history ≡ a.history) (t : StoreStep b c None 0 0) (i : c.history ≡ b.history) where
   told : {A : Type 0} (x y : A) → y ≡ x → GivesPlain a c (Ok y) (compared x (text a m) (text a n))
   told x y e = compared_given a c x y (text a m) (text a n) e (step_after s t (omega arith) (omega arith)) (i ∙ h)
 
@@ -57,20 +60,30 @@ module _ {F : Type 0} (a b c : State F) (m n : ℕ) (k : IsKnown a m) (l : IsKno
 
 -- two references that name one string
 pub one_same : {F : Type 0} (a : State F) (m n : ℕ) → m ≡ n → GivesPlain a a (Ok true) (compared (bytes_eq (text a m) (text a n)) (text a m) (text a n))
-one_same a m n e = compared_given a a (bytes_eq (text a m) (text a n)) true (text a m) (text a n) (sym ((bytes_eq-Decides (text a m) (text a n)).1 (ap (text a) e))) (step_after (step_refl a) (step_refl a) (omega arith) (omega arith)) refl
+one_same a m n e = compared_given a a (bytes_eq (text a m) (text a n)) true (text a m) (text a n)
+    (sym ((bytes_eq-Decides (text a m) (text a n)).1 (ap (text a) e))) (step_after (step_refl a) (step_refl a) (omega arith) (omega arith)) refl
 
 -- both sides as primitive values, and then their order
 module _ {F R : Type 0} (name : R → ℕ) (a b : State F) (at : ℕ) (v w : Item R) where
-  pub order_does : (c d : State F) (x y : Item R) (r : Result (Option Ordering) Stop) → Grows a b → Grows b c → IsFine a name w → IsFine b name x → GivesValue name a b (Ok x) (primitive a.limit (seen a name v)) → GivesValue name b c (Ok y) (primitive b.limit (seen b name w)) → GivesPlain c d r (order_primitives at (seen c name x) (seen c name y)) → GivesPlain a d r (order_out at a.limit (seen a name v) (seen a name w))
+  pub order_does : (c d : State F) (x y : Item R) (r : Result (Option Ordering) Stop) → Grows a b → Grows b c → IsFine a name w → IsFine b
+      name x → GivesValue name a b (Ok x) (primitive a.limit (seen a name v)) → GivesValue name b c (Ok y) (primitive b.limit (seen b name w))
+      → GivesPlain c d r (order_primitives at (seen c name x) (seen c name y)) → GivesPlain a d r (order_out at a.limit (seen a name v) (seen a name w))
   order_does c d x y r g h f k e e' z =
       let last : GivesPlain c d r (order_primitives at (seen b name x) (seen c name y)) = subst (λ (q : Val). GivesPlain c d r (order_primitives at q (seen c name y))) (seen_still b c name h x k) z in
-      did_bind a b d (λ s q. seen s name q) (λ s q. IsFine s name q) (λ s q. q) (λ s q. Unit {0}) x r (primitive a.limit (seen a name v)) (λ p. bind (primitive a.limit (seen a name w)) (λ q. order_primitives at p q)) e
-      (did_bind b c d (λ s q. seen s name q) (λ s q. IsFine s name q) (λ s q. q) (λ s q. Unit {0}) y r (primitive a.limit (seen a name w)) (λ q. order_primitives at (seen b name x) q) (meant name a b c w (Ok y) g f e') last)
+      did_bind a b d (λ s q. seen s name q) (λ s q. IsFine s name q) (λ s q. q) (λ s q. Unit {0}) x r (primitive a.limit (seen a name v))
+      (λ p. bind (primitive a.limit (seen a name w)) (λ q. order_primitives at p q)) e
+      (did_bind b c d (λ s q. seen s name q) (λ s q. IsFine s name q) (λ s q. q) (λ s q. Unit {0}) y r (primitive a.limit (seen a name w))
+      (λ q. order_primitives at (seen b name x) q) (meant name a b c w (Ok y) g f e') last)
 
   pub first_ends : (n : Stop) → GivesValue name a b (Err n) (primitive a.limit (seen a name v)) → GivesPlain {A = Option Ordering} a b (Err n) (order_out at a.limit (seen a name v) (seen a name w))
-  first_ends n e = did_stop a b (λ s q. seen s name q) (λ s q. IsFine s name q) (λ s q. q) (λ s q. Unit {0}) n (primitive a.limit (seen a name v)) (λ p. bind (primitive a.limit (seen a name w)) (λ q. order_primitives at p q)) e
+  first_ends n e = did_stop a b (λ s q. seen s name q) (λ s q. IsFine s name q) (λ s q. q) (λ s q. Unit {0}) n
+      (primitive a.limit (seen a name v)) (λ p. bind (primitive a.limit (seen a name w)) (λ q. order_primitives at p q)) e
 
-  pub second_ends : (c : State F) (x : Item R) (n : Stop) → Grows a b → IsFine a name w → GivesValue name a b (Ok x) (primitive a.limit (seen a name v)) → GivesValue name b c (Err n) (primitive b.limit (seen b name w)) → GivesPlain {A = Option Ordering} a c (Err n) (order_out at a.limit (seen a name v) (seen a name w))
+  pub second_ends : (c : State F) (x : Item R) (n : Stop) → Grows a b → IsFine a name w → GivesValue name a b (Ok x)
+      (primitive a.limit (seen a name v)) → GivesValue name b c (Err n) (primitive b.limit (seen b name w)) → GivesPlain {A = Option Ordering}
+      a c (Err n) (order_out at a.limit (seen a name v) (seen a name w))
   second_ends c x n g f e e' =
-      did_bind a b c (λ s q. seen s name q) (λ s q. IsFine s name q) (λ s q. q) (λ s q. Unit {0}) x (Err n) (primitive a.limit (seen a name v)) (λ p. bind (primitive a.limit (seen a name w)) (λ q. order_primitives at p q)) e
-      (did_stop b c (λ s q. seen s name q) (λ s q. IsFine s name q) (λ s q. q) (λ s q. Unit {0}) n (primitive a.limit (seen a name w)) (λ q. order_primitives at (seen b name x) q) (meant name a b c w (Err n) g f e'))
+      did_bind a b c (λ s q. seen s name q) (λ s q. IsFine s name q) (λ s q. q) (λ s q. Unit {0}) x (Err n)
+      (primitive a.limit (seen a name v)) (λ p. bind (primitive a.limit (seen a name w)) (λ q. order_primitives at p q)) e
+      (did_stop b c (λ s q. seen s name q) (λ s q. IsFine s name q) (λ s q. q) (λ s q. Unit {0}) n (primitive a.limit (seen a name w))
+      (λ q. order_primitives at (seen b name x) q) (meant name a b c w (Err n) g f e'))

@@ -35,20 +35,31 @@ module _ {F R : Type 0} (name : R → ℕ) (s : State F) where
   name_at_hand : (o : Option (Bound Val)) (v : Item R) → option_map (λ b. b.value) o ≡ Some (seen s name v) → IsFine s name v → GivesValue name s s (Ok v) (read_out o)
   name_at_hand o v e h = subst (λ (q : Out Val). GivesValue name s s (Ok v) q) (sym (read_some o (seen s name v) e)) (record { is = refl; good = h; ran = ran_seen s name v h })
 
-  pub looked : (r : Option (Bor (Item R))) (o : Option (Bound Val)) → MatchOption r (o ≡ None) (λ v. option_map (λ b. b.value) o ≡ Some (seen s name v.now)) → IfSome r (λ v. IsFine s name v.now) → IfSome r (λ v. GivesValue name s s (Ok v.now) (read_out o))
+  pub looked : (r : Option (Bor (Item R))) (o : Option (Bound Val)) → MatchOption r (o ≡ None)
+      (λ v. option_map (λ b. b.value) o ≡ Some (seen s name v.now)) → IfSome r (λ v. IsFine s name v.now) → IfSome r
+      (λ v. GivesValue name s s (Ok v.now) (read_out o))
   looked None o e h = tt
   looked (Some v) o e h = name_at_hand o v.now e h
 
   -- an operator on two numbers
-  of_numbers : (scope : EvalContext) (first right : ExprTree) (at : ℕ) (op : Op) (m n : Num) (v : Item R) → GivesValue {R = R} name s s (Ok (Number m)) (expr_out first scope) → GivesValue {R = R} name s s (Ok (Number n)) (expr_out right scope) → decides op (number m) ≡ false → GivesValue name s s (Ok v) (operated op at scope.limit (number m) (number n)) → IsFine s name v → GivesValue name s s (Ok v) (expr_out (chain first (link at op right no_links)) scope)
+  of_numbers : (scope : EvalContext) (first right : ExprTree) (at : ℕ) (op : Op) (m n : Num) (v : Item R) → GivesValue {R = R} name s s
+      (Ok (Number m)) (expr_out first scope) → GivesValue {R = R} name s s (Ok (Number n)) (expr_out right scope) → decides op (number m) ≡
+      false → GivesValue name s s (Ok v) (operated op at scope.limit (number m) (number n)) → IsFine s name v → GivesValue name s s (Ok v)
+      (expr_out (chain first (link at op right no_links)) scope)
   of_numbers scope first right at op m n v d e u f h =
-      let both : GivesValue name s s (Ok v) (bind (expr_out right scope) (λ w. operated op at scope.limit (number m) w)) = does_bind name s s s (Number n) (Ok v) (expr_out right scope) (λ w. operated op at scope.limit (number m) w) e f in
+      let both : GivesValue name s s (Ok v) (bind (expr_out right scope) (λ w. operated op at scope.limit (number m) w)) = does_bind name s
+      s s (Number n) (Ok v) (expr_out right scope) (λ w. operated op at scope.limit (number m) w) e f in
       let one : GivesValue name s s (Ok v) (if decides op (number m) then gave (number m) free else bind (expr_out right scope) (λ w. operated op at scope.limit (number m) w)) =
       subst (λ (q : Bool). GivesValue name s s (Ok v) (if q then gave (number m) free else bind (expr_out right scope) (λ w. operated op at scope.limit (number m) w))) (sym u) both in
       does_bind name s s s (Number m) (Ok v) (expr_out first scope) (λ x. links_out (link at op right no_links) scope x) d
-      (does_bind name s s s v (Ok v) (if decides op (number m) then gave (number m) free else bind (expr_out right scope) (λ w. operated op at scope.limit (number m) w)) (λ x. gave x free) one (record { is = refl; good = h; ran = ran_free s }))
+      (does_bind name s s s v (Ok v) (if decides op (number m) then gave (number m) free else bind (expr_out right scope)
+      (λ w. operated op at scope.limit (number m) w)) (λ x. gave x free) one (record { is = refl; good = h; ran = ran_free s }))
 
-  pub short_does : (scope : EvalContext) (first right : ExprTree) (at : ℕ) (op : Op) (m n : Num) (r : Option (Item R)) → GivesValue {R = R} name s s (Ok (Number m)) (expr_out first scope) → GivesValue {R = R} name s s (Ok (Number n)) (expr_out right scope) → ((v : Val) → decides op v ≡ false) → ((place limit : ℕ) → IfSome r (λ v. GivesValue name s s (Ok v) (operated op place limit (number m) (number n)))) → IfSome r (λ v. IsFine s name v) → IfSome r (λ v. GivesValue name s s (Ok v) (expr_out (chain first (link at op right no_links)) scope))
+  pub short_does : (scope : EvalContext) (first right : ExprTree) (at : ℕ) (op : Op) (m n : Num) (r : Option (Item R)) → GivesValue {R = R}
+      name s s (Ok (Number m)) (expr_out first scope) → GivesValue {R = R} name s s (Ok (Number n))
+      (expr_out right scope) → ((v : Val) → decides op v ≡ false) → ((place limit : ℕ) → IfSome r
+      (λ v. GivesValue name s s (Ok v) (operated op place limit (number m) (number n)))) → IfSome r (λ v. IsFine s name v) → IfSome r
+      (λ v. GivesValue name s s (Ok v) (expr_out (chain first (link at op right no_links)) scope))
   short_does scope first right at op m n None d e u f h = tt
   short_does scope first right at op m n (Some v) d e u f h = of_numbers scope first right at op m n v d e (u (number m)) (f at scope.limit) h
 

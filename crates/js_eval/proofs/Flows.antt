@@ -62,7 +62,9 @@ leaves_top (Err (Store f)) bs ds h = tt
 
 module _ {F : Type 0} where
   -- statements, and then others
-  onward : (a b c : State F) (x y z : List ℕ) (r : Result (Unit {0}) Stop) (bs cs ds : Bindings Val) (o : Out (Unit {0})) (ls : List (List ℕ)) (go : Bindings Val → Flow) → ComesTo a b (λ s v. v) (λ s v. Unit {0}) (Ok tt) o → y ≡ x ++ concat ls → bs ≡ ds → FollowsFlow b c y z r cs (go bs) → FollowsFlow a c x z r cs (go_on o ls ds go)
+  onward : (a b c : State F) (x y z : List ℕ) (r : Result (Unit {0}) Stop)
+      (bs cs ds : Bindings Val) (o : Out (Unit {0})) (ls : List (List ℕ)) (go : Bindings Val → Flow) → ComesTo a b (λ s v. v)
+      (λ s v. Unit {0}) (Ok tt) o → y ≡ x ++ concat ls → bs ≡ ds → FollowsFlow b c y z r cs (go bs) → FollowsFlow a c x z r cs (go_on o ls ds go)
   onward a b c x y z r bs cs ds (gave q l) ls go d e h k =
       let k' : FollowsFlow b c y z r cs (go ds) = subst (λ (p : Bindings Val). FollowsFlow b c y z r cs (go p)) h k in
       record {
@@ -72,11 +74,14 @@ module _ {F : Type 0} where
       }
   onward a b c x y z r bs cs ds (ended n l) ls go d e h k = absurd d
 
-  pub went_on : (a b c : State F) (x y z : List ℕ) (r : Result (Unit {0}) Stop) (bs cs : Bindings Val) (f : Flow) (go : Bindings Val → Flow) → FollowsFlow a b x y (Ok tt) bs f → FollowsFlow b c y z r cs (go bs) → FollowsFlow a c x z r cs (then_flow f go)
+  pub went_on : (a b c : State F) (x y z : List ℕ) (r : Result (Unit {0}) Stop) (bs cs : Bindings Val) (f : Flow) (go : Bindings Val → Flow)
+      → FollowsFlow a b x y (Ok tt) bs f → FollowsFlow b c y z r cs (go bs) → FollowsFlow a c x z r cs (then_flow f go)
   went_on a b c x y z r bs cs f go w k = onward a b c x y z r bs cs f.bindings f.out f.lines go w.did w.wrote w.leaves k
 
   -- statements that ended early, and then nothing
-  halted : (a b : State F) (x y : List ℕ) (s : Stop) (bs ds : Bindings Val) (o : Out (Unit {0})) (ls : List (List ℕ)) (go : Bindings Val → Flow) → ComesTo {V = Unit {0}} a b (λ s v. v) (λ s v. Unit {0}) (Err s) o → Wrote x y (Err s) ls → Leaves (Err s) bs ds → FollowsFlow a b x y (Err s) bs (go_on o ls ds go)
+  halted : (a b : State F) (x y : List ℕ) (s : Stop) (bs ds : Bindings Val) (o : Out (Unit {0})) (ls : List (List ℕ)) (go : Bindings Val
+      → Flow) → ComesTo {V = Unit {0}} a b (λ s v. v) (λ s v. Unit {0}) (Err s) o → Wrote x y (Err s) ls → Leaves (Err s) bs ds → FollowsFlow
+      a b x y (Err s) bs (go_on o ls ds go)
   halted a b x y (Threw k) bs ds (gave q l) ls go d e h = absurd d
   halted a b x y (Threw k) bs ds (ended (threw n) l) ls go d e h = record { did = d; wrote = e; leaves = h }
   halted a b x y (Threw k) bs ds (ended (unsupported n) l) ls go d e h = absurd d
@@ -90,7 +95,8 @@ module _ {F : Type 0} where
   }
   halted a b x y (Store f) bs ds (ended n l) ls go d e h = record { did = d; wrote = e; leaves = tt }
 
-  pub went_halt : (a b : State F) (x y : List ℕ) (s : Stop) (bs : Bindings Val) (f : Flow) (go : Bindings Val → Flow) → FollowsFlow a b x y (Err s) bs f → FollowsFlow a b x y (Err s) bs (then_flow f go)
+  pub went_halt : (a b : State F) (x y : List ℕ) (s : Stop) (bs : Bindings Val) (f : Flow) (go : Bindings Val → Flow) → FollowsFlow a b x y
+      (Err s) bs f → FollowsFlow a b x y (Err s) bs (then_flow f go)
   went_halt a b x y s bs f go w = halted a b x y s bs f.bindings f.out f.lines go w.did w.wrote w.leaves
 
   -- nothing more to do
@@ -98,13 +104,16 @@ module _ {F : Type 0} where
   leaves_went a x bs = record { did = record { is = refl; good = tt; ran = ran_free a }; wrote = sym (append-nil x); leaves = refl }
 
   -- an expression, and then what has its value
-  pub value_went : {V A : Type 0} (a b c : State F) (x y : List ℕ) (see : State F → V → A) (fine : State F → V → Type 0) (v : V) (r : Result (Unit {0}) Stop) (bs cs : Bindings Val) (o : Out A) (go : A → Flow) → ComesTo a b see fine (Ok v) o → FollowsFlow b c x y r cs (go (see b v)) → FollowsFlow a c x y r cs (on_value o bs go)
+  pub value_went : {V A : Type 0} (a b c : State F) (x y : List ℕ) (see : State F → V → A) (fine : State F → V → Type 0) (v : V) (r : Result
+      (Unit {0}) Stop) (bs cs : Bindings Val) (o : Out A) (go : A → Flow) → ComesTo a b see fine (Ok v) o → FollowsFlow b c x y r cs
+      (go (see b v)) → FollowsFlow a c x y r cs (on_value o bs go)
   value_went a b c x y see fine v r bs cs (gave q l) go d w =
       let w' : FollowsFlow b c x y r cs (go q) = subst (λ p. FollowsFlow b c x y r cs (go p)) d.is w in
       record { did = did_after a b c (λ s v. v) (λ s v. Unit {0}) l r (go q).out d.ran w'.did; wrote = w'.wrote; leaves = w'.leaves }
   value_went a b c x y see fine v r bs cs (ended n l) go d w = absurd d
 
-  pub value_halts : {V A : Type 0} (a b : State F) (x : List ℕ) (see : State F → V → A) (fine : State F → V → Type 0) (n : Stop) (bs cs : Bindings Val) (o : Out A) (go : A → Flow) → cs ≡ bs → ComesTo a b see fine (Err n) o → FollowsFlow a b x x (Err n) cs (on_value o bs go)
+  pub value_halts : {V A : Type 0} (a b : State F) (x : List ℕ) (see : State F → V → A) (fine : State F → V → Type 0) (n : Stop)
+      (bs cs : Bindings Val) (o : Out A) (go : A → Flow) → cs ≡ bs → ComesTo a b see fine (Err n) o → FollowsFlow a b x x (Err n) cs (on_value o bs go)
   value_halts a b x see fine (Threw k) bs cs (gave q l) go h d = absurd d
   value_halts a b x see fine (Threw k) bs cs (ended (threw n) l) go h d = record { did = d; wrote = sym (append-nil x); leaves = h }
   value_halts a b x see fine (Threw k) bs cs (ended (unsupported n) l) go h d = absurd d
@@ -115,9 +124,12 @@ module _ {F : Type 0} where
   value_halts a b x see fine (Store f) bs cs (ended e l) go h d = record { did = d; wrote = wrote_none x []; leaves = tt }
 
   -- what an evaluation took, and then a flow that begins with another one
-  ran_before : {A : Type 0} (a b c : State F) (x y : List ℕ) (r : Result (Unit {0}) Stop) (bs cs : Bindings Val) (l : Ledger) (o : Out A) (go : A → Flow) → MeetsLedger a b l → FollowsFlow b c x y r cs (on_value o bs go) → FollowsFlow a c x y r cs (on_value (after_ledger l o) bs go)
+  ran_before : {A : Type 0} (a b c : State F) (x y : List ℕ) (r : Result (Unit {0}) Stop)
+      (bs cs : Bindings Val) (l : Ledger) (o : Out A) (go : A → Flow) → MeetsLedger a b l → FollowsFlow b c x y r cs (on_value o bs go) →
+      FollowsFlow a c x y r cs (on_value (after_ledger l o) bs go)
   ran_before a b c x y r bs cs l (gave q m) go h w = record {
-    did = subst (λ (p : Out (Unit {0})). ComesTo a c (λ s v. v) (λ s v. Unit {0}) r p) (after_both l m (go q).out) (did_after a b c (λ s v. v) (λ s v. Unit {0}) l r (after_ledger m (go q).out) h w.did);
+    did = subst (λ (p : Out (Unit {0})). ComesTo a c (λ s v. v) (λ s v. Unit {0}) r p) (after_both l m (go q).out)
+        (did_after a b c (λ s v. v) (λ s v. Unit {0}) l r (after_ledger m (go q).out) h w.did);
     wrote = w.wrote;
     leaves = w.leaves;
   }
@@ -128,11 +140,15 @@ module _ {F : Type 0} where
   cut_before bs l (ended e m) go c = cut_more m c
 
   -- two evaluations, and then a flow
-  pub bind_went : {V A B : Type 0} (a b c : State F) (x y : List ℕ) (see : State F → V → A) (fine : State F → V → Type 0) (v : V) (r : Result (Unit {0}) Stop) (bs cs : Bindings Val) (o : Out A) (next : A → Out B) (go : B → Flow) → ComesTo a b see fine (Ok v) o → FollowsFlow b c x y r cs (on_value (next (see b v)) bs go) → FollowsFlow a c x y r cs (on_value (bind o next) bs go)
+  pub bind_went : {V A B : Type 0} (a b c : State F) (x y : List ℕ) (see : State F → V → A) (fine : State F →
+      V → Type 0) (v : V) (r : Result (Unit {0}) Stop) (bs cs : Bindings Val) (o : Out A) (next : A → Out B) (go : B → Flow) → ComesTo a b see
+      fine (Ok v) o → FollowsFlow b c x y r cs (on_value (next (see b v)) bs go) → FollowsFlow a c x y r cs (on_value (bind o next) bs go)
   bind_went a b c x y see fine v r bs cs (gave q l) next go d w = ran_before a b c x y r bs cs l (next q) go d.ran (subst (λ p. FollowsFlow b c x y r cs (on_value (next p) bs go)) d.is w)
   bind_went a b c x y see fine v r bs cs (ended n l) next go d w = absurd d
 
-  pub bind_halts : {V A B : Type 0} (a b : State F) (x : List ℕ) (see : State F → V → A) (fine : State F → V → Type 0) (n : Stop) (bs cs : Bindings Val) (o : Out A) (next : A → Out B) (go : B → Flow) → cs ≡ bs → ComesTo a b see fine (Err n) o → FollowsFlow a b x x (Err n) cs (on_value (bind o next) bs go)
+  pub bind_halts : {V A B : Type 0} (a b : State F) (x : List ℕ) (see : State F → V → A) (fine : State F → V → Type 0) (n : Stop)
+      (bs cs : Bindings Val) (o : Out A) (next : A → Out B) (go : B → Flow) → cs ≡ bs → ComesTo a b see fine (Err n) o → FollowsFlow a b x x
+      (Err n) cs (on_value (bind o next) bs go)
   bind_halts a b x see fine (Threw k) bs cs (gave q l) next go h d = absurd d
   bind_halts a b x see fine (Threw k) bs cs (ended (threw n) l) next go h d = record { did = d; wrote = sym (append-nil x); leaves = h }
   bind_halts a b x see fine (Threw k) bs cs (ended (unsupported n) l) next go h d = absurd d
@@ -143,19 +159,37 @@ module _ {F : Type 0} where
   bind_halts a b x see fine (Store f) bs cs (ended e l) next go h d = record { did = d; wrote = wrote_none x []; leaves = tt }
 
   -- the same where the first one is within the operation of the second
-  pub converting_went : {V A B : Type 0} (row : Row) (a b c : State F) (x y : List ℕ) (see : State F → V → A) (fine : State F → V → Type 0) (v : V) (r : Result (Unit {0}) Stop) (bs cs : Bindings Val) (o : Out A) (next : A → Out B) (go : B → Flow) → ComesTo a b see fine (Ok v) o → FollowsFlow b c x y r cs (on_value (next (see b v)) bs go) → FollowsFlow a c x y r cs (on_value (converting row o next) bs go)
+  pub converting_went : {V A B : Type 0} (row : Row) (a b c : State F)
+      (x y : List ℕ) (see : State F → V → A) (fine : State F → V → Type 0) (v : V) (r : Result (Unit {0}) Stop)
+      (bs cs : Bindings Val) (o : Out A) (next : A → Out B) (go : B → Flow) → ComesTo a b see fine (Ok v) o → FollowsFlow b c x y r cs
+      (on_value (next (see b v)) bs go) → FollowsFlow a c x y r cs (on_value (converting row o next) bs go)
   converting_went row a b c x y see fine v r bs cs (gave q l) next go d w = ran_before a b c x y r bs cs l (next q) go d.ran (subst (λ p. FollowsFlow b c x y r cs (on_value (next p) bs go)) d.is w)
   converting_went row a b c x y see fine v r bs cs (ended (threw n) l) next go d w = absurd d
   converting_went row a b c x y see fine v r bs cs (ended (unsupported n) l) next go d w = absurd d
 
-  pub converting_halts : {V A B : Type 0} (row : Row) (a b : State F) (x : List ℕ) (see : State F → V → A) (fine : State F → V → Type 0) (n : Stop) (bs cs : Bindings Val) (o : Out A) (next : A → Out B) (go : B → Flow) → cs ≡ bs → ComesTo a b see fine (Err n) o → FollowsFlow a b x x (Err n) cs (on_value (converting row o next) bs go)
+  pub converting_halts : {V A B : Type 0} (row : Row) (a b : State F) (x : List ℕ) (see : State F → V → A) (fine : State F →
+      V → Type 0) (n : Stop) (bs cs : Bindings Val) (o : Out A) (next : A → Out B) (go : B → Flow) → cs ≡ bs → ComesTo a b see fine (Err n) o
+      → FollowsFlow a b x x (Err n) cs (on_value (converting row o next) bs go)
   converting_halts row a b x see fine (Threw k) bs cs (gave q l) next go h d = absurd d
-  converting_halts row a b x see fine (Threw k) bs cs (ended (threw n) l) next go h d = record { did = (d.0, ran_both d.1 (ran_of_step (ids_in row) (words_in row) (step_refl b) refl (omega arith) (omega arith))); wrote = sym (append-nil x); leaves = h }
+  converting_halts row a b x see fine (Threw k) bs cs (ended (threw n)
+      l) next go h d = record {
+        did = (
+          d.0,
+          ran_both d.1 (ran_of_step (ids_in row) (words_in row) (step_refl b) refl (omega arith)
+              (omega arith)),
+        );
+        wrote = sym (append-nil x);
+        leaves = h;
+      }
   converting_halts row a b x see fine (Threw k) bs cs (ended (unsupported n) l) next go h d = absurd d
   converting_halts row a b x see fine (Unsupported k) bs cs (gave q l) next go h d = absurd d
   converting_halts row a b x see fine (Unsupported k) bs cs (ended (threw n) l) next go h d = absurd d
   converting_halts row a b x see fine (Unsupported k) bs cs (ended (unsupported n) l) next go h d = record { did = d; wrote = sym (append-nil x); leaves = h }
-  converting_halts row a b x see fine (Store f) bs cs (gave q l) next go h d = record { did = cut_before bs l (next q) go d; wrote = wrote_none x (on_value (after_ledger l (next q)) bs go).lines; leaves = tt }
+  converting_halts row a b x see fine (Store f) bs cs (gave q l) next go h d = record {
+    did = cut_before bs l (next q) go d;
+    wrote = wrote_none x (on_value (after_ledger l (next q)) bs go).lines;
+    leaves = tt;
+  }
   converting_halts row a b x see fine (Store f) bs cs (ended (threw n) l) next go h d = record { did = cut_more (cost row) d; wrote = wrote_none x []; leaves = tt }
   converting_halts row a b x see fine (Store f) bs cs (ended (unsupported n) l) next go h d = record { did = d; wrote = wrote_none x []; leaves = tt }
 
@@ -175,13 +209,16 @@ unfolding turns
 turns_suc go i n bs = refl
 
 module _ {F : Type 0} where
-  pub turns_turn : (a b c : State F) (x y z : List ℕ) (go : ℕ → Bindings Val → Flow) (i m n : ℕ) (r : Result (Unit {0}) Stop) (bs cs ds : Bindings Val) → n ≡ suc m → FollowsFlow a b x y (Ok tt) cs (go i bs) → FollowsFlow b c y z r ds (turns go (i + 1) m cs) → FollowsFlow a c x z r ds (turns go i n bs)
+  pub turns_turn : (a b c : State F) (x y z : List ℕ) (go : ℕ → Bindings Val → Flow) (i m n : ℕ) (r : Result (Unit {0}) Stop)
+      (bs cs ds : Bindings Val) → n ≡ suc m → FollowsFlow a b x y (Ok tt) cs (go i bs) → FollowsFlow b c y z r ds (turns go (i + 1) m cs) →
+      FollowsFlow a c x z r ds (turns go i n bs)
   turns_turn a b c x y z go i m n r bs cs ds e d w =
       subst (λ (q : ℕ). FollowsFlow a c x z r ds (turns go i q bs)) (sym e)
       (subst (λ (q : Flow). FollowsFlow a c x z r ds q) (sym (turns_suc go i m bs))
       (went_on a b c x y z r cs ds (go i bs) (λ q. turns go (i + 1) m q) d w))
 
-  pub turns_halt : (a b : State F) (x y : List ℕ) (go : ℕ → Bindings Val → Flow) (i m n : ℕ) (s : Stop) (bs cs : Bindings Val) → n ≡ suc m → FollowsFlow a b x y (Err s) cs (go i bs) → FollowsFlow a b x y (Err s) cs (turns go i n bs)
+  pub turns_halt : (a b : State F) (x y : List ℕ) (go : ℕ → Bindings Val → Flow) (i m n : ℕ) (s : Stop) (bs cs : Bindings Val) → n ≡ suc m →
+      FollowsFlow a b x y (Err s) cs (go i bs) → FollowsFlow a b x y (Err s) cs (turns go i n bs)
   turns_halt a b x y go i m n s bs cs e d =
       subst (λ (q : ℕ). FollowsFlow a b x y (Err s) cs (turns go i q bs)) (sym e)
       (subst (λ (q : Flow). FollowsFlow a b x y (Err s) cs q) (sym (turns_suc go i m bs))

@@ -34,7 +34,8 @@ module _ {F R : Type 0} (s : State F) (name : R → ℕ) where
   pub meant_fine : (bs : Bindings (Item R)) (x : List ℕ) → BindingsFine s name bs → FoundFine (meant bs x)
   meant_fine bs x h = look_fine bs.blocks bs.top x h.blocks h.top
 
-  first_changed : (t : Bool) (b : Bound (Item R)) (bs cs : List (Bound (Item R))) (v : Item R) → IsFine s name v → IsFine s name b.value → BoundsFine s name bs → BoundsFine s name cs → BoundsFine s name (if t then with_value b v ∷ bs else b ∷ cs)
+  first_changed : (t : Bool) (b : Bound (Item R)) (bs cs : List (Bound (Item R))) (v : Item R) → IsFine s name v → IsFine s name b.value →
+      BoundsFine s name bs → BoundsFine s name cs → BoundsFine s name (if t then with_value b v ∷ bs else b ∷ cs)
   first_changed true b bs cs v f h k l = (f, k)
   first_changed false b bs cs v f h k l = (h, l)
 
@@ -42,13 +43,17 @@ module _ {F R : Type 0} (s : State F) (name : R → ℕ) where
   changed_fine [] x v f h = tt
   changed_fine (b ∷ bs) x v f h = first_changed (bytes_eq b.name x) b bs (changed bs x v) v f h.0 h.1 (changed_fine bs x v f h.1)
 
-  first_write : (t : Bool) (f : BlockFrame (Item R)) (fs : List (BlockFrame (Item R))) (top : List (Bound (Item R))) (cs : List (Bound (Item R))) (bs : Bindings (Item R)) → BoundsFine s name f.bound → BoundsFine s name cs → Every (λ g. BoundsFine s name g.bound) fs → BoundsFine s name top → BindingsFine s name bs → BindingsFine s name (if t then record { blocks = with_bound f cs ∷ fs; top = top } else inside f bs)
+  first_write : (t : Bool) (f : BlockFrame (Item R)) (fs : List (BlockFrame (Item R))) (top : List (Bound (Item R))) (cs : List
+      (Bound (Item R))) (bs : Bindings (Item R)) → BoundsFine s name f.bound → BoundsFine s name cs → Every (λ g. BoundsFine s name g.bound)
+      fs → BoundsFine s name top → BindingsFine s name bs → BindingsFine s name (if t then record { blocks = with_bound f cs ∷ fs; top = top } else inside f bs)
   first_write true f fs top cs bs h k l m n = record { blocks = (k, l); top = m }
   first_write false f fs top cs bs h k l m n = record { blocks = (h, n.blocks); top = n.top }
 
-  write_fine : (fs : List (BlockFrame (Item R))) (top : List (Bound (Item R))) (x : List ℕ) (v : Item R) → IsFine s name v → Every (λ f. BoundsFine s name f.bound) fs → BoundsFine s name top → BindingsFine s name (write fs top x v)
+  write_fine : (fs : List (BlockFrame (Item R))) (top : List (Bound (Item R))) (x : List ℕ) (v : Item R) → IsFine s name v → Every
+      (λ f. BoundsFine s name f.bound) fs → BoundsFine s name top → BindingsFine s name (write fs top x v)
   write_fine [] top x v f h k = record { blocks = tt; top = changed_fine top x v f k }
-  write_fine (g ∷ fs) top x v f h k = first_write (is_some (bound_in g.bound x)) g fs top (changed g.bound x v) (write fs top x v) h.0 (changed_fine g.bound x v f h.0) h.1 k (write_fine fs top x v f h.1 k)
+  write_fine (g ∷ fs) top x v f h k = first_write (is_some (bound_in g.bound x)) g fs top (changed g.bound x v) (write fs top x v) h.0
+      (changed_fine g.bound x v f h.0) h.1 k (write_fine fs top x v f h.1 k)
 
   pub written_fine : (bs : Bindings (Item R)) (x : List ℕ) (v : Item R) → IsFine s name v → BindingsFine s name bs → BindingsFine s name (written bs x v)
   written_fine bs x v f h = write_fine bs.blocks bs.top x v f h.blocks h.top
@@ -57,7 +62,8 @@ module _ {F R : Type 0} (s : State F) (name : R → ℕ) where
   push_fine [] b f h = (f, tt)
   push_fine (c ∷ bs) b f h = (h.0, push_fine bs b f h.1)
 
-  declare_fine : (fs : List (BlockFrame (Item R))) (top : List (Bound (Item R))) (b : Bound (Item R)) → IsFine s name b.value → Every (λ f. BoundsFine s name f.bound) fs → BoundsFine s name top → BindingsFine s name (declare fs top b)
+  declare_fine : (fs : List (BlockFrame (Item R))) (top : List (Bound (Item R))) (b : Bound (Item R)) → IsFine s name b.value → Every
+      (λ f. BoundsFine s name f.bound) fs → BoundsFine s name top → BindingsFine s name (declare fs top b)
   declare_fine [] top b f h k = record { blocks = tt; top = push_fine top b f k }
   declare_fine (g ∷ fs) top b f h k = record { blocks = (push_fine g.bound b f h.0, h.1); top = k }
 
@@ -70,7 +76,8 @@ module _ {F R : Type 0} (s : State F) (name : R → ℕ) where
   pub turned_fine : (x : List ℕ) (v : Item R) (bs : Bindings (Item R)) → IsFine s name v → BindingsFine s name bs → BindingsFine s name (turned x v bs)
   turned_fine x v bs f h = record { blocks = ((f, tt), h.blocks); top = h.top }
 
-  first_outer : (fs : List (BlockFrame (Item R))) (top : List (Bound (Item R))) → Every (λ f. BoundsFine s name f.bound) fs → BoundsFine s name top → BindingsFine s name (outer (record { blocks = fs; top = top }))
+  first_outer : (fs : List (BlockFrame (Item R))) (top : List (Bound (Item R))) → Every (λ f. BoundsFine s name f.bound) fs → BoundsFine s
+      name top → BindingsFine s name (outer (record { blocks = fs; top = top }))
   first_outer [] top h k = record { blocks = tt; top = k }
   first_outer (f ∷ fs) top h k = record { blocks = h.1; top = k }
 

@@ -67,7 +67,8 @@ both_true : (b c : Bool) → b ≡ true → c ≡ true → (b && c) ≡ true
 both_true b c e f = rw (e, f) refl
 
 fits_is : {R Q : Type 0} (f : R → Q) (fs : Fields R) → Bounded fs → (nat_le (suc (depth (fields_mapped f fs))) 200 && nat_le (count (fields_mapped f fs)) 65536) ≡ true
-fits_is f fs h = both_true (nat_le (suc (depth (fields_mapped f fs))) 200) (nat_le (count (fields_mapped f fs)) 65536) (grind (arith, h.deep, depth_mapped f fs)) (grind (arith, h.many, count_mapped f fs))
+fits_is f fs h = both_true (nat_le (suc (depth (fields_mapped f fs))) 200) (nat_le (count (fields_mapped f fs)) 65536)
+    (grind (arith, h.deep, depth_mapped f fs)) (grind (arith, h.many, count_mapped f fs))
 
 one_false : (b c : Bool) → (b ≡ true → c ≡ true → ⊥) → (b && c) ≡ false
 one_false true true h = absurd (h refl refl)
@@ -75,7 +76,8 @@ one_false true false h = refl
 one_false false c h = refl
 
 fits_not : {R Q : Type 0} (f : R → Q) (fs : Fields R) → (Bounded fs → ⊥) → (nat_le (suc (depth (fields_mapped f fs))) 200 && nat_le (count (fields_mapped f fs)) 65536) ≡ false
-fits_not f fs h = one_false (nat_le (suc (depth (fields_mapped f fs))) 200) (nat_le (count (fields_mapped f fs)) 65536) (λ p q. h (record { deep = grind (arith, p, depth_mapped f fs); many = grind (arith, q, count_mapped f fs) }))
+fits_not f fs h = one_false (nat_le (suc (depth (fields_mapped f fs))) 200) (nat_le (count (fields_mapped f fs)) 65536)
+    (λ p q. h (record { deep = grind (arith, p, depth_mapped f fs); many = grind (arith, q, count_mapped f fs) }))
 
 module _ {F R : Type 0} (name : R → ℕ) (a : State F) (at : ℕ) (fs : Fields R) where
   pub bounded_does : FineFields (strings_of a) name fs → Bounded fs → GivesValue name a a (Ok (Object fs)) (object_out at (fields_mapped (says a name) fs))
@@ -89,7 +91,9 @@ module _ {F R : Type 0} (name : R → ℕ) (a b : State F) (fs : Fields R) (key 
   put_fine : FineFields (strings_of a) name fs → KeyFine (strings_of a) (name key) → IsFine a name v → FineFields (strings_of a) name (put_by (names_key a name key) key (content_of v) fs)
   put_fine h k l = fine_put (strings_of a) name key (content_of v) k l fs h
 
-  pub put_does : (gs : Fields R) → FineFields (strings_of a) name fs → KeyFine (strings_of a) (name key) → IsFine a name v → gs ≡ put_by (names_key a name key) key (content_of v) fs → Makes name a b (Ok gs) (gave (with_property (text a (name key)) (seen a name v) (fields_mapped (says a name) fs)) free)
+  pub put_does : (gs : Fields R) → FineFields (strings_of a) name fs → KeyFine (strings_of a) (name key) → IsFine a name v → gs ≡ put_by
+      (names_key a name key) key (content_of v) fs → Makes name a b (Ok gs)
+      (gave (with_property (text a (name key)) (seen a name v) (fields_mapped (says a name) fs)) free)
   put_does gs h k l e =
       let fine = put_fine h k l in
       let is : fields_mapped (says b name) gs ≡ with_property (text a (name key)) (seen a name v) (fields_mapped (says a name) fs) =
@@ -110,42 +114,71 @@ module _ {F R : Type 0} (name : R → ℕ) (a b : State F) (key : List ℕ) (val
   abbrev made : List ℕ → Val → Out (Fields (List ℕ))
   made k v = gave (with_property k v (fields_mapped (says a name) fs)) free
 
-  pub key_stops : (n : Stop) → GivesKey {R = R} name a b (Err n) (key_paid a.limit key) → Makes {R = R} name a b (Err n) (entry_paid key value (scope_of a name context) (fields_mapped (says a name) fs))
-  key_stops n d = did_stop {V = R} a b (λ s q. text s (name q)) (λ s q. KeyFine (strings_of s) (name q)) (λ s q. fields_mapped (says s name) q) (λ s q. FineFields (strings_of s) name q) n (key_paid a.limit key) (λ k. bind (expr_out value (scope_of a name context)) (λ v. made k v)) d
+  pub key_stops : (n : Stop) → GivesKey {R = R} name a b (Err n) (key_paid a.limit key) → Makes {R = R} name a b (Err n)
+      (entry_paid key value (scope_of a name context) (fields_mapped (says a name) fs))
+  key_stops n d = did_stop {V = R} a b (λ s q. text s (name q)) (λ s q. KeyFine (strings_of s) (name q))
+      (λ s q. fields_mapped (says s name) q) (λ s q. FineFields (strings_of s) name q) n (key_paid a.limit key)
+      (λ k. bind (expr_out value (scope_of a name context)) (λ v. made k v)) d
 
   module _ (k : R) (g : Grows a b) (h : ContextFine a name context) (given : GivesKey name a b (Ok k) (key_paid a.limit key)) where
-    after_key : (d : State F) (r : Result (Fields R) Stop) → Makes name b d r (bind (expr_out value (scope_of b name context)) (λ v. made (text b (name k)) v)) → Makes name a d r (entry_paid key value (scope_of a name context) (fields_mapped (says a name) fs))
+    after_key : (d : State F) (r : Result (Fields R) Stop) → Makes name b d r
+        (bind (expr_out value (scope_of b name context)) (λ v. made (text b (name k)) v)) → Makes name a d r
+        (entry_paid key value (scope_of a name context) (fields_mapped (says a name) fs))
     after_key d r m =
-        did_bind a b d (λ s q. text s (name q)) (λ s q. KeyFine (strings_of s) (name q)) (λ s q. fields_mapped (says s name) q) (λ s q. FineFields (strings_of s) name q) k r (key_paid a.limit key) (λ u. bind (expr_out value (scope_of a name context)) (λ v. made u v)) given
+        did_bind a b d (λ s q. text s (name q)) (λ s q. KeyFine (strings_of s) (name q)) (λ s q. fields_mapped (says s name) q)
+        (λ s q. FineFields (strings_of s) name q) k r (key_paid a.limit key) (λ u. bind (expr_out value (scope_of a name context)) (λ v. made u v)) given
         (subst (λ (s : EvalContext). Makes name b d r (bind (expr_out value s) (λ v. made (text b (name k)) v))) (scope_still a b name g context h) m)
 
-    pub value_stops : (c : State F) (n : Stop) → GivesValue name b c (Err n) (expr_out value (scope_of b name context)) → Makes {R = R} name a c (Err n) (entry_paid key value (scope_of a name context) (fields_mapped (says a name) fs))
-    value_stops c n d = after_key c (Err n) (did_stop {V = Item R} b c (λ s q. seen s name q) (λ s q. IsFine s name q) (λ s q. fields_mapped (says s name) q) (λ s q. FineFields (strings_of s) name q) n (expr_out value (scope_of b name context)) (λ v. made (text b (name k)) v) d)
+    pub value_stops : (c : State F) (n : Stop) → GivesValue name b c (Err n) (expr_out value (scope_of b name context)) → Makes {R = R} name
+        a c (Err n) (entry_paid key value (scope_of a name context) (fields_mapped (says a name) fs))
+    value_stops c n d = after_key c (Err n) (did_stop {V = Item R} b c (λ s q. seen s name q) (λ s q. IsFine s name q)
+        (λ s q. fields_mapped (says s name) q) (λ s q. FineFields (strings_of s) name q) n (expr_out value (scope_of b name context))
+        (λ v. made (text b (name k)) v) d)
 
-    pub entry_does : (c d : State F) (v : Item R) (r : Result (Fields R) Stop) → Grows b c → FineFields (strings_of a) name fs → KeyFine (strings_of b) (name k) → GivesValue name b c (Ok v) (expr_out value (scope_of b name context)) → Makes name c d r (gave (with_property (text c (name k)) (seen c name v) (fields_mapped (says c name) fs)) free) → Makes name a d r (entry_paid key value (scope_of a name context) (fields_mapped (says a name) fs))
+    pub entry_does : (c d : State F) (v : Item R) (r : Result (Fields R) Stop) → Grows b c → FineFields (strings_of a) name fs → KeyFine
+        (strings_of b) (name k) → GivesValue name b c (Ok v) (expr_out value (scope_of b name context)) → Makes name c d r
+        (gave (with_property (text c (name k)) (seen c name v) (fields_mapped (says c name) fs)) free) → Makes name a d r
+        (entry_paid key value (scope_of a name context) (fields_mapped (says a name) fs))
     entry_does c d v r f fine known e m =
         let same : fields_mapped (says c name) fs ≡ fields_mapped (says a name) fs = fields_mapped_still a c name (grows_trans g f) fs fine in
-        let as_first : Makes name c d r (made (text b (name k)) (seen c name v)) = subst (λ (p : List ℕ × Fields (List ℕ)). Makes name c d r (gave (with_property p.0 (seen c name v) p.1) free)) {x = (text c (name k), fields_mapped (says c name) fs)} {y = (text b (name k), fields_mapped (says a name) fs)} (cc (text_still f (name k) known.known, same)) m in
-        after_key d r (did_bind b c d (λ s q. seen s name q) (λ s q. IsFine s name q) (λ s q. fields_mapped (says s name) q) (λ s q. FineFields (strings_of s) name q) v r (expr_out value (scope_of b name context)) (λ w. made (text b (name k)) w) e as_first)
+        let as_first : Makes name c d r (made (text b (name k)) (seen c name v)) = subst
+        (λ (p : List ℕ × Fields (List ℕ)). Makes name c d r (gave (with_property p.0 (seen c name v) p.1) free)) {x = (
+          text c (name k),
+          fields_mapped (says c name) fs,
+        )} {y = (text b (name k), fields_mapped (says a name) fs)} (cc (text_still f (name k) known.known, same)) m in
+        after_key d r (did_bind b c d (λ s q. seen s name q) (λ s q. IsFine s name q) (λ s q. fields_mapped (says s name) q)
+        (λ s q. FineFields (strings_of s) name q) v r (expr_out value (scope_of b name context)) (λ w. made (text b (name k)) w) e as_first)
 
 -- one member, and then those after it
-module _ {F R : Type 0} (name : R → ℕ) (a b : State F) (s : EvalContext) (fs : Fields R) (ms : List (List ℕ × Expr)) (i : ℕ) (m : List ℕ × Expr) (within : i < length ms) (there : m ≡ get_or ms i m) where
-  pub entries_turn : (c : State F) (gs : Fields R) (r : Result (Fields R) Stop) → Makes name a b (Ok gs) (entry_paid m.0 (expr_tree m.1) s (fields_mapped (says a name) fs)) → Makes name b c r (entries_paid (entries_tree (drop (i + 1) ms)) s (fields_mapped (says b name) gs)) → Makes name a c r (entries_paid (entries_tree (drop i ms)) s (fields_mapped (says a name) fs))
+module _ {F R : Type 0} (name : R → ℕ) (a b : State F) (s : EvalContext) (fs : Fields R) (ms : List
+    (List ℕ × Expr)) (i : ℕ) (m : List ℕ × Expr) (within : i < length ms) (there : m ≡ get_or ms i m) where
+  pub entries_turn : (c : State F) (gs : Fields R) (r : Result (Fields R) Stop) → Makes name a b (Ok gs)
+      (entry_paid m.0 (expr_tree m.1) s (fields_mapped (says a name) fs)) → Makes name b c r
+      (entries_paid (entries_tree (drop (i + 1) ms)) s (fields_mapped (says b name) gs)) → Makes name a c r
+      (entries_paid (entries_tree (drop i ms)) s (fields_mapped (says a name) fs))
   entries_turn c gs r d e =
       subst (λ (q : List (List ℕ × Expr)). Makes name a c r (entries_paid (entries_tree q) s (fields_mapped (says a name) fs))) (sym (drop_at ms i m within there))
-      (did_bind a b c (λ o q. fields_mapped (says o name) q) (λ o q. FineFields (strings_of o) name q) (λ o q. fields_mapped (says o name) q) (λ o q. FineFields (strings_of o) name q) gs r (entry_paid m.0 (expr_tree m.1) s (fields_mapped (says a name) fs)) (λ q. entries_paid (entries_tree (drop (i + 1) ms)) s q) d e)
+      (did_bind a b c (λ o q. fields_mapped (says o name) q) (λ o q. FineFields (strings_of o) name q)
+      (λ o q. fields_mapped (says o name) q) (λ o q. FineFields (strings_of o) name q) gs r
+      (entry_paid m.0 (expr_tree m.1) s (fields_mapped (says a name) fs)) (λ q. entries_paid (entries_tree (drop (i + 1) ms)) s q) d e)
 
-  pub entries_halt : (n : Stop) → Makes {R = R} name a b (Err n) (entry_paid m.0 (expr_tree m.1) s (fields_mapped (says a name) fs)) → Makes {R = R} name a b (Err n) (entries_paid (entries_tree (drop i ms)) s (fields_mapped (says a name) fs))
+  pub entries_halt : (n : Stop) → Makes {R = R} name a b (Err n) (entry_paid m.0 (expr_tree m.1) s
+      (fields_mapped (says a name) fs)) → Makes {R = R} name a b (Err n) (entries_paid (entries_tree (drop i ms)) s (fields_mapped (says a name) fs))
   entries_halt n d =
       subst (λ (q : List (List ℕ × Expr)). Makes {R = R} name a b (Err n) (entries_paid (entries_tree q) s (fields_mapped (says a name) fs))) (sym (drop_at ms i m within there))
-      (did_stop {V = Fields R} a b (λ o q. fields_mapped (says o name) q) (λ o q. FineFields (strings_of o) name q) (λ o q. fields_mapped (says o name) q) (λ o q. FineFields (strings_of o) name q) n (entry_paid m.0 (expr_tree m.1) s (fields_mapped (says a name) fs)) (λ q. entries_paid (entries_tree (drop (i + 1) ms)) s q) d)
+      (did_stop {V = Fields R} a b (λ o q. fields_mapped (says o name) q) (λ o q. FineFields (strings_of o) name q)
+      (λ o q. fields_mapped (says o name) q) (λ o q. FineFields (strings_of o) name q) n
+      (entry_paid m.0 (expr_tree m.1) s (fields_mapped (says a name) fs)) (λ q. entries_paid (entries_tree (drop (i + 1) ms)) s q) d)
 
 -- all members, and then the value
 module _ {F R : Type 0} (name : R → ℕ) (a b : State F) (at : ℕ) (es : Entries) (s : EvalContext) where
-  pub literal_does : (c : State F) (fs : Fields R) (r : Result (Item R) Stop) → Makes name a b (Ok fs) (entries_paid es s no_fields) → GivesValue name b c r (object_out at (fields_mapped (says b name) fs)) → GivesValue name a c r (expr_out (tree.object at es) s)
+  pub literal_does : (c : State F) (fs : Fields R) (r : Result (Item R) Stop) → Makes name a b (Ok fs) (entries_paid es s no_fields) →
+      GivesValue name b c r (object_out at (fields_mapped (says b name) fs)) → GivesValue name a c r (expr_out (tree.object at es) s)
   literal_does c fs r d e = literal_paid a c (λ o q. seen o name q) (λ o q. IsFine o name q) at es s r
-      (did_bind a b c (λ o q. fields_mapped (says o name) q) (λ o q. FineFields (strings_of o) name q) (λ o q. seen o name q) (λ o q. IsFine o name q) fs r (entries_paid es s no_fields) (λ q. object_out at q) d e)
+      (did_bind a b c (λ o q. fields_mapped (says o name) q) (λ o q. FineFields (strings_of o) name q) (λ o q. seen o name q)
+      (λ o q. IsFine o name q) fs r (entries_paid es s no_fields) (λ q. object_out at q) d e)
 
   pub literal_stops : (n : Stop) → Makes {R = R} name a b (Err n) (entries_paid es s no_fields) → GivesValue {R = R} name a b (Err n) (expr_out (tree.object at es) s)
   literal_stops n d = literal_paid {V = Item R} a b (λ o q. seen o name q) (λ o q. IsFine o name q) at es s (Err n)
-      (did_stop {V = Fields R} a b (λ o q. fields_mapped (says o name) q) (λ o q. FineFields (strings_of o) name q) (λ o q. seen o name q) (λ o q. IsFine o name q) n (entries_paid es s no_fields) (λ q. object_out at q) d)
+      (did_stop {V = Fields R} a b (λ o q. fields_mapped (says o name) q) (λ o q. FineFields (strings_of o) name q) (λ o q. seen o name q)
+      (λ o q. IsFine o name q) n (entries_paid es s no_fields) (λ q. object_out at q) d)

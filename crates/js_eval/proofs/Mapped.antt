@@ -20,7 +20,9 @@ abbrev pub bindings_by : {T V : Type 0} → (T → V) → Bindings T → Binding
 bindings_by see bs = record { blocks = frames_by see bs.blocks; top = bounds_by see bs.top }
 
 module _ {T V : Type 0} (see : T → V) where
-  first_found : (b : Bound T) (bs : List (Bound T)) (x : List ℕ) (t : Bool) → bound_in (bounds_by see bs) x ≡ option_map (λ b. bound_by see b) (bound_in bs x) → (if t then Some (bound_by see b) else bound_in (bounds_by see bs) x) ≡ option_map (λ b. bound_by see b) (if t then Some b else bound_in bs x)
+  first_found : (b : Bound T) (bs : List (Bound T)) (x : List ℕ) (t : Bool) → bound_in (bounds_by see bs) x ≡ option_map
+      (λ b. bound_by see b) (bound_in bs x) → (if t then Some (bound_by see b) else bound_in (bounds_by see bs) x) ≡ option_map
+      (λ b. bound_by see b) (if t then Some b else bound_in bs x)
   first_found b bs x true h = refl
   first_found b bs x false h = h
 
@@ -28,7 +30,8 @@ module _ {T V : Type 0} (see : T → V) where
   found_by [] x = refl
   found_by (b ∷ bs) x = first_found b bs x (bytes_eq b.name x) (found_by bs x)
 
-  inner_by : (o : Option (Bound T)) (d : Bool) (p : Option (Bound T)) → inner_first (option_map (λ b. bound_by see b) o) d (option_map (λ b. bound_by see b) p) ≡ option_map (λ b. bound_by see b) (inner_first o d p)
+  inner_by : (o : Option (Bound T)) (d : Bool) (p : Option (Bound T)) → inner_first (option_map (λ b. bound_by see b) o) d
+      (option_map (λ b. bound_by see b) p) ≡ option_map (λ b. bound_by see b) (inner_first o d p)
   inner_by (Some b) d p = refl
   inner_by None true p = refl
   inner_by None false p = refl
@@ -41,7 +44,9 @@ module _ {T V : Type 0} (see : T → V) where
   pub meant_by : (bs : Bindings T) (x : List ℕ) → meant (bindings_by see bs) x ≡ option_map (λ b. bound_by see b) (meant bs x)
   meant_by bs x = look_by bs.blocks bs.top x
 
-  first_changed : (b : Bound T) (bs : List (Bound T)) (x : List ℕ) (v : T) (t : Bool) → changed (bounds_by see bs) x (see v) ≡ bounds_by see (changed bs x v) → (if t then with_value (bound_by see b) (see v) ∷ bounds_by see bs else bound_by see b ∷ changed (bounds_by see bs) x (see v)) ≡ bounds_by see (if t then with_value b v ∷ bs else b ∷ changed bs x v)
+  first_changed : (b : Bound T) (bs : List (Bound T)) (x : List ℕ) (v : T) (t : Bool) → changed (bounds_by see bs) x (see v) ≡ bounds_by see
+      (changed bs x v) → (if t then with_value (bound_by see b) (see v) ∷ bounds_by see bs else bound_by see b ∷ changed (bounds_by see bs) x
+      (see v)) ≡ bounds_by see (if t then with_value b v ∷ bs else b ∷ changed bs x v)
   first_changed b bs x v true h = refl
   first_changed b bs x v false h = ap (λ q. bound_by see b ∷ q) h
 
@@ -62,7 +67,15 @@ module _ {T V : Type 0} (see : T → V) where
   pub turned_by : (x : List ℕ) (v : T) (bs : Bindings T) → turned x (see v) (bindings_by see bs) ≡ bindings_by see (turned x v bs)
   turned_by x v bs = refl
 
-  first_write : (f : BlockFrame T) (fs : List (BlockFrame T)) (top : List (Bound T)) (x : List ℕ) (v : T) (o : Option (Bound T)) → write (frames_by see fs) (bounds_by see top) x (see v) ≡ bindings_by see (write fs top x v) → (if is_some (option_map (λ b. bound_by see b) o) then record { blocks = with_bound (frame_by see f) (changed (bounds_by see f.bound) x (see v)) ∷ frames_by see fs; top = bounds_by see top } else inside (frame_by see f) (write (frames_by see fs) (bounds_by see top) x (see v))) ≡ bindings_by see (if is_some o then record { blocks = with_bound f (changed f.bound x v) ∷ fs; top = top } else inside f (write fs top x v))
+  first_write : (f : BlockFrame T) (fs : List (BlockFrame T)) (top : List (Bound T)) (x : List ℕ) (v : T) (o : Option (Bound T)) → write
+      (frames_by see fs) (bounds_by see top) x (see v) ≡ bindings_by see (write fs top x v) →
+      (if is_some (option_map (λ b. bound_by see b) o) then record {
+        blocks = with_bound (frame_by see f)
+            (changed (bounds_by see f.bound) x (see v)) ∷ frames_by see fs;
+        top = bounds_by see top;
+      } else inside (frame_by see f)
+      (write (frames_by see fs) (bounds_by see top) x (see v))) ≡ bindings_by see
+      (if is_some o then record { blocks = with_bound f (changed f.bound x v) ∷ fs; top = top } else inside f (write fs top x v))
   first_write f fs top x v (Some b) h = ap (λ q. record { blocks = record { names = f.names; bound = q } ∷ frames_by see fs; top = bounds_by see top }) (changed_by f.bound x v)
   first_write f fs top x v None h = ap (λ q. inside (frame_by see f) q) h
 

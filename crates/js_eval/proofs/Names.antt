@@ -31,7 +31,8 @@ module _ {F R : Type 0} (s : State F) (name : R → ℕ) where
   unread bs x e = rw (meant_none bs x e) (refl, ran_free s)
 
   -- a name whose value was copied
-  pub read_one : (bs : Bindings (Item R)) (x : List ℕ) (b : Bound (Item R)) (v : Item R) → meant bs x ≡ Some b → IsFine s name b.value → content_of v ≡ content_of b.value → GivesValue name s s (Ok v) (read_out (meant (bindings_seen s name bs) x))
+  pub read_one : (bs : Bindings (Item R)) (x : List ℕ) (b : Bound (Item R)) (v : Item R) → meant bs x ≡ Some b → IsFine s name b.value →
+      content_of v ≡ content_of b.value → GivesValue name s s (Ok v) (read_out (meant (bindings_seen s name bs) x))
   read_one bs x b v e h k = rw (meant_some bs x b e) (record { is = seen_copy s name v b.value k; good = fine_copy s name v b.value k h; ran = ran_seen s name b.value h })
 
   pub found_value : (bs : Bindings (Item R)) (x : List ℕ) (b : Bound (Item R)) → meant bs x ≡ Some b → BindingsFine s name bs → IsFine s name b.value

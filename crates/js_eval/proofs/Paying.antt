@@ -90,7 +90,8 @@ bind_assoc : {A B C : Type 0} (o : Out A) (f : A → Out B) (g : B → Out C) �
 bind_assoc (gave x l) f g = bind_after l (f x) g
 bind_assoc (ended e l) f g = refl
 
-entry_bind : {B : Type 0} (key : List ℕ) (value : ExprTree) (s : EvalContext) (fs : Fields (List ℕ)) (go : Fields (List ℕ) → Out B) → bind (entry_paid key value s fs) go ≡ bind (key_paid s.limit key) (λ k. bind (expr_out value s) (λ v. go (with_property k v fs)))
+entry_bind : {B : Type 0} (key : List ℕ) (value : ExprTree) (s : EvalContext) (fs : Fields (List ℕ)) (go : Fields (List ℕ) → Out B) → bind
+    (entry_paid key value s fs) go ≡ bind (key_paid s.limit key) (λ k. bind (expr_out value s) (λ v. go (with_property k v fs)))
 entry_bind key value s fs go =
     bind_assoc (key_paid s.limit key) _ go
     ∙ bind_same (key_paid s.limit key) _ _ (λ k. bind_assoc (expr_out value s) _ go ∙ bind_same (expr_out value s) _ _ (λ v. after_free (go (with_property k v fs))))
@@ -109,11 +110,14 @@ entries_near no_entries s fs = paid_refl (gave fs free)
 entries_near (entry key value rest) s fs =
     let n = members_in rest in
     let t = key_units rest in
-    let each : Paid (4 + (0 + 4 * n)) ((2 * length key + 8) + (0 + (2 * t + 8 * n))) (bind (key_paid s.limit key) (λ k. bind (expr_out value s) (λ v. entries_paid rest s (with_property k v fs)))) (entries_out (entry key value rest) s fs) =
+    let each : Paid (4 + (0 + 4 * n)) ((2 * length key + 8) + (0 + (2 * t + 8 * n)))
+    (bind (key_paid s.limit key) (λ k. bind (expr_out value s) (λ v. entries_paid rest s (with_property k v fs)))) (entries_out (entry key value rest) s fs) =
     paid_bind 4 (2 * length key + 8) (0 + 4 * n) (0 + (2 * t + 8 * n)) (key_paid s.limit key) (key_interned s.limit key) _ _ (key_near s.limit key)
     (λ k. paid_bind 0 0 (4 * n) (2 * t + 8 * n) (expr_out value s) (expr_out value s) _ _ (paid_refl (expr_out value s)) (λ v. entries_near rest s (with_property k v fs))) in
-    let whole = subst (λ o. Paid (4 + (0 + 4 * n)) ((2 * length key + 8) + (0 + (2 * t + 8 * n))) o (entries_out (entry key value rest) s fs)) (sym (entry_bind key value s fs (λ gs. entries_paid rest s gs))) each in
-    paid_more (4 + (0 + 4 * n)) ((2 * length key + 8) + (0 + (2 * t + 8 * n))) (4 * members_in (entry key value rest)) (2 * key_units (entry key value rest) + 8 * members_in (entry key value rest)) _ _ whole (omega arith) (omega arith)
+    let whole = subst (λ o. Paid (4 + (0 + 4 * n)) ((2 * length key + 8) + (0 + (2 * t + 8 * n))) o
+    (entries_out (entry key value rest) s fs)) (sym (entry_bind key value s fs (λ gs. entries_paid rest s gs))) each in
+    paid_more (4 + (0 + 4 * n)) ((2 * length key + 8) + (0 + (2 * t + 8 * n))) (4 * members_in (entry key value rest))
+    (2 * key_units (entry key value rest) + 8 * members_in (entry key value rest)) _ _ whole (omega arith) (omega arith)
 
 -- what was done with a smaller need is done with a row in front that has the rest
 module _ {F : Type 0} (a b : State F) (row : Row) {i w : ℕ} {l m : Ledger} (h : Near i w l m) (p : i ≤ ids_in row) (q : w ≤ words_in row) where
@@ -156,7 +160,10 @@ module _ {F V A : Type 0} (a b : State F) (see : State F → V → A) (fine : St
   did_paid (Err (Store f)) (ended e l) (ended n m) h d = cut_paid a b row h.1 p q f d
 
 -- an object literal whose members took their shares
-pub literal_paid : {F V : Type 0} (a b : State F) (see : State F → V → Val) (fine : State F → V → Type 0) (at : ℕ) (es : Entries) (s : EvalContext) (r : Result V Stop) → ComesTo a b see fine r (bind (entries_paid es s no_fields) (λ fs. object_out at fs)) → ComesTo a b see fine r (after_ledger (literal_cost es) (bind (entries_out es s no_fields) (λ fs. object_out at fs)))
+pub literal_paid : {F V : Type 0} (a b : State F) (see : State F → V → Val) (fine : State F →
+    V → Type 0) (at : ℕ) (es : Entries) (s : EvalContext) (r : Result V Stop) → ComesTo a b see fine r
+    (bind (entries_paid es s no_fields) (λ fs. object_out at fs)) → ComesTo a b see fine r
+    (after_ledger (literal_cost es) (bind (entries_out es s no_fields) (λ fs. object_out at fs)))
 literal_paid a b see fine at es s r d =
     let n = members_in es in
     let t = key_units es in

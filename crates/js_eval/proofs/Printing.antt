@@ -39,7 +39,8 @@ line_need vs = omega (arith, string_words_most vs, some_most (length vs))
 
 module _ {F : Type 0} (a b : State F) (x y : List ℕ) (bs : Bindings Val) (us : List (List ℕ)) (vs : List Val) (w : ℕ) where
   -- a line that was printed, and one that was not
-  line_went : StoreStep a b None 0 w → b.history ≡ a.history → w ≤ string_words vs → y ≡ x ++ line us → FollowsFlow a b x y (Ok tt) bs (on_value (gave (line us) (cost (parts (length vs) (total text_units vs)))) bs (λ l. printed l bs))
+  line_went : StoreStep a b None 0 w → b.history ≡ a.history → w ≤ string_words vs → y ≡ x ++ line us → FollowsFlow a b x y (Ok tt) bs
+      (on_value (gave (line us) (cost (parts (length vs) (total text_units vs)))) bs (λ l. printed l bs))
   line_went s h k e =
       let need = line_need vs in
       record {
@@ -52,7 +53,8 @@ module _ {F : Type 0} (a b : State F) (x y : List ℕ) (bs : Bindings Val) (us :
         leaves = refl;
       }
 
-  line_halts : (f : StoreFault) → StoreStep a b (full_only f) 0 w → NeverSlots (full_only f) → b.history ≡ a.history → w ≤ string_words vs → y ≡ x → FollowsFlow a b x y (Err (Store f)) bs (on_value (gave (line us) (cost (parts (length vs) (total text_units vs)))) bs (λ l. printed l bs))
+  line_halts : (f : StoreFault) → StoreStep a b (full_only f) 0 w → NeverSlots (full_only f) → b.history ≡ a.history → w ≤ string_words vs →
+      y ≡ x → FollowsFlow a b x y (Err (Store f)) bs (on_value (gave (line us) (cost (parts (length vs) (total text_units vs)))) bs (λ l. printed l bs))
   line_halts f s n h k e =
       let need = line_need vs in
       record {
@@ -64,29 +66,53 @@ module _ {F : Type 0} (a b : State F) (x y : List ℕ) (bs : Bindings Val) (us :
 module _ {F R : Type 0} (name : R → ℕ) where
   module _ (a b : State F) (x : List ℕ) (vs : List (Item R)) (bs : Bindings Val) where
     -- the texts of values, and then their line
-    pub values_went : (c : State F) (y : List ℕ) (us : Vec R Global) → GivesTexts name a b (Ok us) (each (to_string a.limit) (all_seen a name vs)) → StoreStep b c None 0 (settle_most b name us.items) → c.history ≡ b.history → settle_most b name us.items ≤ string_words (all_seen a name vs) → y ≡ x ++ line (texts_seen b name us.items) → FollowsFlow a c x y (Ok tt) bs (on_value (line_out a.limit (all_seen a name vs)) bs (λ l. printed l bs))
+    pub values_went : (c : State F) (y : List ℕ) (us : Vec R Global) → GivesTexts name a b (Ok us)
+        (each (to_string a.limit) (all_seen a name vs)) → StoreStep b c None 0 (settle_most b name us.items) → c.history ≡ b.history →
+        settle_most b name us.items ≤ string_words (all_seen a name vs) → y ≡ x ++ line (texts_seen b name us.items) → FollowsFlow a c x y
+        (Ok tt) bs (on_value (line_out a.limit (all_seen a name vs)) bs (λ l. printed l bs))
     values_went c y us d s h k e =
-        converting_went (parts (length (all_seen a name vs)) (reached_units a.limit (all_seen a name vs))) a b c x y (λ o (v : Vec R Global). texts_seen o name v.items) (λ o (v : Vec R Global). AllKnown o name v.items) us (Ok tt) bs bs (each (to_string a.limit) (all_seen a name vs)) (λ ts. gave (line ts) (cost (parts (length (all_seen a name vs)) (total text_units (all_seen a name vs))))) (λ l. printed l bs) d
+        converting_went (parts (length (all_seen a name vs)) (reached_units a.limit (all_seen a name vs))) a b c x y
+        (λ o (v : Vec R Global). texts_seen o name v.items) (λ o (v : Vec R Global). AllKnown o name v.items) us (Ok tt) bs bs
+        (each (to_string a.limit) (all_seen a name vs)) (λ ts. gave (line ts)
+        (cost (parts (length (all_seen a name vs)) (total text_units (all_seen a name vs))))) (λ l. printed l bs) d
         (line_went b c x y bs (texts_seen b name us.items) (all_seen a name vs) (settle_most b name us.items) s h k e)
 
-    pub values_halt : (c : State F) (y : List ℕ) (us : Vec R Global) (f : StoreFault) → GivesTexts name a b (Ok us) (each (to_string a.limit) (all_seen a name vs)) → StoreStep b c (full_only f) 0 (settle_most b name us.items) → NeverSlots (full_only f) → c.history ≡ b.history → settle_most b name us.items ≤ string_words (all_seen a name vs) → y ≡ x → FollowsFlow a c x y (Err (Store f)) bs (on_value (line_out a.limit (all_seen a name vs)) bs (λ l. printed l bs))
+    pub values_halt : (c : State F) (y : List ℕ) (us : Vec R Global) (f : StoreFault) → GivesTexts name a b (Ok us)
+        (each (to_string a.limit) (all_seen a name vs)) → StoreStep b c (full_only f) 0 (settle_most b name us.items) → NeverSlots
+        (full_only f) → c.history ≡ b.history → settle_most b name us.items ≤ string_words (all_seen a name vs) → y ≡ x → FollowsFlow a c x y
+        (Err (Store f)) bs (on_value (line_out a.limit (all_seen a name vs)) bs (λ l. printed l bs))
     values_halt c y us f d s n h k e =
-        converting_went (parts (length (all_seen a name vs)) (reached_units a.limit (all_seen a name vs))) a b c x y (λ o (v : Vec R Global). texts_seen o name v.items) (λ o (v : Vec R Global). AllKnown o name v.items) us (Err (Store f)) bs bs (each (to_string a.limit) (all_seen a name vs)) (λ ts. gave (line ts) (cost (parts (length (all_seen a name vs)) (total text_units (all_seen a name vs))))) (λ l. printed l bs) d
+        converting_went (parts (length (all_seen a name vs)) (reached_units a.limit (all_seen a name vs))) a b c x y
+        (λ o (v : Vec R Global). texts_seen o name v.items) (λ o (v : Vec R Global). AllKnown o name v.items) us (Err (Store f)) bs bs
+        (each (to_string a.limit) (all_seen a name vs)) (λ ts. gave (line ts)
+        (cost (parts (length (all_seen a name vs)) (total text_units (all_seen a name vs))))) (λ l. printed l bs) d
         (line_halts b c x y bs (texts_seen b name us.items) (all_seen a name vs) (settle_most b name us.items) f s n h k e)
 
-    pub texts_halt : (n : Stop) → GivesTexts name a b (Err n) (each (to_string a.limit) (all_seen a name vs)) → FollowsFlow a b x x (Err n) bs (on_value (line_out a.limit (all_seen a name vs)) bs (λ l. printed l bs))
+    pub texts_halt : (n : Stop) → GivesTexts name a b (Err n) (each (to_string a.limit) (all_seen a name vs)) → FollowsFlow a b x x (Err n)
+        bs (on_value (line_out a.limit (all_seen a name vs)) bs (λ l. printed l bs))
     texts_halt n d =
-        converting_halts {V = Vec R Global} (parts (length (all_seen a name vs)) (reached_units a.limit (all_seen a name vs))) a b x (λ o (v : Vec R Global). texts_seen o name v.items) (λ o (v : Vec R Global). AllKnown o name v.items) n bs bs (each (to_string a.limit) (all_seen a name vs)) (λ ts. gave (line ts) (cost (parts (length (all_seen a name vs)) (total text_units (all_seen a name vs))))) (λ l. printed l bs) refl d
+        converting_halts {V = Vec R Global} (parts (length (all_seen a name vs)) (reached_units a.limit (all_seen a name vs))) a b x
+        (λ o (v : Vec R Global). texts_seen o name v.items) (λ o (v : Vec R Global). AllKnown o name v.items) n bs bs
+        (each (to_string a.limit) (all_seen a name vs)) (λ ts. gave (line ts)
+        (cost (parts (length (all_seen a name vs)) (total text_units (all_seen a name vs))))) (λ l. printed l bs) refl d
 
   -- the arguments of a `print`, and then their line
   module _ (a b : State F) (x : List ℕ) (es : Exprs) (k : Context R) (g : Grows a b) (h : ContextFine a name k) where
-    pub print_went : (c : State F) (y : List ℕ) (vs : Vec (Item R) Global) (r : Result (Unit {0}) Stop) → Grows a c → GivesValues name a b (Ok vs) (exprs_out es (scope_of a name k)) → ((bs : Bindings Val) → FollowsFlow b c x y r bs (on_value (line_out b.limit (all_seen b name vs.items)) bs (λ l. printed l bs))) → FollowsFlow a c x y r (context_bindings c name k) (stmt_flow (print es) (scope_of a name k))
+    pub print_went : (c : State F) (y : List ℕ) (vs : Vec (Item R) Global) (r : Result (Unit {0}) Stop) → Grows a c → GivesValues name a b
+        (Ok vs) (exprs_out es (scope_of a name k)) → ((bs : Bindings Val) → FollowsFlow b c x y r bs
+        (on_value (line_out b.limit (all_seen b name vs.items)) bs (λ l. printed l bs))) → FollowsFlow a c x y r (context_bindings c name k)
+        (stmt_flow (print es) (scope_of a name k))
     print_went c y vs r i d w =
         let bs : Bindings Val = context_bindings a name k in
-        let same : FollowsFlow b c x y r bs (on_value (line_out a.limit (all_seen b name vs.items)) bs (λ l. printed l bs)) = subst (λ (q : ℕ). FollowsFlow b c x y r bs (on_value (line_out q (all_seen b name vs.items)) bs (λ l. printed l bs))) g.limit (w bs) in
+        let same : FollowsFlow b c x y r bs (on_value (line_out a.limit (all_seen b name vs.items)) bs (λ l. printed l bs)) = subst
+        (λ (q : ℕ). FollowsFlow b c x y r bs (on_value (line_out q (all_seen b name vs.items)) bs (λ l. printed l bs))) g.limit (w bs) in
         subst (λ (cs : Bindings Val). FollowsFlow a c x y r cs (stmt_flow (print es) (scope_of a name k))) (sym (context_bindings_still a c name i k h))
-        (bind_went a b c x y (λ o (v : Vec (Item R) Global). all_seen o name v.items) (λ o (v : Vec (Item R) Global). AllFine o name v.items) vs r bs bs (exprs_out es (scope_of a name k)) (λ ws. line_out a.limit ws) (λ l. printed l bs) d same)
+        (bind_went a b c x y (λ o (v : Vec (Item R) Global). all_seen o name v.items)
+        (λ o (v : Vec (Item R) Global). AllFine o name v.items) vs r bs bs (exprs_out es (scope_of a name k)) (λ ws. line_out a.limit ws)
+        (λ l. printed l bs) d same)
 
     pub print_halt : (n : Stop) → GivesValues name a b (Err n) (exprs_out es (scope_of a name k)) → FollowsFlow a b x x (Err n) (context_bindings b name k) (stmt_flow (print es) (scope_of a name k))
     print_halt n d =
-        bind_halts {V = Vec (Item R) Global} a b x (λ o (v : Vec (Item R) Global). all_seen o name v.items) (λ o (v : Vec (Item R) Global). AllFine o name v.items) n (context_bindings a name k) (context_bindings b name k) (exprs_out es (scope_of a name k)) (λ ws. line_out a.limit ws) (λ l. printed l (context_bindings a name k)) (context_bindings_still a b name g k h) d
+        bind_halts {V = Vec (Item R) Global} a b x (λ o (v : Vec (Item R) Global). all_seen o name v.items)
+        (λ o (v : Vec (Item R) Global). AllFine o name v.items) n (context_bindings a name k) (context_bindings b name k)
+        (exprs_out es (scope_of a name k)) (λ ws. line_out a.limit ws) (λ l. printed l (context_bindings a name k)) (context_bindings_still a b name g k h) d

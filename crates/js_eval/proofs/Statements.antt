@@ -46,32 +46,49 @@ ran_then r s h = record {
 
 module _ {F R : Type 0} (name : R → ℕ) where
   -- a value, and then what is done with it in the same scope
-  pub then_went : (a b c : State F) (x : List ℕ) (k : Context R) (v : Item R) (r : Result (Unit {0}) Stop) (cs : Bindings Val) (o : Out Val) (go : EvalContext → Val → Flow) → Grows a b → ContextFine a name k → GivesValue name a b (Ok v) o → FollowsFlow b c x x r cs (go (scope_of b name k) (seen b name v)) → FollowsFlow a c x x r cs (on_value o (context_bindings a name k) (λ w. go (scope_of a name k) w))
+  pub then_went : (a b c : State F) (x : List ℕ) (k : Context R) (v : Item R) (r : Result
+      (Unit {0}) Stop) (cs : Bindings Val) (o : Out Val) (go : EvalContext → Val → Flow) → Grows a b → ContextFine a name k → GivesValue name
+      a b (Ok v) o → FollowsFlow b c x x r cs (go (scope_of b name k) (seen b name v)) → FollowsFlow a c x x r cs
+      (on_value o (context_bindings a name k) (λ w. go (scope_of a name k) w))
   then_went a b c x k v r cs o go g h d w =
       value_went a b c x x (λ s q. seen s name q) (λ s q. IsFine s name q) v r (context_bindings a name k) cs o (λ q. go (scope_of a name k) q) d
       (subst (λ (s : EvalContext). FollowsFlow b c x x r cs (go s (seen b name v))) (scope_still a b name g k h) w)
 
-  pub then_halts : (a b : State F) (x : List ℕ) (k : Context R) (n : Stop) (o : Out Val) (go : Val → Flow) → Grows a b → ContextFine a name k → GivesValue name a b (Err n) o → FollowsFlow a b x x (Err n) (context_bindings b name k) (on_value o (context_bindings a name k) go)
-  then_halts a b x k n o go g h d = value_halts {V = Item R} a b x (λ s q. seen s name q) (λ s q. IsFine s name q) n (context_bindings a name k) (context_bindings b name k) o go (context_bindings_still a b name g k h) d
+  pub then_halts : (a b : State F) (x : List ℕ) (k : Context R) (n : Stop) (o : Out Val) (go : Val → Flow) → Grows a b → ContextFine a name
+      k → GivesValue name a b (Err n) o → FollowsFlow a b x x (Err n) (context_bindings b name k) (on_value o (context_bindings a name k) go)
+  then_halts a b x k n o go g h d = value_halts {V = Item R} a b x (λ s q. seen s name q) (λ s q. IsFine s name q) n
+      (context_bindings a name k) (context_bindings b name k) o go (context_bindings_still a b name g k h) d
 
   -- what a name means, then an expression, and then their sum
-  pub sum_does : (a b c : State F) (at : ℕ) (x : List ℕ) (e : ExprTree) (k : Context R) (v w : Item R) (r : Result (Item R) Stop) → Grows a b → IsFine a name v → GivesValue name a a (Ok v) (read_out (meant (context_bindings a name k) x)) → GivesValue name a b (Ok w) (expr_out e (scope_of a name k)) → GivesValue name b c r (plus at b.limit (seen b name v) (seen b name w)) → GivesValue name a c r (sum_of_both at x e (scope_of a name k))
+  pub sum_does : (a b c : State F) (at : ℕ) (x : List ℕ) (e : ExprTree) (k : Context R) (v w : Item R) (r : Result (Item R) Stop) → Grows a
+      b → IsFine a name v → GivesValue name a a (Ok v) (read_out (meant (context_bindings a name k) x)) → GivesValue name a b (Ok w)
+      (expr_out e (scope_of a name k)) → GivesValue name b c r (plus at b.limit (seen b name v) (seen b name w)) → GivesValue name a c r
+      (sum_of_both at x e (scope_of a name k))
   sum_does a b c at x e k v w r g f d d' z =
       let one : GivesValue name b c r (plus at a.limit (seen b name v) (seen b name w)) = subst (λ (q : ℕ). GivesValue name b c r (plus at q (seen b name v) (seen b name w))) g.limit z in
-      let two : GivesValue name b c r (plus at a.limit (seen a name v) (seen b name w)) = subst (λ (q : Val). GivesValue name b c r (plus at a.limit q (seen b name w))) (seen_still a b name g v f) one in
-      did_bind a a c (λ s q. seen s name q) (λ s q. IsFine s name q) (λ s q. seen s name q) (λ s q. IsFine s name q) v r (read_out (meant (context_bindings a name k) x)) (λ p. bind (expr_out e (scope_of a name k)) (λ q. plus at a.limit p q)) d
-      (did_bind a b c (λ s q. seen s name q) (λ s q. IsFine s name q) (λ s q. seen s name q) (λ s q. IsFine s name q) w r (expr_out e (scope_of a name k)) (λ q. plus at a.limit (seen a name v) q) d' two)
+      let two : GivesValue name b c r (plus at a.limit (seen a name v) (seen b name w)) = subst
+      (λ (q : Val). GivesValue name b c r (plus at a.limit q (seen b name w))) (seen_still a b name g v f) one in
+      did_bind a a c (λ s q. seen s name q) (λ s q. IsFine s name q) (λ s q. seen s name q) (λ s q. IsFine s name q) v r
+      (read_out (meant (context_bindings a name k) x)) (λ p. bind (expr_out e (scope_of a name k)) (λ q. plus at a.limit p q)) d
+      (did_bind a b c (λ s q. seen s name q) (λ s q. IsFine s name q) (λ s q. seen s name q) (λ s q. IsFine s name q) w r
+      (expr_out e (scope_of a name k)) (λ q. plus at a.limit (seen a name v) q) d' two)
 
-  pub sum_stops : (a b : State F) (at : ℕ) (x : List ℕ) (e : ExprTree) (k : Context R) (v : Item R) (n : Stop) → GivesValue name a a (Ok v) (read_out (meant (context_bindings a name k) x)) → GivesValue name a b (Err n) (expr_out e (scope_of a name k)) → GivesValue name a b (Err n) (sum_of_both at x e (scope_of a name k))
+  pub sum_stops : (a b : State F) (at : ℕ) (x : List ℕ) (e : ExprTree) (k : Context R) (v : Item R) (n : Stop) → GivesValue name a a (Ok v)
+      (read_out (meant (context_bindings a name k) x)) → GivesValue name a b (Err n) (expr_out e (scope_of a name k)) → GivesValue name a b
+      (Err n) (sum_of_both at x e (scope_of a name k))
   sum_stops a b at x e k v n d d' =
-      did_bind a a b (λ s q. seen s name q) (λ s q. IsFine s name q) (λ s q. seen s name q) (λ s q. IsFine s name q) v (Err n) (read_out (meant (context_bindings a name k) x)) (λ p. bind (expr_out e (scope_of a name k)) (λ q. plus at a.limit p q)) d
+      did_bind a a b (λ s q. seen s name q) (λ s q. IsFine s name q) (λ s q. seen s name q) (λ s q. IsFine s name q) v (Err n)
+      (read_out (meant (context_bindings a name k) x)) (λ p. bind (expr_out e (scope_of a name k)) (λ q. plus at a.limit p q)) d
       (did_stop a b (λ s q. seen s name q) (λ s q. IsFine s name q) (λ s q. seen s name q) (λ s q. IsFine s name q) n (expr_out e (scope_of a name k)) (λ q. plus at a.limit (seen a name v) q) d')
 
-  pub sum_unread : (a b : State F) (at : ℕ) (x : List ℕ) (e : ExprTree) (k : Context R) (n : Stop) → GivesValue name a b (Err n) (read_out (meant (context_bindings a name k) x)) → GivesValue name a b (Err n) (sum_of_both at x e (scope_of a name k))
-  sum_unread a b at x e k n d = did_stop a b (λ s q. seen s name q) (λ s q. IsFine s name q) (λ s q. seen s name q) (λ s q. IsFine s name q) n (read_out (meant (context_bindings a name k) x)) (λ p. bind (expr_out e (scope_of a name k)) (λ q. plus at a.limit p q)) d
+  pub sum_unread : (a b : State F) (at : ℕ) (x : List ℕ) (e : ExprTree) (k : Context R) (n : Stop) → GivesValue name a b (Err n)
+      (read_out (meant (context_bindings a name k) x)) → GivesValue name a b (Err n) (sum_of_both at x e (scope_of a name k))
+  sum_unread a b at x e k n d = did_stop a b (λ s q. seen s name q) (λ s q. IsFine s name q) (λ s q. seen s name q) (λ s q. IsFine s name q)
+      n (read_out (meant (context_bindings a name k) x)) (λ p. bind (expr_out e (scope_of a name k)) (λ q. plus at a.limit p q)) d
 
   -- a test, of whose value the truth is told
-  pub test_holds : (a b c : State F) (v : Item R) (t : Bool) (o : Out Val) → t ≡ to_boolean (seen b name v) → StoreStep b c None 0 0 → c.history ≡ b.history → GivesValue name a b (Ok v) o → GivesPlain a c (Ok t) (told to_boolean o)
+  pub test_holds : (a b c : State F) (v : Item R) (t : Bool) (o : Out Val) → t ≡ to_boolean (seen b name v) → StoreStep b c None 0 0 →
+      c.history ≡ b.history → GivesValue name a b (Ok v) o → GivesPlain a c (Ok t) (told to_boolean o)
   test_holds a b c v t (gave x l) e s h d = record {
     is = e ∙ ap to_boolean d.is;
     good = tt;
@@ -96,14 +113,20 @@ told_flow (ended n l) bs f g = refl
 
 module _ {F R : Type 0} (name : R → ℕ) where
   -- a block that was entered, ran, and was left
-  pub block_went : (a b : State F) (x y : List ℕ) (block : Block) (k i : Context R) (r : Result (Unit {0}) Stop) (bs cs : Bindings Val) → i.literals ≡ k.literals → context_bindings a name i ≡ entered block.names (context_bindings a name k) → FollowsFlow a b x y r bs (stmts_flow (stmts_tree block.body.items) (scope_of a name i)) → cs ≡ outer bs → FollowsFlow a b x y r cs (block_flow (block_tree block) (scope_of a name k))
+  pub block_went : (a b : State F) (x y : List ℕ) (block : Block) (k i : Context R) (r : Result (Unit {0}) Stop) (bs cs : Bindings Val) →
+      i.literals ≡ k.literals → context_bindings a name i ≡ entered block.names (context_bindings a name k) → FollowsFlow a b x y r bs
+      (stmts_flow (stmts_tree block.body.items) (scope_of a name i)) → cs ≡ outer bs → FollowsFlow a b x y r cs
+      (block_flow (block_tree block) (scope_of a name k))
   block_went a b x y block k i r bs cs l e w o =
       let same : scope_of a name i ≡ with_bindings (scope_of a name k) (entered block.names (context_bindings a name k)) = cc (l, e) in
       subst (λ (q : BlockTree). FollowsFlow a b x y r cs (block_flow q (scope_of a name k))) (sym (block_is block))
       (left_went a b x y r bs cs (stmts_flow (stmts_tree block.body.items) (with_bindings (scope_of a name k) (entered block.names (context_bindings a name k)))) o
       (subst (λ (s : EvalContext). FollowsFlow a b x y r bs (stmts_flow (stmts_tree block.body.items) s)) same w))
 
-  pub turn_went : (a b : State F) (x y : List ℕ) (n : List ℕ) (i : ℕ) (t : BlockTree) (k j : Context R) (v : Val) (r : Result (Unit {0}) Stop) (bs cs : Bindings Val) → j.literals ≡ k.literals → v ≡ number (Int (pos i)) → context_bindings a name j ≡ turned n v (context_bindings a name k) → FollowsFlow a b x y r bs (block_flow t (scope_of a name j)) → cs ≡ outer bs → FollowsFlow a b x y r cs (turn_flow n t (scope_of a name k) i (context_bindings a name k))
+  pub turn_went : (a b : State F) (x y : List ℕ) (n : List ℕ) (i : ℕ) (t : BlockTree)
+      (k j : Context R) (v : Val) (r : Result (Unit {0}) Stop) (bs cs : Bindings Val) → j.literals ≡ k.literals → v ≡ number (Int (pos i)) →
+      context_bindings a name j ≡ turned n v (context_bindings a name k) → FollowsFlow a b x y r bs (block_flow t (scope_of a name j)) → cs ≡
+      outer bs → FollowsFlow a b x y r cs (turn_flow n t (scope_of a name k) i (context_bindings a name k))
   turn_went a b x y n i t k j v r bs cs l p e w o =
       let e' : context_bindings a name j ≡ turned n (number (Int (pos i))) (context_bindings a name k) = subst (λ (q : Val). context_bindings a name j ≡ turned n q (context_bindings a name k)) p e in
       let same : scope_of a name j ≡ with_bindings (scope_of a name k) (turned n (number (Int (pos i))) (context_bindings a name k)) = cc (l, e') in
@@ -119,20 +142,27 @@ module _ {F R : Type 0} (name : R → ℕ) where
 
   -- the next of the statements, and then those after it
   module _ (a b : State F) (x y : List ℕ) (ss : List Stmt) (i : ℕ) (s : Stmt) (k : Context R) (l : i < length ss) (p : s ≡ get_or ss i s) where
-    pub body_turn : (c : State F) (z : List ℕ) (k' : Context R) (r : Result (Unit {0}) Stop) (cs : Bindings Val) → Grows a b → ContextFine a name k → k'.literals ≡ k.literals → FollowsFlow a b x y (Ok tt) (context_bindings b name k') (stmt_flow (stmt_tree s) (scope_of a name k)) → FollowsFlow b c y z r cs (stmts_flow (stmts_tree (drop (i + 1) ss)) (scope_of b name k')) → FollowsFlow a c x z r cs (stmts_flow (stmts_tree (drop i ss)) (scope_of a name k))
+    pub body_turn : (c : State F) (z : List ℕ) (k' : Context R) (r : Result (Unit {0}) Stop) (cs : Bindings Val) → Grows a b → ContextFine a
+        name k → k'.literals ≡ k.literals → FollowsFlow a b x y (Ok tt) (context_bindings b name k')
+        (stmt_flow (stmt_tree s) (scope_of a name k)) → FollowsFlow b c y z r cs
+        (stmts_flow (stmts_tree (drop (i + 1) ss)) (scope_of b name k')) → FollowsFlow a c x z r cs (stmts_flow (stmts_tree (drop i ss)) (scope_of a name k))
     body_turn c z k' r cs g h e d w =
         subst (λ (q : List Stmt). FollowsFlow a c x z r cs (stmts_flow (stmts_tree q) (scope_of a name k))) (sym (drop_at ss i s l p))
         (went_on a b c x y z r (context_bindings b name k') cs (stmt_flow (stmt_tree s) (scope_of a name k)) (λ q. stmts_flow (stmts_tree (drop (i + 1) ss)) (with_bindings (scope_of a name k) q)) d
         (subst (λ (q : EvalContext). FollowsFlow b c y z r cs (stmts_flow (stmts_tree (drop (i + 1) ss)) q)) (scope_after a b k k' g h e) w))
 
-    pub body_halt : (n : Stop) (cs : Bindings Val) → FollowsFlow a b x y (Err n) cs (stmt_flow (stmt_tree s) (scope_of a name k)) → FollowsFlow a b x y (Err n) cs (stmts_flow (stmts_tree (drop i ss)) (scope_of a name k))
+    pub body_halt : (n : Stop) (cs : Bindings Val) → FollowsFlow a b x y (Err n) cs (stmt_flow (stmt_tree s) (scope_of a name k)) →
+        FollowsFlow a b x y (Err n) cs (stmts_flow (stmts_tree (drop i ss)) (scope_of a name k))
     body_halt n cs d =
         subst (λ (q : List Stmt). FollowsFlow a b x y (Err n) cs (stmts_flow (stmts_tree q) (scope_of a name k))) (sym (drop_at ss i s l p))
         (went_halt a b x y n cs (stmt_flow (stmt_tree s) (scope_of a name k)) (λ q. stmts_flow (stmts_tree (drop (i + 1) ss)) (with_bindings (scope_of a name k) q)) d)
 
   -- an arm, and then those after it; rest is what `else` leads to
   module _ (a b : State F) (x : List ℕ) (ls : List Arm) (i : ℕ) (m : Arm) (rest : EvalContext → Flow) (k : Context R) (l : i < length ls) (p : m ≡ get_or ls i m) where
-    arms_at : (c : State F) (z : List ℕ) (r : Result (Unit {0}) Stop) (cs : Bindings Val) → FollowsFlow a c x z r cs (on_value (told to_boolean (expr_out (expr_tree m.test) (scope_of a name k))) (context_bindings a name k) (λ t. if t then block_flow (block_tree m.body) (scope_of a name k) else arms_flow (arms (map arm_tree (drop (i + 1) ls))) rest (scope_of a name k))) → FollowsFlow a c x z r cs (arms_flow (arms (map arm_tree (drop i ls))) rest (scope_of a name k))
+    arms_at : (c : State F) (z : List ℕ) (r : Result (Unit {0}) Stop) (cs : Bindings Val) → FollowsFlow a c x z r cs
+        (on_value (told to_boolean (expr_out (expr_tree m.test) (scope_of a name k))) (context_bindings a name k)
+        (λ t. if t then block_flow (block_tree m.body) (scope_of a name k) else arms_flow (arms (map arm_tree (drop (i + 1) ls))) rest
+        (scope_of a name k))) → FollowsFlow a c x z r cs (arms_flow (arms (map arm_tree (drop i ls))) rest (scope_of a name k))
     arms_at c z r cs w =
         let s : EvalContext = scope_of a name k in
         let taken : Flow = block_flow (block_tree m.body) s in
@@ -141,32 +171,48 @@ module _ {F R : Type 0} (name : R → ℕ) where
         (subst (λ (q : ArmTree). FollowsFlow a c x z r cs (on_value (expr_out q.test s) s.bindings (λ v. if to_boolean v then block_flow q.body s else passed))) (sym (arm_is m))
         (subst (λ (q : Flow). FollowsFlow a c x z r cs q) (sym (told_flow (expr_out (expr_tree m.test) s) s.bindings taken passed)) w))
 
-    pub arms_turn : (c : State F) (z : List ℕ) (r : Result (Unit {0}) Stop) (cs : Bindings Val) (t : Bool) → t ≡ false → Grows a b → ContextFine a name k → GivesPlain a b (Ok t) (told to_boolean (expr_out (expr_tree m.test) (scope_of a name k))) → FollowsFlow b c x z r cs (arms_flow (arms (map arm_tree (drop (i + 1) ls))) rest (scope_of b name k)) → FollowsFlow a c x z r cs (arms_flow (arms (map arm_tree (drop i ls))) rest (scope_of a name k))
+    pub arms_turn : (c : State F) (z : List ℕ) (r : Result (Unit {0}) Stop) (cs : Bindings Val) (t : Bool) → t ≡ false → Grows a b →
+        ContextFine a name k → GivesPlain a b (Ok t) (told to_boolean (expr_out (expr_tree m.test) (scope_of a name k))) → FollowsFlow b c x z
+        r cs (arms_flow (arms (map arm_tree (drop (i + 1) ls))) rest (scope_of b name k)) → FollowsFlow a c x z r cs
+        (arms_flow (arms (map arm_tree (drop i ls))) rest (scope_of a name k))
     arms_turn c z r cs t e g h d w =
         let s : EvalContext = scope_of a name k in
         let passed : Flow = arms_flow (arms (map arm_tree (drop (i + 1) ls))) rest s in
         let w' : FollowsFlow b c x z r cs passed = subst (λ (q : EvalContext). FollowsFlow b c x z r cs (arms_flow (arms (map arm_tree (drop (i + 1) ls))) rest q)) (scope_still a b name g k h) w in
         arms_at c z r cs
-        (value_went a b c x z (λ o q. q) (λ o q. Unit {0}) t r (context_bindings a name k) cs (told to_boolean (expr_out (expr_tree m.test) s)) (λ q. if q then block_flow (block_tree m.body) s else passed) d
+        (value_went a b c x z (λ o q. q) (λ o q. Unit {0}) t r (context_bindings a name k) cs
+        (told to_boolean (expr_out (expr_tree m.test) s)) (λ q. if q then block_flow (block_tree m.body) s else passed) d
         (subst (λ (q : Bool). FollowsFlow b c x z r cs (if q then block_flow (block_tree m.body) s else passed)) (sym e) w'))
 
-    pub arms_take : (c : State F) (z : List ℕ) (r : Result (Unit {0}) Stop) (cs : Bindings Val) (t : Bool) → t ≡ true → Grows a b → ContextFine a name k → GivesPlain a b (Ok t) (told to_boolean (expr_out (expr_tree m.test) (scope_of a name k))) → FollowsFlow b c x z r cs (block_flow (block_tree m.body) (scope_of b name k)) → FollowsFlow a c x z r cs (arms_flow (arms (map arm_tree (drop i ls))) rest (scope_of a name k))
+    pub arms_take : (c : State F) (z : List ℕ) (r : Result (Unit {0}) Stop) (cs : Bindings Val) (t : Bool) → t ≡ true → Grows a b →
+        ContextFine a name k → GivesPlain a b (Ok t) (told to_boolean (expr_out (expr_tree m.test) (scope_of a name k))) → FollowsFlow b c x z
+        r cs (block_flow (block_tree m.body) (scope_of b name k)) → FollowsFlow a c x z r cs
+        (arms_flow (arms (map arm_tree (drop i ls))) rest (scope_of a name k))
     arms_take c z r cs t e g h d w =
         let s : EvalContext = scope_of a name k in
         let passed : Flow = arms_flow (arms (map arm_tree (drop (i + 1) ls))) rest s in
-        let w' : FollowsFlow b c x z r cs (block_flow (block_tree m.body) s) = subst (λ (q : EvalContext). FollowsFlow b c x z r cs (block_flow (block_tree m.body) q)) (scope_still a b name g k h) w in
+        let w' : FollowsFlow b c x z r cs (block_flow (block_tree m.body) s) = subst
+        (λ (q : EvalContext). FollowsFlow b c x z r cs (block_flow (block_tree m.body) q)) (scope_still a b name g k h) w in
         arms_at c z r cs
-        (value_went a b c x z (λ o q. q) (λ o q. Unit {0}) t r (context_bindings a name k) cs (told to_boolean (expr_out (expr_tree m.test) s)) (λ q. if q then block_flow (block_tree m.body) s else passed) d
+        (value_went a b c x z (λ o q. q) (λ o q. Unit {0}) t r (context_bindings a name k) cs
+        (told to_boolean (expr_out (expr_tree m.test) s)) (λ q. if q then block_flow (block_tree m.body) s else passed) d
         (subst (λ (q : Bool). FollowsFlow b c x z r cs (if q then block_flow (block_tree m.body) s else passed)) (sym e) w'))
 
-    pub arms_halt : (n : Stop) → Grows a b → ContextFine a name k → GivesPlain {A = Bool} a b (Err n) (told to_boolean (expr_out (expr_tree m.test) (scope_of a name k))) → FollowsFlow a b x x (Err n) (context_bindings b name k) (arms_flow (arms (map arm_tree (drop i ls))) rest (scope_of a name k))
+    pub arms_halt : (n : Stop) → Grows a b → ContextFine a name k → GivesPlain {A = Bool} a b (Err n)
+        (told to_boolean (expr_out (expr_tree m.test) (scope_of a name k))) → FollowsFlow a b x x (Err n) (context_bindings b name k)
+        (arms_flow (arms (map arm_tree (drop i ls))) rest (scope_of a name k))
     arms_halt n g h d =
         let s : EvalContext = scope_of a name k in
         let passed : Flow = arms_flow (arms (map arm_tree (drop (i + 1) ls))) rest s in
         arms_at b x (Err n) (context_bindings b name k)
-        (value_halts {V = Bool} a b x (λ o q. q) (λ o q. Unit {0}) n (context_bindings a name k) (context_bindings b name k) (told to_boolean (expr_out (expr_tree m.test) s)) (λ q. if q then block_flow (block_tree m.body) s else passed) (context_bindings_still a b name g k h) d)
+        (value_halts {V = Bool} a b x (λ o q. q) (λ o q. Unit {0}) n (context_bindings a name k) (context_bindings b name k)
+        (told to_boolean (expr_out (expr_tree m.test) s)) (λ q. if q then block_flow (block_tree m.body) s else passed)
+        (context_bindings_still a b name g k h) d)
 
   -- a turn in a store that grew since the first one
-  pub turn_after : (a b c : State F) (x y : List ℕ) (n : List ℕ) (i : ℕ) (t : BlockTree) (k j : Context R) (r : Result (Unit {0}) Stop) (cs : Bindings Val) → Grows a b → ContextFine a name k → j.literals ≡ k.literals → FollowsFlow b c x y r cs (turn_flow n t (scope_of b name j) i (context_bindings b name j)) → FollowsFlow b c x y r cs (turn_flow n t (scope_of a name k) i (context_bindings b name j))
+  pub turn_after : (a b c : State F) (x y : List ℕ) (n : List ℕ) (i : ℕ) (t : BlockTree)
+      (k j : Context R) (r : Result (Unit {0}) Stop) (cs : Bindings Val) → Grows a b → ContextFine a name k → j.literals ≡ k.literals →
+      FollowsFlow b c x y r cs (turn_flow n t (scope_of b name j) i (context_bindings b name j)) → FollowsFlow b c x y r cs
+      (turn_flow n t (scope_of a name k) i (context_bindings b name j))
   turn_after a b c x y n i t k j r cs g h l w =
       subst (λ (s : EvalContext). FollowsFlow b c x y r cs (turn_flow n t s i (context_bindings b name j))) (scope_after a b k j g h l) w

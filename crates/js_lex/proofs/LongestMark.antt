@@ -1,7 +1,34 @@
 -- The mark that is taken is the longest.
 use Rattle.std.proofs.Common.{◌≡◌, ℕ, ◌≤◌, List, [], ◌∷◌, ◌++◌, length, Option, Some, None, refl, sym, ap, ◌∙◌, subst, arith}
 use Rattle.js_lex.specs.declared.token.Mark.{Mark}
-use Rattle.js_lex.specs.declared.token.Mark.TheVariants.{StrictEqual, StrictUnequal, AtMost, AtLeast, And, Or, AddAssign, Increment, Decrement, OpenBrace, CloseBrace, OpenParen, CloseParen, OpenBracket, CloseBracket, Point, Semicolon, Comma, Less, Greater, Plus, Minus, Not, Question, Colon, Assign}
+use Rattle.js_lex.specs.declared.token.Mark.TheVariants.{
+  StrictEqual,
+  StrictUnequal,
+  AtMost,
+  AtLeast,
+  And,
+  Or,
+  AddAssign,
+  Increment,
+  Decrement,
+  OpenBrace,
+  CloseBrace,
+  OpenParen,
+  CloseParen,
+  OpenBracket,
+  CloseBracket,
+  Point,
+  Semicolon,
+  Comma,
+  Less,
+  Greater,
+  Plus,
+  Minus,
+  Not,
+  Question,
+  Colon,
+  Assign,
+}
 use Rattle.js_lex.specs.MarkReader.{mark_front, or_else, one_front, two_front, three_front}
 use Rattle.js_lex.specs.Marks.{spelling}
 
@@ -104,7 +131,8 @@ mark_same p q h = cc
 abbrev mark_of : Mark × List ℕ → Mark
 mark_of p = p.0
 
-same_length : (n m : Mark) (other rest s : List ℕ) → mark_front (spelling n ++ other) ≡ Some (n, other) → mark_front s ≡ Some (m, rest) → s ≡ spelling n ++ other → length (spelling n) ≤ length (spelling m)
+same_length : (n m : Mark) (other rest s : List ℕ) → mark_front (spelling n ++ other) ≡ Some (n, other) → mark_front s ≡ Some (m, rest) → s
+    ≡ spelling n ++ other → length (spelling n) ≤ length (spelling m)
 same_length n m other rest s e h w =
     let k : n ≡ m = ap mark_of (mark_same (n, other) (m, rest) (sym e ∙ (ap mark_front (sym w) ∙ h))) in
     let l : length (spelling n) ≡ length (spelling m) = ap (λ k. length (spelling k)) k in

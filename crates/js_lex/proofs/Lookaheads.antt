@@ -25,7 +25,8 @@ use Rattle.js_literal.specs.Reader.{begins_digit}
 -- the element that the reader's value stands for
 abbrev pub Fits : List ℕ → ℕ → Lookahead → Element → Type 0
 Fits text at ahead.End m = m ≡ End
-Fits text at ahead.Quote m = ((us : List ℕ) × (end : ℕ) × (m ≡ TokenOf (kinds.Text us) end) × LiteralOf text at us end) ⊎ ((f : LiteralFault) × (m ≡ Fault (faults.Literal f)) × LiteralFaultOf text at f)
+Fits text at ahead.Quote m = ((us : List ℕ) × (end : ℕ) × (m ≡ TokenOf (kinds.Text us) end) × LiteralOf text
+    at us end) ⊎ ((f : LiteralFault) × (m ≡ Fault (faults.Literal f)) × LiteralFaultOf text at f)
 Fits text at ahead.Number m = ((v : ℕ) × (end : ℕ) × (m ≡ TokenOf (kinds.Number v) end) × NumberOf text at v end) ⊎ ((f : NumberFault) × (m ≡ Fault (faults.Number f)) × NumberFaultOf text at f)
 Fits text at ahead.Open m = m ≡ Fault (faults.OpenComment at)
 Fits text at ahead.Bad m = m ≡ Fault (faults.BadCharacter at)
@@ -71,7 +72,9 @@ word_front c s h = let e : is_blank c ≡ false = grind (arith, nat_tests) in rw
 
 -- a character that begins a mark
 abbrev is_mark_start : ℕ → Bool
-is_mark_start c = nat_eq c 33 || nat_eq c 38 || nat_eq c 40 || nat_eq c 41 || nat_eq c 43 || nat_eq c 44 || nat_eq c 45 || nat_eq c 46 || nat_eq c 58 || nat_eq c 59 || nat_eq c 60 || nat_eq c 61 || nat_eq c 62 || nat_eq c 63 || nat_eq c 91 || nat_eq c 93 || nat_eq c 123 || nat_eq c 124 || nat_eq c 125
+is_mark_start c = nat_eq c 33 || nat_eq c 38 || nat_eq c 40 || nat_eq c 41 || nat_eq c 43 || nat_eq c 44 || nat_eq c 45 || nat_eq c 46 ||
+    nat_eq c 58 || nat_eq c 59 || nat_eq c 60 || nat_eq c 61 || nat_eq c 62 || nat_eq c 63 || nat_eq c 91 || nat_eq c 93 || nat_eq c 123 ||
+    nat_eq c 124 || nat_eq c 125
 
 pub no_mark : (c : ℕ) (s : List ℕ) → is_mark_start c ≡ false → mark_front (c ∷ s) ≡ None
 unfolding mark_front

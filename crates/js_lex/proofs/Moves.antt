@@ -28,7 +28,8 @@ Means s ahead.Quote = (q : ℕ) × (t : List ℕ) × (s ≡ q ∷ t) × (is_quot
 Means s ahead.Number = begins_number s ≡ true
 Means s ahead.Open = (t : List ℕ) × (s ≡ 47 ∷ 42 ∷ t) × (after_block t ≡ None)
 Means s ahead.Bad = (c : ℕ) × (t : List ℕ) × (s ≡ c ∷ t) × IsBad c t
-Means s (ahead.Skip rest) = ((c : ℕ) × (s ≡ c ∷ rest) × (is_blank c ≡ true)) ⊎ (((t : List ℕ) × (s ≡ 47 ∷ 47 ∷ t) × (rest ≡ after_line t)) ⊎ ((t : List ℕ) × (s ≡ 47 ∷ 42 ∷ t) × (after_block t ≡ Some rest)))
+Means s (ahead.Skip rest) = ((c : ℕ) × (s ≡ c ∷ rest) × (is_blank c ≡ true)) ⊎ (((t : List ℕ) × (s ≡ 47 ∷ 47 ∷ t) ×
+    (rest ≡ after_line t)) ⊎ ((t : List ℕ) × (s ≡ 47 ∷ 42 ∷ t) × (after_block t ≡ Some rest)))
 Means s (ahead.Word rest) = (c : ℕ) × (t : List ℕ) × (s ≡ c ∷ t) × (is_word_start c ≡ true) × (rest ≡ after_word t)
 Means s (ahead.MarkOf m rest) = (begins_number s ≡ false) × (mark_front s ≡ Some (m, rest))
 
@@ -59,11 +60,14 @@ front_means (c ∷ s) = go (is_blank c) (is_word_start c) (is_quote c) (begins_n
     slash : (is_blank c ≡ false) → (is_word_start c ≡ false) → (is_quote c ≡ false) → (begins_number (c ∷ s) ≡ false) → nat_eq c 47 ≡ true → Means (c ∷ s) (comment s)
     slash ea eb eq en ek = subst (λ k. Means (k ∷ s) (comment s)) (sym (is c 47 ek)) (comment_means s)
 
-    none : (is_blank c ≡ false) → (is_word_start c ≡ false) → (is_quote c ≡ false) → (begins_number (c ∷ s) ≡ false) → nat_eq c 47 ≡ false → (o : _) → mark_front (c ∷ s) ≡ o → Means (c ∷ s) (mark_ahead o)
+    none : (is_blank c ≡ false) → (is_word_start c ≡ false) → (is_quote c ≡ false) → (begins_number (c ∷ s) ≡ false) → nat_eq c
+        47 ≡ false → (o : _) → mark_front (c ∷ s) ≡ o → Means (c ∷ s) (mark_ahead o)
     none ea eb eq en ek None e = (c, s, refl, (ea, eb, eq, en, ap (λ k. k && begins_comment s) ek, none_stands (c ∷ s) e))
     none ea eb eq en ek (Some p) e = (en, e)
 
-    go : (a b q n k : Bool) → is_blank c ≡ a → is_word_start c ≡ b → is_quote c ≡ q → begins_number (c ∷ s) ≡ n → nat_eq c 47 ≡ k → Means (c ∷ s) (cond a (ahead.Skip s) (cond b (ahead.Word (after_word s)) (cond q ahead.Quote (cond n ahead.Number (cond k (comment s) (mark_ahead (mark_front (c ∷ s))))))))
+    go : (a b q n k : Bool) → is_blank c ≡ a → is_word_start c ≡ b → is_quote c ≡ q → begins_number (c ∷ s) ≡ n → nat_eq c 47 ≡ k → Means
+        (c ∷ s) (cond a (ahead.Skip s) (cond b (ahead.Word (after_word s))
+        (cond q ahead.Quote (cond n ahead.Number (cond k (comment s) (mark_ahead (mark_front (c ∷ s))))))))
     go true b q n k ea eb eq en ek = inl (c, refl, ea)
     go false true q n k ea eb eq en ek = (c, s, refl, eb, refl)
     go false false true n k ea eb eq en ek = (c, s, refl, eq)
@@ -117,7 +121,18 @@ goes_forward text at end s rest u h g b =
     let l : length (encode_utf8_all s) ≡ length (encode_utf8 (b.0) ++ encode_utf8_all (b.1 ++ rest)) = ap (λ x. length (encode_utf8_all x)) (b.2) in
     let m = len_utf8_bounds (b.0) in
     record {
-      later = omega (arith, a, e, l, length-append (encode_utf8 (b.0)) (encode_utf8_all (b.1 ++ rest)), length-encode (b.0), m.0, ap length (encodes-append (b.1) rest), length-append (encode_utf8_all (b.1)) (encode_utf8_all rest));
+      later = omega (
+        arith,
+        a,
+        e,
+        l,
+        length-append (encode_utf8 (b.0)) (encode_utf8_all (b.1 ++ rest)),
+        length-encode (b.0),
+        m.0,
+        ap length
+            (encodes-append (b.1) rest),
+        length-append (encode_utf8_all (b.1)) (encode_utf8_all rest),
+      );
       within = omega (arith, e);
       cut = stands_cut text end rest u g;
     }

@@ -77,7 +77,8 @@ pub one_tokens : (bytes : List ℕ) (ts us : List Token) → TokensOf bytes ts �
 one_tokens bytes ts us h g = one_list bytes 0 ts us h.utf8 h.lexes g.lexes
 
 -- what is right is the only answer; view gives an answer's tokens
-pub only_tokens : {A : Type 0} (view : A → List Token) (bytes : List ℕ) (r : Result A LexFault) → IfOk r (λ v. TokensOf bytes (view v)) → IfErr r (λ e. (e ≡ faults.Memory) ⊎ LexFaultOf bytes e) → (ts : List Token) → TokensOf bytes ts → IfOk r (λ v. view v ≡ ts) × IfErr r (λ e. e ≡ faults.Memory)
+pub only_tokens : {A : Type 0} (view : A → List Token) (bytes : List ℕ) (r : Result A LexFault) → IfOk r (λ v. TokensOf bytes (view v)) →
+    IfErr r (λ e. (e ≡ faults.Memory) ⊎ LexFaultOf bytes e) → (ts : List Token) → TokensOf bytes ts → IfOk r (λ v. view v ≡ ts) × IfErr r (λ e. e ≡ faults.Memory)
 only_tokens view bytes (Ok v) ok err ts h = (one_list bytes 0 (view v) ts h.utf8 ok.lexes h.lexes, tt)
 only_tokens view bytes (Err e) ok err ts h = (tt, go err)
   where
@@ -85,7 +86,8 @@ only_tokens view bytes (Err e) ok err ts h = (tt, go err)
     go (inl m) = m
     go (inr f) = absurd (apart bytes ts e h f)
 
-pub only_fault : {A : Type 0} (view : A → List Token) (bytes : List ℕ) (r : Result A LexFault) → IfOk r (λ v. TokensOf bytes (view v)) → IfErr r (λ e. (e ≡ faults.Memory) ⊎ LexFaultOf bytes e) → (f : LexFault) → LexFaultOf bytes f → IfOk r (λ v. ⊥) × IfErr r (λ e. (e ≡ f) ⊎ (e ≡ faults.Memory))
+pub only_fault : {A : Type 0} (view : A → List Token) (bytes : List ℕ) (r : Result A LexFault) → IfOk r (λ v. TokensOf bytes (view v)) →
+    IfErr r (λ e. (e ≡ faults.Memory) ⊎ LexFaultOf bytes e) → (f : LexFault) → LexFaultOf bytes f → IfOk r (λ v. ⊥) × IfErr r (λ e. (e ≡ f) ⊎ (e ≡ faults.Memory))
 only_fault view bytes (Ok v) ok err f h = (apart bytes (view v) f ok h, tt)
 only_fault view bytes (Err e) ok err f h = (tt, go err)
   where

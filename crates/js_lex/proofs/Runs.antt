@@ -18,7 +18,8 @@ pub goes_start : (text : List ℕ) (sofar : List Token) → sofar ≡ [] → Goe
 goes_start text sofar e = λ ts h. subst (λ s. Lexes text 0 (s ++ ts)) (sym e) h
 
 -- a text's answer is that of its bytes
-pub err_of_bytes : {A : Type 0} (bytes text : List ℕ) (r : Result A LexFault) → text ≡ bytes → IsUtf8 bytes → IfErr r (λ e. (e ≡ faults.Memory) ⊎ FailsFrom text 0 e) → IfErr r (λ e. (e ≡ faults.Memory) ⊎ LexFaultOf bytes e)
+pub err_of_bytes : {A : Type 0} (bytes text : List ℕ) (r : Result A LexFault) → text ≡ bytes → IsUtf8 bytes → IfErr r
+    (λ e. (e ≡ faults.Memory) ⊎ FailsFrom text 0 e) → IfErr r (λ e. (e ≡ faults.Memory) ⊎ LexFaultOf bytes e)
 err_of_bytes bytes text (Ok v) same u h = tt
 err_of_bytes bytes text (Err e) same u (inl m) = inl m
 err_of_bytes bytes text (Err e) same u (inr f) = inr (in_text e u (subst (λ t. FailsFrom t 0 e) same f))

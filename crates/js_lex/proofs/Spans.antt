@@ -6,7 +6,30 @@ use Rattle.std.specs.Prelude.{IsUtf8, encode_utf8_all}
 use Rattle.std.proofs.lemmas.Str.{encodes-append, encodes-chars}
 use Rattle.js_literal.specs.Place.{StandsAt}
 use Rattle.js_literal.proofs.Places.{bytes_of}
-use Rattle.js_lex.specs.Tokens.{Element, End, Skip, TokenOf, Fault, ElementAt, ended, blank, line, block, open_block, word, string, string_fault, number, number_fault, mark, bad, Lexes, done, skip, token}
+use Rattle.js_lex.specs.Tokens.{
+  Element,
+  End,
+  Skip,
+  TokenOf,
+  Fault,
+  ElementAt,
+  ended,
+  blank,
+  line,
+  block,
+  open_block,
+  word,
+  string,
+  string_fault,
+  number,
+  number_fault,
+  mark,
+  bad,
+  Lexes,
+  done,
+  skip,
+  token,
+}
 use Rattle.js_lex.specs.Spans.{InOrder}
 use Rattle.js_lex.specs.Steps.{IsForward}
 use Rattle.js_lex.specs.declared.token.Token.{Token}
@@ -48,7 +71,16 @@ in_order text _ _ u (token at mid k ts h t) = let f = forward text at (TokenOf k
 -- what stands between two places
 pub span_of : (text : List ℕ) (a b : ℕ) (w rest : List ℕ) → IsUtf8 text → StandsAt text a (w ++ rest) → StandsAt text b rest → take (b - a) (drop a text) ≡ encode_utf8_all w
 span_of text a b w rest u h g =
-    let whole : text ≡ encode_utf8_all h.front ++ (encode_utf8_all w ++ encode_utf8_all rest) = sym (encodes-chars text u) ∙ (ap encode_utf8_all h.whole ∙ (encodes-append h.front (w ++ rest) ∙ ap (λ e. encode_utf8_all h.front ++ e) (encodes-append w rest))) in
-    let dropped : drop a text ≡ encode_utf8_all w ++ encode_utf8_all rest = ap (λ p. drop p text) (sym h.bytes) ∙ (ap (drop (length (encode_utf8_all h.front))) whole ∙ drop-append_seam (encode_utf8_all h.front) (encode_utf8_all w ++ encode_utf8_all rest)) in
-    let long : b - a ≡ length (encode_utf8_all w) = omega (arith, bytes_of text a (w ++ rest) u h, bytes_of text b rest u g, ap length (encodes-append w rest), length-append (encode_utf8_all w) (encode_utf8_all rest)) in
+    let whole : text ≡ encode_utf8_all h.front ++ (encode_utf8_all w ++ encode_utf8_all rest) = sym (encodes-chars text u) ∙
+    (ap encode_utf8_all h.whole ∙ (encodes-append h.front (w ++ rest) ∙ ap (λ e. encode_utf8_all h.front ++ e) (encodes-append w rest))) in
+    let dropped : drop a text ≡ encode_utf8_all w ++ encode_utf8_all rest = ap (λ p. drop p text) (sym h.bytes) ∙
+    (ap (drop (length (encode_utf8_all h.front))) whole ∙ drop-append_seam (encode_utf8_all h.front) (encode_utf8_all w ++ encode_utf8_all rest)) in
+    let long : b - a ≡ length (encode_utf8_all w) = omega (
+      arith,
+      bytes_of text a (w ++ rest) u h,
+      bytes_of text b rest u g,
+      ap length
+          (encodes-append w rest),
+      length-append (encode_utf8_all w) (encode_utf8_all rest),
+    ) in
     ap (λ t. take (b - a) t) dropped ∙ (ap (λ n. take n (encode_utf8_all w ++ encode_utf8_all rest)) long ∙ take-append_seam (encode_utf8_all w) (encode_utf8_all rest))

@@ -49,7 +49,8 @@ pub record Gone (text : List ℕ) (at left : ℕ) (m : ℕ → Element) : Type 0
   pub move : ElementAt text at (m (length text - left))
   pub forward : IsForward text at (length text - left)
 
-gone : (text : List ℕ) (at : ℕ) (s rest : List ℕ) (left : ℕ) (m : ℕ → Element) → IsUtf8 text → StandsAt text at s → Behind s rest → length (encode_utf8_all rest) ≡ left → ((end : ℕ) → StandsAt text end rest → ElementAt text at (m end)) → Gone text at left m
+gone : (text : List ℕ) (at : ℕ) (s rest : List ℕ) (left : ℕ) (m : ℕ → Element) → IsUtf8 text → StandsAt text at s → Behind s rest → length
+    (encode_utf8_all rest) ≡ left → ((end : ℕ) → StandsAt text end rest → ElementAt text at (m end)) → Gone text at left m
 gone text at s rest left m u h b l k =
     let e = behind_end s rest b in
     let g = left_stands text at s rest left u h e l in
@@ -59,12 +60,14 @@ gone text at s rest left m u h b l k =
       forward = goes_forward text at (length text - left) s rest u h g b;
     }
 
-pub skip_gone : (text : List ℕ) (at : ℕ) (s rest : List ℕ) (left : ℕ) → IsUtf8 text → StandsAt text at s → ahead.Skip rest ≡ front s → length (encode_utf8_all rest) ≡ left → Gone text at left (λ end. Skip end)
+pub skip_gone : (text : List ℕ) (at : ℕ) (s rest : List ℕ) (left : ℕ) → IsUtf8 text → StandsAt text at s → ahead.Skip rest ≡ front s →
+    length (encode_utf8_all rest) ≡ left → Gone text at left (λ end. Skip end)
 skip_gone text at s rest left u h e l =
     let m = means s (ahead.Skip rest) e in
     gone text at s rest left (λ end. Skip end) u h (skip_behind s rest m) l (λ end g. skip_element text at s rest end m h g)
 
-pub word_gone : (text : List ℕ) (at : ℕ) (s rest : List ℕ) (left : ℕ) → IsUtf8 text → StandsAt text at s → ahead.Word rest ≡ front s → length (encode_utf8_all rest) ≡ left → Gone text at left (λ end. TokenOf kinds.Word end)
+pub word_gone : (text : List ℕ) (at : ℕ) (s rest : List ℕ) (left : ℕ) → IsUtf8 text → StandsAt text at s → ahead.Word rest ≡ front s →
+    length (encode_utf8_all rest) ≡ left → Gone text at left (λ end. TokenOf kinds.Word end)
 word_gone text at s rest left u h e l =
     let m = means s (ahead.Word rest) e in
     let w = word_end (m.1) in
@@ -105,7 +108,8 @@ mark_behind s rest m h = go (three_front s) (two_front s) refl refl h
     go None (Some p) ex ey h = two s (ey ∙ h)
     go None None ex ey h = one s h
 
-pub mark_gone : (text : List ℕ) (at : ℕ) (s rest : List ℕ) (k : Mark) (left : ℕ) → IsUtf8 text → StandsAt text at s → ahead.MarkOf k rest ≡ front s → length (encode_utf8_all rest) ≡ left → Gone text at left (λ end. TokenOf (kinds.Mark k) end)
+pub mark_gone : (text : List ℕ) (at : ℕ) (s rest : List ℕ) (k : Mark) (left : ℕ) → IsUtf8 text → StandsAt text at s → ahead.MarkOf k rest ≡
+    front s → length (encode_utf8_all rest) ≡ left → Gone text at left (λ end. TokenOf (kinds.Mark k) end)
 mark_gone text at s rest k left u h e l =
     let m = means s (ahead.MarkOf k rest) e in
     gone text at s rest left (λ end. TokenOf (kinds.Mark k) end) u h (mark_behind s rest k (m.1)) l
@@ -123,7 +127,8 @@ bad_element text at s h e = let m = means s ahead.Bad e in bad (m.0) (m.1) (subs
 -- an ASCII character is a byte
 byte_at : (text : List ℕ) (at c : ℕ) (s : List ℕ) → IsUtf8 text → StandsAt text at (c ∷ s) → c < 128 → (at < length text) × (slice_index text at ≡ c)
 byte_at text at c s u h lt =
-    let whole : text ≡ encode_utf8_all h.front ++ (c ∷ encode_utf8_all s) = sym (encodes-chars text u) ∙ (ap encode_utf8_all h.whole ∙ (encodes-append h.front (c ∷ s) ∙ ap (λ e. encode_utf8_all h.front ++ (e ++ encode_utf8_all s)) (encode_ascii c lt))) in (
+    let whole : text ≡ encode_utf8_all h.front ++ (c ∷ encode_utf8_all s) = sym (encodes-chars text u) ∙
+    (ap encode_utf8_all h.whole ∙ (encodes-append h.front (c ∷ s) ∙ ap (λ e. encode_utf8_all h.front ++ (e ++ encode_utf8_all s)) (encode_ascii c lt))) in (
       omega (arith, ap length whole, length-append (encode_utf8_all h.front) (c ∷ encode_utf8_all s), h.bytes),
       ap (λ t. slice_index t at) whole ∙ (ap (λ p. slice_index (encode_utf8_all h.front ++ (c ∷ encode_utf8_all s)) p) (sym h.bytes) ∙ seam (encode_utf8_all h.front) c (encode_utf8_all s)),
     )

@@ -3,7 +3,28 @@ use Rattle.std.proofs.Common.{◌≡◌, ℕ, ◌+◌, ◌*◌, List, [], ◌∷
 use Rattle.std.proofs.lemmas.Bool.Decides.{nat_tests}
 use Rattle.std.specs.Prelude.{nat_le, ◌&&◌, ◌||◌}
 use Rattle.js_units.specs.Text.{utf16_of}
-use Rattle.js_literal.specs.Literal.{is_quote, hex_value, hex_number, letter_unit, is_plain, is_itself, LiteralPiece, plain, letter, null, two, four, braces, both_ends, return, line_end, itself, RawLineEnd, CodePointTooLarge, LegacyOctal}
+use Rattle.js_literal.specs.Literal.{
+  is_quote,
+  hex_value,
+  hex_number,
+  letter_unit,
+  is_plain,
+  is_itself,
+  LiteralPiece,
+  plain,
+  letter,
+  null,
+  two,
+  four,
+  braces,
+  both_ends,
+  return,
+  line_end,
+  itself,
+  RawLineEnd,
+  CodePointTooLarge,
+  LegacyOctal,
+}
 use Rattle.js_literal.specs.Reader.{two_front, close_braces, unicode_of, one_unit, after_return, escape_of, reading, Take, Shut, Break, begins_digit, begins_line_feed}
 use Rattle.js_literal.proofs.Fronts.{front_number, two_reads, four_reads, run_reads}
 
@@ -22,7 +43,8 @@ pub plain_looks : (q c : ℕ) (rest : List ℕ) → is_plain q c ≡ true → re
 unfolding reading
 plain_looks q c rest h = go (nat_eq c q) (nat_eq c 92) (nat_eq c 10) (nat_eq c 13) h
   where
-    go : (a b d e : Bool) → cond a false (cond b false (cond d false (cond e false true))) ≡ true → cond a (Shut rest) (cond b (escape_of rest) (cond (d || e) (Break RawLineEnd) (Take (utf16_of c) rest))) ≡ Take (utf16_of c) rest
+    go : (a b d e : Bool) → cond a false (cond b false (cond d false (cond e false true))) ≡ true → cond a (Shut rest)
+        (cond b (escape_of rest) (cond (d || e) (Break RawLineEnd) (Take (utf16_of c) rest))) ≡ Take (utf16_of c) rest
     go true b d e h = cc
     go false true d e h = cc
     go false false true e h = cc
@@ -84,7 +106,8 @@ octal_looks c rest h =
     let e48 : nat_eq c 48 ≡ false = grind (arith, nat_tests) in
     rw (e, e48, h) refl
 
-pub braces_looks : (d : ℕ) (ds : List ℕ) (v : ℕ) (rest : List ℕ) → hex_number 0 (d ∷ ds) ≡ Some v → escape_of (117 ∷ 123 ∷ d ∷ (ds ++ 125 ∷ rest)) ≡ cond (nat_le v 0x10FFFF) (Take (utf16_of v) rest) (Break CodePointTooLarge)
+pub braces_looks : (d : ℕ) (ds : List ℕ) (v : ℕ) (rest : List ℕ) → hex_number 0 (d ∷ ds) ≡ Some v → escape_of
+    (117 ∷ 123 ∷ d ∷ (ds ++ 125 ∷ rest)) ≡ cond (nat_le v 0x10FFFF) (Take (utf16_of v) rest) (Break CodePointTooLarge)
 unfolding escape_of
 braces_looks d ds v rest h =
     let one = front_number 0 d v ds h in
@@ -108,9 +131,11 @@ pub piece_looks : (q : ℕ) (s us rest : List ℕ) → is_quote q ≡ true → L
 piece_looks q _ _ _ hq (plain c rest h) = plain_looks q c rest h
 piece_looks q _ _ _ hq (letter c u rest h) = at_backslash q (c ∷ rest) hq ∙ letter_looks c u rest h
 piece_looks q _ _ _ hq (null rest h) = at_backslash q (48 ∷ rest) hq ∙ null_looks rest false h
-piece_looks q _ _ _ hq (two a b v rest h) = at_backslash q (120 ∷ a ∷ b ∷ rest) hq ∙ (x_looks (a ∷ b ∷ rest) ∙ ap one_unit (let r = two_reads 0 a b v [] rest h in let e : r.0 ≡ v = cc (r.2) in r.1 ∙ ap (λ n. Some (n, rest)) e))
+piece_looks q _ _ _ hq (two a b v rest h) = at_backslash q (120 ∷ a ∷ b ∷ rest) hq ∙
+    (x_looks (a ∷ b ∷ rest) ∙ ap one_unit (let r = two_reads 0 a b v [] rest h in let e : r.0 ≡ v = cc (r.2) in r.1 ∙ ap (λ n. Some (n, rest)) e))
 piece_looks q _ _ _ hq (four a b c d v rest h) = at_backslash q (117 ∷ a ∷ b ∷ c ∷ d ∷ rest) hq ∙ (u_looks (a ∷ b ∷ c ∷ d ∷ rest) ∙ four_looks a b c d v rest h)
-piece_looks q _ _ _ hq (braces d ds v rest h le) = at_backslash q (117 ∷ 123 ∷ d ∷ (ds ++ 125 ∷ rest)) hq ∙ (braces_looks d ds v rest h ∙ (let e : nat_le v 0x10FFFF ≡ true = grind (arith, nat_tests) in rw e refl))
+piece_looks q _ _ _ hq (braces d ds v rest h le) = at_backslash q (117 ∷ 123 ∷ d ∷ (ds ++ 125 ∷ rest)) hq ∙
+    (braces_looks d ds v rest h ∙ (let e : nat_le v 0x10FFFF ≡ true = grind (arith, nat_tests) in rw e refl))
 piece_looks q _ _ _ hq (both_ends rest) = at_backslash q (13 ∷ 10 ∷ rest) hq ∙ return_looks (10 ∷ rest)
 piece_looks q _ _ _ hq (return rest h) = at_backslash q (13 ∷ rest) hq ∙ (return_looks rest ∙ ap (λ r. Take [] r) (stays rest h))
 piece_looks q _ _ _ hq (line_end c rest h) = at_backslash q (c ∷ rest) hq ∙ line_looks c rest h

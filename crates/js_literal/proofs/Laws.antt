@@ -47,12 +47,14 @@ begins text at u b = ascii_stands text at u (b.0) (quote_small (slice_index text
 after_quote : (q : ℕ) (s rest : List ℕ) → EndsIn s rest → EndsIn (q ∷ s) rest
 after_quote q s rest e = (q ∷ e.0, ap (λ r. q ∷ r) (e.1))
 
-pub closed_ends_at : (text : List ℕ) (at q : ℕ) (s us rest : List ℕ) (left : ℕ) → IsUtf8 text → StandsAt text at (q ∷ s) → Closed q s us rest → length (encode_utf8_all rest) ≡ left → (left ≤ length text) × StandsAt text (length text - left) rest
+pub closed_ends_at : (text : List ℕ) (at q : ℕ) (s us rest : List ℕ) (left : ℕ) → IsUtf8 text → StandsAt text at (q ∷ s) → Closed q s us
+    rest → length (encode_utf8_all rest) ≡ left → (left ≤ length text) × StandsAt text (length text - left) rest
 closed_ends_at text at q s us rest left u b h l =
     let e = after_quote q s rest (closed_ends q s us rest h) in
     (left_fits text at (q ∷ s) rest left u b e l, left_stands text at (q ∷ s) rest left u b e l)
 
-pub closed_literal : (text : List ℕ) (at q : ℕ) (s us rest : List ℕ) (left : ℕ) → IsUtf8 text → StandsAt text at (q ∷ s) → is_quote q ≡ true → Closed q s us rest → length (encode_utf8_all rest) ≡ left → LiteralOf text at us (length text - left)
+pub closed_literal : (text : List ℕ) (at q : ℕ) (s us rest : List ℕ) (left : ℕ) → IsUtf8 text → StandsAt text at (q ∷ s) → is_quote q ≡ true
+    → Closed q s us rest → length (encode_utf8_all rest) ≡ left → LiteralOf text at us (length text - left)
 closed_literal text at q s us rest left u b hq h l = record {
   q = q;
   s = s;
@@ -63,12 +65,14 @@ closed_literal text at q s us rest left u b hq h l = record {
   ends = (closed_ends_at text at q s us rest left u b h l).1;
 }
 
-pub broken_ends_at : (text : List ℕ) (at q : ℕ) (s : List ℕ) (k : StringFaultKind) (rest : List ℕ) (left : ℕ) → IsUtf8 text → StandsAt text at (q ∷ s) → IsBroken q s k rest → length (encode_utf8_all rest) ≡ left → (left ≤ length text) × StandsAt text (length text - left) rest
+pub broken_ends_at : (text : List ℕ) (at q : ℕ) (s : List ℕ) (k : StringFaultKind) (rest : List ℕ) (left : ℕ) → IsUtf8 text → StandsAt text
+    at (q ∷ s) → IsBroken q s k rest → length (encode_utf8_all rest) ≡ left → (left ≤ length text) × StandsAt text (length text - left) rest
 broken_ends_at text at q s k rest left u b h l =
     let e = after_quote q s rest (broken_ends q s rest k h) in
     (left_fits text at (q ∷ s) rest left u b e l, left_stands text at (q ∷ s) rest left u b e l)
 
-pub broken_literal : (text : List ℕ) (at q : ℕ) (s : List ℕ) (k : StringFaultKind) (rest : List ℕ) (left : ℕ) → IsUtf8 text → StandsAt text at (q ∷ s) → is_quote q ≡ true → IsBroken q s k rest → length (encode_utf8_all rest) ≡ left → LiteralFaultOf text at (fault_at k at (length text - left))
+pub broken_literal : (text : List ℕ) (at q : ℕ) (s : List ℕ) (k : StringFaultKind) (rest : List ℕ) (left : ℕ) → IsUtf8 text → StandsAt text
+    at (q ∷ s) → is_quote q ≡ true → IsBroken q s k rest → length (encode_utf8_all rest) ≡ left → LiteralFaultOf text at (fault_at k at (length text - left))
 broken_literal text at q s k rest left u b hq h l = record {
   q = q;
   s = s;
@@ -86,7 +90,9 @@ abbrev fail : LiteralFault → Result (List ℕ × ℕ) LiteralFault
 fail e = Err e
 
 -- what is right is the only answer
-pub only_literal : (text : List ℕ) (at : ℕ) (r : Result (List ℕ × ℕ) LiteralFault) → IsUtf8 text → IfOk r (λ p. LiteralOf text at (p.0) (p.1)) → IfErr r (λ e. (e ≡ Memory) ⊎ LiteralFaultOf text at e) → (us : List ℕ) (end : ℕ) → LiteralOf text at us end → (r ≡ Ok (us, end)) ⊎ (r ≡ Err Memory)
+pub only_literal : (text : List ℕ) (at : ℕ) (r : Result (List ℕ × ℕ) LiteralFault) → IsUtf8 text → IfOk r
+    (λ p. LiteralOf text at (p.0) (p.1)) → IfErr r (λ e. (e ≡ Memory) ⊎ LiteralFaultOf text at e) → (us : List ℕ) (end : ℕ) → LiteralOf text
+    at us end → (r ≡ Ok (us, end)) ⊎ (r ≡ Err Memory)
 only_literal text at (Ok p) u ok err us end h =
     let same = one_literal text at (p.0) us (p.1) end u ok h in
     inl (ap (λ x. Ok (x, p.1)) (same.0) ∙ ap (λ x. Ok (us, x)) (same.1))
@@ -96,7 +102,8 @@ only_literal text at (Err e) u ok err us end h = go err
     go (inl m) = inr (ap (λ x. Err x) m)
     go (inr f) = absurd (never_both text at us end e h f)
 
-pub only_fault : (text : List ℕ) (at : ℕ) (r : Result (List ℕ × ℕ) LiteralFault) → IsUtf8 text → IfOk r (λ p. LiteralOf text at (p.0) (p.1)) → IfErr r (λ e. (e ≡ Memory) ⊎ LiteralFaultOf text at e) → (f : LiteralFault) → LiteralFaultOf text at f → (r ≡ Err f) ⊎ (r ≡ Err Memory)
+pub only_fault : (text : List ℕ) (at : ℕ) (r : Result (List ℕ × ℕ) LiteralFault) → IsUtf8 text → IfOk r (λ p. LiteralOf text at (p.0) (p.1))
+    → IfErr r (λ e. (e ≡ Memory) ⊎ LiteralFaultOf text at e) → (f : LiteralFault) → LiteralFaultOf text at f → (r ≡ Err f) ⊎ (r ≡ Err Memory)
 only_fault text at (Ok p) u ok err f h = absurd (never_both text at (p.0) (p.1) f ok h)
 only_fault text at (Err e) u ok err f h = go err
   where
@@ -109,11 +116,15 @@ some_end : (n q : ℕ) (s : List ℕ) → is_quote q ≡ true → length s < n �
 some_end zero q s hq l = absurd (omega arith)
 some_end (suc n) q s hq l = go (reading q s) refl (λ t m. some_end n q t hq m)
   where
-    more : (us mid : List ℕ) → Take us mid ≡ reading q s → ((us : List ℕ) × (rest : List ℕ) × Closed q mid us rest) ⊎ ((k : StringFaultKind) × (left : List ℕ) × IsBroken q mid k left) → ((us : List ℕ) × (rest : List ℕ) × Closed q s us rest) ⊎ ((k : StringFaultKind) × (left : List ℕ) × IsBroken q s k left)
+    more : (us mid : List ℕ) → Take us mid ≡ reading q s → ((us : List ℕ) × (rest : List ℕ) × Closed q
+        mid us rest) ⊎ ((k : StringFaultKind) × (left : List ℕ) × IsBroken q mid k left) → ((us : List ℕ) × (rest : List ℕ) × Closed q
+        s us rest) ⊎ ((k : StringFaultKind) × (left : List ℕ) × IsBroken q s k left)
     more us mid e (inl h) = inl (us ++ h.0, h.1, piece s mid (h.1) us (h.0) (taken q s us mid hq e) (h.2))
     more us mid e (inr h) = inr (h.0, h.1, later s mid us (h.1) (h.0) (taken q s us mid hq e) (h.2))
 
-    go : (r : Reading) → reading q s ≡ r → ((t : List ℕ) → length t < n → ((us : List ℕ) × (rest : List ℕ) × Closed q t us rest) ⊎ ((k : StringFaultKind) × (left : List ℕ) × IsBroken q t k left)) → ((us : List ℕ) × (rest : List ℕ) × Closed q s us rest) ⊎ ((k : StringFaultKind) × (left : List ℕ) × IsBroken q s k left)
+    go : (r : Reading) → reading q s ≡ r → ((t : List ℕ) → length t < n → ((us : List ℕ) × (rest : List ℕ) × Closed q
+        t us rest) ⊎ ((k : StringFaultKind) × (left : List ℕ) × IsBroken q t k left)) → ((us : List ℕ) × (rest : List ℕ) × Closed q
+        s us rest) ⊎ ((k : StringFaultKind) × (left : List ℕ) × IsBroken q s k left)
     go (Take us mid) e ih = more us mid (sym e) (ih mid (omega (arith, l, shorter q s us mid hq (sym e))))
     go (Shut rest) e ih = inl ([], rest, shut q s rest hq (sym e))
     go (Break k) e ih = inr (k, s, broken q s k hq (sym e))
@@ -128,6 +139,7 @@ some_literal text at u b = go (some_end (length s + 1) q s (b.1) (omega arith))
     s : List ℕ
     s = chars (drop (at + 1) text)
 
-    go : ((us : List ℕ) × (rest : List ℕ) × Closed q s us rest) ⊎ ((k : StringFaultKind) × (left : List ℕ) × IsBroken q s k left) → ((us : List ℕ) × (end : ℕ) × LiteralOf text at us end) ⊎ ((f : LiteralFault) × LiteralFaultOf text at f)
+    go : ((us : List ℕ) × (rest : List ℕ) × Closed q s us rest) ⊎ ((k : StringFaultKind) × (left : List ℕ) × IsBroken q
+        s k left) → ((us : List ℕ) × (end : ℕ) × LiteralOf text at us end) ⊎ ((f : LiteralFault) × LiteralFaultOf text at f)
     go (inl h) = inl (h.0, length text - length (encode_utf8_all (h.1)), closed_literal text at q s (h.0) (h.1) (length (encode_utf8_all (h.1))) u (begins text at u b) (b.1) (h.2) refl)
     go (inr h) = inr (fault_at (h.0) at (length text - length (encode_utf8_all (h.1))), broken_literal text at q s (h.0) (h.1) (length (encode_utf8_all (h.1))) u (begins text at u b) (b.1) (h.2) refl)

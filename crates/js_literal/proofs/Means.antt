@@ -3,8 +3,61 @@ use Rattle.std.proofs.Common.{◌≡◌, ℕ, List, [], ◌∷◌, ◌++◌, Opt
 use Rattle.std.proofs.lemmas.Bool.Decides.{nat_tests}
 use Rattle.std.specs.Prelude.{nat_le, ◌&&◌, ◌||◌}
 use Rattle.js_units.specs.Text.{utf16_of}
-use Rattle.js_literal.specs.Literal.{is_quote, hex_number, letter_unit, is_plain, is_itself, LiteralPiece, plain, letter, null, two, four, braces, both_ends, return, line_end, itself, StringFaultKind, Unclosed, RawLineEnd, BadEscape, CodePointTooLarge, LegacyOctal, IsCodePointTooLarge, large, Breaks, ended, ended_escape, raw_line_end, octal, octal_zero, too_large, bad}
-use Rattle.js_literal.specs.Reader.{hex_front, two_front, four_front, hex_run, run_braces, close_braces, braces_of, unicode_of, one_unit, after_return, other_escape, chosen_escape, escape_of, reading, Reading, Take, Shut, Break, begins_digit}
+use Rattle.js_literal.specs.Literal.{
+  is_quote,
+  hex_number,
+  letter_unit,
+  is_plain,
+  is_itself,
+  LiteralPiece,
+  plain,
+  letter,
+  null,
+  two,
+  four,
+  braces,
+  both_ends,
+  return,
+  line_end,
+  itself,
+  StringFaultKind,
+  Unclosed,
+  RawLineEnd,
+  BadEscape,
+  CodePointTooLarge,
+  LegacyOctal,
+  IsCodePointTooLarge,
+  large,
+  Breaks,
+  ended,
+  ended_escape,
+  raw_line_end,
+  octal,
+  octal_zero,
+  too_large,
+  bad,
+}
+use Rattle.js_literal.specs.Reader.{
+  hex_front,
+  two_front,
+  four_front,
+  hex_run,
+  run_braces,
+  close_braces,
+  braces_of,
+  unicode_of,
+  one_unit,
+  after_return,
+  other_escape,
+  chosen_escape,
+  escape_of,
+  reading,
+  Reading,
+  Take,
+  Shut,
+  Break,
+  begins_digit,
+}
 use Rattle.js_literal.proofs.Fronts.{front_some, two_some, four_some, run_some}
 use Rattle.js_literal.proofs.Exact.{is, at_backslash, null_looks, x_looks, u_looks, braces_looks, octal_looks, piece_looks}
 
@@ -112,10 +165,15 @@ other_means q c s hq e =
     at : (n : ℕ) (g : Reading) → nat_eq c n ≡ true → Means q (92 ∷ n ∷ s) g → Means q (92 ∷ c ∷ s) g
     at n g h m = subst (λ k. Means q (92 ∷ k ∷ s) g) (sym (is c n h)) m
 
-    none : nat_eq c 48 ≡ false → (nat_le 49 c && nat_le c 57) ≡ false → nat_eq c 120 ≡ false → nat_eq c 117 ≡ false → nat_eq c 13 ≡ false → (nat_eq c 10 || nat_eq c 0x2028 || nat_eq c 0x2029) ≡ false → is_itself c ≡ true
+    none : nat_eq c 48 ≡ false → (nat_le 49 c && nat_le c 57) ≡ false → nat_eq c 120 ≡ false → nat_eq c 117 ≡ false → nat_eq c 13 ≡ false →
+        (nat_eq c 10 || nat_eq c 0x2028 || nat_eq c 0x2029) ≡ false → is_itself c ≡ true
     none h1 h2 h3 h4 h5 h6 = grind (arith, nat_tests)
 
-    go : (z o x u r l : Bool) → nat_eq c 48 ≡ z → (nat_le 49 c && nat_le c 57) ≡ o → nat_eq c 120 ≡ x → nat_eq c 117 ≡ u → nat_eq c 13 ≡ r → (nat_eq c 10 || nat_eq c 0x2028 || nat_eq c 0x2029) ≡ l → Means q (92 ∷ c ∷ s) (cond z (cond (begins_digit s) (Break LegacyOctal) (Take (0 ∷ []) s)) (cond o (Break LegacyOctal) (cond x (one_unit (two_front 0 s)) (cond u (unicode_of s) (cond r (Take [] (after_return s)) (cond l (Take [] s) (Take (utf16_of c) s)))))))
+    go : (z o x u r l : Bool) → nat_eq c 48 ≡ z → (nat_le 49 c && nat_le c 57) ≡ o → nat_eq c 120 ≡ x → nat_eq c 117 ≡ u → nat_eq c 13 ≡ r →
+        (nat_eq c 10 || nat_eq c 0x2028 || nat_eq c 0x2029) ≡ l → Means q (92 ∷ c ∷ s)
+        (cond z (cond (begins_digit s) (Break LegacyOctal) (Take (0 ∷ []) s))
+        (cond o (Break LegacyOctal) (cond x (one_unit (two_front 0 s)) (cond u (unicode_of s)
+        (cond r (Take [] (after_return s)) (cond l (Take [] s) (Take (utf16_of c) s)))))))
     go true o x u r l h1 h2 h3 h4 h5 h6 = at 48 (cond (begins_digit s) (Break LegacyOctal) (Take (0 ∷ []) s)) h1 (zero_means q s (begins_digit s) refl)
     go false true x u r l h1 h2 h3 h4 h5 h6 = octal c s h2
     go false false true u r l h1 h2 h3 h4 h5 h6 = at 120 (one_unit (two_front 0 s)) h3 (x_breaks q s hq)
@@ -141,7 +199,8 @@ reading_means q (c ∷ s) hq = go (nat_eq c q) (nat_eq c 92) (nat_eq c 10 || nat
     none : nat_eq c q ≡ false → nat_eq c 92 ≡ false → (nat_eq c 10 || nat_eq c 13) ≡ false → is_plain q c ≡ true
     none h1 h2 h3 = grind (arith, nat_tests)
 
-    go : (t b r : Bool) → nat_eq c q ≡ t → nat_eq c 92 ≡ b → (nat_eq c 10 || nat_eq c 13) ≡ r → Means q (c ∷ s) (cond t (Shut s) (cond b (escape_of s) (cond r (Break RawLineEnd) (Take (utf16_of c) s))))
+    go : (t b r : Bool) → nat_eq c q ≡ t → nat_eq c 92 ≡ b → (nat_eq c 10 || nat_eq c 13) ≡ r → Means q (c ∷ s)
+        (cond t (Shut s) (cond b (escape_of s) (cond r (Break RawLineEnd) (Take (utf16_of c) s))))
     go true b r h1 h2 h3 = ap (λ k. k ∷ s) (is c q h1)
     go false true r h1 h2 h3 = subst (λ k. Means q (k ∷ s) (escape_of s)) (sym (is c 92 h2)) (escape_means q s hq)
     go false false true h1 h2 h3 = raw_line_end c s h3
@@ -177,8 +236,11 @@ breaks_looks q _ _ hq (bad c rest h never not_large) = at_backslash q (c ∷ res
     go : (x u : Bool) → nat_eq c 120 ≡ x → nat_eq c 117 ≡ u → (x || u) ≡ true → escape_of (c ∷ rest) ≡ Break BadEscape
     go true u ex eu t =
         let e = is c 120 ex in
-        subst (λ k. escape_of (k ∷ rest) ≡ Break BadEscape) (sym e) (x_looks rest ∙ x_only (two_front 0 rest) (λ us after m. never us after (subst (λ k. LiteralPiece q (92 ∷ k ∷ rest) us after) (sym e) m)) (x_breaks q rest hq))
+        subst (λ k. escape_of (k ∷ rest) ≡ Break BadEscape) (sym e) (x_looks rest ∙ x_only (two_front 0 rest)
+        (λ us after m. never us after (subst (λ k. LiteralPiece q (92 ∷ k ∷ rest) us after) (sym e) m)) (x_breaks q rest hq))
     go false true ex eu t =
         let e = is c 117 eu in
-        subst (λ k. escape_of (k ∷ rest) ≡ Break BadEscape) (sym e) (u_looks rest ∙ u_only (unicode_of rest) (λ us after m. never us after (subst (λ k. LiteralPiece q (92 ∷ k ∷ rest) us after) (sym e) m)) (λ l. not_large (subst (λ k. IsCodePointTooLarge (k ∷ rest)) (sym e) l)) (u_means q rest))
+        subst (λ k. escape_of (k ∷ rest) ≡ Break BadEscape) (sym e) (u_looks rest ∙ u_only (unicode_of rest)
+        (λ us after m. never us after (subst (λ k. LiteralPiece q (92 ∷ k ∷ rest) us after) (sym e) m))
+        (λ l. not_large (subst (λ k. IsCodePointTooLarge (k ∷ rest)) (sym e) l)) (u_means q rest))
     go false false ex eu t = absurd cc

@@ -36,7 +36,8 @@ digits_end (c ∷ s) = go (is_digit c) (digits_end s)
     go false e = ([], refl)
 
 abbrev chosen : List ℕ → Bool → Bool → Bool → Bool → Bool → Result (ℕ × List ℕ) (ℕ → NumberFault)
-chosen s a b c d e = cond a (Err faults.Fraction) (cond b (Err faults.OtherForm) (cond c (Err faults.Fraction) (cond d (Err faults.OtherForm) (cond e (Err faults.TooLarge) (Ok (decimal 0 (digits_of s), after_digits s))))))
+chosen s a b c d e = cond a (Err faults.Fraction) (cond b (Err faults.OtherForm)
+    (cond c (Err faults.Fraction) (cond d (Err faults.OtherForm) (cond e (Err faults.TooLarge) (Ok (decimal 0 (digits_of s), after_digits s))))))
 
 pub number_rest : (s rest : List ℕ) (v : ℕ) → number_at s ≡ Ok (v, rest) → rest ≡ after_digits s
 number_rest s rest v h = go (begins_point s) (has_leading_zero s) (begins_point (after_digits s)) (begins_tail (after_digits s)) (nat_lt 9007199254740991 (decimal 0 (digits_of s))) h
@@ -83,7 +84,9 @@ number_begins text at s u b h =
     let here = ascii_stands text at u (b.0) (number_small c (is_digit (slice_index text (at + 1))) (b.1)) in
     subst (λ s. begins_number s ≡ true) (one_rest text at (c ∷ chars (drop (at + 1) text)) s here h) (go (is_digit c) refl here (b.1))
   where
-    go : (d : Bool) → is_digit (slice_index text at) ≡ d → StandsAt text at (slice_index text at ∷ chars (drop (at + 1) text)) → (d || (nat_eq (slice_index text at) 46 && is_digit (slice_index text (at + 1)))) ≡ true → begins_number (slice_index text at ∷ chars (drop (at + 1) text)) ≡ true
+    go : (d : Bool) → is_digit (slice_index text at) ≡ d → StandsAt text at (slice_index text at ∷ chars (drop (at + 1) text)) →
+        (d || (nat_eq (slice_index text at) 46 && is_digit (slice_index text (at + 1)))) ≡ true → begins_number
+        (slice_index text at ∷ chars (drop (at + 1) text)) ≡ true
     go true ed here k = ap (λ d. d || (nat_eq (slice_index text at) 46 && begins_digit (chars (drop (at + 1) text)))) ed
     go false ed here k =
         let c = slice_index text at in
@@ -96,8 +99,16 @@ number_begins text at s u b h =
         let first : begins_digit (chars (drop (at + 1) text)) ≡ true = subst (λ s. begins_digit s ≡ true) same digit in
         rw (ed, point, first) refl
 
-pub number_stands : (text : List ℕ) (at : ℕ) (s rest : List ℕ) (v left : ℕ) → IsUtf8 text → BeginsNumber text at → StandsAt text at s → number_at s ≡ Ok (v, rest) → length (encode_utf8_all rest) ≡ left → NumberOf text at v (length text - left)
-number_stands text at s rest v left u b h e l = record { s = s; rest = rest; starts = h; begins = number_begins text at s u b h; reads = e; ends = left_stands text at s rest left u h (number_end s rest v e) l }
+pub number_stands : (text : List ℕ) (at : ℕ) (s rest : List ℕ) (v left : ℕ) → IsUtf8 text → BeginsNumber text at → StandsAt text at s →
+    number_at s ≡ Ok (v, rest) → length (encode_utf8_all rest) ≡ left → NumberOf text at v (length text - left)
+number_stands text at s rest v left u b h e l = record {
+  s = s;
+  rest = rest;
+  starts = h;
+  begins = number_begins text at s u b h;
+  reads = e;
+  ends = left_stands text at s rest left u h (number_end s rest v e) l;
+}
 
 pub one_number : (text : List ℕ) (at v w a b : ℕ) → IsUtf8 text → NumberOf text at v a → NumberOf text at w b → (v ≡ w) × (a ≡ b)
 one_number text at v w a b u h g =
@@ -124,13 +135,15 @@ one_number_fault text at f e h g =
     let k : h.kind ≡ g.kind = cc in
     h.is_fault ∙ (ap (λ k. k at) k ∙ sym g.is_fault)
 
-pub only_number : (text : List ℕ) (at : ℕ) (r : Result (ℕ × ℕ) NumberFault) → IsUtf8 text → IfOk r (λ p. NumberOf text at (p.0) (p.1)) → IfErr r (λ e. NumberFaultOf text at e) → (v end : ℕ) → NumberOf text at v end → r ≡ Ok (v, end)
+pub only_number : (text : List ℕ) (at : ℕ) (r : Result (ℕ × ℕ) NumberFault) → IsUtf8 text → IfOk r (λ p. NumberOf text at (p.0) (p.1)) →
+    IfErr r (λ e. NumberFaultOf text at e) → (v end : ℕ) → NumberOf text at v end → r ≡ Ok (v, end)
 only_number text at (Ok p) u ok err v end h =
     let same = one_number text at (p.0) v (p.1) end u ok h in
     ap (λ x. Ok (x, p.1)) (same.0) ∙ ap (λ x. Ok (v, x)) (same.1)
 only_number text at (Err e) u ok err v end h = absurd (no_number text at v end e h err)
 
-pub only_number_fault : (text : List ℕ) (at : ℕ) (r : Result (ℕ × ℕ) NumberFault) → IfOk r (λ p. NumberOf text at (p.0) (p.1)) → IfErr r (λ e. NumberFaultOf text at e) → (f : NumberFault) → NumberFaultOf text at f → r ≡ Err f
+pub only_number_fault : (text : List ℕ) (at : ℕ) (r : Result (ℕ × ℕ) NumberFault) → IfOk r (λ p. NumberOf text at (p.0) (p.1)) → IfErr r
+    (λ e. NumberFaultOf text at e) → (f : NumberFault) → NumberFaultOf text at f → r ≡ Err f
 only_number_fault text at (Ok p) ok err f h = absurd (no_number text at (p.0) (p.1) f ok h)
 only_number_fault text at (Err e) ok err f h = ap (λ x. Err x) (one_number_fault text at e f err h)
 

@@ -22,7 +22,8 @@ moved text at cs rest h e = record {
 }
 
 -- the place of what is left is told by its bytes
-pub left_stands : (text : List ℕ) (at : ℕ) (cs rest : List ℕ) (left : ℕ) → IsUtf8 text → StandsAt text at cs → EndsIn cs rest → length (encode_utf8_all rest) ≡ left → StandsAt text (length text - left) rest
+pub left_stands : (text : List ℕ) (at : ℕ) (cs rest : List ℕ) (left : ℕ) → IsUtf8 text → StandsAt text at cs → EndsIn cs rest → length
+    (encode_utf8_all rest) ≡ left → StandsAt text (length text - left) rest
 left_stands text at cs rest left u h e l =
     let m = moved text at cs rest h e in
     let b = bytes_of text (at + length (encode_utf8_all (e.0))) rest u m in
@@ -46,7 +47,8 @@ same_rest (c ∷ f) [] cs ds e l = absurd (encodes_some c f l)
 same_rest (c ∷ f) (d ∷ g) cs ds e l =
     let h : c ≡ d = cc in
     let t : f ++ cs ≡ g ++ ds = cc in
-    let m : length (encode_utf8_all f) ≡ length (encode_utf8_all g) = omega (arith, l, length-append (encode_utf8 c) (encode_utf8_all f), length-append (encode_utf8 d) (encode_utf8_all g), ap (λ x. length (encode_utf8 x)) h) in
+    let m : length (encode_utf8_all f) ≡ length (encode_utf8_all g) = omega
+    (arith, l, length-append (encode_utf8 c) (encode_utf8_all f), length-append (encode_utf8 d) (encode_utf8_all g), ap (λ x. length (encode_utf8 x)) h) in
     same_rest f g cs ds t m
 
 -- one place has one rest, and one rest has one place

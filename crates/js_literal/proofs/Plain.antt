@@ -48,7 +48,8 @@ pub closes_run : (q : ℕ) (whole units s : List ℕ) → is_quote q ≡ true �
 closes_run q whole units [] hq h = subst (λ w. Closes q whole w []) (sym (append-nil units)) h
 closes_run q whole units (c ∷ s) hq h = go (is_plain q c) refl (closes_run q whole (units ++ c ∷ []) s hq)
   where
-    go : (b : Bool) → is_plain q c ≡ b → (Closes q whole (units ++ c ∷ []) s → Closes q whole ((units ++ c ∷ []) ++ plain_run q s) (after_plain q s)) → Closes q whole (units ++ (if b then c ∷ plain_run q s else [])) (if b then after_plain q s else c ∷ s)
+    go : (b : Bool) → is_plain q c ≡ b → (Closes q whole (units ++ c ∷ []) s → Closes q whole ((units ++ c ∷ []) ++ plain_run q s)
+        (after_plain q s)) → Closes q whole (units ++ (if b then c ∷ plain_run q s else [])) (if b then after_plain q s else c ∷ s)
     go false e more = subst (λ w. Closes q whole w (c ∷ s)) (sym (append-nil units)) h
     go true e more = subst (λ w. Closes q whole w (after_plain q s)) (append_assoc units (c ∷ []) (plain_run q s)) (more (closes_more q whole units (c ∷ s) (c ∷ []) s hq (plain_reads q c s e) h))
 
@@ -69,7 +70,8 @@ run_shorter q (c ∷ s) = go (is_plain q c) (run_shorter q s)
     go true h = omega (arith, h)
 
 -- the same where the code has the run and what follows it
-pub closes_behind : (q : ℕ) (whole units s run more behind : List ℕ) → is_quote q ≡ true → more ≡ units ++ run → run ≡ plain_run q s → behind ≡ after_plain q s → Closes q whole units s → Closes q whole more behind
+pub closes_behind : (q : ℕ) (whole units s run more behind : List ℕ) → is_quote q ≡ true → more ≡ units ++ run → run ≡ plain_run q s →
+    behind ≡ after_plain q s → Closes q whole units s → Closes q whole more behind
 closes_behind q whole units s run more behind hq hm hr hb h =
     let e : units ++ plain_run q s ≡ more = ap (λ r. units ++ r) (sym hr) ∙ sym hm in
     subst (λ w. Closes q whole w behind) e (subst (Closes q whole (units ++ plain_run q s)) (sym hb) (closes_run q whole units s hq h))

@@ -52,7 +52,9 @@ module _ (r : Role) (bytes : List ℕ) where
   one_parse : (x y : Tree) → Parses r bytes x → Parses r bytes y → x ≡ y
   one_parse x y p q =
       let same = one_source p.tokens q.tokens x.literals y.literals p.tables q.tables p.reads q.reads in
-      let parsed : Statements p.tables (prints r) most p.tokens q.statements = subst (λ n. Statements n (prints r) most p.tokens q.statements) (sym same.tables) (subst (λ t. Statements q.tables (prints r) most t q.statements) (sym same.tokens) q.parsed) in
+      let parsed : Statements p.tables (prints r) most p.tokens q.statements = subst
+      (λ n. Statements n (prints r) most p.tokens q.statements) (sym same.tables)
+      (subst (λ t. Statements q.tables (prints r) most t q.statements) (sym same.tokens) q.parsed) in
       let lines : p.statements ≡ q.statements = one_list p.tables (prints r) most most p.tokens p.statements q.statements p.parsed parsed in
       same_tree x y same.literals (p.body ∙ (ap stmts lines ∙ sym q.body)) (p.top ∙ (ap own_names lines ∙ sym q.top))
 
@@ -63,13 +65,17 @@ module _ (r : Role) (bytes : List ℕ) where
       subst (λ a. P a p.tokens x) (sym same.tables) (subst (λ t. P q.tables t x) (sym same.tokens) (subst (λ z. P q.tables q.tokens z) (sym (one_parse x y p q)) h))
 
   -- the same tokens and tables
-  same_refusal : (ts us : List GrammarToken) (xs ys : List (List ℕ)) (a b : TokenTables) (k : SyntaxFaultKind) (rest : List GrammarToken) → HasTokens bytes ts xs a.names a.keys → HasTokens bytes us ys b.names b.keys → IsRefused (Statements b (prints r)) most us k rest → IsRefused (Statements a (prints r)) most ts k rest
+  same_refusal : (ts us : List GrammarToken) (xs ys : List (List ℕ)) (a b : TokenTables) (k : SyntaxFaultKind) (rest : List GrammarToken) →
+      HasTokens bytes ts xs a.names a.keys → HasTokens bytes us ys b.names b.keys → IsRefused (Statements b (prints r)) most us k rest →
+      IsRefused (Statements a (prints r)) most ts k rest
   same_refusal ts us xs ys a b k rest p q h =
       let same = one_source ts us xs ys a b p q in
       subst (λ n. IsRefused (Statements n (prints r)) most ts k rest) (sym same.tables) (subst (λ t. IsRefused (Statements b (prints r)) most t k rest) (sym same.tokens) h)
 
-  not_parsed : (x : Tree) (ts : List GrammarToken) (xs : List (List ℕ)) (a : TokenTables) (k : SyntaxFaultKind) (rest : List GrammarToken) → Parses r bytes x → HasTokens bytes ts xs a.names a.keys → IsRefused (Statements a (prints r)) most ts k rest → ⊥
-  not_parsed x ts xs a k rest p q h = grammar.not_both (Statements p.tables (prints r)) most p.tokens p.statements k rest p.parsed (same_refusal p.tokens ts x.literals xs p.tables a k rest p.reads q h)
+  not_parsed : (x : Tree) (ts : List GrammarToken) (xs : List (List ℕ)) (a : TokenTables) (k : SyntaxFaultKind) (rest : List GrammarToken) →
+      Parses r bytes x → HasTokens bytes ts xs a.names a.keys → IsRefused (Statements a (prints r)) most ts k rest → ⊥
+  not_parsed x ts xs a k rest p q h = grammar.not_both (Statements p.tables (prints r)) most p.tokens p.statements k rest p.parsed
+      (same_refusal p.tokens ts x.literals xs p.tables a k rest p.reads q h)
 
   no_fault : (ts : List GrammarToken) (xs ns ks : List (List ℕ)) (f : LexFault) → HasTokens bytes ts xs ns ks → LexFaultOf bytes f → ⊥
   no_fault ts xs ns ks f a h = lexer.apart bytes a.lexed f a.lexes h
@@ -101,11 +107,14 @@ module _ (r : Role) (outer : List (List ℕ)) (bytes : List ℕ) where
   one_refusal _ _ (of_names y g q i) (grammatical ts xs a k rest p h) = absurd (not_parsed r bytes y ts xs a k rest q p h)
   one_refusal _ _ (of_names x f p h) (of_names y g q i) = ap misnamed (one_first outer p.tables p.tokens x f g h (carried r bytes (λ a ts t. IsFirstFault outer a ts t g) x y p q i))
 
-  of_tree : (x : Tree) (p : Parses r bytes x) → ((f : NameFault) → HasNameFault outer p.tables p.tokens x f → ⊥) ⊎ ((f : NameFault) × IsFirstFault outer p.tables p.tokens x f) → ((y : Tree) × Spells r outer bytes y) ⊎ ((e : ParseFault) × Refused r outer bytes e)
+  of_tree : (x : Tree) (p : Parses r bytes x) → ((f : NameFault) → HasNameFault outer p.tables p.tokens x f → ⊥) ⊎ ((f : NameFault) ×
+      IsFirstFault outer p.tables p.tokens x f) → ((y : Tree) × Spells r outer bytes y) ⊎ ((e : ParseFault) × Refused r outer bytes e)
   of_tree x p (inl none) = inl (x, record { parses = p; innocent = none })
   of_tree x p (inr h) = inr (misnamed h.0, of_names x h.0 p h.1)
 
-  of_tokens : (ts : List GrammarToken) (xs : List (List ℕ)) (a : TokenTables) → HasTokens bytes ts xs a.names a.keys → (q : Answer GrammarToken (List StmtTree)) → read_whole (read_statements a (prints r) most) ts ≡ q → ((y : Tree) × Spells r outer bytes y) ⊎ ((e : ParseFault) × Refused r outer bytes e)
+  of_tokens : (ts : List GrammarToken) (xs : List (List ℕ)) (a : TokenTables) → HasTokens bytes ts
+      xs a.names a.keys → (q : Answer GrammarToken (List StmtTree)) → read_whole (read_statements a (prints r) most)
+      ts ≡ q → ((y : Tree) × Spells r outer bytes y) ⊎ ((e : ParseFault) × Refused r outer bytes e)
   of_tokens ts xs a p (Got lines rest) e =
       let x : Tree = record { literals = xs; body = stmts lines; top = own_names lines } in
       of_tree x (record { tokens = ts; tables = a; statements = lines; reads = p; parsed = all_read a (prints r) most ts lines rest e; body = refl; top = refl }) (right_or_first outer a ts x)
@@ -114,7 +123,8 @@ module _ (r : Role) (outer : List (List ℕ)) (bytes : List ℕ) where
   of_text : ((ts : List Lexed) × TokensOf bytes ts) ⊎ ((f : LexFault) × LexFaultOf bytes f) → ((y : Tree) × Spells r outer bytes y) ⊎ ((e : ParseFault) × Refused r outer bytes e)
   of_text (inl h) =
       let last = after_all bytes false nothing h.0 in
-      of_tokens (tokens_from bytes false nothing h.0) last.texts (record { names = last.names; keys = last.keys }) (record { lexed = h.0; lexes = h.1; tokens_are = refl; literals_are = refl; names_are = refl; keys_are = refl }) _ refl
+      of_tokens (tokens_from bytes false nothing h.0) last.texts (record { names = last.names; keys = last.keys })
+      (record { lexed = h.0; lexes = h.1; tokens_are = refl; literals_are = refl; names_are = refl; keys_are = refl }) _ refl
   of_text (inr h) = inr (fault.Lex h.0, lexical h.0 h.1)
 
   pub some_answer : ((y : Tree) × Spells r outer bytes y) ⊎ ((e : ParseFault) × Refused r outer bytes e)

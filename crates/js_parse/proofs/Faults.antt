@@ -131,8 +131,12 @@ again_of false at f h = absurd h
 -- what is in the list is a fault
 
 again_sound : (s : StmtTree) (scopes : List NameScope) (before : List (List ℕ)) (rest : Stmts) (f : NameFault) → In f (declared_again s (is_in before)) → FaultAmong scopes before (tree.stmt s rest) f
-again_sound (tree.let_line at x init) scopes before rest f h = let a = again_of (is_in before x) at f h in subst (FaultAmong scopes before (tree.stmt (tree.let_line at x init) rest)) (sym a.1) (names.let_again scopes before at x init rest (among_of x before a.0))
-again_sound (tree.const_line at x init) scopes before rest f h = let a = again_of (is_in before x) at f h in subst (FaultAmong scopes before (tree.stmt (tree.const_line at x init) rest)) (sym a.1) (names.const_again scopes before at x init rest (among_of x before a.0))
+again_sound (tree.let_line at x init) scopes before rest f h =
+    let a = again_of (is_in before x) at f h in subst (FaultAmong scopes before (tree.stmt (tree.let_line at x init) rest)) (sym a.1)
+    (names.let_again scopes before at x init rest (among_of x before a.0))
+again_sound (tree.const_line at x init) scopes before rest f h =
+    let a = again_of (is_in before x) at f h in subst (FaultAmong scopes before (tree.stmt (tree.const_line at x init) rest)) (sym a.1)
+    (names.const_again scopes before at x init rest (among_of x before a.0))
 again_sound (tree.block b) scopes before rest f h = absurd h
 again_sound (tree.assign at x e) scopes before rest f h = absurd h
 again_sound (tree.append at name_at x e) scopes before rest f h = absurd h
@@ -150,10 +154,13 @@ mutual
   sound_in (tree.let_line at x init) scopes f h = absurd h
   sound_in (tree.const_line at x init) scopes f h = absurd h
   sound_in (tree.assign at x e) scopes f h = let a = assigned_of (looped scopes x) at f h in subst (FaultIn scopes (tree.assign at x e)) (sym a.1) (names.assigned scopes at x e (loop_of x scopes a.0))
-  sound_in (tree.append at name_at x e) scopes f h = let a = assigned_of (looped scopes x) name_at f h in subst (FaultIn scopes (tree.append at name_at x e)) (sym a.1) (names.appended scopes at name_at x e (loop_of x scopes a.0))
+  sound_in (tree.append at name_at x e) scopes f h =
+      let a = assigned_of (looped scopes x) name_at f h in subst (FaultIn scopes (tree.append at name_at x e)) (sym a.1)
+      (names.appended scopes at name_at x e (loop_of x scopes a.0))
   sound_in (tree.print args) scopes f h = absurd h
   sound_in (tree.if_line arms rest) scopes f h =
-      either (apart f (faults_in_arms arms (looped scopes)) (faults_inside rest (looped scopes)) h) (λ a. names.in_arms scopes arms rest f (sound_arms arms scopes f a)) (λ b. names.in_rest scopes arms rest f (sound_inside rest scopes f b))
+      either (apart f (faults_in_arms arms (looped scopes)) (faults_inside rest (looped scopes)) h)
+      (λ a. names.in_arms scopes arms rest f (sound_arms arms scopes f a)) (λ b. names.in_rest scopes arms rest f (sound_inside rest scopes f b))
   sound_in (tree.for_line x bound body) scopes f h = names.in_loop scopes x bound body f (sound_inside body (Looping x ∷ scopes) f h)
 
   sound_inside : (b : BlockTree) (scopes : List NameScope) (f : NameFault) → In f (faults_inside b (looped scopes)) → FaultInBlock scopes b f
@@ -162,7 +169,8 @@ mutual
   sound_arms : (arms : Arms) (scopes : List NameScope) (f : NameFault) → In f (faults_in_arms arms (looped scopes)) → FaultInArms scopes arms f
   sound_arms tree.no_arms scopes f h = absurd h
   sound_arms (tree.arm test body rest) scopes f h =
-      either (apart f (faults_inside body (looped scopes)) (faults_in_arms rest (looped scopes)) h) (λ a. names.in_first scopes test body rest f (sound_inside body scopes f a)) (λ b. names.in_others scopes test body rest f (sound_arms rest scopes f b))
+      either (apart f (faults_inside body (looped scopes)) (faults_in_arms rest (looped scopes)) h)
+      (λ a. names.in_first scopes test body rest f (sound_inside body scopes f a)) (λ b. names.in_others scopes test body rest f (sound_arms rest scopes f b))
 
   pub sound_among : (ss : Stmts) (scopes : List NameScope) (before : List (List ℕ)) (f : NameFault) → In f (faults_among ss (looped scopes) (is_in before)) → FaultAmong scopes before ss f
   sound_among tree.no_stmts scopes before f h = absurd h
@@ -193,7 +201,8 @@ mutual
   complete_among _ _ _ _ (names.let_again scopes before at x init rest h) = in_left (Duplicate at) (again_at (is_in before x) at) _ (rw (in_of x before h) (inl refl))
   complete_among _ _ _ _ (names.const_again scopes before at x init rest h) = in_left (Duplicate at) (again_at (is_in before x) at) _ (rw (in_of x before h) (inl refl))
   complete_among _ _ _ _ (names.in_it scopes before s rest f h) =
-      in_right f (declared_again s (is_in before)) (faults_in s (looped scopes) ++ behind s rest scopes before) (in_left f (faults_in s (looped scopes)) (behind s rest scopes before) (complete_in s scopes f h))
+      in_right f (declared_again s (is_in before)) (faults_in s (looped scopes) ++ behind s rest scopes before)
+      (in_left f (faults_in s (looped scopes)) (behind s rest scopes before) (complete_in s scopes f h))
   complete_among _ _ _ _ (names.behind_it scopes before s rest f h) =
       in_right f (declared_again s (is_in before)) (faults_in s (looped scopes) ++ behind s rest scopes before)
       (in_right f (faults_in s (looped scopes)) (behind s rest scopes before)

@@ -18,8 +18,20 @@ earlier_is : (f g : NameFault) → ((earlier f g ≡ f) ⊎ (earlier f g ≡ g))
 earlier_is f g = go (nat_lt (fault_rank g) (fault_rank f)) refl
   where
     go : (b : Bool) → nat_lt (fault_rank g) (fault_rank f) ≡ b → ((earlier f g ≡ f) ⊎ (earlier f g ≡ g)) × (fault_rank (earlier f g) ≤ fault_rank f) × (fault_rank (earlier f g) ≤ fault_rank g)
-    go true e = let l : fault_rank g < fault_rank f = ltb-true (fault_rank g) (fault_rank f) e in let s : earlier f g ≡ g = rw e refl in (inr s, subst (λ h. fault_rank h ≤ fault_rank f) (sym s) (omega arith), subst (λ h. fault_rank h ≤ fault_rank g) (sym s) (omega arith))
-    go false e = let l : fault_rank f ≤ fault_rank g = ltb-false (fault_rank g) (fault_rank f) e in let s : earlier f g ≡ f = rw e refl in (inl s, subst (λ h. fault_rank h ≤ fault_rank f) (sym s) (omega arith), subst (λ h. fault_rank h ≤ fault_rank g) (sym s) (omega arith))
+    go true e = let l : fault_rank g < fault_rank f = ltb-true (fault_rank g) (fault_rank f) e in
+        let s : earlier f g ≡ g = rw e refl in (
+          inr s,
+          subst (λ h. fault_rank h ≤ fault_rank f) (sym s) (omega arith),
+          subst
+              (λ h. fault_rank h ≤ fault_rank g) (sym s) (omega arith),
+        )
+    go false e = let l : fault_rank f ≤ fault_rank g = ltb-false (fault_rank g) (fault_rank f) e in
+        let s : earlier f g ≡ f = rw e refl in (
+          inl s,
+          subst (λ h. fault_rank h ≤ fault_rank f) (sym s) (omega arith),
+          subst
+              (λ h. fault_rank h ≤ fault_rank g) (sym s) (omega arith),
+        )
 
 least_in : (f : NameFault) (gs : List NameFault) → (least f gs ≡ f) ⊎ In (least f gs) gs
 least_in f [] = inl refl
@@ -32,11 +44,13 @@ least_in f (g ∷ gs) = go (least_in (earlier f g) gs) (earlier_is f g).0
 
 least_head : (f : NameFault) (gs : List NameFault) → fault_rank (least f gs) ≤ fault_rank f
 least_head f [] = omega arith
-least_head f (g ∷ gs) = let a : fault_rank (least (earlier f g) gs) ≤ fault_rank (earlier f g) = least_head (earlier f g) gs in let b : fault_rank (earlier f g) ≤ fault_rank f = (earlier_is f g).1 in omega arith
+least_head f (g ∷ gs) = let a : fault_rank (least (earlier f g) gs) ≤ fault_rank (earlier f g) = least_head (earlier f g) gs in
+    let b : fault_rank (earlier f g) ≤ fault_rank f = (earlier_is f g).1 in omega arith
 
 least_first : (f : NameFault) (gs : List NameFault) (h : NameFault) → In h gs → fault_rank (least f gs) ≤ fault_rank h
 least_first f [] h i = absurd i
-least_first f (g ∷ gs) h (inl e) = let a : fault_rank (least (earlier f g) gs) ≤ fault_rank (earlier f g) = least_head (earlier f g) gs in let b : fault_rank (earlier f g) ≤ fault_rank g = (earlier_is f g).2 in let c : fault_rank h ≡ fault_rank g = ap fault_rank e in omega arith
+least_first f (g ∷ gs) h (inl e) = let a : fault_rank (least (earlier f g) gs) ≤ fault_rank (earlier f g) = least_head (earlier f g) gs in
+    let b : fault_rank (earlier f g) ≤ fault_rank g = (earlier_is f g).2 in let c : fault_rank h ≡ fault_rank g = ap fault_rank e in omega arith
 least_first f (g ∷ gs) h (inr i) = least_first (earlier f g) gs h i
 
 -- keys that are __proto__
@@ -81,17 +95,21 @@ module _ (outer : List (List ℕ)) (tables : TokenTables) (tokens : List Grammar
       (λ j. let k = key_sound tables tokens f j in subst (HasNameFault outer tables tokens t) (sym k.1) (of_key k.0 k.2))
       (λ j. of_name f (sound_among t.body (Declaring t.top ∷ []) outer f j))
 
-  first_is : (g : NameFault) (gs : List NameFault) → ((f : NameFault) → HasNameFault outer tables tokens t f → In f (g ∷ gs)) → ((f : NameFault) → In f (g ∷ gs) → HasNameFault outer tables tokens t f) → IsFirstFault outer tables tokens t (least g gs)
+  first_is : (g : NameFault) (gs : List NameFault) → ((f : NameFault) → HasNameFault outer tables tokens t f → In f
+      (g ∷ gs)) → ((f : NameFault) → In f (g ∷ gs) → HasNameFault outer tables tokens t f) → IsFirstFault outer tables tokens t (least g gs)
   first_is g gs complete sound = record {
     has = sound (least g gs) (least_in g gs);
-    first = λ h has. either (complete h has) (λ e. let a : fault_rank (least g gs) ≤ fault_rank g = least_head g gs in let b : fault_rank h ≡ fault_rank g = ap fault_rank e in omega arith) (λ i. least_first g gs h i);
+    first = λ h has. either (complete h has) (λ e. let a : fault_rank (least g gs) ≤ fault_rank g = least_head g gs in
+        let b : fault_rank h ≡ fault_rank g = ap fault_rank e in omega arith) (λ i. least_first g gs h i);
   }
 
   -- a script's names are right, or one of their faults is the first
   pub right_or_first : ((f : NameFault) → HasNameFault outer tables tokens t f → ⊥) ⊎ ((f : NameFault) × IsFirstFault outer tables tokens t f)
   right_or_first = go all_faults complete sound
     where
-      go : (fs : List NameFault) → ((f : NameFault) → HasNameFault outer tables tokens t f → In f fs) → ((f : NameFault) → In f fs → HasNameFault outer tables tokens t f) → ((f : NameFault) → HasNameFault outer tables tokens t f → ⊥) ⊎ ((f : NameFault) × IsFirstFault outer tables tokens t f)
+      go : (fs : List NameFault) → ((f : NameFault) → HasNameFault outer tables tokens t f → In f fs) → ((f : NameFault) → In f fs →
+          HasNameFault outer tables tokens t f) → ((f : NameFault) → HasNameFault outer tables tokens t f → ⊥) ⊎ ((f : NameFault) ×
+          IsFirstFault outer tables tokens t f)
       go [] complete sound = inl complete
       go (g ∷ gs) complete sound = inr (least g gs, first_is g gs complete sound)
 
@@ -103,7 +121,8 @@ module _ (outer : List (List ℕ)) (tables : TokenTables) (tokens : List Grammar
       some_least f [] = refl
       some_least f (g ∷ gs) = some_least (earlier f g) gs
 
-      go : (fs : List NameFault) → ((f : NameFault) → HasNameFault outer tables tokens t f → In f fs) → ((f : NameFault) → In f fs → HasNameFault outer tables tokens t f) → (found : Option Told) → option_map fault_of found ≡ offers None fs → TellsFirst outer tables tokens t found
+      go : (fs : List NameFault) → ((f : NameFault) → HasNameFault outer tables tokens t f → In f fs) → ((f : NameFault) → In f fs →
+          HasNameFault outer tables tokens t f) → (found : Option Told) → option_map fault_of found ≡ offers None fs → TellsFirst outer tables tokens t found
       go [] complete sound None e = complete
       go [] complete sound (Some f) e = let q : Some (fault_of f) ≡ None = e in absurd (cc)
       go (g ∷ gs) complete sound None e = let q : None ≡ Some (least g gs) = e ∙ some_least g gs in absurd (cc)
@@ -125,5 +144,6 @@ same_rank (LoopName a) (ProtoKey b) e = absurd (omega arith)
 same_rank (ProtoKey a) (Duplicate b) e = absurd (omega arith)
 same_rank (ProtoKey a) (LoopName b) e = absurd (omega arith)
 
-pub one_first : (outer : List (List ℕ)) (tables : TokenTables) (tokens : List GrammarToken) (t : Tree) (f g : NameFault) → IsFirstFault outer tables tokens t f → IsFirstFault outer tables tokens t g → f ≡ g
+pub one_first : (outer : List (List ℕ)) (tables : TokenTables) (tokens : List GrammarToken) (t : Tree) (f g : NameFault) → IsFirstFault
+    outer tables tokens t f → IsFirstFault outer tables tokens t g → f ≡ g
 one_first outer tables tokens t f g a b = let l : fault_rank f ≤ fault_rank g = a.first g b.has in let m : fault_rank g ≤ fault_rank f = b.first f a.has in same_rank f g (omega arith)

@@ -17,7 +17,9 @@ front_is ts front rest e =
     ap (take (length ts - length rest)) e ∙ take_at front rest (length ts - length rest) n
 
 -- the fault with the front by its number
-pub grammatical_at : (r : Role) (outer : List (List ℕ)) (bytes : List ℕ) (ts : List GrammarToken) (literals : List (List ℕ)) (tables : TokenTables) (k : SyntaxFaultKind) (rest : List GrammarToken) → HasTokens bytes ts literals tables.names tables.keys → IsRefused (Statements tables (prints r)) most ts k rest
+pub grammatical_at : (r : Role) (outer : List (List ℕ)) (bytes : List ℕ) (ts : List GrammarToken) (literals : List
+    (List ℕ)) (tables : TokenTables) (k : SyntaxFaultKind) (rest : List GrammarToken) → HasTokens bytes ts literals tables.names tables.keys →
+    IsRefused (Statements tables (prints r)) most ts k rest
     → Refused r outer bytes (misplaced k (front_of ts rest) rest (length bytes))
 grammatical_at r outer bytes ts literals tables k rest reads h =
     subst (λ front. Refused r outer bytes (misplaced k front rest (length bytes))) (sym (front_is ts h.front rest h.whole)) (grammatical ts literals tables k rest reads h)

@@ -26,7 +26,8 @@ eq_swaps x y = same_from_decides (bytes_eq x y) (bytes_eq y x) (bytes_eq-Decides
 pub empty_has : (s : BTreeSet (Bor (List ℕ))) → s.keys ≡ [] → has_letters s ≡ nobody
 empty_has s e = fun_ext (λ q. ap (λ ks. list_any (is_at (λ k. slice_cmp nat_cmp q k.now)) ks) e)
 
-pub updated : (x : List ℕ) (s n : BTreeSet (Bor (List ℕ))) (b : Bool) → UpdatesBy (λ u v. slice_cmp nat_cmp u.now v.now) (λ k. slice_cmp nat_cmp x k.now) s n b → has_letters n ≡ marked b x (has_letters s)
+pub updated : (x : List ℕ) (s n : BTreeSet (Bor (List ℕ))) (b : Bool) → UpdatesBy (λ u v. slice_cmp nat_cmp u.now v.now)
+    (λ k. slice_cmp nat_cmp x k.now) s n b → has_letters n ≡ marked b x (has_letters s)
 updated x s n b h = fun_ext (λ q. h.0 (record { ref_ptr = (0, 0); now = q }) ∙ ap (λ t. cond t b (has_letters s q)) (is_eq-slice_cmp x q ∙ eq_swaps x q))
 
 -- names one by one
@@ -39,13 +40,15 @@ one_by_one false r b t = refl
 one_more : (b : Bool) (x : List ℕ) (rest : List (List ℕ)) (test : NameTest) → all_marked b (x ∷ rest) test ≡ all_marked b rest (marked b x test)
 one_more b x rest test = fun_ext (λ q. one_by_one (bytes_eq q x) (list_any (bytes_eq q) rest) b (test q))
 
-pub turn : (b : Bool) (names : List (List ℕ)) (i : ℕ) (x : List ℕ) (test new : NameTest) → i < length names → x ≡ get_or names i x → new ≡ marked b x test → all_marked b (drop (i + 1) names) new ≡ all_marked b (drop i names) test
+pub turn : (b : Bool) (names : List (List ℕ)) (i : ℕ) (x : List ℕ) (test new : NameTest) → i < length names → x ≡ get_or names i x → new ≡
+    marked b x test → all_marked b (drop (i + 1) names) new ≡ all_marked b (drop i names) test
 turn b names i x test new lt is e =
     ap (λ t. all_marked b (drop (i + 1) names) t) e
     ∙ sym (one_more b x (drop (i + 1) names) test)
     ∙ ap (λ ns. all_marked b ns test) (sym (drop_is names i x lt is))
 
-pub turn_refs : (refs : List (Bor (List ℕ))) (i : ℕ) (d : Bor (List ℕ)) (test new : NameTest) → i < length refs → new ≡ marked true (get_or refs i d).now test → all_marked true (letters_of (drop (i + 1) refs)) new ≡ all_marked true (letters_of (drop i refs)) test
+pub turn_refs : (refs : List (Bor (List ℕ))) (i : ℕ) (d : Bor (List ℕ)) (test new : NameTest) → i < length refs → new ≡ marked true
+    (get_or refs i d).now test → all_marked true (letters_of (drop (i + 1) refs)) new ≡ all_marked true (letters_of (drop i refs)) test
 turn_refs refs i d test new lt e =
     let first : drop i refs ≡ get_or refs i d ∷ drop (i + 1) refs = rw (add-one, drop-cons refs i d) refl in
     ap (λ t. all_marked true (letters_of (drop (i + 1) refs)) t) e
@@ -67,7 +70,8 @@ hidden_none false false t f = refl
 same_at : (test : NameTest) (x q : List ℕ) (b : Bool) → test x ≡ b → bytes_eq q x ≡ true → test q ≡ b
 same_at test x q b h e = ap test ((bytes_eq-Decides q x).0 e) ∙ h
 
-pub hidden_more : (refs more : List (Bor (List ℕ))) (x : Bor (List ℕ)) (test new : NameTest) → more ≡ refs ++ x ∷ [] → test x.now ≡ true → new ≡ marked false x.now test → all_marked true (letters_of more) new ≡ all_marked true (letters_of refs) test
+pub hidden_more : (refs more : List (Bor (List ℕ))) (x : Bor (List ℕ)) (test new : NameTest) → more ≡ refs ++ x ∷ [] → test x.now ≡ true →
+    new ≡ marked false x.now test → all_marked true (letters_of more) new ≡ all_marked true (letters_of refs) test
 hidden_more refs more x test new m h e =
     ap (λ t. all_marked true (letters_of more) t) e
     ∙ ap (λ ns. all_marked true ns (marked false x.now test)) (ap letters_of m ∙ map_push (λ k. k.now) refs x)

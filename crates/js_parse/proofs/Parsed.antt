@@ -22,7 +22,8 @@ module _ (role : Role) (outer : List (List ℕ)) (bytes : List ℕ) where
   told_before f (inr h) = inr (h outer)
 
   -- the first fault of all, from that of the keys and of the names behind it
-  tells : (x : Tree) (keyed : Option NameFault) (q : ParsesWith role bytes x keyed) (found : Option Told) → found_of found ≡ offers keyed (faults_of outer x) → TellsFirst outer q.parses.tables q.parses.tokens x found
+  tells : (x : Tree) (keyed : Option NameFault) (q : ParsesWith role bytes x keyed) (found : Option Told) → found_of found ≡ offers keyed
+      (faults_of outer x) → TellsFirst outer q.parses.tables q.parses.tokens x found
   tells x keyed q found e =
       tells_first outer q.parses.tables q.parses.tokens x found
       (e ∙ ap (λ o. offers o (faults_of outer x)) q.finds ∙ sym (offers_append None (proto_faults q.parses.tables q.parses.tokens) (faults_of outer x)))
@@ -30,7 +31,8 @@ module _ (role : Role) (outer : List (List ℕ)) (bytes : List ℕ) where
   pub spelled : (x : Tree) (keyed : Option NameFault) → ParsesWith role bytes x keyed → found_of None ≡ offers keyed (faults_of outer x) → Spells role outer bytes x
   spelled x keyed q e = record { parses = q.parses; innocent = tells x keyed q None e }
 
-  pub told_of_names : (x : Tree) (keyed : Option NameFault) (f : Told) → ParsesWith role bytes x keyed → found_of (Some f) ≡ offers keyed (faults_of outer x) → IsTold role outer bytes (misnamed (fault_of f))
+  pub told_of_names : (x : Tree) (keyed : Option NameFault) (f : Told) → ParsesWith role bytes x keyed → found_of (Some f) ≡ offers keyed
+      (faults_of outer x) → IsTold role outer bytes (misnamed (fault_of f))
   told_of_names x keyed f q e = inr (of_names x (fault_of f) q.parses (tells x keyed q (Some f) e))
 
   never : {A : Type 0} (x : Tree) (f : ParseFault) → IsTold role outer bytes f → (f ≡ fault.Memory → ⊥) → Spells role outer bytes x → A
@@ -41,7 +43,8 @@ module _ (role : Role) (outer : List (List ℕ)) (bytes : List ℕ) where
   refused f (inl e) other = absurd (other e)
   refused f (inr h) other = h
 
-  pub is_found : (r : Result Script ParseFault) → IfOk r (λ s. Spells role outer bytes (tree_of s)) → IfErr r (IsTold role outer bytes) → (x : Tree) → Spells role outer bytes x → IsOrMemory tree_of r x
+  pub is_found : (r : Result Script ParseFault) → IfOk r (λ s. Spells role outer bytes (tree_of s)) → IfErr r
+      (IsTold role outer bytes) → (x : Tree) → Spells role outer bytes x → IsOrMemory tree_of r x
   is_found (Ok s) h k x p = one_script role outer bytes (tree_of s) x h p
   is_found (Err fault.Memory) h k x p = tt
   is_found (Err (fault.Lex f)) h k x p = never x (fault.Lex f) k (λ e. cc) p

@@ -38,7 +38,9 @@ Says parser.Memory P = Unit {0}
 Says (parser.Wrong rest) P = P Wrong rest.now
 Says (parser.TooDeep rest) P = P TooDeep rest.now
 
-pub grammar_refused : (role : Role) (bytes : List ℕ) (end : ℕ) (ts : List GrammarToken) (literals : List (List ℕ)) (tables : TokenTables) (f : Fault) → end ≡ length bytes → HasTokens bytes ts literals tables.names tables.keys → Says f (IsRefused (Statements tables (prints role)) most ts) → IsRefusal role bytes (grammar_fault f ts end)
+pub grammar_refused : (role : Role) (bytes : List ℕ) (end : ℕ) (ts : List GrammarToken) (literals : List
+    (List ℕ)) (tables : TokenTables) (f : Fault) → end ≡ length bytes → HasTokens bytes ts literals tables.names tables.keys → Says f
+    (IsRefused (Statements tables (prints role)) most ts) → IsRefusal role bytes (grammar_fault f ts end)
 grammar_refused role bytes end ts literals tables parser.Memory e reads h = inl refl
 grammar_refused role bytes end ts literals tables (parser.Wrong rest) e reads h = rw e (inr (λ outer. grammatical_at role outer bytes ts literals tables Wrong rest.now reads h))
 grammar_refused role bytes end ts literals tables (parser.TooDeep rest) e reads h = rw e (inr (λ outer. grammatical_at role outer bytes ts literals tables TooDeep rest.now reads h))
@@ -49,7 +51,10 @@ says_of (parser.Wrong rest) P h = h
 says_of (parser.TooDeep rest) P h = h
 
 -- the same of what the calls gave
-pub grammar_told : (role : Role) (bytes : List ℕ) (ts tokens others : List GrammarToken) (literals : List (List ℕ)) (tables : TokenTables) (printing : Bool) (f : Fault) (r : ParseFault) → printing ≡ prints role → tokens ≡ ts → others ≡ ts → HasTokens bytes ts literals tables.names tables.keys → Says f (IsRefused (Statements tables printing) most tokens) → r ≡ grammar_fault f others (length bytes) → IsRefusal role bytes r
+pub grammar_told : (role : Role) (bytes : List ℕ) (ts tokens others : List GrammarToken) (literals : List
+    (List ℕ)) (tables : TokenTables) (printing : Bool) (f : Fault) (r : ParseFault) → printing ≡ prints role → tokens ≡ ts → others ≡ ts →
+    HasTokens bytes ts literals tables.names tables.keys → Says f (IsRefused (Statements tables printing) most tokens) → r ≡ grammar_fault f
+    others (length bytes) → IsRefusal role bytes r
 grammar_told role bytes ts tokens others literals tables printing f r p t o reads h e =
     let P : Bool → List GrammarToken → Type 0 = λ b us. Says f (IsRefused (Statements tables b) most us) in
     let a : P (prints role) tokens = subst (λ b. P b tokens) p h in
@@ -57,7 +62,11 @@ grammar_told role bytes ts tokens others literals tables printing f r p t o read
     rw (e, o) (grammar_refused role bytes (length bytes) ts literals tables f refl reads b)
 
 -- the tree and the first key that is __proto__
-pub parses_with : (role : Role) (bytes : List ℕ) (ts tokens others : List GrammarToken) (literals : List (List ℕ)) (tables : TokenTables) (printing : Bool) (x : Script) (body : List Stmt) (found : Option NameFault) → printing ≡ prints role → tokens ≡ ts → others ≡ ts → HasTokens bytes ts literals tables.names tables.keys → Statements tables printing most tokens (map stmt_tree body) → x.literals.items ≡ literals → x.body.items ≡ body → x.top ≡ own_names (map stmt_tree body) → found ≡ offers None (proto_faults tables others) → ParsesWith role bytes (tree_of x) found
+pub parses_with : (role : Role) (bytes : List ℕ) (ts tokens others : List GrammarToken) (literals : List
+    (List ℕ)) (tables : TokenTables) (printing : Bool) (x : Script) (body : List Stmt) (found : Option NameFault) → printing ≡ prints role →
+    tokens ≡ ts → others ≡ ts → HasTokens bytes ts literals tables.names tables.keys → Statements tables printing most tokens
+    (map stmt_tree body) → x.literals.items ≡ literals → x.body.items ≡ body → x.top ≡ own_names (map stmt_tree body) → found ≡ offers None
+    (proto_faults tables others) → ParsesWith role bytes (tree_of x) found
 parses_with role bytes ts tokens others literals tables printing x body found p t o reads h l b top f = record {
   parses = record {
     tokens = ts;

@@ -24,30 +24,39 @@ pub walks_nowhere : (old : NameTest) (first : Option Told) → Walks old old fir
 walks_nowhere old first = record { kept = refl; finds = refl }
 
 -- what is walked over may go by the names of loops that there are then
-pub walks_then : (old mid new : NameTest) (a b c : Option Told) (fs : List NameFault) (gs : NameTest → List NameFault) → Walks old mid a fs b → Walks mid new b (gs mid) c → Walks old new a (fs ++ gs old) c
+pub walks_then : (old mid new : NameTest) (a b c : Option Told) (fs : List NameFault) (gs : NameTest → List NameFault) → Walks old mid a fs
+    b → Walks mid new b (gs mid) c → Walks old new a (fs ++ gs old) c
 walks_then old mid new a b c fs gs h k = record {
   kept = k.kept ∙ h.kept;
   finds = k.finds ∙ (ap (λ t. offers (found_of b) (gs t)) h.kept ∙ (ap (λ o. offers o (gs old)) h.finds ∙ sym (offers_append (found_of a) fs (gs old))));
 }
 
-pub walks_if : (old mid new : NameTest) (a b c : Option Told) (list : Arms) (rest : BlockTree) → Walks old mid a (faults_in_arms list old) b → Walks mid new b (faults_inside rest mid) c → Walks old new a (faults_in (tree.if_line list rest) old) c
+pub walks_if : (old mid new : NameTest) (a b c : Option Told) (list : Arms) (rest : BlockTree) → Walks old mid a (faults_in_arms list old) b
+    → Walks mid new b (faults_inside rest mid) c → Walks old new a (faults_in (tree.if_line list rest) old) c
 walks_if old mid new a b c list rest h k = walks_then old mid new a b c (faults_in_arms list old) (λ t. faults_inside rest t) h k
 
-pub walks_in_if : {E : Type 0} (old mid new : NameTest) (s : Stmt) (list : Vec Arm Global) (rest : Block) (now : List Arm) (a b : Option Told) (r : Result (Option Told) E) → s ≡ If list rest → now ≡ list.items → Walks old mid a (faults_in_arms (arms (map arm_tree now)) old) b → IfOk r (Walks mid new b (faults_inside (block_tree rest) mid)) → IfOk r (Walks old new a (faults_in (stmt_tree s) old))
+pub walks_in_if : {E : Type 0} (old mid new : NameTest) (s : Stmt) (list : Vec Arm Global) (rest : Block) (now : List Arm)
+    (a b : Option Told) (r : Result (Option Told) E) → s ≡ If list rest → now ≡ list.items → Walks old mid a
+    (faults_in_arms (arms (map arm_tree now)) old) b → IfOk r (Walks mid new b (faults_inside (block_tree rest) mid)) → IfOk r
+    (Walks old new a (faults_in (stmt_tree s) old))
 walks_in_if old mid new s list rest now a b r e d h k =
     IfOk-weaker r (Walks mid new b (faults_inside (block_tree rest) mid)) (Walks old new a (faults_in (stmt_tree s) old))
     (λ c w. subst (λ (t : StmtTree). Walks old new a (faults_in t old) c) (sym (ap stmt_tree e ∙ tree_of_if list rest))
     (walks_if old mid new a b c (arms (map arm_tree list.items)) (block_tree rest) (subst (λ (l : List Arm). Walks old mid a (faults_in_arms (arms (map arm_tree l)) old) b) d h) w)) k
 
 -- the body of a `for`
-pub walks_turns : (old entered inside after : NameTest) (x : List ℕ) (new : Bool) (a b : Option Told) (body : BlockTree) → new ≡ not (old x) → entered ≡ marked true x old → Walks entered inside a (faults_inside body entered) b → after ≡ cond new (marked false x inside) inside → Walks old after a (faults_inside body (marked true x old)) b
+pub walks_turns : (old entered inside after : NameTest) (x : List ℕ) (new : Bool) (a b : Option Told) (body : BlockTree) → new ≡ not (old x)
+    → entered ≡ marked true x old → Walks entered inside a (faults_inside body entered) b → after ≡ cond new (marked false x inside) inside →
+    Walks old after a (faults_inside body (marked true x old)) b
 walks_turns old entered inside after x new a b body n e h l = record {
   kept = left_again old inside after x new n (h.kept ∙ e) l;
   finds = h.finds ∙ ap (λ t. offers (found_of a) (faults_inside body t)) e;
 }
 
 -- the next arm, and then those after it
-pub arm_turn : (list : List Arm) (i : ℕ) (m : Arm) (old new : NameTest) (a b : Option Told) → i < length list → m ≡ get_or list i m → Walks old new a (faults_inside (block_tree m.body) old) b → offers (found_of b) (faults_in_arms (arms (map arm_tree (drop (i + 1) list))) new) ≡ offers (found_of a) (faults_in_arms (arms (map arm_tree (drop i list))) old)
+pub arm_turn : (list : List Arm) (i : ℕ) (m : Arm) (old new : NameTest) (a b : Option Told) → i < length list → m ≡ get_or list i m → Walks
+    old new a (faults_inside (block_tree m.body) old) b → offers (found_of b) (faults_in_arms (arms (map arm_tree (drop (i + 1) list))) new) ≡
+    offers (found_of a) (faults_in_arms (arms (map arm_tree (drop i list))) old)
 arm_turn list i m old new a b lt is h =
     let more : Arms = arms (map arm_tree (drop (i + 1) list)) in
     ap (λ t. offers (found_of b) (faults_in_arms more t)) h.kept
@@ -57,7 +66,10 @@ arm_turn list i m old new a b lt is h =
     ∙ ap (λ l. offers (found_of a) (faults_in_arms (arms (map arm_tree l)) old)) (sym (drop_is list i m lt is)))))
 
 -- the next statement, and then those after it
-pub statement_turn : (body : List Stmt) (i : ℕ) (s : Stmt) (old new before behind : NameTest) (a b c : Option Told) → i < length body → s ≡ get_or body i s → behind ≡ with_own (stmt_tree s) before → found_of b ≡ offers (found_of a) (declared_again (stmt_tree s) before) → Walks old new b (faults_in (stmt_tree s) old) c → offers (found_of c) (faults_among (stmts_tree (drop (i + 1) body)) new behind) ≡ offers (found_of a) (faults_among (stmts_tree (drop i body)) old before)
+pub statement_turn : (body : List Stmt) (i : ℕ) (s : Stmt) (old new before behind : NameTest) (a b c : Option Told) → i < length body → s ≡
+    get_or body i s → behind ≡ with_own (stmt_tree s) before → found_of b ≡ offers (found_of a) (declared_again (stmt_tree s) before) → Walks
+    old new b (faults_in (stmt_tree s) old) c → offers (found_of c) (faults_among (stmts_tree (drop (i + 1) body)) new behind) ≡ offers
+    (found_of a) (faults_among (stmts_tree (drop i body)) old before)
 statement_turn body i s old new before behind a b c lt is w d h =
     let more : Stmts = stmts_tree (drop (i + 1) body) in
     let again : List NameFault = declared_again (stmt_tree s) before in
@@ -81,7 +93,9 @@ is_marked : (b : Bool) → cond b true false ≡ b
 is_marked true = refl
 is_marked false = refl
 
-pub first_found : {E : Type 0} (outer : List (List ℕ)) (script : Script) (body : List Stmt) (names : List (List ℕ)) (loops new before fresh : NameTest) (first : Option Told) (r : Result (Option Told) E) → body ≡ script.body.items → names ≡ outer → loops ≡ nobody → fresh ≡ nobody → before ≡ all_marked true names fresh → IfOk r (Walks loops new first (faults_among (stmts_tree body) loops before))
+pub first_found : {E : Type 0} (outer : List (List ℕ)) (script : Script) (body : List Stmt) (names : List (List ℕ))
+    (loops new before fresh : NameTest) (first : Option Told) (r : Result (Option Told) E) → body ≡ script.body.items → names ≡ outer → loops
+    ≡ nobody → fresh ≡ nobody → before ≡ all_marked true names fresh → IfOk r (Walks loops new first (faults_among (stmts_tree body) loops before))
     → IfOk r (λ found. found_of found ≡ offers (found_of first) (faults_of outer (tree_of script)))
 first_found outer script body names loops new before fresh first r e d l f b h =
     let top : NameTest = all_marked false script.top nobody in

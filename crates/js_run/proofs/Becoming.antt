@@ -66,14 +66,16 @@ module _ (setup : Setup) (sources : Program Named) (ended : Ended) (old new : Si
 
 module _ (request : Request) (before after : FilesState) (ended : Ended) (old new : Sinks) where
   -- a file wasn't read, or memory was wanting
-  pub file_stopped : (prelude : Option FileName) (scripts : List FileName) (s : ScriptsFault) → request.asked ≡ files prelude scripts → RefusesFile before after (in_order (record { prelude = prelude; scripts = scripts })) s
+  pub file_stopped : (prelude : Option FileName) (scripts : List FileName) (s : ScriptsFault) → request.asked ≡ files prelude scripts →
+      RefusesFile before after (in_order (record { prelude = prelude; scripts = scripts })) s
       → ended.kept ≡ None → IsEnd (stop_report s) ended.code old new → Becomes (HasCauseBy (Some request) before after) ended old new
   file_stopped prelude scripts (stop.NotRead name) asked why none end = record { verdict = NotRead name.now; cause = rw (asked) why; ending = end; kept = none }
   file_stopped prelude scripts (stop.TooLarge name) asked why none end = record { verdict = TooLarge name.now; cause = rw (asked) why; ending = end; kept = none }
   file_stopped prelude scripts stop.NoMemory asked why none end = record { verdict = NoMemory; cause = why; ending = end; kept = none }
   file_stopped prelude scripts (stop.Refused name fault) asked why none end = absurd why
 
-  of_texts : (sources : Program Named) → AreTexts request.asked before.held sources → IsQuiet before after → (v : Verdict) → HasCauseOf (setup_of request) sources v → HasCauseBy (Some request) before after v
+  of_texts : (sources : Program Named) → AreTexts request.asked before.held sources → IsQuiet before after → (v : Verdict) → HasCauseOf
+      (setup_of request) sources v → HasCauseBy (Some request) before after v
   of_texts sources texts quiet BadWords why = absurd why
   of_texts sources texts quiet (NotRead name) why = absurd why
   of_texts sources texts quiet (TooLarge name) why = absurd why
@@ -155,10 +157,12 @@ module _ (setup : Setup) where
       let as_many = length-map (option_to_list ran.prelude ++ ran.scripts.items) (λ (o : Outcome). o.end) in
       let meant = length-map scripts (λ (tree : Tree). meaning tree (left_by (prelude_meant (limit_units setup.limit) prelude)) (limit_units setup.limit)) in
       let same : length p.files ≡ length (option_to_list ran.prelude ++ ran.scripts.items) = omega (arith, many, as_many, ap length p.ends) in
-      let few = script_count prelude ran.prelude ran.scripts.items (prelude_meant (limit_units setup.limit) prelude) (scripts_meant (limit_units setup.limit) prelude scripts) p.files p.has_prelude (has_flow prelude) (no_flow prelude) p.are same in
+      let few = script_count prelude ran.prelude ran.scripts.items (prelude_meant (limit_units setup.limit) prelude)
+      (scripts_meant (limit_units setup.limit) prelude scripts) p.files p.has_prelude (has_flow prelude) (no_flow prelude) p.are same in
       omega (arith, few, meant)
 
-same_prelude : (source : Option SourceText) (tree : Option Tree) (outcome : Option Outcome) → SpellsPrelude (option_map source_for source) tree → is_some tree ≡ is_some outcome → SamePrelude source outcome
+same_prelude : (source : Option SourceText) (tree : Option Tree) (outcome : Option Outcome) → SpellsPrelude (option_map source_for source)
+    tree → is_some tree ≡ is_some outcome → SamePrelude source outcome
 same_prelude None None None spells has = tt
 same_prelude None None (Some o) spells has = absurd (cc has)
 same_prelude None (Some t) outcome spells has = absurd spells
@@ -206,7 +210,8 @@ module _ (words : List (List ℕ)) (ended : Ended) where
   pub refused_outcome : (f : FilesState) (old new : Sinks) → request_of words ≡ None → ended.kept ≡ None → IsEnd (report_of BadWords) ended.code old new
       → OutcomeOf words ended (record { files = f; sinks = old }) (record { files = f; sinks = new })
   refused_outcome f old new unlawful none end =
-      outcome (record { files = f; sinks = old }) (record { files = f; sinks = new }) BadWords (still f) (subst (λ (r : Option Request). HasCauseBy r f f BadWords) (sym unlawful) (still_quiet f)) end none
+      outcome (record { files = f; sinks = old }) (record { files = f; sinks = new }) BadWords (still f)
+      (subst (λ (r : Option Request). HasCauseBy r f f BadWords) (sym unlawful) (still_quiet f)) end none
 
   memory_cause : (f : FilesState) (r : Option Request) → HasCauseBy r f f NoMemory
   memory_cause f None = still_quiet f

@@ -126,8 +126,10 @@ OneScript = (role : Role) (outer : List (List ℕ)) (bytes : List ℕ) (x y : Tr
 abbrev pub NoneRefused : Type 0
 NoneRefused = (role : Role) (outer : List (List ℕ)) (bytes : List ℕ) (x : Tree) (fault : ParseFault) → Spells role outer bytes x → Refused role outer bytes fault → ⊥
 
-none_among : NoneRefused → (outer : List (List ℕ)) (sources : List Named) (trees : List Tree) (name : FileName) (fault : ParseFault) → AllSpell outer sources trees → FirstAmong outer name fault sources → ⊥
-none_among law outer _ _ name fault (spelling.AllSpell.next source sources tree trees spells rest) (spelling.FirstAmong.here _ _ named refused) = law role.Main outer source.text tree fault spells refused
+none_among : NoneRefused → (outer : List (List ℕ)) (sources : List Named) (trees : List Tree) (name : FileName) (fault : ParseFault) →
+    AllSpell outer sources trees → FirstAmong outer name fault sources → ⊥
+none_among law outer _ _ name fault (spelling.AllSpell.next source sources tree trees spells rest)
+    (spelling.FirstAmong.here _ _ named refused) = law role.Main outer source.text tree fault spells refused
 none_among law outer _ _ name fault (spelling.AllSpell.next source sources tree trees spells rest) (spelling.FirstAmong.later _ _ tree' spells' first) =
     none_among law outer sources trees name fault rest first
 none_among law outer _ _ name fault spelling.AllSpell.none first = elim first [ ]

@@ -154,7 +154,8 @@ same_lines os ms is = printed_is os ∙ ap concat is ∙ sym (meant_is ms)
 -- the prelude, if there is one, has the first lines
 scripts_lines : (tree : Option Tree) (outcome : Option Outcome) (os : List Outcome) (flow : Option Flow) (flows : List Flow) → is_some tree ≡ is_some outcome
     → ((t : Tree) → tree ≡ Some t → (m : Flow) × (flow ≡ Some m)) → (tree ≡ None → flow ≡ None)
-    → map (λ o. o.lines) (option_to_list outcome ++ os) ≡ map (λ m. concat m.lines) (all_meant flow flows) → flat_map (λ (o : Outcome). o.lines) os ≡ flat_map (λ (m : Flow). concat m.lines) (run_after flow flows)
+    → map (λ o. o.lines) (option_to_list outcome ++ os) ≡ map (λ m. concat m.lines) (all_meant flow flows) → flat_map
+    (λ (o : Outcome). o.lines) os ≡ flat_map (λ (m : Flow). concat m.lines) (run_after flow flows)
 scripts_lines None None os None flows has some none is = same_lines os flows is
 scripts_lines None None os (Some m) flows has some none is = absurd (cc (none refl))
 scripts_lines (Some t) (Some o) os (Some m) flows has some none is = same_lines os (run_after (Some m) flows) (ap behind is)
@@ -169,7 +170,8 @@ module _ (request : Request) (trees : Program Tree) (ran : Ran) (p : IsRan (setu
   flows = all_flows request trees
 
   first : AreFirst (all_flows request trees) p.files
-  first = are_first (state_kept (setup_of request) ran.kept) (prelude_meant (limit_units request.limit) trees.prelude) (scripts_meant (limit_units request.limit) trees.prelude trees.scripts) p.files p.run.each p.are
+  first = are_first (state_kept (setup_of request) ran.kept) (prelude_meant (limit_units request.limit) trees.prelude)
+      (scripts_meant (limit_units request.limit) trees.prelude trees.scripts) p.files p.run.each p.are
 
   status_same : status_of (ends_of ran) ≡ status_of (file_ends p.files)
   status_same = ap status_of (sym p.ends)
@@ -188,18 +190,21 @@ module _ (request : Request) (trees : Program Tree) (ran : Ran) (p : IsRan (setu
   no_flow None is = refl
   no_flow (Some x) is = absurd (cc is)
 
-  lines_same : Every IsAsMeant p.files → flat_map (λ (o : Outcome). o.lines) ran.scripts.items ≡ flat_map (λ (m : Flow). concat m.lines) (run_after (prelude_meant (limit_units request.limit) trees.prelude) (scripts_meant (limit_units request.limit) trees.prelude trees.scripts))
+  lines_same : Every IsAsMeant p.files → flat_map (λ (o : Outcome). o.lines) ran.scripts.items ≡ flat_map (λ (m : Flow). concat m.lines)
+      (run_after (prelude_meant (limit_units request.limit) trees.prelude) (scripts_meant (limit_units request.limit) trees.prelude trees.scripts))
   lines_same all =
       let means : map (λ m. concat m.lines) (means_of p.files) ≡ map (λ m. concat m.lines) (all_flows request trees) = ap (map (λ m. concat m.lines)) (sym (means_same all)) in
       let printed = meant_lines (setup_sizes (setup_of request)) (state_kept (setup_of request) ran.kept) (all_flows request trees) p.files p.run.each all in
-      scripts_lines trees.prelude ran.prelude ran.scripts.items (prelude_meant (limit_units request.limit) trees.prelude) (scripts_meant (limit_units request.limit) trees.prelude trees.scripts) p.has_prelude
+      scripts_lines trees.prelude ran.prelude ran.scripts.items (prelude_meant (limit_units request.limit) trees.prelude)
+      (scripts_meant (limit_units request.limit) trees.prelude trees.scripts) p.has_prelude
       (has_flow trees.prelude) (no_flow trees.prelude) (sym p.lines ∙ printed ∙ means)
 
   out_same : Every IsAsMeant p.files → out_of ran ≡ out_meant request trees ran.interned
   out_same all = ap (λ l. l ++ count_line ran.interned) (lines_same all)
 
   -- what is reported is what is meant
-  report_same : (names : Program FileName) → Every IsAsMeant p.files → report_of (WasRun names ran) ≡ Printed (status_meant request trees) (out_meant request trees ran.interned) (end_lines (in_order names) (ends_meant (all_flows request trees)))
+  report_same : (names : Program FileName) → Every IsAsMeant p.files → report_of (WasRun names ran) ≡ Printed (status_meant request trees)
+      (out_meant request trees ran.interned) (end_lines (in_order names) (ends_meant (all_flows request trees)))
   report_same names all =
       let ends = ends_same all in
       ap (λ es. Printed (status_of es) (out_of ran) (end_lines (in_order names) es)) ends

@@ -17,7 +17,26 @@ use Rattle.js_run.specs.Cause.{HasCauseBy, OfTexts, names_in}
 use Rattle.js_io.specs.Report.{TakesAll, IsTold, IsEnd, Report, Refusal, Printed, Sinks}
 use Rattle.js_run.specs.Outcome.{CallOutcome}
 use Rattle.js_run.specs.Rows as row
-use Rattle.js_run.specs.Rows.{NoFault, OrWant, Exactly, IsFileFault, IsToldLarge, IsNoScript, IsToldRefused, HasRefusalStatus, IsRefusalTold, IsMemory, HasRun, Prints, PrintsAll, PrintsEarly, PrintsFull, IsCutShort, IsHonest, IsDone}
+use Rattle.js_run.specs.Rows.{
+  NoFault,
+  OrWant,
+  Exactly,
+  IsFileFault,
+  IsToldLarge,
+  IsNoScript,
+  IsToldRefused,
+  HasRefusalStatus,
+  IsRefusalTold,
+  IsMemory,
+  HasRun,
+  Prints,
+  PrintsAll,
+  PrintsEarly,
+  PrintsFull,
+  IsCutShort,
+  IsHonest,
+  IsDone,
+}
 use Rattle.js_run.proofs.Contents.{OneScript, NoneRefused, not_large, read_small, none_refused, same_trees, texts_read, texts_same}
 use Rattle.js_run.proofs.Ends.{IsRunStatus, status_is, done_status, done_out, done_err, early_status, full_first, complete}
 
@@ -59,7 +78,8 @@ bad_words (Some request) old new (Refused name fault) why is = absurd (omega (ar
 bad_words (Some request) old new NoMemory why is = absurd (omega (arith, is))
 bad_words (Some request) old new (WasRun names ran) why is = absurd (not_ran _ 2 (status_is (ends_of ran)) is (omega arith) (omega arith))
 
-refused_words : (ended : Ended) (old new : Moment) (v : Verdict) → HasCauseBy None old.files new.files v → IsEnd (report_of v) ended.code old.sinks new.sinks → ended.kept ≡ kept_of v → OrWant 2 ended old new
+refused_words : (ended : Ended) (old new : Moment) (v : Verdict) → HasCauseBy None old.files new.files v → IsEnd (report_of v) ended.code
+    old.sinks new.sinks → ended.kept ≡ kept_of v → OrWant 2 ended old new
 refused_words ended old new BadWords why end kept = inl end.status
 refused_words ended old new NoMemory why end kept = inr (record { told = end; kept = kept })
 refused_words ended old new (NotRead name) why end kept = absurd why
@@ -140,7 +160,8 @@ told_not_large request old new sources name told texts why =
     let (all, read) = texts_read old.held request.asked sources texts in
     not_large old.held why.up_to.before why.up_to.after name (in_order (names_of request.asked)) all old.oversize new.oversize read told why.up_to.split why.larger
 
-refused_end : OneScript → NoneRefused → (words : List (List ℕ)) (ended : Ended) (old new : Moment) (told : IsToldRefused words old.files new.files) (v : Verdict) → HasCauseBy (Some told.request) old.files new.files v
+refused_end : OneScript → NoneRefused → (words : List (List ℕ)) (ended : Ended)
+    (old new : Moment) (told : IsToldRefused words old.files new.files) (v : Verdict) → HasCauseBy (Some told.request) old.files new.files v
     → IsEnd (report_of v) ended.code old.sinks new.sinks → ended.kept ≡ kept_of v → OrWant 4 ended old new
 refused_end one law words ended old new told BadWords why end kept = absurd why
 refused_end one law words ended old new told (NotRead name) why end kept = absurd (counted old.files.faults new.files.faults why.once told.calm)
@@ -167,7 +188,8 @@ no_six ended six (inl two) = omega (arith, six, two)
 no_six ended six (inr (inl three)) = omega (arith, six, three)
 no_six ended six (inr (inr four)) = omega (arith, six, four)
 
-refusal_of : (words : List (List ℕ)) (ended : Ended) (old new : Moment) (v : Verdict) (status : ℕ) (line : List ℕ) → report_of v ≡ Refusal status line → HasCauseBy (request_of words) old.files new.files v
+refusal_of : (words : List (List ℕ)) (ended : Ended) (old new : Moment) (v : Verdict) (status : ℕ) (line : List ℕ) → report_of v ≡ Refusal
+    status line → HasCauseBy (request_of words) old.files new.files v
     → IsTold status line ended.code old.sinks new.sinks → ended.kept ≡ None → IsRefusalTold words ended old new
 refusal_of words ended old new v status line same why told kept = record {
   verdict = v;
@@ -194,7 +216,8 @@ record RanTo (words : List (List ℕ)) (ended : Ended) (old new : Moment) : Type
   run : HasRun words ended old new
   end : IsEnd (report_of (WasRun run.names run.ran)) ended.code old.sinks new.sinks
 
-ran_to_end : (words : List (List ℕ)) (request : Request) (ended : Ended) (old new : Moment) (names : Program FileName) (ran : Ran) → request_of words ≡ Some request → OfTexts request old.files new.files (WasRun names ran)
+ran_to_end : (words : List (List ℕ)) (request : Request) (ended : Ended) (old new : Moment) (names : Program FileName) (ran : Ran) →
+    request_of words ≡ Some request → OfTexts request old.files new.files (WasRun names ran)
     → IsEnd (report_of (WasRun names ran)) ended.code old.sinks new.sinks → ended.kept ≡ Some ran.kept → RanTo words ended old new
 ran_to_end words request ended old new names ran lawful why end kept = record {
   run = record { request = request; lawful = lawful; names = names; ran = ran; came = why; kept = kept };
@@ -259,7 +282,8 @@ cut_short words ended old new is r = by r.end
     by (inl whole) = absurd (not_seven (status_of (ends_of r.run.ran)) (status_is (ends_of r.run.ran)) (sym whole.status ∙ is))
     by (inr cut) = record { run = r.run; cut = cut }
 
-honest_end : OneScript → NoneRefused → (words : List (List ℕ)) (ended : Ended) (old new : Moment) (honest : IsHonest words old.files new.files) (v : Verdict) → HasCauseBy (Some honest.request) old.files new.files v
+honest_end : OneScript → NoneRefused → (words : List (List ℕ)) (ended : Ended)
+    (old new : Moment) (honest : IsHonest words old.files new.files) (v : Verdict) → HasCauseBy (Some honest.request) old.files new.files v
     → IsEnd (report_of v) ended.code old.sinks new.sinks → ended.kept ≡ kept_of v → IsDone words ended old new honest
 honest_end one none words ended old new honest BadWords why end kept = absurd why
 honest_end one none words ended old new honest (NotRead name) why end kept = absurd (counted old.files.faults new.files.faults why.once honest.calm)
@@ -271,7 +295,8 @@ honest_end one none words ended old new honest NoMemory why end kept = inr (reco
 honest_end one none words ended old new honest (WasRun names ran) why end kept =
     let same = texts_same old.files.held honest.request.asked why.sources honest.sources honest.told why.texts honest.texts in
     let trees = same_trees one honest.sources why.cause.trees honest.trees (subst (λ (x : Program Named). Spell x why.cause.trees) same why.cause.spell) honest.spell in
-    let program : IsRan (setup_of honest.request) honest.trees.prelude honest.trees.scripts ran = subst (λ (t : Program Tree). IsRan (setup_of honest.request) t.prelude t.scripts ran) trees why.cause.program in
+    let program : IsRan (setup_of honest.request) honest.trees.prelude honest.trees.scripts ran = subst
+    (λ (t : Program Tree). IsRan (setup_of honest.request) t.prelude t.scripts ran) trees why.cause.program in
     inl (record {
       ran = ran;
       program = program;

@@ -1,5 +1,35 @@
 -- What is written of files that were run, one behind the other.
-use Rattle.std.proofs.Common.{◌≡◌, ◌+◌, ◌<◌, ◌++◌, ℕ, zero, suc, List, [], ◌∷◌, length, map, option_map, Option, None, Some, drop, get_or, Result, Ok, Err, refl, sym, ap, ap₂, ◌∙◌, subst, arith, option_to_list}
+use Rattle.std.proofs.Common.{
+  ◌≡◌,
+  ◌+◌,
+  ◌<◌,
+  ◌++◌,
+  ℕ,
+  zero,
+  suc,
+  List,
+  [],
+  ◌∷◌,
+  length,
+  map,
+  option_map,
+  Option,
+  None,
+  Some,
+  drop,
+  get_or,
+  Result,
+  Ok,
+  Err,
+  refl,
+  sym,
+  ap,
+  ap₂,
+  ◌∙◌,
+  subst,
+  arith,
+  option_to_list,
+}
 use Rattle.js_io.specs.SinkState.{SinkState, WritesAll}
 use Rattle.js_io.proofs.Prefixes.{Appends-nil, then_second, first_failed}
 use Rattle.js_eval.specs.declared.ending.End.{End}
@@ -66,7 +96,8 @@ names_are [] = refl
 names_are (s ∷ sources) = ap (λ ns. s.name.now ∷ ns) (names_are sources)
 
 abbrev all_lines : Option SourceText → List SourceText → Option Outcome → List Outcome → List ℕ
-all_lines prelude sources first outcomes = end_lines (option_to_list (option_map (λ s. s.name) (option_map source_for prelude)) ++ (map (λ s. s.name) (map source_for sources))) (outcome_ends (option_to_list first ++ outcomes))
+all_lines prelude sources first outcomes = end_lines (option_to_list (option_map (λ s. s.name) (option_map source_for prelude)) ++
+    (map (λ s. s.name) (map source_for sources))) (outcome_ends (option_to_list first ++ outcomes))
 
 -- the lines of all files, without a prelude and with one
 pub without_prelude : (prelude : Option SourceText) (sources : List SourceText) (first : Option Outcome) (outcomes : List Outcome) → SamePrelude prelude first → prelude ≡ None

@@ -10,7 +10,21 @@ use Rattle.parse_syntax.specs.declared.token.GrammarToken.{GrammarToken}
 use Rattle.parse_syntax.specs.Tables.{TokenTables}
 use Rattle.eval_tree.specs.Tree.{ExprTree}
 use Rattle.parse_syntax.proofs.Stops.{begins_unary, is_step}
-use Rattle.parse_syntax.proofs.Expressions.{Inner, step_part, step_starts, unary_part, unary_starts, sum_part, sum_starts, comparison_part, comparison_starts, equality_part, equality_starts, conjunction_part, conjunction_starts}
+use Rattle.parse_syntax.proofs.Expressions.{
+  Inner,
+  step_part,
+  step_starts,
+  unary_part,
+  unary_starts,
+  sum_part,
+  sum_starts,
+  comparison_part,
+  comparison_starts,
+  equality_part,
+  equality_starts,
+  conjunction_part,
+  conjunction_starts,
+}
 use Rattle.parse_syntax.proofs.Scripts.{lowest, inner_levels, same_expressions}
 use Rattle.parse_look.specs.declared.look.Level.{Level}
 use Rattle.parse_look.specs.declared.look.Level.TheVariants as level
@@ -35,7 +49,8 @@ module _ (tables : TokenTables) where
   below zero w = Never
   below (suc n) w = within_room tables n w
 
-  here : (n : ℕ) → Inner Any (has_room n) (below n Whole) (below n Operand) (within_room tables n Whole) (within_room tables n Operand) (inner tables n Whole) (inner tables n Operand) (inner tables n Whole) (inner tables n Operand)
+  here : (n : ℕ) → Inner Any (has_room n) (below n Whole) (below n Operand) (within_room tables n Whole) (within_room tables n Operand)
+      (inner tables n Whole) (inner tables n Operand) (inner tables n Whole) (inner tables n Operand)
   here zero = lowest tables Any wrong wrong
   here (suc n) = inner_levels tables Any n n (same_expressions tables Any n)
 
@@ -46,21 +61,45 @@ module _ (tables : TokenTables) where
   module _ (n : ℕ) where
     pub step_eats : IsEating (step_at tables n)
     unfolding step_at
-    step_eats = eats_by (step_part Any tables (has_room n) (has_room n) (rooms n) (below n Whole) (below n Operand) (within_room tables n Whole) (within_room tables n Operand) (inner tables n Whole) (inner tables n Operand) (inner tables n Whole) (inner tables n Operand) (here n)).lawful
-        (λ ts x h. begins_length is_step ts ((step_starts Any tables (has_room n) (has_room n) (rooms n) (below n Whole) (below n Operand) (within_room tables n Whole) (within_room tables n Operand) (inner tables n Whole) (inner tables n Operand) (inner tables n Whole) (inner tables n Operand) (here n)).by ts x h))
+    step_eats = eats_by (step_part Any tables (has_room n) (has_room n) (rooms n) (below n Whole) (below n Operand)
+        (within_room tables n Whole) (within_room tables n Operand) (inner tables n Whole) (inner tables n Operand) (inner tables n Whole)
+        (inner tables n Operand) (here n)).lawful
+        (λ ts x h. begins_length is_step ts ((step_starts Any tables (has_room n) (has_room n) (rooms n) (below n Whole) (below n Operand)
+        (within_room tables n Whole) (within_room tables n Operand) (inner tables n Whole) (inner tables n Operand) (inner tables n Whole)
+        (inner tables n Operand) (here n)).by ts x h))
 
     operand_eats : (level : Level) → IsEating (operand_at tables n level)
     unfolding operand_at
-    operand_eats level.Sum = eats_by (unary_part Any tables (has_room n) (has_room n) (rooms n) (below n Whole) (below n Operand) (within_room tables n Whole) (within_room tables n Operand) (inner tables n Whole) (inner tables n Operand) (inner tables n Whole) (inner tables n Operand) (here n)).lawful
-        (λ ts x h. begins_length begins_unary ts ((unary_starts Any tables (has_room n) (has_room n) (rooms n) (below n Whole) (below n Operand) (within_room tables n Whole) (within_room tables n Operand) (inner tables n Whole) (inner tables n Operand) (inner tables n Whole) (inner tables n Operand) (here n)).by ts x h))
-    operand_eats level.Compare = eats_by (sum_part Any tables (has_room n) (has_room n) (rooms n) (below n Whole) (below n Operand) (within_room tables n Whole) (within_room tables n Operand) (inner tables n Whole) (inner tables n Operand) (inner tables n Whole) (inner tables n Operand) (here n)).lawful
-        (λ ts x h. begins_length begins_unary ts ((sum_starts Any tables (has_room n) (has_room n) (rooms n) (below n Whole) (below n Operand) (within_room tables n Whole) (within_room tables n Operand) (inner tables n Whole) (inner tables n Operand) (inner tables n Whole) (inner tables n Operand) (here n)).by ts x h))
-    operand_eats level.Equal = eats_by (comparison_part Any tables (has_room n) (has_room n) (rooms n) (below n Whole) (below n Operand) (within_room tables n Whole) (within_room tables n Operand) (inner tables n Whole) (inner tables n Operand) (inner tables n Whole) (inner tables n Operand) (here n)).lawful
-        (λ ts x h. begins_length begins_unary ts ((comparison_starts Any tables (has_room n) (has_room n) (rooms n) (below n Whole) (below n Operand) (within_room tables n Whole) (within_room tables n Operand) (inner tables n Whole) (inner tables n Operand) (inner tables n Whole) (inner tables n Operand) (here n)).by ts x h))
-    operand_eats level.And = eats_by (equality_part Any tables (has_room n) (has_room n) (rooms n) (below n Whole) (below n Operand) (within_room tables n Whole) (within_room tables n Operand) (inner tables n Whole) (inner tables n Operand) (inner tables n Whole) (inner tables n Operand) (here n)).lawful
-        (λ ts x h. begins_length begins_unary ts ((equality_starts Any tables (has_room n) (has_room n) (rooms n) (below n Whole) (below n Operand) (within_room tables n Whole) (within_room tables n Operand) (inner tables n Whole) (inner tables n Operand) (inner tables n Whole) (inner tables n Operand) (here n)).by ts x h))
-    operand_eats level.Or = eats_by (conjunction_part Any tables (has_room n) (has_room n) (rooms n) (below n Whole) (below n Operand) (within_room tables n Whole) (within_room tables n Operand) (inner tables n Whole) (inner tables n Operand) (inner tables n Whole) (inner tables n Operand) (here n)).lawful
-        (λ ts x h. begins_length begins_unary ts ((conjunction_starts Any tables (has_room n) (has_room n) (rooms n) (below n Whole) (below n Operand) (within_room tables n Whole) (within_room tables n Operand) (inner tables n Whole) (inner tables n Operand) (inner tables n Whole) (inner tables n Operand) (here n)).by ts x h))
+    operand_eats level.Sum = eats_by (unary_part Any tables (has_room n) (has_room n) (rooms n) (below n Whole) (below n Operand)
+        (within_room tables n Whole) (within_room tables n Operand) (inner tables n Whole) (inner tables n Operand) (inner tables n Whole)
+        (inner tables n Operand) (here n)).lawful
+        (λ ts x h. begins_length begins_unary ts ((unary_starts Any tables (has_room n) (has_room n) (rooms n) (below n Whole)
+        (below n Operand) (within_room tables n Whole) (within_room tables n Operand) (inner tables n Whole) (inner tables n Operand)
+        (inner tables n Whole) (inner tables n Operand) (here n)).by ts x h))
+    operand_eats level.Compare = eats_by (sum_part Any tables (has_room n) (has_room n) (rooms n) (below n Whole) (below n Operand)
+        (within_room tables n Whole) (within_room tables n Operand) (inner tables n Whole) (inner tables n Operand) (inner tables n Whole)
+        (inner tables n Operand) (here n)).lawful
+        (λ ts x h. begins_length begins_unary ts ((sum_starts Any tables (has_room n) (has_room n) (rooms n) (below n Whole)
+        (below n Operand) (within_room tables n Whole) (within_room tables n Operand) (inner tables n Whole) (inner tables n Operand)
+        (inner tables n Whole) (inner tables n Operand) (here n)).by ts x h))
+    operand_eats level.Equal = eats_by (comparison_part Any tables (has_room n) (has_room n) (rooms n) (below n Whole) (below n Operand)
+        (within_room tables n Whole) (within_room tables n Operand) (inner tables n Whole) (inner tables n Operand) (inner tables n Whole)
+        (inner tables n Operand) (here n)).lawful
+        (λ ts x h. begins_length begins_unary ts ((comparison_starts Any tables (has_room n) (has_room n) (rooms n) (below n Whole)
+        (below n Operand) (within_room tables n Whole) (within_room tables n Operand) (inner tables n Whole) (inner tables n Operand)
+        (inner tables n Whole) (inner tables n Operand) (here n)).by ts x h))
+    operand_eats level.And = eats_by (equality_part Any tables (has_room n) (has_room n) (rooms n) (below n Whole) (below n Operand)
+        (within_room tables n Whole) (within_room tables n Operand) (inner tables n Whole) (inner tables n Operand) (inner tables n Whole)
+        (inner tables n Operand) (here n)).lawful
+        (λ ts x h. begins_length begins_unary ts ((equality_starts Any tables (has_room n) (has_room n) (rooms n) (below n Whole)
+        (below n Operand) (within_room tables n Whole) (within_room tables n Operand) (inner tables n Whole) (inner tables n Operand)
+        (inner tables n Whole) (inner tables n Operand) (here n)).by ts x h))
+    operand_eats level.Or = eats_by (conjunction_part Any tables (has_room n) (has_room n) (rooms n) (below n Whole) (below n Operand)
+        (within_room tables n Whole) (within_room tables n Operand) (inner tables n Whole) (inner tables n Operand) (inner tables n Whole)
+        (inner tables n Operand) (here n)).lawful
+        (λ ts x h. begins_length begins_unary ts ((conjunction_starts Any tables (has_room n) (has_room n) (rooms n) (below n Whole)
+        (below n Operand) (within_room tables n Whole) (within_room tables n Operand) (inner tables n Whole) (inner tables n Operand)
+        (inner tables n Whole) (inner tables n Operand) (here n)).by ts x h))
 
     pub link_eats : (level : Level) → IsEating (and_then link_of (one_of (operators level)) (operand_at tables n level))
     link_eats level = then_eats link_of (operators level) (operand_at tables n level) (operand_eats level)

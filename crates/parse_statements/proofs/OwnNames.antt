@@ -9,7 +9,8 @@ own_names_push : (xs : List StmtTree) (x : StmtTree) → own_names (xs ++ x ∷ 
 own_names_push [] x = append-nil (own_name x)
 own_names_push (y ∷ xs) x = ap (λ l. own_name y ++ l) (own_names_push xs x) ∙ sym (append_assoc (own_name y) (own_names xs) (own_name x))
 
-pub one_more : (body : List Stmt) (i : ℕ) (stmt : Stmt) → i < length body → stmt ≡ get_or body i stmt → own_names (map stmt_tree (take (i + 1) body)) ≡ own_names (map stmt_tree (take i body)) ++ own_name (stmt_tree stmt)
+pub one_more : (body : List Stmt) (i : ℕ) (stmt : Stmt) → i < length body → stmt ≡ get_or body i stmt → own_names
+    (map stmt_tree (take (i + 1) body)) ≡ own_names (map stmt_tree (take i body)) ++ own_name (stmt_tree stmt)
 one_more body i stmt lt is =
     ap (λ l. own_names (map stmt_tree l)) (take_more body i stmt lt ∙ ap (λ s. take i body ++ s ∷ []) (sym is))
     ∙ ap own_names (map_push stmt_tree (take i body) stmt)

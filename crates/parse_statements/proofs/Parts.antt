@@ -17,7 +17,9 @@ use Rattle.parse_statements.proofs.Turns.{handed_on}
 use Rattle.parse_syntax.specs.MarksAndWords.{opening, open_bracket, close_bracket, sign, question, colon}
 
 module _ (tables : TokenTables) (n : ℕ) (s : List GrammarToken) where
-  module _ (m : (ℕ × Method) × List ℕ) (r : List GrammarToken) (h : heads member_word s ≡ false) (p : heads (property_word tables) s ≡ false) (o : one_of (method tables) s ≡ Got m r) (y : Unit {0}) (r0 : List GrammarToken) (a : one_of opening r ≡ Got y r0) (z : 0 < n) where
+  module _ (m : (ℕ × Method) × List ℕ) (r : List GrammarToken) (h : heads member_word s ≡ false) (p : heads
+      (property_word tables) s ≡ false) (o : one_of (method tables) s ≡ Got m r) (y : Unit {0}) (r0 : List GrammarToken) (a : one_of opening r
+      ≡ Got y r0) (z : 0 < n) where
     pub member_fails : (e : Fault) → FailsWith e (args_at tables n r) → FailsWith e (member_at tables n s)
     member_fails e f = handed_on e (args_at tables n r) (member_at tables n s) (λ k r' bad. member_call tables n s m r h p o y r0 a z ∙ rw bad refl) f
 

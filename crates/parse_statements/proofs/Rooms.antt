@@ -23,7 +23,25 @@ use Rattle.parse_look.specs.declared.look.Level.TheVariants as level
 use Rattle.parse_look.specs.declared.look.Opener.{Opener}
 use Rattle.parse_look.specs.declared.look.Opener.TheVariants as opener
 use Rattle.parse_look.specs.Look.{opener_of, openers, read_string_called, read_called}
-use Rattle.parse_statements.specs.At.{has_room, inner, parens_at, args_at, given_at, builtin_at, entry_at, members_at, literal_at, primary_at, member_at, step_at, post_at, unary_at, chain_at, branches_at, expression_at}
+use Rattle.parse_statements.specs.At.{
+  has_room,
+  inner,
+  parens_at,
+  args_at,
+  given_at,
+  builtin_at,
+  entry_at,
+  members_at,
+  literal_at,
+  primary_at,
+  member_at,
+  step_at,
+  post_at,
+  unary_at,
+  chain_at,
+  branches_at,
+  expression_at,
+}
 use Rattle.std.specs.Prelude.{is_some}
 use Rattle.parse_syntax.specs.MarksAndWords.{opening, closing, open_bracket, close_bracket, open_literal, point, question, colon, sign, string_word, symbol_word, json_word, object_word, uri_function}
 
@@ -33,7 +51,8 @@ pub bind_got : {A : Type 0} (a : Answer GrammarToken A) → (a >>= λ x r. Got x
 bind_got (Got x r) = refl
 bind_got (Bad k r) = refl
 
-pub bind_bind : {A B C : Type 0} (a : Answer GrammarToken A) (f : A → List GrammarToken → Answer GrammarToken B) (g : B → List GrammarToken → Answer GrammarToken C) → ((a >>= f) >>= g) ≡ (a >>= λ x r. f x r >>= g)
+pub bind_bind : {A B C : Type 0} (a : Answer GrammarToken A) (f : A → List GrammarToken → Answer GrammarToken B) (g : B → List GrammarToken
+    → Answer GrammarToken C) → ((a >>= f) >>= g) ≡ (a >>= λ x r. f x r >>= g)
 bind_bind (Got x r) f g = refl
 bind_bind (Bad k r) f g = refl
 
@@ -70,7 +89,8 @@ less_one n = omega arith
 -- none of these begins a primary
 
 -- what opens nothing isn't of a kind that does
-none_opens : {A : Type 0} (v : GrammarToken → Option A) → ((t : GrammarToken) (k : GrammarKind) → opener_of (with_kind t k) ≡ None → is_some (v (with_kind t k)) ≡ false) → (s : List GrammarToken) → openers s ≡ None → heads v s ≡ false
+none_opens : {A : Type 0} (v : GrammarToken → Option A) → ((t : GrammarToken) (k : GrammarKind) → opener_of (with_kind t k) ≡ None → is_some
+    (v (with_kind t k)) ≡ false) → (s : List GrammarToken) → openers s ≡ None → heads v s ≡ false
 none_opens v h [] o = refl
 none_opens v h (t ∷ s) o = h t t.kind o
 
@@ -183,7 +203,8 @@ module _ (tables : TokenTables) where
 
   pub parens_is : (n : ℕ) (s : List GrammarToken) → 0 < n → parens_at tables n s ≡ (one_of opening s >>= λ _ r. expression_at tables (n - 1) r >>= λ x r. one_of closing r >>= λ _ r. Got x r)
   unfolding parens_at
-  parens_is n s h = word_then opening (and_then keep_first (inner tables n Whole) (one_of closing)) s ∙ ap (λ q. one_of opening s >>= λ _ r. q r >>= λ x r. one_of closing r >>= λ _ r. Got x r) (inner_whole n h)
+  parens_is n s h = word_then opening (and_then keep_first (inner tables n Whole) (one_of closing)) s ∙ ap
+      (λ q. one_of opening s >>= λ _ r. q r >>= λ x r. one_of closing r >>= λ _ r. Got x r) (inner_whole n h)
 
   -- built-in functions
 
@@ -205,7 +226,9 @@ module _ (tables : TokenTables) where
   plain_call n at s = bind_bind (read_args (inner tables n Whole) s) (λ ts r. Got (plain_string ts) r) (λ p r. Got (builtin_of at p) r)
 
   -- a function behind a point, where its arguments are read by a
-  function_call : (n at : ℕ) (v : GrammarToken → Option Builtin) (a : TokenReader GrammarToken (List ExprTree)) (r : List GrammarToken) → ((w : Builtin) (r' : List GrammarToken) → one_of v r ≡ Got w r' → a r' ≡ given_at tables n w r') → (and_then pair_of (one_of v) a r >>= λ p r. Got (builtin_of at p) r) ≡ (one_of v r >>= λ w r'. calling n at w r')
+  function_call : (n at : ℕ) (v : GrammarToken → Option Builtin) (a : TokenReader GrammarToken
+      (List ExprTree)) (r : List GrammarToken) → ((w : Builtin) (r' : List GrammarToken) → one_of v r ≡ Got w r' → a r' ≡ given_at tables n w
+      r') → (and_then pair_of (one_of v) a r >>= λ p r. Got (builtin_of at p) r) ≡ (one_of v r >>= λ w r'. calling n at w r')
   function_call n at v a r h = go (one_of v r) refl
     where
       args : (w : Builtin) (r' : List GrammarToken) → a r' ≡ given_at tables n w r' → ((a r' >>= λ ts r''. Got (pair_of w ts) r'') >>= λ p r. Got (builtin_of at p) r) ≡ calling n at w r'
@@ -215,7 +238,8 @@ module _ (tables : TokenTables) where
       go (Bad k r') e = refl
       go (Got w r') e = args w r' (h w r' e)
 
-  behind : {A : Type 0} (s : List GrammarToken) (q : TokenReader GrammarToken A) (g : A → List GrammarToken → Answer GrammarToken ExprTree) → (and_then keep_second (one_of point) q s >>= g) ≡ (one_of point s >>= λ _ r. q r >>= g)
+  behind : {A : Type 0} (s : List GrammarToken) (q : TokenReader GrammarToken A) (g : A → List GrammarToken → Answer GrammarToken ExprTree)
+      → (and_then keep_second (one_of point) q s >>= g) ≡ (one_of point s >>= λ _ r. q r >>= g)
   behind s q g = ap (λ a. a >>= g) (word_then point q s) ∙ bind_bind (one_of point s) (λ _ r. q r) g
 
   given_plain : (n : ℕ) (w : Builtin) (r : List GrammarToken) → (w ≡ builtin.Stringify → ⊥) → read_args (inner tables n Whole) r ≡ given_at tables n w r
@@ -230,10 +254,14 @@ module _ (tables : TokenTables) where
   uri_call : (n at : ℕ) (w : Builtin) (s : List GrammarToken) → (w ≡ builtin.Stringify → ⊥) → (read_args (inner tables n Whole) s >>= λ ts r. Got (uri_of (at, w) ts) r) ≡ calling n at w s
   uri_call n at w s h = ap (λ a. a >>= λ ts r. Got (uri_of (at, w) ts) r) (given_plain n w s h)
 
-  string_call : (n at : ℕ) (s : List GrammarToken) → (choose (heads point) (and_then keep_second (one_of point) (and_then pair_of (one_of from_word) (read_args (inner tables n Whole)))) (map_by plain_string (read_args (inner tables n Whole))) s >>= λ p r. Got (builtin_of at p) r) ≡ (read_string_called s >>= λ w r. calling n at w r)
+  string_call : (n at : ℕ) (s : List GrammarToken) → (choose (heads point)
+      (and_then keep_second (one_of point) (and_then pair_of (one_of from_word) (read_args (inner tables n Whole))))
+      (map_by plain_string (read_args (inner tables n Whole))) s >>= λ p r. Got (builtin_of at p) r) ≡ (read_string_called s >>= λ w r. calling n at w r)
   string_call n at s = go (heads point s) refl
     where
-      go : (b : Bool) → heads point s ≡ b → (choose (heads point) (and_then keep_second (one_of point) (and_then pair_of (one_of from_word) (read_args (inner tables n Whole)))) (map_by plain_string (read_args (inner tables n Whole))) s >>= λ p r. Got (builtin_of at p) r) ≡ (read_string_called s >>= λ w r. calling n at w r)
+      go : (b : Bool) → heads point s ≡ b → (choose (heads point) (and_then keep_second (one_of point)
+          (and_then pair_of (one_of from_word) (read_args (inner tables n Whole)))) (map_by plain_string (read_args (inner tables n Whole))) s
+          >>= λ p r. Got (builtin_of at p) r) ≡ (read_string_called s >>= λ w r. calling n at w r)
       go true h = rw h (behind s (and_then pair_of (one_of from_word) (read_args (inner tables n Whole))) (λ p r. Got (builtin_of at p) r)
           ∙ ap (λ f. one_of point s >>= f) (λ i _ r. function_call n at from_word (read_args (inner tables n Whole)) r (λ w r' e. given_plain n w r' (from_plain r r' w e)) i)
           ∙ sym (behind s (one_of from_word) (λ w r. calling n at w r)))
@@ -248,7 +276,8 @@ module _ (tables : TokenTables) where
   builtin_is n [] = refl
   builtin_is n (t ∷ s) = go t t.kind
     where
-      go : (t : GrammarToken) (k : GrammarKind) → builtin_at tables n (with_kind t k ∷ s) ≡ (read_called (with_kind t k ∷ s) >>= λ c r. given_at tables n c.1 r >>= λ ts r'. Got (builtin_of c.0 (c.1, ts)) r')
+      go : (t : GrammarToken) (k : GrammarKind) → builtin_at tables n (with_kind t k ∷ s) ≡
+          (read_called (with_kind t k ∷ s) >>= λ c r. given_at tables n c.1 r >>= λ ts r'. Got (builtin_of c.0 (c.1, ts)) r')
       go t (kind.Word word.String number) = string_call n t.at s ∙ sym (paired t.at (read_string_called s) (λ c r. calling n c.0 c.1 r))
       go t (kind.Word word.Symbol number) =
           behind s (and_then pair_of (one_of symbol_function) (read_args (inner tables n Whole))) (λ p r. Got (builtin_of t.at p) r)
@@ -257,7 +286,8 @@ module _ (tables : TokenTables) where
           ∙ sym (paired t.at (and_then keep_second (one_of point) (one_of symbol_function) s) (λ c r. calling n c.0 c.1 r))
       go t (kind.Word word.Json number) =
           behind s (and_then pair_of (one_of stringify_word) (map_by single_of (read_parens (inner tables n Whole)))) (λ p r. Got (builtin_of t.at p) r)
-          ∙ ap (λ f. one_of point s >>= f) (λ i _ r. function_call n t.at stringify_word (map_by single_of (read_parens (inner tables n Whole))) r (λ w r' e. given_single n w r' (json_one r r' w e)) i)
+          ∙ ap (λ f. one_of point s >>= f) (λ i _ r. function_call n t.at stringify_word
+          (map_by single_of (read_parens (inner tables n Whole))) r (λ w r' e. given_single n w r' (json_one r r' w e)) i)
           ∙ sym (behind s (one_of stringify_word) (λ w r. calling n t.at w r))
           ∙ sym (paired t.at (and_then keep_second (one_of point) (one_of stringify_word) s) (λ c r. calling n c.0 c.1 r))
       go t (kind.Word word.Object number) =
@@ -371,11 +401,14 @@ module _ (tables : TokenTables) where
       value k (Bad w r) = refl
       value k (Got y r) = refl
 
-      behind_key : (q : TokenReader GrammarToken ExprTree) (k : List ℕ) (a : Answer GrammarToken (Unit {0})) → ((a >>= λ _ r. q r >>= λ y r. Got y r) >>= λ y r. Got (pair_of k y) r) ≡ (a >>= λ _ r. q r >>= λ y r. Got (k, y) r)
+      behind_key : (q : TokenReader GrammarToken ExprTree) (k : List ℕ) (a : Answer GrammarToken (Unit {0})) →
+          ((a >>= λ _ r. q r >>= λ y r. Got y r) >>= λ y r. Got (pair_of k y) r) ≡ (a >>= λ _ r. q r >>= λ y r. Got (k, y) r)
       behind_key q k (Bad w r) = refl
       behind_key q k (Got u r) = value k (q r)
 
-      first : (q : TokenReader GrammarToken ExprTree) (a : Answer GrammarToken (List ℕ)) → (a >>= λ k r. (one_of colon r >>= λ _ r. q r >>= λ y r. Got y r) >>= λ y r. Got (pair_of k y) r) ≡ (a >>= λ k r. one_of colon r >>= λ _ r. q r >>= λ y r. Got (k, y) r)
+      first : (q : TokenReader GrammarToken ExprTree) (a : Answer GrammarToken (List ℕ)) →
+          (a >>= λ k r. (one_of colon r >>= λ _ r. q r >>= λ y r. Got y r) >>= λ y r. Got (pair_of k y) r) ≡
+          (a >>= λ k r. one_of colon r >>= λ _ r. q r >>= λ y r. Got (k, y) r)
       first q (Bad w r) = refl
       first q (Got k r) = behind_key q k (one_of colon r)
 
@@ -388,7 +421,8 @@ module _ (tables : TokenTables) where
   unfolding member_at
   member_plain n s x r e = rw (head_of member_word s x r e) e
 
-  pub member_property : (n : ℕ) (s : List GrammarToken) (x : StepTree) (r : List GrammarToken) → heads member_word s ≡ false → one_of (property_word tables) s ≡ Got x r → member_at tables n s ≡ Got x r
+  pub member_property : (n : ℕ) (s : List GrammarToken) (x : StepTree) (r : List GrammarToken) → heads member_word s ≡ false → one_of
+      (property_word tables) s ≡ Got x r → member_at tables n s ≡ Got x r
   unfolding member_at
   member_property n s x r h e = rw (h, head_of (property_word tables) s x r e) e
 
@@ -396,16 +430,19 @@ module _ (tables : TokenTables) where
   unfolding member_at
   member_none n s h p m = rw (h, p) (none s m)
     where
-      none : (s : List GrammarToken) → heads (method tables) s ≡ false → (one_of (method tables) s >>= λ x r. read_method_args (has_room n) (inner tables n Whole) r >>= λ y r. Got (method_step x y) r) ≡ wrong s
+      none : (s : List GrammarToken) → heads (method tables) s ≡ false →
+          (one_of (method tables) s >>= λ x r. read_method_args (has_room n) (inner tables n Whole) r >>= λ y r. Got (method_step x y) r) ≡ wrong s
       none [] e = refl
       none (t ∷ s) e = go (method tables t) e
         where
-          go : (o : Option ((ℕ × Method) × List ℕ)) → is_some o ≡ false → (take_or o t s >>= λ x r. read_method_args (has_room n) (inner tables n Whole) r >>= λ y r. Got (method_step x y) r) ≡ wrong (t ∷ s)
+          go : (o : Option ((ℕ × Method) × List ℕ)) → is_some o ≡ false →
+              (take_or o t s >>= λ x r. read_method_args (has_room n) (inner tables n Whole) r >>= λ y r. Got (method_step x y) r) ≡ wrong (t ∷ s)
           go None e = refl
           go (Some x) e = let q : true ≡ false = e in cc
 
   -- a method
-  module _ (n : ℕ) (s : List GrammarToken) (m : (ℕ × Method) × List ℕ) (r : List GrammarToken) (h : heads member_word s ≡ false) (p : heads (property_word tables) s ≡ false) (e : one_of (method tables) s ≡ Got m r) where
+  module _ (n : ℕ) (s : List GrammarToken) (m : (ℕ × Method) × List ℕ) (r : List GrammarToken) (h : heads member_word s ≡ false) (p : heads
+      (property_word tables) s ≡ false) (e : one_of (method tables) s ≡ Got m r) where
     pub member_bare : heads opening r ≡ false → member_at tables n s ≡ Got (tree.of_property m.0.0 m.1) r
     unfolding member_at
     member_bare b = rw (h, p, e, b) refl
@@ -454,15 +491,18 @@ module _ (tables : TokenTables) where
   unfolding step_at
   step_deep n s at r e z = rw (bracket_no_point s r at e, no_room_for n z, head_of open_bracket s at r e) refl
 
-  pub step_index : (n : ℕ) (s : List GrammarToken) (at : ℕ) (r : List GrammarToken) → one_of open_bracket s ≡ Got at r → 0 < n → step_at tables n s ≡ (expression_at tables (n - 1) r >>= λ x r'. one_of close_bracket r' >>= λ _ r''. Got (index_read at x) r'')
+  pub step_index : (n : ℕ) (s : List GrammarToken) (at : ℕ) (r : List GrammarToken) → one_of open_bracket s ≡ Got at r → 0 < n → step_at
+      tables n s ≡ (expression_at tables (n - 1) r >>= λ x r'. one_of close_bracket r' >>= λ _ r''. Got (index_read at x) r'')
   unfolding step_at
-  step_index n s at r e z = rw (bracket_no_point s r at e, room_for n z, e) (closed (inner tables n Whole r) ∙ ap (λ q. q r >>= λ x r'. one_of close_bracket r' >>= λ _ r''. Got (index_read at x) r'') (inner_whole n z))
+  step_index n s at r e z = rw (bracket_no_point s r at e, room_for n z, e)
+      (closed (inner tables n Whole r) ∙ ap (λ q. q r >>= λ x r'. one_of close_bracket r' >>= λ _ r''. Got (index_read at x) r'') (inner_whole n z))
     where
       end : (x : ExprTree) (a : Answer GrammarToken (Unit {0})) → ((a >>= λ _ r. Got x r) >>= λ y r'. Got (index_read at y) r') ≡ (a >>= λ _ r''. Got (index_read at x) r'')
       end x (Got y r) = refl
       end x (Bad k r) = refl
 
-      closed : (a : Answer GrammarToken ExprTree) → ((a >>= λ x r. one_of close_bracket r >>= λ _ r'. Got x r') >>= λ y r'. Got (index_read at y) r') ≡ (a >>= λ x r'. one_of close_bracket r' >>= λ _ r''. Got (index_read at x) r'')
+      closed : (a : Answer GrammarToken ExprTree) → ((a >>= λ x r. one_of close_bracket r >>= λ _ r'. Got x r') >>= λ y r'. Got
+          (index_read at y) r') ≡ (a >>= λ x r'. one_of close_bracket r' >>= λ _ r''. Got (index_read at x) r'')
       closed (Got x r) = end x (one_of close_bracket r)
       closed (Bad k r) = refl
 
@@ -476,7 +516,8 @@ module _ (tables : TokenTables) where
   unfolding unary_at
   unary_deep n s o r e z = rw (head_of sign s o r e, no_room_for n z, head_of sign s o r e) refl
 
-  pub unary_signed : (n : ℕ) (s : List GrammarToken) (o : ℕ × Bool) (r : List GrammarToken) → one_of sign s ≡ Got o r → 0 < n → unary_at tables n s ≡ (unary_at tables (n - 1) r >>= λ x r'. Got (unary_of o x) r')
+  pub unary_signed : (n : ℕ) (s : List GrammarToken) (o : ℕ × Bool) (r : List GrammarToken) → one_of sign s ≡ Got o r → 0 < n → unary_at
+      tables n s ≡ (unary_at tables (n - 1) r >>= λ x r'. Got (unary_of o x) r')
   unfolding unary_at
   unary_signed n s o r e z = go (unary_at tables (n - 1)) (inner_operand n z)
     where
@@ -497,11 +538,14 @@ module _ (tables : TokenTables) where
   unfolding branches_at
   branches_deep n t s r e z = rw (head_of question s tt r e, no_room_for n z, head_of question s tt r e) refl
 
-  pub branches_some : (n : ℕ) (t : ExprTree) (s r : List GrammarToken) → one_of question s ≡ Got tt r → 0 < n → branches_at tables n t s ≡ (expression_at tables (n - 1) r >>= λ x r1. one_of colon r1 >>= λ _ r2. expression_at tables (n - 1) r2 >>= λ y r3. Got (tree.conditional t x y) r3)
+  pub branches_some : (n : ℕ) (t : ExprTree) (s r : List GrammarToken) → one_of question s ≡ Got tt r → 0 < n → branches_at tables n t s ≡
+      (expression_at tables (n - 1) r >>= λ x r1. one_of colon r1 >>= λ _ r2. expression_at tables (n - 1) r2 >>= λ y r3. Got (tree.conditional t x y) r3)
   unfolding branches_at
   branches_some n t s r e z = go (expression_at tables (n - 1)) (inner_whole n z)
     where
-      last : (q : TokenReader GrammarToken ExprTree) (x : ExprTree) (a : Answer GrammarToken (Unit {0})) → (((a >>= λ _ r2. q r2 >>= λ y r3. Got y r3) >>= λ y r'. Got (branches_of x y) r') >>= λ b r. Got (cond_of t b) r) ≡ (a >>= λ _ r2. q r2 >>= λ y r3. Got (tree.conditional t x y) r3)
+      last : (q : TokenReader GrammarToken ExprTree) (x : ExprTree) (a : Answer GrammarToken (Unit {0})) →
+          (((a >>= λ _ r2. q r2 >>= λ y r3. Got y r3) >>= λ y r'. Got (branches_of x y) r') >>= λ b r. Got (cond_of t b) r) ≡
+          (a >>= λ _ r2. q r2 >>= λ y r3. Got (tree.conditional t x y) r3)
       last q x (Bad k r) = refl
       last q x (Got u r) = go (q r)
         where
@@ -509,9 +553,13 @@ module _ (tables : TokenTables) where
           go (Bad k r) = refl
           go (Got y r) = refl
 
-      first : (q : TokenReader GrammarToken ExprTree) (a : Answer GrammarToken ExprTree) → ((a >>= λ x r1. (one_of colon r1 >>= λ _ r2. q r2 >>= λ y r3. Got y r3) >>= λ y r'. Got (branches_of x y) r') >>= λ b r. Got (cond_of t b) r) ≡ (a >>= λ x r1. one_of colon r1 >>= λ _ r2. q r2 >>= λ y r3. Got (tree.conditional t x y) r3)
+      first : (q : TokenReader GrammarToken ExprTree) (a : Answer GrammarToken ExprTree) →
+          ((a >>= λ x r1. (one_of colon r1 >>= λ _ r2. q r2 >>= λ y r3. Got y r3) >>= λ y r'. Got (branches_of x y) r') >>= λ b r. Got
+          (cond_of t b) r) ≡ (a >>= λ x r1. one_of colon r1 >>= λ _ r2. q r2 >>= λ y r3. Got (tree.conditional t x y) r3)
       first q (Bad k r) = refl
       first q (Got x r) = last q x (one_of colon r)
 
-      go : (q : TokenReader GrammarToken ExprTree) → inner tables n Whole ≡ q → branches_at tables n t s ≡ (q r >>= λ x r1. one_of colon r1 >>= λ _ r2. q r2 >>= λ y r3. Got (tree.conditional t x y) r3)
-      go q i = rw (head_of question s tt r e, room_for n z, e, i) (ap (λ a. a >>= λ b r. Got (cond_of t b) r) (bind_got (q r >>= λ x r1. (one_of colon r1 >>= λ _ r2. q r2 >>= λ y r3. Got y r3) >>= λ y r'. Got (branches_of x y) r')) ∙ first q (q r))
+      go : (q : TokenReader GrammarToken ExprTree) → inner tables n Whole ≡ q → branches_at tables n t s ≡
+          (q r >>= λ x r1. one_of colon r1 >>= λ _ r2. q r2 >>= λ y r3. Got (tree.conditional t x y) r3)
+      go q i = rw (head_of question s tt r e, room_for n z, e, i) (ap (λ a. a >>= λ b r. Got (cond_of t b) r)
+          (bind_got (q r >>= λ x r1. (one_of colon r1 >>= λ _ r2. q r2 >>= λ y r3. Got y r3) >>= λ y r'. Got (branches_of x y) r')) ∙ first q (q r))

@@ -18,7 +18,8 @@ module _ {X : Type 0} (view : X → List StmtTree) (tables : TokenTables) (print
   is_spelled (Ok e) h = all_read tables prints n ts (view e) [] h
   is_spelled (Err e) h = tt
 
-  pub is_found : (r : Result X Fault) → GivesAnswer view (λ _. []) r (read_whole (read_statements tables prints n) ts) → (x : List StmtTree) → Statements tables prints n ts x → IsFoundOrMemory view r x
+  pub is_found : (r : Result X Fault) → GivesAnswer view (λ _. []) r (read_whole (read_statements tables prints n) ts) → (x : List StmtTree)
+      → Statements tables prints n ts x → IsFoundOrMemory view r x
   is_found (Ok e) h x s = let z : Got (view e) [] ≡ Got x [] = sym h ∙ reads_all tables prints n ts x s in cc
   is_found (Err fault.Memory) h x s = tt
   is_found (Err (fault.Wrong rest)) h x s = let z : Bad Wrong rest.now ≡ Got x [] = sym h ∙ reads_all tables prints n ts x s in cc

@@ -33,7 +33,8 @@ module _ {T : Type 0} where
     first_fails : r s ≡ Bad k rest → BoundFails r q s k rest
     second_fails : (x : A) (between : List T) → r s ≡ Got x between → q x between ≡ Bad k rest → BoundFails r q s k rest
 
-  pub bound_fails : {A B C : Type 0} (f : A → B → C) (r : TokenReader T A) (q : A → TokenReader T B) (s : List T) (k : SyntaxFaultKind) (rest : List T) → and_bind f r q s ≡ Bad k rest → BoundFails r q s k rest
+  pub bound_fails : {A B C : Type 0} (f : A → B → C) (r : TokenReader T A) (q : A
+      → TokenReader T B) (s : List T) (k : SyntaxFaultKind) (rest : List T) → and_bind f r q s ≡ Bad k rest → BoundFails r q s k rest
   bound_fails f r q s k rest e = go (r s) refl e
     where
       last : (x : _) (between : List T) → r s ≡ Got x between → (b : Answer T _) → q x between ≡ b → (b >>= λ y rest'. Got (f x y) rest') ≡ Bad k rest → BoundFails r q s k rest
@@ -44,7 +45,9 @@ module _ {T : Type 0} where
       go (Bad k' t) ea h = first_fails (ea ∙ cc)
       go (Got x between) ea h = last x between ea (q x between) refl h
 
-  module _ {A B C : Type 0} (f : A → B → C) (L D : Lang T A) (M E : A → Lang T B) (stop_r stop_q : List T → Bool) (r : TokenReader T A) (q : A → TokenReader T B) (lr : IsLawful L L D stop_r r) (lq : (a : List T) (x : A) → L a x → IsLawful (M x) (M x) (E x) stop_q (q x)) where
+  module _ {A B C : Type 0} (f : A → B → C) (L D : Lang T A) (M E : A → Lang T B)
+      (stop_r stop_q : List T → Bool) (r : TokenReader T A) (q : A → TokenReader T B) (lr : IsLawful L
+      L D stop_r r) (lq : (a : List T) (x : A) → L a x → IsLawful (M x) (M x) (E x) stop_q (q x)) where
     bind_sound : (s : List T) (z : C) (rest : List T) → and_bind f r q s ≡ Got z rest → Front (Bind f L M) s z rest
     bind_sound s z rest e =
         let p = bound_parts f r q s z rest e in
@@ -53,7 +56,8 @@ module _ {T : Type 0} where
         let w : s ≡ (a.front ++ b.front) ++ rest = a.whole ∙ ap (λ t. a.front ++ t) b.whole ∙ sym (append_assoc a.front b.front rest) in
         record { front = a.front ++ b.front; whole = w; spells = subst (λ v. Bind f L M (a.front ++ b.front) v) p.value (bound a.front b.front p.first p.second a.spells b.spells) }
 
-    bind_complete : ((x : A) (b : List T) (y : B) (rest : List T) → M x b y → stop_q rest ≡ true → stop_r (b ++ rest) ≡ true) → (ts : List T) (z : C) (rest : List T) → Bind f L M ts z → stop_q rest ≡ true → and_bind f r q (ts ++ rest) ≡ Got z rest
+    bind_complete : ((x : A) (b : List T) (y : B) (rest : List T) → M x b y → stop_q rest ≡ true → stop_r
+        (b ++ rest) ≡ true) → (ts : List T) (z : C) (rest : List T) → Bind f L M ts z → stop_q rest ≡ true → and_bind f r q (ts ++ rest) ≡ Got z rest
     bind_complete follows _ _ rest (bound a b x y ha hb) h =
         rw (append_assoc a b rest, lr.complete a x (b ++ rest) ha (follows x b y rest hb h), (lq a x ha).complete b y rest hb h) refl
 
@@ -64,11 +68,25 @@ module _ {T : Type 0} where
         go (first_fails h) =
             let a = lr.viable s k rest h in
             let m = some (a.front ++ a.more) a.value a.spells in
-            record { front = a.front; more = a.more ++ m.tokens; value = f a.value m.value; whole = a.whole; spells = subst (λ ts. Bind f L M ts (f a.value m.value)) (append_assoc a.front a.more m.tokens) (bound (a.front ++ a.more) m.tokens a.value m.value a.spells m.spells) }
+            record {
+              front = a.front;
+              more = a.more ++ m.tokens;
+              value = f a.value m.value;
+              whole = a.whole;
+              spells = subst (λ ts. Bind f L M ts (f a.value m.value)) (append_assoc a.front a.more m.tokens)
+                  (bound (a.front ++ a.more) m.tokens a.value m.value a.spells m.spells);
+            }
         go (second_fails x between h g) =
             let a = lr.sound s x between h in
             let b = (lq a.front x a.spells).viable between k rest g in
-            record { front = a.front ++ b.front; more = b.more; value = f x b.value; whole = a.whole ∙ ap (λ t. a.front ++ t) b.whole ∙ sym (append_assoc a.front b.front rest); spells = subst (λ ts. Bind f L M ts (f x b.value)) (sym (append_assoc a.front b.front b.more)) (bound a.front (b.front ++ b.more) x b.value a.spells b.spells) }
+            record {
+              front = a.front ++ b.front;
+              more = b.more;
+              value = f x b.value;
+              whole = a.whole ∙ ap (λ t. a.front ++ t) b.whole ∙ sym (append_assoc a.front b.front rest);
+              spells = subst (λ ts. Bind f L M ts (f x b.value)) (sym (append_assoc a.front b.front b.more))
+                  (bound a.front (b.front ++ b.more) x b.value a.spells b.spells);
+            }
 
     bind_deep : ((ts : List T) (x : A) → L ts x → D ts x) → ((a : List T) (x : A) → D a x → Holds (E x)) → (s rest : List T) → and_bind f r q s ≡ Bad TooDeep rest → BeginsWith (Bind f D E) s rest
     bind_deep wider some s rest e = go (bound_fails f r q s TooDeep rest e)
@@ -77,13 +95,35 @@ module _ {T : Type 0} where
         go (first_fails h) =
             let a = lr.deep s rest h in
             let m = some (a.front ++ a.token ∷ a.more) a.value a.spells in
-            record { front = a.front; token = a.token; after = a.after; more = a.more ++ m.tokens; value = f a.value m.value; whole = a.whole; there = a.there; spells = subst (λ ts. Bind f D E ts (f a.value m.value)) (append_assoc a.front (a.token ∷ a.more) m.tokens) (bound (a.front ++ a.token ∷ a.more) m.tokens a.value m.value a.spells m.spells) }
+            record {
+              front = a.front;
+              token = a.token;
+              after = a.after;
+              more = a.more ++ m.tokens;
+              value = f a.value m.value;
+              whole = a.whole;
+              there = a.there;
+              spells = subst (λ ts. Bind f D E ts (f a.value m.value))
+                  (append_assoc a.front (a.token ∷ a.more) m.tokens) (bound (a.front ++ a.token ∷ a.more) m.tokens a.value m.value a.spells m.spells);
+            }
         go (second_fails x between h g) =
             let a = lr.sound s x between h in
             let b = (lq a.front x a.spells).deep between rest g in
-            record { front = a.front ++ b.front; token = b.token; after = b.after; more = b.more; value = f x b.value; whole = a.whole ∙ ap (λ t. a.front ++ t) b.whole ∙ sym (append_assoc a.front b.front rest); there = b.there; spells = subst (λ ts. Bind f D E ts (f x b.value)) (sym (append_assoc a.front b.front (b.token ∷ b.more))) (bound a.front (b.front ++ b.token ∷ b.more) x b.value (wider a.front x a.spells) b.spells) }
+            record {
+              front = a.front ++ b.front;
+              token = b.token;
+              after = b.after;
+              more = b.more;
+              value = f x b.value;
+              whole = a.whole ∙ ap (λ t. a.front ++ t) b.whole ∙ sym (append_assoc a.front b.front rest);
+              there = b.there;
+              spells = subst (λ ts. Bind f D E ts (f x b.value)) (sym (append_assoc a.front b.front (b.token ∷ b.more)))
+                  (bound a.front (b.front ++ b.token ∷ b.more) x b.value (wider a.front x a.spells) b.spells);
+            }
 
-    pub bind_lawful : ((x : A) (b : List T) (y : B) (rest : List T) → M x b y → stop_q rest ≡ true → stop_r (b ++ rest) ≡ true) → ((a : List T) (x : A) → L a x → Holds (M x)) → ((ts : List T) (x : A) → L ts x → D ts x) → ((a : List T) (x : A) → D a x → Holds (E x)) → IsLawful (Bind f L M) (Bind f L M) (Bind f D E) stop_q (and_bind f r q)
+    pub bind_lawful : ((x : A) (b : List T) (y : B) (rest : List T) → M x b y → stop_q rest ≡ true → stop_r
+        (b ++ rest) ≡ true) → ((a : List T) (x : A) → L a x → Holds (M x)) → ((ts : List T) (x : A) → L ts x → D ts x) → ((a : List T) (x : A)
+        → D a x → Holds (E x)) → IsLawful (Bind f L M) (Bind f L M) (Bind f D E) stop_q (and_bind f r q)
     bind_lawful follows some wider some_e = record {
       sound = bind_sound;
       complete = bind_complete follows;

@@ -26,7 +26,9 @@ module _ {T : Type 0} where
   begins_length test [] h = absurd h
   begins_length test (t ∷ ts) h = omega arith
 
-  pub either_lacks : {A B : Type 0} (v : T → Option A) {L M : Lang T B} → ((ts : List T) (x : B) (rest : List T) → L ts x → heads v (ts ++ rest) ≡ false) → ((ts : List T) (x : B) (rest : List T) → M ts x → heads v (ts ++ rest) ≡ false) → (ts : List T) (x : B) (rest : List T) → Either L M ts x → heads v (ts ++ rest) ≡ false
+  pub either_lacks : {A B : Type 0} (v : T → Option A) {L M : Lang T B} → ((ts : List T) (x : B) (rest : List T) → L ts x → heads v
+      (ts ++ rest) ≡ false) → ((ts : List T) (x : B) (rest : List T) → M ts x → heads v
+      (ts ++ rest) ≡ false) → (ts : List T) (x : B) (rest : List T) → Either L M ts x → heads v (ts ++ rest) ≡ false
   either_lacks v l m _ _ rest (left a x h) = l a x rest h
   either_lacks v l m _ _ rest (right a x h) = m a x rest h
 
@@ -65,7 +67,8 @@ module _ {T : Type 0} (class : T → ℕ) where
   pub one_lacks : {A B : Type 0} {v : T → Option A} {w : T → Option B} {n m : ℕ} → IsOf v n → IsOf w m → (n ≡ m → ⊥) → (ts : List T) (x : B) (rest : List T) → One w ts x → heads v (ts ++ rest) ≡ false
   one_lacks {v = v} {w = w} {n = n} {m = m} iv iw d _ _ rest (one t x h) = apart v w n m iv iw d t x h
 
-  pub then_lacks : {A B C D : Type 0} {v : T → Option A} {w : T → Option B} {f : B → C → D} {M : Lang T C} {n m : ℕ} → IsOf v n → IsOf w m → (n ≡ m → ⊥) → (ts : List T) (x : D) (rest : List T) → Then f (One w) M ts x → heads v (ts ++ rest) ≡ false
+  pub then_lacks : {A B C D : Type 0} {v : T → Option A} {w : T → Option B} {f : B → C → D} {M : Lang T C} {n m : ℕ} → IsOf v n → IsOf w m →
+      (n ≡ m → ⊥) → (ts : List T) (x : D) (rest : List T) → Then f (One w) M ts x → heads v (ts ++ rest) ≡ false
   then_lacks iv iw d _ _ rest (both a b x y ha hb) = rw (append_assoc a b rest) (one_lacks iv iw d a x (b ++ rest) ha)
 
   -- what is over a class has no token of that class

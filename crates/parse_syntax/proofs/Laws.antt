@@ -89,7 +89,8 @@ module _ {T : Type 0} where
         let w : s ≡ (a.front ++ b.front) ++ rest = a.whole ∙ ap (λ t. a.front ++ t) b.whole ∙ sym (append_assoc a.front b.front rest) in
         record { front = a.front ++ b.front; whole = w; spells = subst (λ v. Then f L M (a.front ++ b.front) v) p.value (both a.front b.front p.first p.second a.spells b.spells) }
 
-    then_complete : IsLawful L L D stop_r r → IsLawful M M E stop_q q → ((b : List T) (y : B) (rest : List T) → M b y → stop_q rest ≡ true → stop_r (b ++ rest) ≡ true) → (ts : List T) (z : C) (rest : List T) → Then f L M ts z → stop_q rest ≡ true → and_then f r q (ts ++ rest) ≡ Got z rest
+    then_complete : IsLawful L L D stop_r r → IsLawful M M E stop_q q → ((b : List T) (y : B) (rest : List T) → M b y → stop_q rest ≡ true →
+        stop_r (b ++ rest) ≡ true) → (ts : List T) (z : C) (rest : List T) → Then f L M ts z → stop_q rest ≡ true → and_then f r q (ts ++ rest) ≡ Got z rest
     then_complete lr lq follows _ _ rest (both a b x y ha hb) h =
         rw (append_assoc a b rest, lr.complete a x (b ++ rest) ha (follows b y rest hb h), lq.complete b y rest hb h) refl
 
@@ -99,25 +100,62 @@ module _ {T : Type 0} where
         go : Fails r q s k rest → Begins (Then f L M) s rest
         go (at_first h) =
             let a = lr.viable s k rest h in
-            record { front = a.front; more = a.more ++ some.tokens; value = f a.value some.value; whole = a.whole; spells = subst (λ ts. Then f L M ts (f a.value some.value)) (append_assoc a.front a.more some.tokens) (both (a.front ++ a.more) some.tokens a.value some.value a.spells some.spells) }
+            record {
+              front = a.front;
+              more = a.more ++ some.tokens;
+              value = f a.value some.value;
+              whole = a.whole;
+              spells = subst (λ ts. Then f L M ts (f a.value some.value)) (append_assoc a.front a.more some.tokens)
+                  (both (a.front ++ a.more) some.tokens a.value some.value a.spells some.spells);
+            }
         go (at_second x between h g) =
             let a = lr.sound s x between h in
             let b = lq.viable between k rest g in
-            record { front = a.front ++ b.front; more = b.more; value = f x b.value; whole = a.whole ∙ ap (λ t. a.front ++ t) b.whole ∙ sym (append_assoc a.front b.front rest); spells = subst (λ ts. Then f L M ts (f x b.value)) (sym (append_assoc a.front b.front b.more)) (both a.front (b.front ++ b.more) x b.value a.spells b.spells) }
+            record {
+              front = a.front ++ b.front;
+              more = b.more;
+              value = f x b.value;
+              whole = a.whole ∙ ap (λ t. a.front ++ t) b.whole ∙ sym (append_assoc a.front b.front rest);
+              spells = subst (λ ts. Then f L M ts (f x b.value)) (sym (append_assoc a.front b.front b.more))
+                  (both a.front (b.front ++ b.more) x b.value a.spells b.spells);
+            }
 
-    then_deep : IsLawful L L D stop_r r → IsLawful M M E stop_q q → ((ts : List T) (x : A) → L ts x → D ts x) → Holds E → (s rest : List T) → and_then f r q s ≡ Bad TooDeep rest → BeginsWith (Then f D E) s rest
+    then_deep : IsLawful L L D stop_r r → IsLawful M M E stop_q q → ((ts : List T) (x : A) → L ts x → D ts x) → Holds E → (s rest : List T)
+        → and_then f r q s ≡ Bad TooDeep rest → BeginsWith (Then f D E) s rest
     then_deep lr lq wider some s rest e = go (fails f r q s TooDeep rest e)
       where
         go : Fails r q s TooDeep rest → BeginsWith (Then f D E) s rest
         go (at_first h) =
             let a = lr.deep s rest h in
-            record { front = a.front; token = a.token; after = a.after; more = a.more ++ some.tokens; value = f a.value some.value; whole = a.whole; there = a.there; spells = subst (λ ts. Then f D E ts (f a.value some.value)) (append_assoc a.front (a.token ∷ a.more) some.tokens) (both (a.front ++ a.token ∷ a.more) some.tokens a.value some.value a.spells some.spells) }
+            record {
+              front = a.front;
+              token = a.token;
+              after = a.after;
+              more = a.more ++ some.tokens;
+              value = f a.value some.value;
+              whole = a.whole;
+              there = a.there;
+              spells = subst (λ ts. Then f D E ts (f a.value some.value))
+                  (append_assoc a.front (a.token ∷ a.more) some.tokens) (both (a.front ++ a.token ∷ a.more) some.tokens a.value some.value a.spells some.spells);
+            }
         go (at_second x between h g) =
             let a = lr.sound s x between h in
             let b = lq.deep between rest g in
-            record { front = a.front ++ b.front; token = b.token; after = b.after; more = b.more; value = f x b.value; whole = a.whole ∙ ap (λ t. a.front ++ t) b.whole ∙ sym (append_assoc a.front b.front rest); there = b.there; spells = subst (λ ts. Then f D E ts (f x b.value)) (sym (append_assoc a.front b.front (b.token ∷ b.more))) (both a.front (b.front ++ b.token ∷ b.more) x b.value (wider a.front x a.spells) b.spells) }
+            record {
+              front = a.front ++ b.front;
+              token = b.token;
+              after = b.after;
+              more = b.more;
+              value = f x b.value;
+              whole = a.whole ∙ ap (λ t. a.front ++ t) b.whole ∙ sym (append_assoc a.front b.front rest);
+              there = b.there;
+              spells = subst (λ ts. Then f D E ts (f x b.value)) (sym (append_assoc a.front b.front (b.token ∷ b.more)))
+                  (both a.front (b.front ++ b.token ∷ b.more) x b.value (wider a.front x a.spells) b.spells);
+            }
 
-    pub then_lawful : IsLawful L L D stop_r r → IsLawful M M E stop_q q → ((b : List T) (y : B) (rest : List T) → M b y → stop_q rest ≡ true → stop_r (b ++ rest) ≡ true) → Holds M → ((ts : List T) (x : A) → L ts x → D ts x) → Holds E → IsLawful (Then f L M) (Then f L M) (Then f D E) stop_q (and_then f r q)
+    pub then_lawful : IsLawful L L D stop_r r → IsLawful M M E stop_q q → ((b : List T) (y : B) (rest : List T) → M b y → stop_q rest ≡ true
+        → stop_r (b ++ rest) ≡ true) → Holds M → ((ts : List T) (x : A) → L ts x → D ts x) → Holds E → IsLawful (Then f L M) (Then f L M)
+        (Then f D E) stop_q (and_then f r q)
     then_lawful lr lq follows some wider some_e = record {
       sound = then_sound lr lq;
       complete = then_complete lr lq follows;
@@ -191,13 +229,24 @@ module _ {T : Type 0} where
           record { front = a.front; more = a.more; value = f a.value; whole = a.whole; spells = mapped (a.front ++ a.more) a.value a.spells };
       deep = λ s rest e.
           let a = l.deep s rest (map_bad f r s TooDeep rest e) in
-          record { front = a.front; token = a.token; after = a.after; more = a.more; value = f a.value; whole = a.whole; there = a.there; spells = mapped (a.front ++ a.token ∷ a.more) a.value a.spells };
+          record {
+            front = a.front;
+            token = a.token;
+            after = a.after;
+            more = a.more;
+            value = f a.value;
+            whole = a.whole;
+            there = a.there;
+            spells = mapped (a.front ++ a.token ∷ a.more) a.value a.spells;
+          };
     }
 
   -- either
 
   module _ {A : Type 0} (starts : List T → Bool) (L M D E V : Lang T A) (stops : List T → Bool) (r q : TokenReader T A) where
-    choose_complete : IsLawful L V D stops r → IsLawful M V E stops q → ((ts : List T) (x : A) (rest : List T) → L ts x → starts (ts ++ rest) ≡ true) → ((ts : List T) (x : A) (rest : List T) → M ts x → stops rest ≡ true → starts (ts ++ rest) ≡ false) → (ts : List T) (x : A) (rest : List T) → Either L M ts x → stops rest ≡ true → choose starts r q (ts ++ rest) ≡ Got x rest
+    choose_complete : IsLawful L V D stops r → IsLawful M V E stops q → ((ts : List T) (x : A) (rest : List T) → L ts x → starts
+        (ts ++ rest) ≡ true) → ((ts : List T) (x : A) (rest : List T) → M ts x → stops rest ≡ true → starts
+        (ts ++ rest) ≡ false) → (ts : List T) (x : A) (rest : List T) → Either L M ts x → stops rest ≡ true → choose starts r q (ts ++ rest) ≡ Got x rest
     choose_complete lr lq hit miss _ _ rest (left a x h) e = rw (hit a x rest h, lr.complete a x rest h e) refl
     choose_complete lr lq hit miss _ _ rest (right a x h) e = rw (miss a x rest h e, lq.complete a x rest h e) refl
 
@@ -219,10 +268,30 @@ module _ {T : Type 0} where
     choose_deep lr lq s rest e = go (starts s) e
       where
         go : (b : Bool) → cond b (r s) (q s) ≡ Bad TooDeep rest → BeginsWith (Either D E) s rest
-        go true e = let a = lr.deep s rest e in record { front = a.front; token = a.token; after = a.after; more = a.more; value = a.value; whole = a.whole; there = a.there; spells = left (a.front ++ a.token ∷ a.more) a.value a.spells }
-        go false e = let a = lq.deep s rest e in record { front = a.front; token = a.token; after = a.after; more = a.more; value = a.value; whole = a.whole; there = a.there; spells = right (a.front ++ a.token ∷ a.more) a.value a.spells }
+        go true e = let a = lr.deep s rest e in record {
+          front = a.front;
+          token = a.token;
+          after = a.after;
+          more = a.more;
+          value = a.value;
+          whole = a.whole;
+          there = a.there;
+          spells = left (a.front ++ a.token ∷ a.more) a.value a.spells;
+        }
+        go false e = let a = lq.deep s rest e in record {
+          front = a.front;
+          token = a.token;
+          after = a.after;
+          more = a.more;
+          value = a.value;
+          whole = a.whole;
+          there = a.there;
+          spells = right (a.front ++ a.token ∷ a.more) a.value a.spells;
+        }
 
-    pub choose_lawful : IsLawful L V D stops r → IsLawful M V E stops q → ((ts : List T) (x : A) (rest : List T) → L ts x → starts (ts ++ rest) ≡ true) → ((ts : List T) (x : A) (rest : List T) → M ts x → stops rest ≡ true → starts (ts ++ rest) ≡ false) → IsLawful (Either L M) V (Either D E) stops (choose starts r q)
+    pub choose_lawful : IsLawful L V D stops r → IsLawful M V E stops q → ((ts : List T) (x : A) (rest : List T) → L ts x → starts
+        (ts ++ rest) ≡ true) → ((ts : List T) (x : A) (rest : List T) → M ts x → stops rest ≡ true → starts (ts ++ rest) ≡ false) → IsLawful
+        (Either L M) V (Either D E) stops (choose starts r q)
     choose_lawful lr lq hit miss = record {
       sound = choose_sound lr lq;
       complete = choose_complete lr lq hit miss;
@@ -240,13 +309,18 @@ module _ {T : Type 0} where
         none : [] ≡ xs → s ≡ rest → Front (Many L) s xs rest
         none a b = record { front = []; whole = b; spells = subst (λ v. Many L [] v) a end }
 
-        go : ((s : List T) (xs : List A) (rest : List T) → loop starts r n s ≡ Got xs rest → Front (Many L) s xs rest) → (b : Bool) → cond b (r s >>= λ x rest. loop starts r n rest >>= λ xs rest'. Got (x ∷ xs) rest') (Got [] s) ≡ Got xs rest → Front (Many L) s xs rest
+        go : ((s : List T) (xs : List A) (rest : List T) → loop starts r n s ≡ Got xs rest → Front (Many L) s xs rest) → (b : Bool) → cond b
+            (r s >>= λ x rest. loop starts r n rest >>= λ xs rest'. Got (x ∷ xs) rest') (Got [] s) ≡ Got xs rest → Front (Many L) s xs rest
         go ih false e = let a : [] ≡ xs = cc in let b : s ≡ rest = cc in none a b
         go ih true e =
             let p = parts (λ x xs. x ∷ xs) r (loop starts r n) s xs rest e in
             let a = l.sound s p.first p.between p.got_first in
             let b = ih p.between p.second rest p.got_second in
-            record { front = a.front ++ b.front; whole = a.whole ∙ ap (λ t. a.front ++ t) b.whole ∙ sym (append_assoc a.front b.front rest); spells = subst (λ v. Many L (a.front ++ b.front) v) p.value (more a.front b.front p.first p.second a.spells b.spells) }
+            record {
+              front = a.front ++ b.front;
+              whole = a.whole ∙ ap (λ t. a.front ++ t) b.whole ∙ sym (append_assoc a.front b.front rest);
+              spells = subst (λ v. Many L (a.front ++ b.front) v) p.value (more a.front b.front p.first p.second a.spells b.spells);
+            }
 
     loop_viable : (n : ℕ) (s : List T) (k : SyntaxFaultKind) (rest : List T) → loop starts r n s ≡ Bad k rest → Begins (Many L) s rest
     loop_viable zero s k rest e = cc
@@ -255,13 +329,27 @@ module _ {T : Type 0} where
         failed : ((s : List T) (k : SyntaxFaultKind) (rest : List T) → loop starts r n s ≡ Bad k rest → Begins (Many L) s rest) → Fails r (loop starts r n) s k rest → Begins (Many L) s rest
         failed ih (at_first h) =
             let a = l.viable s k rest h in
-            record { front = a.front; more = a.more ++ []; value = a.value ∷ []; whole = a.whole; spells = subst (λ ts. Many L ts (a.value ∷ [])) (append_assoc a.front a.more []) (more (a.front ++ a.more) [] a.value [] a.spells end) }
+            record {
+              front = a.front;
+              more = a.more ++ [];
+              value = a.value ∷ [];
+              whole = a.whole;
+              spells = subst (λ ts. Many L ts (a.value ∷ [])) (append_assoc a.front a.more []) (more (a.front ++ a.more) [] a.value [] a.spells end);
+            }
         failed ih (at_second x between h g) =
             let a = l.sound s x between h in
             let b = ih between k rest g in
-            record { front = a.front ++ b.front; more = b.more; value = x ∷ b.value; whole = a.whole ∙ ap (λ t. a.front ++ t) b.whole ∙ sym (append_assoc a.front b.front rest); spells = subst (λ ts. Many L ts (x ∷ b.value)) (sym (append_assoc a.front b.front b.more)) (more a.front (b.front ++ b.more) x b.value a.spells b.spells) }
+            record {
+              front = a.front ++ b.front;
+              more = b.more;
+              value = x ∷ b.value;
+              whole = a.whole ∙ ap (λ t. a.front ++ t) b.whole ∙ sym (append_assoc a.front b.front rest);
+              spells = subst (λ ts. Many L ts (x ∷ b.value)) (sym (append_assoc a.front b.front b.more))
+                  (more a.front (b.front ++ b.more) x b.value a.spells b.spells);
+            }
 
-        go : ((s : List T) (k : SyntaxFaultKind) (rest : List T) → loop starts r n s ≡ Bad k rest → Begins (Many L) s rest) → (b : Bool) → cond b (r s >>= λ x rest. loop starts r n rest >>= λ xs rest'. Got (x ∷ xs) rest') (Got [] s) ≡ Bad k rest → Begins (Many L) s rest
+        go : ((s : List T) (k : SyntaxFaultKind) (rest : List T) → loop starts r n s ≡ Bad k rest → Begins (Many L) s rest) → (b : Bool) →
+            cond b (r s >>= λ x rest. loop starts r n rest >>= λ xs rest'. Got (x ∷ xs) rest') (Got [] s) ≡ Bad k rest → Begins (Many L) s rest
         go ih false e = cc
         go ih true e = failed ih (fails (λ x xs. x ∷ xs) r (loop starts r n) s k rest e)
 
@@ -272,13 +360,34 @@ module _ {T : Type 0} where
         failed : ((s : List T) (rest : List T) → loop starts r n s ≡ Bad TooDeep rest → BeginsWith (Many D) s rest) → Fails r (loop starts r n) s TooDeep rest → BeginsWith (Many D) s rest
         failed ih (at_first h) =
             let a = l.deep s rest h in
-            record { front = a.front; token = a.token; after = a.after; more = a.more ++ []; value = a.value ∷ []; whole = a.whole; there = a.there; spells = subst (λ ts. Many D ts (a.value ∷ [])) (append_assoc a.front (a.token ∷ a.more) []) (more (a.front ++ a.token ∷ a.more) [] a.value [] a.spells end) }
+            record {
+              front = a.front;
+              token = a.token;
+              after = a.after;
+              more = a.more ++ [];
+              value = a.value ∷ [];
+              whole = a.whole;
+              there = a.there;
+              spells = subst (λ ts. Many D ts (a.value ∷ [])) (append_assoc a.front (a.token ∷ a.more) [])
+                  (more (a.front ++ a.token ∷ a.more) [] a.value [] a.spells end);
+            }
         failed ih (at_second x between h g) =
             let a = l.sound s x between h in
             let b = ih between rest g in
-            record { front = a.front ++ b.front; token = b.token; after = b.after; more = b.more; value = x ∷ b.value; whole = a.whole ∙ ap (λ t. a.front ++ t) b.whole ∙ sym (append_assoc a.front b.front rest); there = b.there; spells = subst (λ ts. Many D ts (x ∷ b.value)) (sym (append_assoc a.front b.front (b.token ∷ b.more))) (more a.front (b.front ++ b.token ∷ b.more) x b.value (wider a.front x a.spells) b.spells) }
+            record {
+              front = a.front ++ b.front;
+              token = b.token;
+              after = b.after;
+              more = b.more;
+              value = x ∷ b.value;
+              whole = a.whole ∙ ap (λ t. a.front ++ t) b.whole ∙ sym (append_assoc a.front b.front rest);
+              there = b.there;
+              spells = subst (λ ts. Many D ts (x ∷ b.value)) (sym (append_assoc a.front b.front (b.token ∷ b.more)))
+                  (more a.front (b.front ++ b.token ∷ b.more) x b.value (wider a.front x a.spells) b.spells);
+            }
 
-        go : ((s : List T) (rest : List T) → loop starts r n s ≡ Bad TooDeep rest → BeginsWith (Many D) s rest) → (b : Bool) → cond b (r s >>= λ x rest. loop starts r n rest >>= λ xs rest'. Got (x ∷ xs) rest') (Got [] s) ≡ Bad TooDeep rest → BeginsWith (Many D) s rest
+        go : ((s : List T) (rest : List T) → loop starts r n s ≡ Bad TooDeep rest → BeginsWith (Many D) s rest) → (b : Bool) → cond b
+            (r s >>= λ x rest. loop starts r n rest >>= λ xs rest'. Got (x ∷ xs) rest') (Got [] s) ≡ Bad TooDeep rest → BeginsWith (Many D) s rest
         go ih false e = cc
         go ih true e = failed ih (fails (λ x xs. x ∷ xs) r (loop starts r n) s TooDeep rest e)
 
@@ -334,7 +443,9 @@ module _ {T : Type 0} where
     }
 
     -- where there is no room for what begins so
-    pub no_room_lawful : (L : Lang T A) (starts : List T → Bool) → ((ts : List T) (x : A) → L ts x → ⊥) → Holds V → ((t : T) (after : List T) → starts (t ∷ after) ≡ true → (more : List T) × (x : A) × D (t ∷ more) x) → starts [] ≡ false → (r : TokenReader T A) → IsLawful L V D stops (opens false starts r)
+    pub no_room_lawful : (L : Lang T A) (starts : List T → Bool) → ((ts : List T) (x : A) → L ts x → ⊥)
+        → Holds V → ((t : T) (after : List T) → starts (t ∷ after) ≡ true → (more : List T) × (x : A) × D (t ∷ more) x) → starts
+        [] ≡ false → (r : TokenReader T A) → IsLawful L V D stops (opens false starts r)
     no_room_lawful L starts none some deeper at_end r = record {
       sound = λ s x rest e. absurd (sound_of s x rest (starts s) e);
       complete = λ ts x rest h e. absurd (none ts x h);

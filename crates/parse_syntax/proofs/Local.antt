@@ -136,7 +136,11 @@ module _ {T : Type 0} where
     stop_here s h v zero e le = refl
     stop_here s h v (suc m) e le = rw (sym (t.same s v e) ∙ h) refl
 
-    go_on : (s front1 front2 rest between : List T) (x : A) (a : Answer T (List A)) (answer : List T → Answer T (List A)) → starts s ≡ true → s ≡ front1 ++ between → length between < length s → between ≡ front2 ++ rest → ((v : List T) → SameHead between v → r' (front1 ++ v) ≡ Got x v) → ((v : List T) (m : ℕ) → SameHead rest v → length (front2 ++ v) ≤ m → (loop starts r' m (front2 ++ v) >>= λ xs rest'. Got (x ∷ xs) rest') ≡ answer v) → (v : List T) (m : ℕ) → SameHead rest v → length ((front1 ++ front2) ++ v) ≤ m → loop starts r' m ((front1 ++ front2) ++ v) ≡ answer v
+    go_on : (s front1 front2 rest between : List T) (x : A) (a : Answer T (List A)) (answer : List T → Answer T (List A)) → starts s ≡ true
+        → s ≡ front1 ++ between → length between < length s → between ≡ front2 ++ rest → ((v : List T) → SameHead between v → r' (front1 ++ v)
+        ≡ Got x v) → ((v : List T) (m : ℕ) → SameHead rest v → length (front2 ++ v) ≤ m →
+        (loop starts r' m (front2 ++ v) >>= λ xs rest'. Got (x ∷ xs) rest') ≡ answer v) → (v : List T) (m : ℕ) → SameHead rest v → length
+        ((front1 ++ front2) ++ v) ≤ m → loop starts r' m ((front1 ++ front2) ++ v) ≡ answer v
     go_on s front1 front2 rest between x a answer h w lt w2 al next v zero e le =
         absurd (omega (arith, length-append front1 between, ap length w, length-append (front1 ++ front2) v, length-append front1 front2))
     go_on s front1 front2 rest between x a answer h w lt w2 al next v (suc m) e le =
@@ -154,7 +158,9 @@ module _ {T : Type 0} where
         ([], w, λ v m e le'. rw (stop_here s (empty s le) v m (subst (λ q. SameHead q v) (sym w) e) le') (ap (λ xs. Got xs v) same))
     loop_got (suc n) s xs rest le e = go (loop_got n) (starts s) refl e
       where
-        go : ((s : List T) (xs : List A) (rest : List T) → length s ≤ n → loop starts r n s ≡ Got xs rest → Agree (λ v. Got xs v) s rest) → (b : Bool) → starts s ≡ b → cond b (r s >>= λ x rest. loop starts r n rest >>= λ xs rest'. Got (x ∷ xs) rest') (Got [] s) ≡ Got xs rest → Agree (λ v. Got xs v) s rest
+        go : ((s : List T) (xs : List A) (rest : List T) → length s ≤ n → loop starts r n s ≡ Got xs rest → Agree
+            (λ v. Got xs v) s rest) → (b : Bool) → starts s ≡ b → cond b
+            (r s >>= λ x rest. loop starts r n rest >>= λ xs rest'. Got (x ∷ xs) rest') (Got [] s) ≡ Got xs rest → Agree (λ v. Got xs v) s rest
         go ih false h e =
             let w : s ≡ rest = cc in
             let same : [] ≡ xs = cc in
@@ -164,15 +170,20 @@ module _ {T : Type 0} where
             let a = lr.got s p.first p.between p.got_first in
             let lt = eats.less s p.first p.between p.got_first in
             let le2 : length p.between ≤ n = omega arith in
-            let b = ih p.between p.second rest le2 p.got_second in
-            (a.front ++ b.0, a.whole ∙ ap (λ t. a.front ++ t) b.1 ∙ sym (append_assoc a.front b.0 rest), go_on s a.front b.0 rest p.between p.first (Got [] []) (λ v. Got xs v) h a.whole lt b.1 a.always (λ v m e le'. rw (b.2 v m e le') (ap (λ y. Got y v) p.value)))
+            let b = ih p.between p.second rest le2 p.got_second in (
+              a.front ++ b.0,
+              a.whole ∙ ap (λ t. a.front ++ t) b.1 ∙ sym (append_assoc a.front b.0 rest),
+              go_on s a.front b.0 rest p.between
+                  p.first (Got [] []) (λ v. Got xs v) h a.whole lt b.1 a.always (λ v m e le'. rw (b.2 v m e le') (ap (λ y. Got y v) p.value)),
+            )
 
     loop_bad : (n : ℕ) (s : List T) (k : SyntaxFaultKind) (rest : List T) → P k → length s ≤ n → loop starts r n s ≡ Bad k rest → Agree (λ v. Bad k v) s rest
     unfolding Agree
     loop_bad zero s k rest d le e = cc
     loop_bad (suc n) s k rest d le e = go (loop_bad n) (starts s) refl e
       where
-        failed : ((s : List T) (k : SyntaxFaultKind) (rest : List T) → P k → length s ≤ n → loop starts r n s ≡ Bad k rest → Agree (λ v. Bad k v) s rest) → starts s ≡ true → Fails r (loop starts r n) s k rest → Agree (λ v. Bad k v) s rest
+        failed : ((s : List T) (k : SyntaxFaultKind) (rest : List T) → P k → length s ≤ n → loop starts r n s ≡ Bad k rest → Agree
+            (λ v. Bad k v) s rest) → starts s ≡ true → Fails r (loop starts r n) s k rest → Agree (λ v. Bad k v) s rest
         failed ih h (at_first g) =
             let a = lr.bad s k rest d g in
             (a.front, a.whole, λ v m e le'. first a.front v m (sym (t.same (a.front ++ rest) (a.front ++ v) (same_front a.front rest v e)) ∙ ap starts (sym a.whole) ∙ h) (a.always v e) le')
@@ -188,10 +199,16 @@ module _ {T : Type 0} where
             let a = lr.got s x between g1 in
             let lt = eats.less s x between g1 in
             let le2 : length between ≤ n = omega arith in
-            let b = ih between k rest d le2 g2 in
-            (a.front ++ b.0, a.whole ∙ ap (λ t. a.front ++ t) b.1 ∙ sym (append_assoc a.front b.0 rest), go_on s a.front b.0 rest between x (Got [] []) (λ v. Bad k v) h a.whole lt b.1 a.always (λ v m e le'. rw (b.2 v m e le') refl))
+            let b = ih between k rest d le2 g2 in (
+              a.front ++ b.0,
+              a.whole ∙ ap (λ t. a.front ++ t) b.1 ∙ sym (append_assoc a.front b.0 rest),
+              go_on s a.front b.0 rest between x
+                  (Got [] []) (λ v. Bad k v) h a.whole lt b.1 a.always (λ v m e le'. rw (b.2 v m e le') refl),
+            )
 
-        go : ((s : List T) (k : SyntaxFaultKind) (rest : List T) → P k → length s ≤ n → loop starts r n s ≡ Bad k rest → Agree (λ v. Bad k v) s rest) → (b : Bool) → starts s ≡ b → cond b (r s >>= λ x rest. loop starts r n rest >>= λ xs rest'. Got (x ∷ xs) rest') (Got [] s) ≡ Bad k rest → Agree (λ v. Bad k v) s rest
+        go : ((s : List T) (k : SyntaxFaultKind) (rest : List T) → P k → length s ≤ n → loop starts r n s ≡ Bad k rest → Agree
+            (λ v. Bad k v) s rest) → (b : Bool) → starts s ≡ b → cond b (r s >>= λ x rest. loop starts r n rest >>= λ xs rest'. Got (x ∷ xs)
+            rest') (Got [] s) ≡ Bad k rest → Agree (λ v. Bad k v) s rest
         go ih false h e = cc
         go ih true h e = failed ih h (fails (λ x xs. x ∷ xs) r (loop starts r n) s k rest e)
 

@@ -14,7 +14,9 @@ module _ {T : Type 0} where
     enough (suc n) zero (t ∷ s) a b = absurd (omega arith)
     enough (suc n) (suc m) s a b = go (enough n m) (item s) refl
       where
-        go : ((s : List T) → length s ≤ n → length s ≤ m → loop starts item n s ≡ loop starts item m s) → (r : Answer T A) → item s ≡ r → cond (starts s) (item s >>= λ x rest. loop starts item n rest >>= λ xs rest'. Got (x ∷ xs) rest') (Got [] s) ≡ cond (starts s) (item s >>= λ x rest. loop starts item m rest >>= λ xs rest'. Got (x ∷ xs) rest') (Got [] s)
+        go : ((s : List T) → length s ≤ n → length s ≤ m → loop starts item n s ≡ loop starts item m s) → (r : Answer T A) → item s ≡ r →
+            cond (starts s) (item s >>= λ x rest. loop starts item n rest >>= λ xs rest'. Got (x ∷ xs) rest') (Got [] s) ≡ cond (starts s)
+            (item s >>= λ x rest. loop starts item m rest >>= λ xs rest'. Got (x ∷ xs) rest') (Got [] s)
         go ih (Bad k rest) e = rw e refl
         go ih (Got x rest) e =
             let lt = eats.less s x rest e in
@@ -22,7 +24,8 @@ module _ {T : Type 0} where
             let b' : length rest ≤ m = omega arith in
             rw (e, ih rest a' b') refl
 
-    step_of_loop : (front : List A) (s : List T) (x : A) (rest : List T) → starts s ≡ true → item s ≡ Got x rest → with_front front (all_of starts item s) ≡ with_front (front ++ x ∷ []) (all_of starts item rest)
+    step_of_loop : (front : List A) (s : List T) (x : A) (rest : List T) → starts s ≡ true → item s ≡ Got x rest → with_front front
+        (all_of starts item s) ≡ with_front (front ++ x ∷ []) (all_of starts item rest)
     step_of_loop front [] x rest h e = let q : true ≡ false = sym h ∙ none in cc
     step_of_loop front (t ∷ s) x rest h e =
         let lt = eats.less (t ∷ s) x rest e in
@@ -33,10 +36,12 @@ module _ {T : Type 0} where
         go (Bad k b) = refl
         go (Got xs b) = ap (λ l. Got l b) (sym (append_assoc front (x ∷ []) xs))
 
-    pub keeps_on : (front : List A) (s : List T) (x : A) (rest : List T) (all : Answer T (List A)) → starts s ≡ true → item s ≡ Got x rest → with_front front (all_of starts item s) ≡ all → with_front (front ++ x ∷ []) (all_of starts item rest) ≡ all
+    pub keeps_on : (front : List A) (s : List T) (x : A) (rest : List T) (all : Answer T (List A)) → starts s ≡ true → item s ≡ Got x rest →
+        with_front front (all_of starts item s) ≡ all → with_front (front ++ x ∷ []) (all_of starts item rest) ≡ all
     keeps_on front s x rest all h e i = sym (step_of_loop front s x rest h e) ∙ i
 
-    pub fails_on : (front : List A) (s : List T) (k : SyntaxFaultKind) (rest : List T) (all : Answer T (List A)) → starts s ≡ true → item s ≡ Bad k rest → with_front front (all_of starts item s) ≡ all → all ≡ Bad k rest
+    pub fails_on : (front : List A) (s : List T) (k : SyntaxFaultKind) (rest : List T) (all : Answer T (List A)) → starts s ≡ true → item s
+        ≡ Bad k rest → with_front front (all_of starts item s) ≡ all → all ≡ Bad k rest
     fails_on front [] k rest all h e i = let q : true ≡ false = sym h ∙ none in cc
     fails_on front (t ∷ s) k rest all h e i = sym i ∙ rw (h, e) refl
 

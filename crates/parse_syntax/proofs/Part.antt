@@ -1,7 +1,29 @@
 -- All that is known of a reader and its language in one record, and how it is put together.
 use Rattle.std.proofs.Common.{◌≡◌, ◌<◌, List, [], ◌∷◌, ◌++◌, length, Bool, true, false, cond, Option, Some, None, refl, sym, ap, ◌∙◌, subst, arith, length-append}
 use Rattle.parse_syntax.specs.Lang.{Lang, One, one, Then, both, Bind, bound, Mapped, mapped, Nothing, nothing, Either, left, right, Many, end, Never, if_room, ◌▸◌}
-use Rattle.parse_syntax.specs.Reader.{Got, Bad, TokenReader, ◌>>=◌, SyntaxFaultKind, TooDeep, wrong, too_deep, map_by, and_then, and_bind, take_or, one_of, succeed, opens, choose, all_of, heads, heads_two, allowed, keep_second}
+use Rattle.parse_syntax.specs.Reader.{
+  Got,
+  Bad,
+  TokenReader,
+  ◌>>=◌,
+  SyntaxFaultKind,
+  TooDeep,
+  wrong,
+  too_deep,
+  map_by,
+  and_then,
+  and_bind,
+  take_or,
+  one_of,
+  succeed,
+  opens,
+  choose,
+  all_of,
+  heads,
+  heads_two,
+  allowed,
+  keep_second,
+}
 use Rattle.parse_syntax.proofs.Laws.{IsLawful, Holds, then_lawful, one_lawful, map_lawful, choose_lawful, loop_lawful, within, succeed_lawful, no_room_lawful, wrong_lawful}
 use Rattle.parse_syntax.proofs.Local.{same_front, Stands, IsLocal, IsTest, IsEating, then_local, one_local, map_local, choose_local, loop_local, deep_local, wrong_local, succeed_local}
 use Rattle.parse_syntax.proofs.Wider.{IsIn, itself, then_wider, mapped_wider, either_wider, many_wider, some_of, is_some_of}
@@ -45,7 +67,8 @@ module _ {T : Type 0} where
   both_hold f a b = record { tokens = a.tokens ++ b.tokens; value = f a.value b.value; spells = both a.tokens b.tokens a.value b.value a.spells b.spells }
 
   module _ {A B C : Type 0} {P : SyntaxFaultKind → Type 0} (f : A → B → C) {L D : Lang T A} {M E : Lang T B} {stop_r stop_q : List T → Bool} {r r' : TokenReader T A} {q q' : TokenReader T B} where
-    pub then_part : Part P L D stop_r r r' → Part P M E stop_q q q' → ((b : List T) (y : B) (rest : List T) → M b y → stop_q rest ≡ true → stop_r (b ++ rest) ≡ true) → Part P (Then f L M) (Then f D E) stop_q (and_then f r q) (and_then f r' q')
+    pub then_part : Part P L D stop_r r r' → Part P M E stop_q q q' → ((b : List T) (y : B) (rest : List T) → M b y → stop_q rest ≡ true →
+        stop_r (b ++ rest) ≡ true) → Part P (Then f L M) (Then f D E) stop_q (and_then f r q) (and_then f r' q')
     then_part p g follows = record {
       lawful = then_lawful f L D M E stop_r stop_q r q p.lawful g.lawful follows g.some p.wider.at (above g);
       wider = then_wider f L D M E p.wider g.wider;
@@ -69,12 +92,14 @@ module _ {T : Type 0} where
 
   -- by the first value
 
-  bind_wider : {A B C : Type 0} (f : A → B → C) (L D : Lang T A) (M E : A → Lang T B) → IsIn L D → ((a : List T) (x : A) → L a x → IsIn (M x) (E x)) → (ts : List T) (z : C) → Bind f L M ts z → Bind f D E ts z
+  bind_wider : {A B C : Type 0} (f : A → B → C) (L D : Lang T A) (M E : A → Lang T B) →
+      IsIn L D → ((a : List T) (x : A) → L a x → IsIn (M x) (E x)) → (ts : List T) (z : C) → Bind f L M ts z → Bind f D E ts z
   bind_wider f L D M E l m _ _ (bound a b x y ha hb) = bound a b x y (l.at a x ha) ((m a x ha).at b y hb)
 
   module _ {A B C : Type 0} {P : SyntaxFaultKind → Type 0} (f : A → B → C) {L : Lang T A} {M E : A → Lang T B} {stop_q : List T → Bool} {r r' : TokenReader T A} {q q' : A → TokenReader T B} where
     -- M, E and q have the law for each value that L has
-    pub bind_part : Part P L L anything r r' → ((a : List T) (x : A) → L a x → Part P (M x) (E x) stop_q (q x) (q' x)) → ((x : A) → IsLocal P (q x) (q' x)) → Part P (Bind f L M) (Bind f L E) stop_q (and_bind f r q) (and_bind f r' q')
+    pub bind_part : Part P L L anything r r' → ((a : List T) (x : A) → L a x → Part P (M x) (E x) stop_q (q x) (q' x)) → ((x : A) → IsLocal
+        P (q x) (q' x)) → Part P (Bind f L M) (Bind f L E) stop_q (and_bind f r q) (and_bind f r' q')
     bind_part p g l = record {
       lawful = bind_lawful f L L M E anything stop_q r q p.lawful (λ a x h. (g a x h).lawful) (λ x b y rest h s. refl) (λ a x h. (g a x h).some) (λ ts x h. h) (λ a x h. above (g a x h));
       wider = record { at = bind_wider f L L M E (itself L) (λ a x h. (g a x h).wider) };
@@ -103,7 +128,9 @@ module _ {T : Type 0} where
     part_of b some = record { lawful = b.lawful; wider = b.wider; local = b.local; some = some }
 
   module _ {A : Type 0} {P : SyntaxFaultKind → Type 0} {V L D M E : Lang T A} {stops : List T → Bool} {r r' q q' : TokenReader T A} where
-    pub choose_branch : (starts : List T → Bool) → IsTest starts → Branch P V L D stops r r' → Branch P V M E stops q q' → ((ts : List T) (x : A) (rest : List T) → L ts x → starts (ts ++ rest) ≡ true) → ((ts : List T) (x : A) (rest : List T) → M ts x → stops rest ≡ true → starts (ts ++ rest) ≡ false) → Branch P V (Either L M) (Either D E) stops (choose starts r q) (choose starts r' q')
+    pub choose_branch : (starts : List T → Bool) → IsTest starts → Branch P V L D stops r r' → Branch P V M E
+        stops q q' → ((ts : List T) (x : A) (rest : List T) → L ts x → starts (ts ++ rest) ≡ true) → ((ts : List T) (x : A) (rest : List T) →
+        M ts x → stops rest ≡ true → starts (ts ++ rest) ≡ false) → Branch P V (Either L M) (Either D E) stops (choose starts r q) (choose starts r' q')
     choose_branch starts t a b hit miss = record {
       lawful = choose_lawful starts L M D E V stops r q a.lawful b.lawful hit miss;
       wider = either_wider L D M E a.wider b.wider;
@@ -167,13 +194,21 @@ module _ {T : Type 0} where
         bad_here s k rest d true h e = let g : TooDeep ≡ k = cc in absurd (less (subst P (sym g) d))
         bad_here s k rest d false h e =
             let a = (wrong_local P {A = A}).bad s k rest d e in
-            record { front = a.front; whole = a.whole; always = λ w m. strict.fails (a.front ++ w) (sym (head_kept v (a.front ++ rest) (a.front ++ w) (same_front a.front rest w m)) ∙ ap (heads v) (sym a.whole) ∙ h) ∙ a.always w m }
+            record {
+              front = a.front;
+              whole = a.whole;
+              always = λ w m. strict.fails (a.front ++ w)
+                  (sym (head_kept v (a.front ++ rest) (a.front ++ w) (same_front a.front rest w m)) ∙ ap (heads v) (sym a.whole) ∙ h) ∙ a.always w m;
+            }
 
         bad_of : (s : List T) (k : SyntaxFaultKind) (rest : List T) → P k → choose (heads v) (too_deep {A = A}) wrong s ≡ Bad k rest → Stands r' (λ w. Bad k w) s rest
         bad_of s k rest d e = bad_here s k rest d (heads v s) refl e
 
   -- at the token that would open, where there is no room
-  pub open_branch : {A B : Type 0} {P : SyntaxFaultKind → Type 0} {V L D : Lang T A} {stops : List T → Bool} {r r' : TokenReader T A} (room room' : Bool) → Rooms P room room' → (v : T → Option B) → (room ≡ true → Branch P V L D stops r r') → Holds V → ((t : T) (y : B) → v t ≡ Some y → (tail : List T) × (x : A) × D (t ∷ tail) x) → IsStrict v r' → Branch P V (if_room room L) D stops (opens room (heads v) r) (opens room' (heads v) r')
+  pub open_branch : {A B : Type 0} {P : SyntaxFaultKind → Type 0} {V L D : Lang T A} {stops : List T → Bool} {r r' : TokenReader T A}
+      (room room' : Bool) → Rooms P room room' → (v : T → Option B) → (room ≡ true → Branch P V L D stops r r')
+      → Holds V → ((t : T) (y : B) → v t ≡ Some y → (tail : List T) × (x : A) × D (t ∷ tail) x) → IsStrict v r' → Branch P V (if_room room L)
+      D stops (opens room (heads v) r) (opens room' (heads v) r')
   open_branch _ _ same_room v b some deeper strict = b refl
   open_branch {P = P} {V = V} {D = D} {stops = stops} {r = r} _ _ same_end v b some deeper strict = record {
     lawful = no_room_lawful V D stops Never (heads v) (λ ts x h. h) some (λ t after h. let y = some_of (v t) h in deeper t y.0 y.1) refl r;
@@ -206,7 +241,9 @@ module _ {T : Type 0} where
     pub ends : (rest : List T) → stops rest ≡ true → starts rest ≡ false
     pub over : (rest : List T) → stops rest ≡ true → stop_item rest ≡ true
 
-  pub many_part : {A : Type 0} {P : SyntaxFaultKind → Type 0} {L D : Lang T A} {stop_item : List T → Bool} (starts stops : List T → Bool) {r r' : TokenReader T A} → Part P L D stop_item r r' → IsItem starts stop_item stops L → Part P (Many L) (Many D) stops (all_of starts r) (all_of starts r')
+  pub many_part : {A : Type 0} {P : SyntaxFaultKind → Type 0} {L D : Lang T A} {stop_item : List T → Bool}
+      (starts stops : List T → Bool) {r r' : TokenReader T A} → Part P L D stop_item r r' → IsItem starts stop_item stops L → Part P (Many L)
+      (Many D) stops (all_of starts r) (all_of starts r')
   many_part {P = P} {L = L} {D = D} {stop_item = stop_item} starts stops {r = r} {r' = r'} p i = record {
     lawful = loop_lawful starts L D stop_item stops r p.lawful (record { eats = i.eats; begins = i.begins; again = i.again; ends = i.ends; over = i.over }) p.wider.at;
     wider = many_wider L D p.wider;
@@ -226,7 +263,10 @@ module _ {T : Type 0} where
       go true e = sym e
       go false e = refl
 
-  module _ {A B R V W : Type 0} {P : SyntaxFaultKind → Type 0} (h : List A → B → R) (v : T → Option V) (w : T → Option W) (z : B) {C CD : Lang T A} {B' BD : Lang T B} {c c' : TokenReader T A} {b b' : TokenReader T B} (lacks : (ts : List T) (x : B) (rest : List T) → B' ts x → heads w (ts ++ rest) ≡ false) (pv : Part P (One v) (One v) anything (one_of v) (one_of v)) (pw : Part P (One w) (One w) anything (one_of w) (one_of w)) (pc : Part P C CD anything c c') (pb : Part P B' BD anything b b') where
+  module _ {A B R V W : Type 0} {P : SyntaxFaultKind → Type 0} (h : List A
+      → B → R) (v : T → Option V) (w : T → Option W) (z : B) {C CD : Lang T A} {B' BD : Lang T B} {c c' : TokenReader T A} {b b' : TokenReader T B} (lacks : (ts : List T) (x : B) (rest : List T)
+      → B' ts x → heads w (ts ++ rest) ≡ false) (pv : Part P (One v) (One v) anything (one_of v) (one_of v)) (pw : Part P (One w) (One w)
+      anything (one_of w) (one_of w)) (pc : Part P C CD anything c c') (pb : Part P B' BD anything b b') where
     not_two : List T → Bool
     not_two s = cond (heads_two v w s) false true
 
@@ -242,7 +282,8 @@ module _ {T : Type 0} where
     unfolding not_two
     is_not_two s e = rw e refl
 
-    item_part : Part P (One v ▸ One w ▸ C) (One v ▸ One w ▸ CD) anything (and_then keep_second (one_of v) (and_then keep_second (one_of w) c)) (and_then keep_second (one_of v) (and_then keep_second (one_of w) c'))
+    item_part : Part P (One v ▸ One w ▸ C) (One v ▸ One w ▸ CD) anything
+        (and_then keep_second (one_of v) (and_then keep_second (one_of w) c)) (and_then keep_second (one_of v) (and_then keep_second (one_of w) c'))
     item_part = next_part keep_second pv (next_part keep_second pw pc)
 
     inner_two : (u : V) (t : T) → v t ≡ Some u → (d : List T) (x : A) (rest : List T) → (One w ▸ C) d x → heads_two v w ((t ∷ d) ++ rest) ≡ true
@@ -258,19 +299,27 @@ module _ {T : Type 0} where
     test_off [] e = refl
     test_off (t ∷ s) e = rw e refl
 
-    items_lawful : IsLawful (Many (One v ▸ One w ▸ C)) (Many (One v ▸ One w ▸ C)) (Many (One v ▸ One w ▸ CD)) not_two (all_of (heads_two v w) (and_then keep_second (one_of v) (and_then keep_second (one_of w) c)))
-    items_lawful = loop_lawful (heads_two v w) (One v ▸ One w ▸ C) (One v ▸ One w ▸ CD) anything not_two (and_then keep_second (one_of v) (and_then keep_second (one_of w) c)) item_part.lawful (record {
-      eats = long;
-      begins = two;
-      again = λ ts x rest m. refl;
-      ends = not_two_is;
-      over = λ rest s. refl;
-    }) item_part.wider.at
+    items_lawful : IsLawful (Many (One v ▸ One w ▸ C)) (Many (One v ▸ One w ▸ C)) (Many (One v ▸ One w ▸ CD)) not_two
+        (all_of (heads_two v w) (and_then keep_second (one_of v) (and_then keep_second (one_of w) c)))
+    items_lawful = loop_lawful (heads_two v w) (One v ▸ One w ▸ C) (One v ▸ One w ▸ CD) anything not_two
+        (and_then keep_second (one_of v) (and_then keep_second (one_of w) c)) item_part.lawful (record {
+          eats = long;
+          begins = two;
+          again = λ ts x rest m. refl;
+          ends = not_two_is;
+          over = λ rest s. refl;
+        }) item_part.wider.at
 
-    last_part : Part P (Either (One v ▸ B') (Nothing z)) (Either (One v ▸ BD) (Nothing z)) (no_such v) (choose (heads v) (and_then keep_second (one_of v) b) (succeed z)) (choose (heads v) (and_then keep_second (one_of v) b') (succeed z))
+    last_part : Part P (Either (One v ▸ B') (Nothing z)) (Either (One v ▸ BD) (Nothing z)) (no_such v)
+        (choose (heads v) (and_then keep_second (one_of v) b) (succeed z)) (choose (heads v) (and_then keep_second (one_of v) b') (succeed z))
     last_part = part_of
         (choose_branch (heads v) (heads_test v)
-        (branch (record { lawful = sooner_lawful; wider = (next_part keep_second pv pb).wider; local = (next_part keep_second pv pb).local; some = (next_part keep_second pv pb).some }) (λ ts x m. left ts x m))
+        (branch (record {
+          lawful = sooner_lawful;
+          wider = (next_part keep_second pv pb).wider;
+          local = (next_part keep_second pv pb).local;
+          some = (next_part keep_second pv pb).some;
+        }) (λ ts x m. left ts x m))
         (record { lawful = succeed_lawful (Either (One v ▸ B') (Nothing z)) (Nothing z) (no_such v) z; wider = itself (Nothing z); local = succeed_local P z })
         hit miss)
         (record { tokens = []; value = z; spells = right [] z (nothing z refl) })
@@ -294,16 +343,28 @@ module _ {T : Type 0} where
         by_none : (d : List T) (y : B) → Nothing z d y → not_two (d ++ rest) ≡ true
         by_none _ _ (nothing x e) = is_not_two rest (test_off rest (no_such_is v rest s))
 
-    pub series_part : Part P (Then h (Many (One v ▸ One w ▸ C)) (Either (One v ▸ B') (Nothing z))) (Then h (Many (One v ▸ One w ▸ CD)) (Either (One v ▸ BD) (Nothing z))) (no_such v) (and_then h (all_of (heads_two v w) (and_then keep_second (one_of v) (and_then keep_second (one_of w) c))) (choose (heads v) (and_then keep_second (one_of v) b) (succeed z))) (and_then h (all_of (heads_two v w) (and_then keep_second (one_of v) (and_then keep_second (one_of w) c'))) (choose (heads v) (and_then keep_second (one_of v) b') (succeed z)))
+    pub series_part : Part P (Then h (Many (One v ▸ One w ▸ C)) (Either (One v ▸ B') (Nothing z)))
+        (Then h (Many (One v ▸ One w ▸ CD)) (Either (One v ▸ BD) (Nothing z))) (no_such v)
+        (and_then h (all_of (heads_two v w) (and_then keep_second (one_of v) (and_then keep_second (one_of w) c)))
+        (choose (heads v) (and_then keep_second (one_of v) b) (succeed z)))
+        (and_then h (all_of (heads_two v w) (and_then keep_second (one_of v) (and_then keep_second (one_of w) c')))
+        (choose (heads v) (and_then keep_second (one_of v) b') (succeed z)))
     series_part = record {
-      lawful = then_lawful h (Many (One v ▸ One w ▸ C)) (Many (One v ▸ One w ▸ CD)) (Either (One v ▸ B') (Nothing z)) (Either (One v ▸ BD) (Nothing z)) not_two (no_such v) (all_of (heads_two v w) (and_then keep_second (one_of v) (and_then keep_second (one_of w) c))) (choose (heads v) (and_then keep_second (one_of v) b) (succeed z)) items_lawful last_part.lawful follows last_part.some (many_wider (One v ▸ One w ▸ C) (One v ▸ One w ▸ CD) item_part.wider).at (above last_part);
-      wider = then_wider h (Many (One v ▸ One w ▸ C)) (Many (One v ▸ One w ▸ CD)) (Either (One v ▸ B') (Nothing z)) (Either (One v ▸ BD) (Nothing z)) (many_wider (One v ▸ One w ▸ C) (One v ▸ One w ▸ CD) item_part.wider) last_part.wider;
+      lawful = then_lawful h (Many (One v ▸ One w ▸ C)) (Many (One v ▸ One w ▸ CD)) (Either (One v ▸ B') (Nothing z))
+          (Either (One v ▸ BD) (Nothing z)) not_two (no_such v) (all_of (heads_two v w)
+          (and_then keep_second (one_of v) (and_then keep_second (one_of w) c)))
+          (choose (heads v) (and_then keep_second (one_of v) b) (succeed z)) items_lawful last_part.lawful follows last_part.some
+          (many_wider (One v ▸ One w ▸ C) (One v ▸ One w ▸ CD) item_part.wider).at (above last_part);
+      wider = then_wider h (Many (One v ▸ One w ▸ C)) (Many (One v ▸ One w ▸ CD)) (Either (One v ▸ B') (Nothing z))
+          (Either (One v ▸ BD) (Nothing z)) (many_wider (One v ▸ One w ▸ C) (One v ▸ One w ▸ CD) item_part.wider) last_part.wider;
       local = series_local P v w z c c' b b' pc.local pb.local h;
       some = both_hold h (record { tokens = []; value = []; spells = end }) last_part.some;
     }
 
   -- only where there is leave to
-  pub never_branch : {A : Type 0} {P : SyntaxFaultKind → Type 0} {V L D : Lang T A} {stops : List T → Bool} {r r' : TokenReader T A} (leave : Bool) → Holds V → (leave ≡ true → Branch P V L D stops r r') → Branch P V (if_room leave L) (if_room leave D) stops (allowed leave r) (allowed leave r')
+  pub never_branch : {A : Type 0} {P : SyntaxFaultKind → Type 0} {V L D : Lang T A} {stops : List
+      T → Bool} {r r' : TokenReader T A} (leave : Bool) → Holds V → (leave ≡ true → Branch P V L D stops r r') → Branch P V (if_room leave L)
+      (if_room leave D) stops (allowed leave r) (allowed leave r')
   never_branch true some b = b refl
   never_branch {P = P} {V = V} {stops = stops} false some b = record {
     lawful = wrong_lawful V Never stops some;

@@ -29,7 +29,8 @@ module _ (tables : TokenTables) where
   -- every level of expressions
 
   an_operand : within_room tables 0 Operand (sample (kind.Number 0) ∷ []) (tree.number 0)
-  an_operand = right (sample (kind.Number 0) ∷ []) (tree.number 0) (both (sample (kind.Number 0) ∷ []) [] (tree.number 0) [] (left (sample (kind.Number 0) ∷ []) (tree.number 0) (one (sample (kind.Number 0)) (tree.number 0) refl)) end)
+  an_operand = right (sample (kind.Number 0) ∷ []) (tree.number 0) (both (sample (kind.Number 0) ∷ []) [] (tree.number 0) []
+      (left (sample (kind.Number 0) ∷ []) (tree.number 0) (one (sample (kind.Number 0)) (tree.number 0) refl)) end)
 
   a_number : Expression tables 0 (sample (kind.Number 0) ∷ []) (tree.number 0)
   a_number =
@@ -68,19 +69,29 @@ module _ (tables : TokenTables) where
 
     above_levels : (P TooDeep → ⊥) → (m : ℕ) → Levels P 0 (suc m)
     above_levels less m = record {
-      whole = whole_part P tables false true (more_room less) Never Never (Expression tables 0) (within_room tables 0 Operand) wrong wrong (read_within tables m Whole) (read_within tables m Operand) (lowest (read_within tables m Whole) (read_within tables m Operand));
-      operand = unary_part P tables false true (more_room less) Never Never (Expression tables 0) (within_room tables 0 Operand) wrong wrong (read_within tables m Whole) (read_within tables m Operand) (lowest (read_within tables m Whole) (read_within tables m Operand));
+      whole = whole_part P tables false true (more_room less) Never Never (Expression tables 0) (within_room tables 0 Operand) wrong wrong
+          (read_within tables m Whole) (read_within tables m Operand) (lowest (read_within tables m Whole) (read_within tables m Operand));
+      operand = unary_part P tables false true (more_room less) Never Never (Expression tables 0) (within_room tables 0 Operand) wrong wrong
+          (read_within tables m Whole) (read_within tables m Operand) (lowest (read_within tables m Whole) (read_within tables m Operand));
       starts = end_levels.starts;
     }
 
-    pub inner_levels : (n m : ℕ) → Levels P n m → expressions.Inner P true (Expression tables n) (within_room tables n Operand) (Expression tables (suc n)) (within_room tables (suc n) Operand) (read_within tables n Whole) (read_within tables n Operand) (read_within tables m Whole) (read_within tables m Operand)
+    pub inner_levels : (n m : ℕ) → Levels P n m → expressions.Inner P true (Expression tables n) (within_room tables n Operand)
+        (Expression tables (suc n)) (within_room tables (suc n) Operand) (read_within tables n Whole) (read_within tables n Operand)
+        (read_within tables m Whole) (read_within tables m Operand)
     inner_levels n m l = record { whole = λ _. l.whole; operand = λ _. l.operand; first_whole = λ _. l.starts; held_whole = above l.whole; held_operand = above l.operand }
 
     next_levels : (n m : ℕ) → Levels P n m → Levels P (suc n) (suc m)
     next_levels n m l = record {
-      whole = whole_part P tables true true same_room (Expression tables n) (within_room tables n Operand) (Expression tables (suc n)) (within_room tables (suc n) Operand) (read_within tables n Whole) (read_within tables n Operand) (read_within tables m Whole) (read_within tables m Operand) (inner_levels n m l);
-      operand = unary_part P tables true true same_room (Expression tables n) (within_room tables n Operand) (Expression tables (suc n)) (within_room tables (suc n) Operand) (read_within tables n Whole) (read_within tables n Operand) (read_within tables m Whole) (read_within tables m Operand) (inner_levels n m l);
-      starts = whole_starts P tables true true same_room (Expression tables n) (within_room tables n Operand) (Expression tables (suc n)) (within_room tables (suc n) Operand) (read_within tables n Whole) (read_within tables n Operand) (read_within tables m Whole) (read_within tables m Operand) (inner_levels n m l);
+      whole = whole_part P tables true true same_room (Expression tables n) (within_room tables n Operand) (Expression tables (suc n))
+          (within_room tables (suc n) Operand) (read_within tables n Whole) (read_within tables n Operand) (read_within tables m Whole)
+          (read_within tables m Operand) (inner_levels n m l);
+      operand = unary_part P tables true true same_room (Expression tables n) (within_room tables n Operand) (Expression tables (suc n))
+          (within_room tables (suc n) Operand) (read_within tables n Whole) (read_within tables n Operand) (read_within tables m Whole)
+          (read_within tables m Operand) (inner_levels n m l);
+      starts = whole_starts P tables true true same_room (Expression tables n) (within_room tables n Operand) (Expression tables (suc n))
+          (within_room tables (suc n) Operand) (read_within tables n Whole) (read_within tables n Operand) (read_within tables m Whole)
+          (read_within tables m Operand) (inner_levels n m l);
     }
 
     pub same_expressions : (n : ℕ) → Levels P n n
@@ -104,7 +115,9 @@ module _ (tables : TokenTables) where
       abbrev pub Level : ℕ → ℕ → Type 0
       Level n m = Part P (Statement tables prints n) (Statement tables prints (suc n)) (no_such else_word) (read_at tables prints n) (read_at tables prints m)
 
-      nowhere : (m : ℕ) (i' : TokenReader GrammarToken ExprTree) (s' : TokenReader GrammarToken StmtTree) → Levels P 0 m → statements.Inner P false (Expression tables 0) (Expression tables 1) Never (Expression tables 0) Never (Statement tables prints 0) (read_within tables 0 Whole) (read_within tables m Whole) wrong i' wrong s'
+      nowhere : (m : ℕ) (i' : TokenReader GrammarToken ExprTree) (s' : TokenReader GrammarToken StmtTree) → Levels P 0 m → statements.Inner
+          P false (Expression tables 0) (Expression tables 1) Never (Expression tables 0) Never (Statement tables prints 0)
+          (read_within tables 0 Whole) (read_within tables m Whole) wrong i' wrong s'
       nowhere m i' s' l = record {
         here = l.whole;
         test = λ h. let q : false ≡ true = h in cc;
@@ -115,13 +128,21 @@ module _ (tables : TokenTables) where
       }
 
       end_level : Level 0 0
-      end_level = statement_part P tables prints false false same_end (Expression tables 0) (Expression tables 1) Never (Expression tables 0) Never (Statement tables prints 0) (read_within tables 0 Whole) (read_within tables 0 Whole) wrong wrong wrong wrong (nowhere 0 wrong wrong (same_expressions P 0))
+      end_level = statement_part P tables prints false false same_end (Expression tables 0) (Expression tables 1) Never
+          (Expression tables 0) Never (Statement tables prints 0) (read_within tables 0 Whole) (read_within tables 0 Whole) wrong wrong wrong
+          wrong (nowhere 0 wrong wrong (same_expressions P 0))
 
       above_level : (P TooDeep → ⊥) → (m : ℕ) → Level 0 (suc m)
-      above_level less m = statement_part P tables prints false true (more_room less) (Expression tables 0) (Expression tables 1) Never (Expression tables 0) Never (Statement tables prints 0) (read_within tables 0 Whole) (read_within tables (suc m) Whole) wrong (read_within tables m Whole) wrong (read_at tables prints m) (nowhere (suc m) (read_within tables m Whole) (read_at tables prints m) (above_levels P less m))
+      above_level less m = statement_part P tables prints false true (more_room less) (Expression tables 0) (Expression tables 1) Never
+          (Expression tables 0) Never (Statement tables prints 0) (read_within tables 0 Whole) (read_within tables (suc m) Whole) wrong
+          (read_within tables m Whole) wrong (read_at tables prints m) (nowhere (suc m) (read_within tables m Whole) (read_at tables prints m)
+          (above_levels P less m))
 
       next_level : (n m : ℕ) → Levels P (suc n) (suc m) → Levels P n m → Level n m → Level (suc n) (suc m)
-      next_level n m e i l = statement_part P tables prints true true same_room (Expression tables (suc n)) (Expression tables (suc (suc n))) (Expression tables n) (Expression tables (suc n)) (Statement tables prints n) (Statement tables prints (suc n)) (read_within tables (suc n) Whole) (read_within tables (suc m) Whole) (read_within tables n Whole) (read_within tables m Whole) (read_at tables prints n) (read_at tables prints m)
+      next_level n m e i l = statement_part P tables prints true true same_room (Expression tables (suc n))
+          (Expression tables (suc (suc n))) (Expression tables n) (Expression tables (suc n)) (Statement tables prints n)
+          (Statement tables prints (suc n)) (read_within tables (suc n) Whole) (read_within tables (suc m) Whole) (read_within tables n Whole)
+          (read_within tables m Whole) (read_at tables prints n) (read_at tables prints m)
           (record { here = e.whole; test = λ _. i.whole; first_test = λ _. i.starts; law = λ _. l; starts = λ _. starts_at n; held_test = above i.whole })
 
       pub same_levels : (n : ℕ) → Level n n
@@ -148,7 +169,8 @@ module _ (tables : TokenTables) where
               go t kind.Directive e = cc
               go t _ e = refl
       no_directive n _ _ rest (more a b x xs ha hb) s =
-          rw (append_assoc a b rest) (head_gives (over first 0) (no_such directive) true (λ t s q. ap (λ b. cond b false true) (none_over first directive 0 0 directive_first (omega arith) t s q)) a (b ++ rest) ((starts_at n).by a x ha))
+          rw (append_assoc a b rest) (head_gives (over first 0) (no_such directive) true
+          (λ t s q. ap (λ b. cond b false true) (none_over first directive 0 0 directive_first (omega arith) t s q)) a (b ++ rest) ((starts_at n).by a x ha))
 
       script_part : (n m : ℕ) → Level n m → Part P (Statements tables prints n) (Statements tables prints (suc n)) no_more (read_statements tables prints n) (read_statements tables prints m)
       script_part n m l = then_part keep_second (strict_part P) (many_part goes_on no_more l (list_item (Statement tables prints n) (starts_at n))) (no_directive n)
@@ -172,5 +194,6 @@ module _ (tables : TokenTables) where
     pub one_list : (n m : ℕ) (ts : List GrammarToken) (x y : List StmtTree) → Statements tables prints n ts x → Statements tables prints m ts y → x ≡ y
     one_list = whole.one_script scripts
 
-    pub refuses : (n : ℕ) (ts : List GrammarToken) (k : SyntaxFaultKind) (rest : List GrammarToken) → read_whole (read_statements tables prints n) ts ≡ Bad k rest → IsRefused (Statements tables prints) n ts k rest
+    pub refuses : (n : ℕ) (ts : List GrammarToken) (k : SyntaxFaultKind) (rest : List GrammarToken) → read_whole
+        (read_statements tables prints n) ts ≡ Bad k rest → IsRefused (Statements tables prints) n ts k rest
     refuses = whole.refuses scripts

@@ -58,18 +58,21 @@ module _ {T : Type 0} where
         go (Got x r) g = rw (e, g) refl
         go (Bad k r) g = rw (e, g) refl
 
-    one_more : {R : Type 0} (h : List A → B → R) (n : ℕ) (t t2 : T) (s : List T) (y : V) (y2 : W) → v t ≡ Some y → w t2 ≡ Some y2 → from h (suc n) (t ∷ t2 ∷ s) ≡ (c s >>= λ x r. from (λ xs. h (x ∷ xs)) n r)
+    one_more : {R : Type 0} (h : List A → B → R) (n : ℕ) (t t2 : T) (s : List T) (y : V) (y2 : W) → v t ≡ Some y → w t2 ≡ Some y2 → from h
+        (suc n) (t ∷ t2 ∷ s) ≡ (c s >>= λ x r. from (λ xs. h (x ∷ xs)) n r)
     one_more h n t t2 s y y2 e f = go (c s) refl
       where
         go : (a : Answer T A) → c s ≡ a → from h (suc n) (t ∷ t2 ∷ s) ≡ (a >>= λ x r. from (λ xs. h (x ∷ xs)) n r)
         go (Bad k r) g = rw (e, f, g) refl
         go (Got x r) g = rw (e, f, g) (rest_of (loop (heads_two v w) item n r))
           where
-            rest_of : (l : Answer T (List A)) → ((l >>= λ xs rest'. Got (x ∷ xs) rest') >>= λ xs rest. last rest >>= λ y rest'. Got (h xs y) rest') ≡ (l >>= λ xs rest. last rest >>= λ y rest'. Got (h (x ∷ xs) y) rest')
+            rest_of : (l : Answer T (List A)) → ((l >>= λ xs rest'. Got (x ∷ xs) rest') >>= λ xs rest. last rest >>= λ y rest'. Got (h xs y)
+                rest') ≡ (l >>= λ xs rest. last rest >>= λ y rest'. Got (h (x ∷ xs) y) rest')
             rest_of (Bad k r) = refl
             rest_of (Got xs r) = refl
 
-  module _ (P : SyntaxFaultKind → Type 0) {A B V W : Type 0} (v : T → Option V) (w : T → Option W) (z : B) (c c' : TokenReader T A) (b b' : TokenReader T B) (lc : IsLocal P c c') (lb : IsLocal P b b') where
+  module _ (P : SyntaxFaultKind → Type 0) {A B V W : Type 0} (v : T → Option V) (w : T → Option W) (z : B) (c c' : TokenReader T A)
+      (b b' : TokenReader T B) (lc : IsLocal P c c') (lb : IsLocal P b b') where
     -- with enough turns, whatever comes after
     abbrev Agree : {R : Type 0} → (List A → B → R) → Answer T R → List T → Type 0
     Agree h a s = (front : List T) × (s ≡ front ++ left_by a) × ((u : List T) (m : ℕ) → SameHead (left_by a) u → length (front ++ u) ≤ m → from v w z c' b' h m (front ++ u) ≡ leaving a u)
@@ -77,7 +80,8 @@ module _ {T : Type 0} where
     ended : {R : Type 0} (h : List A → B → R) (s : List T) → heads v s ≡ false → Agree h (Got (h [] z) s) s
     ended h s e = ([], refl, λ u m q le. none_left v w z c' b' h m u (sym (head_kept v s u q) ∙ e))
 
-    lasts : {R : Type 0} (h : List A → B → R) (t : T) (s : List T) (y : V) → v t ≡ Some y → heads w s ≡ false → (x : Answer T B) → b s ≡ x → (a : Answer T R) → (x >>= λ x r. Got (h [] x) r) ≡ a → Counts P a → Agree h a (t ∷ s)
+    lasts : {R : Type 0} (h : List A → B → R) (t : T) (s : List T) (y : V) → v t ≡ Some y → heads w s ≡ false → (x : Answer T B) → b
+        s ≡ x → (a : Answer T R) → (x >>= λ x r. Got (h [] x) r) ≡ a → Counts P a → Agree h a (t ∷ s)
     lasts h t s y e f x g a i d = go x g a i d
       where
         kept : (x : Answer T B) (front : List T) → s ≡ front ++ left_by x → (u : List T) → SameHead (left_by x) u → heads w (front ++ u) ≡ false
@@ -111,14 +115,19 @@ module _ {T : Type 0} where
     abbrev All : ℕ → Type 1
     All n = (R : Type 0) (h : List A → B → R) (s : List T) → length s ≤ n → (a : Answer T R) → from v w z c b h n s ≡ a → Counts P a → Agree h a s
 
-    mores : (n : ℕ) → All n → {R : Type 0} (h : List A → B → R) (t t2 : T) (s : List T) (y : V) (y2 : W) → v t ≡ Some y → w t2 ≡ Some y2 → length (t ∷ t2 ∷ s) ≤ suc n → (x : Answer T A) → c s ≡ x → (a : Answer T R) → (x >>= λ x r. from v w z c b (λ xs. h (x ∷ xs)) n r) ≡ a → Counts P a → Agree h a (t ∷ t2 ∷ s)
+    mores : (n : ℕ) → All n → {R : Type 0} (h : List A → B → R) (t t2 : T) (s : List T) (y : V) (y2 : W) → v t ≡ Some y → w t2 ≡ Some y2 →
+        length (t ∷ t2 ∷ s) ≤ suc n → (x : Answer T A) → c s ≡ x → (a : Answer T R) → (x >>= λ x r. from v w z c b (λ xs. h (x ∷ xs)) n r) ≡ a
+        → Counts P a → Agree h a (t ∷ t2 ∷ s)
     mores n ih h t t2 s y y2 e f le (Got x r) g a i d =
         let st = stands lc s (Got x r) g tt in
         let shorter : length r ≤ n = omega (arith, ap length st.whole, length-append st.front r) in
         let k = ih _ (λ xs. h (x ∷ xs)) r shorter a i d in
         (t ∷ t2 ∷ st.front ++ k.0, ap (λ l. t ∷ t2 ∷ l) (st.whole ∙ ap (λ r. st.front ++ r) k.1 ∙ sym (append_assoc st.front k.0 (left_by a))), again st.front k.0 st.whole k.1 st.always k.2)
       where
-        again : (front front2 : List T) → s ≡ front ++ r → r ≡ front2 ++ left_by a → ((u : List T) → SameHead r u → c' (front ++ u) ≡ Got x u) → ((u : List T) (m : ℕ) → SameHead (left_by a) u → length (front2 ++ u) ≤ m → from v w z c' b' (λ xs. h (x ∷ xs)) m (front2 ++ u) ≡ leaving a u) → (u : List T) (m : ℕ) → SameHead (left_by a) u → length ((t ∷ t2 ∷ front ++ front2) ++ u) ≤ m → from v w z c' b' h m ((t ∷ t2 ∷ front ++ front2) ++ u) ≡ leaving a u
+        again : (front front2 : List T) → s ≡ front ++ r → r ≡ front2 ++ left_by a → ((u : List T) → SameHead r u → c' (front ++ u) ≡
+            Got x u) → ((u : List T) (m : ℕ) → SameHead (left_by a) u → length (front2 ++ u) ≤ m → from v w z c' b' (λ xs. h (x ∷ xs)) m
+            (front2 ++ u) ≡ leaving a u) → (u : List T) (m : ℕ) → SameHead (left_by a) u → length ((t ∷ t2 ∷ front ++ front2) ++ u) ≤ m → from
+            v w z c' b' h m ((t ∷ t2 ∷ front ++ front2) ++ u) ≡ leaving a u
         again front front2 i1 i2 al next u zero q le = absurd (omega arith)
         again front front2 i1 i2 al next u (suc m) q le =
             let q' : SameHead r (front2 ++ u) = subst (λ r. SameHead r (front2 ++ u)) (sym i2) (same_front front2 (left_by a) u q) in
@@ -131,12 +140,14 @@ module _ {T : Type 0} where
         let st = stands lc s (Bad k r) g (subst P (sym w2) d) in
         (t ∷ t2 ∷ st.front, ap (λ l. t ∷ t2 ∷ l) (st.whole ∙ ap (λ r. st.front ++ r) w1), λ u m q le. again st.front st.always w2 u m (subst (λ r. SameHead r u) (sym w1) q) le)
       where
-        again : (front : List T) → ((u : List T) → SameHead r u → c' (front ++ u) ≡ Bad k u) → k ≡ k' → (u : List T) (m : ℕ) → SameHead r u → length ((t ∷ t2 ∷ front) ++ u) ≤ m → from v w z c' b' h m ((t ∷ t2 ∷ front) ++ u) ≡ Bad k' u
+        again : (front : List T) → ((u : List T) → SameHead r u → c' (front ++ u) ≡ Bad k u) → k ≡ k' → (u : List T) (m : ℕ) → SameHead r u
+            → length ((t ∷ t2 ∷ front) ++ u) ≤ m → from v w z c' b' h m ((t ∷ t2 ∷ front) ++ u) ≡ Bad k' u
         again front al w2 u zero q le = absurd (omega arith)
         again front al w2 u (suc m) q le = one_more v w z c' b' h m t t2 (front ++ u) y y2 e f ∙ rw (al u q) (ap (λ k. Bad k u) w2)
 
     -- after the first token
-    second : (n : ℕ) → ((m : ℕ) → suc m ≡ n → All m) → {R : Type 0} (h : List A → B → R) (t : T) (s : List T) (y : V) → v t ≡ Some y → length (t ∷ s) ≤ n → (a : Answer T R) → from v w z c b h n (t ∷ s) ≡ a → Counts P a → Agree h a (t ∷ s)
+    second : (n : ℕ) → ((m : ℕ) → suc m ≡ n → All m) → {R : Type 0} (h : List A → B → R) (t : T) (s : List T) (y : V) → v t ≡ Some y →
+        length (t ∷ s) ≤ n → (a : Answer T R) → from v w z c b h n (t ∷ s) ≡ a → Counts P a → Agree h a (t ∷ s)
     second zero ih h t s y e le a i d = absurd (omega arith)
     second (suc n) ih h t [] y e le a i d = lasts h t [] y e refl (b []) refl a (sym (one_last v w z c b h (suc n) t [] y e refl) ∙ i) d
     second (suc n) ih h t (t2 ∷ s) y e le a i d = go (w t2) refl
@@ -160,7 +171,8 @@ module _ {T : Type 0} where
         go : All n → All (suc n)
         go ih = each (suc n) (λ m e. let e' : n ≡ m = omega arith in subst All e' ih)
 
-    pub series_local : {R : Type 0} (h : List A → B → R) → IsLocal P (and_then h (all_of (heads_two v w) (item v w z c b)) (last v w z c b)) (and_then h (all_of (heads_two v w) (item v w z c' b')) (last v w z c' b'))
+    pub series_local : {R : Type 0} (h : List A → B → R) → IsLocal P (and_then h (all_of (heads_two v w) (item v w z c b)) (last v w z c b))
+        (and_then h (all_of (heads_two v w) (item v w z c' b')) (last v w z c' b'))
     series_local h = record {
       got = λ s x rest e. let a = all (length s) _ h s (omega arith) (Got x rest) e tt in record { front = a.0; whole = a.1; always = λ u q. a.2 u (length (a.0 ++ u)) q (omega arith) };
       bad = λ s k rest d e. let a = all (length s) _ h s (omega arith) (Bad k rest) e d in record { front = a.0; whole = a.1; always = λ u q. a.2 u (length (a.0 ++ u)) q (omega arith) };

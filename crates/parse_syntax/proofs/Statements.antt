@@ -7,7 +7,33 @@ use Rattle.parse_syntax.specs.Reader.{TokenReader, SyntaxFaultKind, map_by, and_
 use Rattle.parse_syntax.proofs.Laws.{Holds}
 use Rattle.parse_syntax.proofs.Local.{SameHead, IsTest}
 use Rattle.parse_syntax.proofs.Wider.{Starts, then_starts, mapped_starts, either_starts, head_gives}
-use Rattle.parse_syntax.proofs.Part.{anything, Branch, Part, both_hold, one_part, then_part, next_part, map_part, bind_part, branch, sooner, part_of, choose_branch, nothing_branch, never_branch, heads_test, Rooms, then_strict, first_strict, map_strict, open_branch, IsItem, many_part, no_such, series_part}
+use Rattle.parse_syntax.proofs.Part.{
+  anything,
+  Branch,
+  Part,
+  both_hold,
+  one_part,
+  then_part,
+  next_part,
+  map_part,
+  bind_part,
+  branch,
+  sooner,
+  part_of,
+  choose_branch,
+  nothing_branch,
+  never_branch,
+  heads_test,
+  Rooms,
+  then_strict,
+  first_strict,
+  map_strict,
+  open_branch,
+  IsItem,
+  many_part,
+  no_such,
+  series_part,
+}
 use Rattle.parse_syntax.proofs.Heads.{one_heads, then_heads, begins_length, room_of, in_room, deeper, IsOf, over, none_over, then_lacks, lacks, first_over, lower}
 use Rattle.parse_syntax.specs.declared.token.GrammarToken.{GrammarToken}
 use Rattle.parse_syntax.specs.declared.token.GrammarKind.{GrammarKind}
@@ -20,7 +46,25 @@ use Rattle.parse_syntax.specs.Terminals.{Identifier, directive, name, the_name, 
 use Rattle.parse_syntax.specs.Grammar
 use Rattle.parse_syntax.specs.Grammar.{pair_of, assign_of}
 use Rattle.parse_syntax.specs.Reading.{for_header, no_inside, print_of, inside_of, arm_of, if_of, let_of, const_of, for_of}
-use Rattle.parse_syntax.specs.Reading.{goes_on, read_args, read_parens, read_block, read_init, read_let, read_const, read_assign, read_print, read_arm, read_rest, read_if, read_turns, read_header, read_for, read_statement, read_strict}
+use Rattle.parse_syntax.specs.Reading.{
+  goes_on,
+  read_args,
+  read_parens,
+  read_block,
+  read_init,
+  read_let,
+  read_const,
+  read_assign,
+  read_print,
+  read_arm,
+  read_rest,
+  read_if,
+  read_turns,
+  read_header,
+  read_for,
+  read_statement,
+  read_strict,
+}
 use Rattle.parse_syntax.proofs.Stops.{sample, with_kind, stops, level_of, HasLevel, begins_unary}
 use Rattle.parse_syntax.proofs.Expressions.{one_stops, heads_stop, parens_part, args_part, no_args, held_parens, opening_part, closing_part}
 use Rattle.std.specs.Prelude.{is_some}
@@ -134,7 +178,8 @@ list_item S st = record {
   none = refl;
   eats = λ ts x h. begins_length (over first 0) ts (st.by ts x h);
   begins = λ ts x rest h. head_gives (over first 0) goes_on true (λ t s q. goes_over t s q) ts rest (st.by ts x h);
-  again = λ ts x rest h. head_gives (over first 0) (no_such else_word) true (λ t s q. ap (λ b. cond b false true) (none_over first else_word 0 0 else_first (omega arith) t s q)) ts rest (st.by ts x h);
+  again = λ ts x rest h. head_gives (over first 0) (no_such else_word) true
+      (λ t s q. ap (λ b. cond b false true) (none_over first else_word 0 0 else_first (omega arith) t s q)) ts rest (st.by ts x h);
   ends = λ rest e. ended (goes_on rest) e;
   over = at_end;
 }
@@ -152,7 +197,8 @@ list_item S st = record {
         go t _ e = cc
 
 -- what is known of an expression at this level, and of an expression and a statement where one more is open
-pub record Inner (P : SyntaxFaultKind → Type 0) (room : Bool) (E H I J : Lang GrammarToken ExprTree) (S F : Lang GrammarToken StmtTree) (e e' i i' : TokenReader GrammarToken ExprTree) (s s' : TokenReader GrammarToken StmtTree) : Type 0 where
+pub record Inner (P : SyntaxFaultKind → Type 0) (room : Bool) (E H I J : Lang GrammarToken ExprTree) (S F : Lang GrammarToken StmtTree)
+    (e e' i i' : TokenReader GrammarToken ExprTree) (s s' : TokenReader GrammarToken StmtTree) : Type 0 where
   pub here : Part P E H (stops 1) e e'
   pub test : room ≡ true → Part P I J (stops 1) i i'
   pub first_test : room ≡ true → Starts I begins_unary
@@ -180,7 +226,10 @@ at_semicolon_no_assign (t ∷ s) h = go t t.kind h
 
 module _ (tables : TokenTables) (prints room : Bool) (E I : Lang GrammarToken ExprTree) (S : Lang GrammarToken StmtTree) where
   for_starts : (k : ℕ) → nat_lt k 7 ≡ true → Starts (if_room room (Grammar.for_statement tables S)) (over first k)
-  for_starts k lt = record { by = λ ts x h. (then_starts (for_of tables) for_header (Grammar.block_part S) (over first k) (first_over first for_word 7 k for_first lt)).by ts x (room_of room (Grammar.for_statement tables S) ts x h) }
+  for_starts k lt = record {
+    by = λ ts x h. (then_starts (for_of tables) for_header (Grammar.block_part S) (over first k)
+        (first_over first for_word 7 k for_first lt)).by ts x (room_of room (Grammar.for_statement tables S) ts x h);
+  }
 
   abbrev pub From_if : Lang GrammarToken StmtTree
   From_if = Either (if_room room (Grammar.if_statement I S)) (if_room room (Grammar.for_statement tables S))
@@ -199,7 +248,11 @@ module _ (tables : TokenTables) (prints room : Bool) (E I : Lang GrammarToken Ex
 
   if_starts : Starts From_if (over first 5)
   if_starts = either_starts (if_room room (Grammar.if_statement I S)) (if_room room (Grammar.for_statement tables S)) (over first 5)
-      (record { by = λ ts x h. (then_starts if_of (Grammar.if_arm I S) (Then pair_of (Many (One else_word ▸ Grammar.if_arm I S)) (Either (One else_word ▸ Grammar.block_part S) (Nothing no_inside))) (over first 5) (first_over first if_word 6 5 if_first refl)).by ts x (room_of room (Grammar.if_statement I S) ts x h) })
+      (record {
+        by = λ ts x h. (then_starts if_of (Grammar.if_arm I S)
+            (Then pair_of (Many (One else_word ▸ Grammar.if_arm I S)) (Either (One else_word ▸ Grammar.block_part S) (Nothing no_inside)))
+            (over first 5) (first_over first if_word 6 5 if_first refl)).by ts x (room_of room (Grammar.if_statement I S) ts x h);
+      })
       (for_starts 5 refl)
 
   print_starts : Starts From_print (over first 4)
@@ -221,7 +274,10 @@ module _ (tables : TokenTables) (prints room : Bool) (E I : Lang GrammarToken Ex
 
   pub statement_starts : Starts (Grammar.statement tables prints room E I S) (over first 0)
   statement_starts = either_starts (if_room room (Mapped block (Grammar.block_part S))) From_let (over first 0)
-      (record { by = λ ts x h. (mapped_starts block (Grammar.block_part S) (over first 0) (first_over first open_brace 1 0 open_brace_of refl)).by ts x (room_of room (Mapped block (Grammar.block_part S)) ts x h) })
+      (record {
+        by = λ ts x h. (mapped_starts block (Grammar.block_part S) (over first 0)
+            (first_over first open_brace 1 0 open_brace_of refl)).by ts x (room_of room (Mapped block (Grammar.block_part S)) ts x h);
+      })
       (lower first 1 0 refl let_starts)
 
   block_heads : (ts : List GrammarToken) (x : StmtTree) (rest : List GrammarToken) → Mapped block (Grammar.block_part S) ts x → heads open_brace (ts ++ rest) ≡ true
@@ -266,10 +322,17 @@ module _ (P : SyntaxFaultKind → Type 0) where
 
   turns_part : (x : Identifier) → Part P (Grammar.loop_head x) (Grammar.loop_head x) anything (read_turns x) (read_turns x)
   turns_part x =
-      let last = next_part keep_second semicolon_part (next_part keep_second (the_name_part x.number) (next_part keep_second (one_part P increment (sample (kind.Mark mark.Increment)) tt refl) (closing_part P))) in
-      next_part keep_second assign_part (next_part keep_second (one_part P nought (sample (kind.Number 0)) tt refl) (next_part keep_second semicolon_part (next_part keep_second (the_name_part x.number) (next_part keep_second (one_part P less (sample (kind.Mark mark.Less)) tt refl) (next_part keep_first (one_part P bound_number (sample (kind.Number 0)) 0 refl) last)))))
+      let last = next_part keep_second semicolon_part (next_part keep_second (the_name_part x.number)
+      (next_part keep_second (one_part P increment (sample (kind.Mark mark.Increment)) tt refl) (closing_part P))) in
+      next_part keep_second assign_part (next_part keep_second (one_part P nought (sample (kind.Number 0)) tt refl)
+      (next_part keep_second semicolon_part (next_part keep_second (the_name_part x.number)
+      (next_part keep_second (one_part P less (sample (kind.Mark mark.Less)) tt refl)
+      (next_part keep_first (one_part P bound_number (sample (kind.Number 0)) 0 refl) last)))))
 
-  from_opening : Part P (One opening ▸ One let_word ▸ Bind pair_of (One name) Grammar.loop_head) (One opening ▸ One let_word ▸ Bind pair_of (One name) Grammar.loop_head) anything (and_then keep_second (one_of opening) (and_then keep_second (one_of let_word) (and_bind pair_of (one_of name) read_turns))) (and_then keep_second (one_of opening) (and_then keep_second (one_of let_word) (and_bind pair_of (one_of name) read_turns)))
+  from_opening : Part P (One opening ▸ One let_word ▸ Bind pair_of (One name) Grammar.loop_head)
+      (One opening ▸ One let_word ▸ Bind pair_of (One name) Grammar.loop_head) anything
+      (and_then keep_second (one_of opening) (and_then keep_second (one_of let_word) (and_bind pair_of (one_of name) read_turns)))
+      (and_then keep_second (one_of opening) (and_then keep_second (one_of let_word) (and_bind pair_of (one_of name) read_turns)))
   from_opening = next_part keep_second (opening_part P) (next_part keep_second let_part (bind_part pair_of name_part (λ a x h. turns_part x) (λ x. (turns_part x).local)))
 
   header_part : Part P for_header for_header anything read_header read_header
@@ -302,7 +365,8 @@ module _ (P : SyntaxFaultKind → Type 0) where
     assign_line_part : Part P (Grammar.assign_line tables E) (Grammar.assign_line tables H) anything (read_assign tables e) (read_assign tables e')
     assign_line_part = next_part (assign_of tables) name_part (next_part pair_of (one_part P assign_op (sample (kind.Mark mark.Assign)) None refl) ended_part)
 
-  module _ (tables : TokenTables) {I J : Lang GrammarToken ExprTree} {i i' : TokenReader GrammarToken ExprTree} {S F : Lang GrammarToken StmtTree} {s s' : TokenReader GrammarToken StmtTree} (q : Part P I J (stops 1) i i') (p : Part P S F (no_such else_word) s s') (st : Starts S (over first 0)) where
+  module _ (tables : TokenTables) {I J : Lang GrammarToken ExprTree} {i i' : TokenReader GrammarToken ExprTree} {S F : Lang GrammarToken StmtTree} {s s' : TokenReader GrammarToken StmtTree} (q : Part
+      P I J (stops 1) i i') (p : Part P S F (no_such else_word) s s') (st : Starts S (over first 0)) where
     pub block_part : Part P (Grammar.block_part S) (Grammar.block_part F) anything (read_block s) (read_block s')
     block_part = next_part keep_second open_brace_part (map_part inside_of (then_part keep_first (many_part goes_on no_more p (list_item S st)) close_brace_part closes))
       where
@@ -331,15 +395,18 @@ module _ (P : SyntaxFaultKind → Type 0) where
   body : (L : Lang GrammarToken StmtTree) → Holds (Grammar.block_part L)
   body L = both_hold keep_second open_brace_part.some (no_statements L)
 
-  block_rest : (L : Lang GrammarToken StmtTree) (t : GrammarToken) (y : Unit {0}) → open_brace t ≡ Some y → (tail : List GrammarToken) × (x : StmtTree) × Mapped block (Grammar.block_part L) (t ∷ tail) x
+  block_rest : (L : Lang GrammarToken StmtTree) (t : GrammarToken) (y : Unit {0}) → open_brace t
+      ≡ Some y → (tail : List GrammarToken) × (x : StmtTree) × Mapped block (Grammar.block_part L) (t ∷ tail) x
   block_rest L t y e = let d = deeper keep_second open_brace (no_statements L) t y e in (d.0, block d.1, mapped (t ∷ d.0) d.1 d.2)
 
-  if_rest : {J : Lang GrammarToken ExprTree} (L : Lang GrammarToken StmtTree) → Holds J → (t : GrammarToken) (y : Unit {0}) → if_word t ≡ Some y → (tail : List GrammarToken) × (x : StmtTree) × Grammar.if_statement J L (t ∷ tail) x
+  if_rest : {J : Lang GrammarToken ExprTree} (L : Lang GrammarToken StmtTree) → Holds J → (t : GrammarToken) (y : Unit {0}) → if_word t
+      ≡ Some y → (tail : List GrammarToken) × (x : StmtTree) × Grammar.if_statement J L (t ∷ tail) x
   if_rest L held t y e =
       let d = deeper keep_second if_word (both_hold arm_of (held_parens P held) (body L)) t y e in
       (d.0 ++ [], if_of d.1 ([], no_inside), both (t ∷ d.0) [] d.1 ([], no_inside) d.2 (both [] [] [] no_inside end (right [] no_inside (nothing no_inside refl))))
 
-  for_rest : (tables : TokenTables) (L : Lang GrammarToken StmtTree) (t : GrammarToken) (y : Unit {0}) → for_word t ≡ Some y → (tail : List GrammarToken) × (x : StmtTree) × Grammar.for_statement tables L (t ∷ tail) x
+  for_rest : (tables : TokenTables) (L : Lang GrammarToken StmtTree) (t : GrammarToken) (y : Unit {0}) → for_word t
+      ≡ Some y → (tail : List GrammarToken) × (x : StmtTree) × Grammar.for_statement tables L (t ∷ tail) x
   for_rest tables L t y e =
       let d = deeper keep_second for_word from_opening.some t y e in
       let b = body L in
@@ -347,20 +414,28 @@ module _ (P : SyntaxFaultKind → Type 0) where
 
   -- one level
 
-  module _ (tables : TokenTables) (prints room room' : Bool) (rs : Rooms P room room') (E H I J : Lang GrammarToken ExprTree) (S F : Lang GrammarToken StmtTree) (e e' i i' : TokenReader GrammarToken ExprTree) (s s' : TokenReader GrammarToken StmtTree) (k : Inner P room E H I J S F e e' i i' s s') where
+  module _ (tables : TokenTables) (prints room room' : Bool) (rs : Rooms P room room') (E H I J : Lang GrammarToken ExprTree)
+      (S F : Lang GrammarToken StmtTree) (e e' i i' : TokenReader GrammarToken ExprTree)
+      (s s' : TokenReader GrammarToken StmtTree) (k : Inner P room E H I J S F e e' i i' s s') where
     some_statement : Holds (Grammar.statement tables prints room E I S)
     some_statement = let m = (let_line_part tables k.here).some in record { tokens = m.tokens; value = m.value; spells = right m.tokens m.value (left m.tokens m.value m.spells) }
 
-    block_branch : Branch P (Grammar.statement tables prints room E I S) (if_room room (Mapped block (Grammar.block_part S))) (Mapped block (Grammar.block_part F)) (no_such else_word) (opens room (heads open_brace) (map_by block (read_block s))) (opens room' (heads open_brace) (map_by block (read_block s')))
+    block_branch : Branch P (Grammar.statement tables prints room E I S) (if_room room (Mapped block (Grammar.block_part S)))
+        (Mapped block (Grammar.block_part F)) (no_such else_word) (opens room (heads open_brace) (map_by block (read_block s)))
+        (opens room' (heads open_brace) (map_by block (read_block s')))
     block_branch = open_branch room room' rs open_brace
         (λ r. sooner (λ q h. refl) (branch (map_part block (block_part tables (k.test r) (k.law r) (k.starts r))) (λ ts x h. left ts x (in_room room (Mapped block (Grammar.block_part S)) r ts x h))))
         some_statement (block_rest F)
         (map_strict block open_brace (read_block s') (then_strict keep_second open_brace (map_by inside_of (and_then keep_first (all_of goes_on s') (one_of close_brace)))))
 
-    print_branch : Branch P (Grammar.statement tables prints room E I S) (if_room prints (if_room room (Grammar.print_statement I))) (if_room prints (Grammar.print_statement J)) (no_such else_word) (allowed prints (opens room (heads print_word) (read_print i))) (allowed prints (opens room' (heads print_word) (read_print i')))
+    print_branch : Branch P (Grammar.statement tables prints room E I S) (if_room prints (if_room room (Grammar.print_statement I)))
+        (if_room prints (Grammar.print_statement J)) (no_such else_word) (allowed prints (opens room (heads print_word) (read_print i)))
+        (allowed prints (opens room' (heads print_word) (read_print i')))
     print_branch = never_branch prints some_statement (λ a. open_branch room room' rs print_word
-        (λ r. sooner (λ q h. refl) (branch (next_part keep_second (one_part P print_word (sample (kind.Word word.Print 0)) tt refl) (map_part print_of (next_part keep_first (args_part P (k.test r) (k.first_test r)) semicolon_part)))
-        (λ ts x h. right ts x (right ts x (right ts x (right ts x (left ts x (in_room prints (if_room room (Grammar.print_statement I)) a ts x (in_room room (Grammar.print_statement I) r ts x h)))))))))
+        (λ r. sooner (λ q h. refl) (branch (next_part keep_second (one_part P print_word (sample (kind.Word word.Print 0)) tt refl)
+        (map_part print_of (next_part keep_first (args_part P (k.test r) (k.first_test r)) semicolon_part)))
+        (λ ts x h. right ts x (right ts x (right ts x (right ts x (left ts x
+        (in_room prints (if_room room (Grammar.print_statement I)) a ts x (in_room room (Grammar.print_statement I) r ts x h)))))))))
         some_statement
         (deeper keep_second print_word printed)
         (then_strict keep_second print_word (map_by print_of (and_then keep_first (read_args i') (one_of semicolon)))))
@@ -370,29 +445,54 @@ module _ (P : SyntaxFaultKind → Type 0) where
             let m = both_hold keep_first (no_args P J) semicolon_part.some in
             record { tokens = m.tokens; value = print_of m.value; spells = mapped m.tokens m.value m.spells }
 
-    if_branch : Branch P (Grammar.statement tables prints room E I S) (if_room room (Grammar.if_statement I S)) (Grammar.if_statement J F) (no_such else_word) (opens room (heads if_word) (read_if i s)) (opens room' (heads if_word) (read_if i' s'))
+    if_branch : Branch P (Grammar.statement tables prints room E I S) (if_room room (Grammar.if_statement I S)) (Grammar.if_statement J F)
+        (no_such else_word) (opens room (heads if_word) (read_if i s)) (opens room' (heads if_word) (read_if i' s'))
     if_branch = open_branch room room' rs if_word
-        (λ r. branch (if_statement_part tables (k.test r) (k.law r) (k.starts r)) (λ ts x h. right ts x (right ts x (right ts x (right ts x (right ts x (left ts x (in_room room (Grammar.if_statement I S) r ts x h))))))))
+        (λ r. branch (if_statement_part tables (k.test r) (k.law r) (k.starts r))
+        (λ ts x h. right ts x (right ts x (right ts x (right ts x (right ts x (left ts x (in_room room (Grammar.if_statement I S) r ts x h))))))))
         some_statement
         (if_rest F k.held_test)
-        (first_strict if_of if_word (read_arm i' s') (and_then pair_of (all_of (heads_two else_word if_word) (and_then keep_second (one_of else_word) (read_arm i' s'))) (read_rest s')) (then_strict keep_second if_word (and_then arm_of (read_parens i') (read_block s'))))
+        (first_strict if_of if_word (read_arm i' s') (and_then pair_of
+        (all_of (heads_two else_word if_word) (and_then keep_second (one_of else_word) (read_arm i' s'))) (read_rest s'))
+        (then_strict keep_second if_word (and_then arm_of (read_parens i') (read_block s'))))
 
-    for_branch : Branch P (Grammar.statement tables prints room E I S) (if_room room (Grammar.for_statement tables S)) (Grammar.for_statement tables F) (no_such else_word) (opens room (heads for_word) (read_for tables s)) (opens room' (heads for_word) (read_for tables s'))
+    for_branch : Branch P (Grammar.statement tables prints room E I S) (if_room room (Grammar.for_statement tables S))
+        (Grammar.for_statement tables F) (no_such else_word) (opens room (heads for_word) (read_for tables s)) (opens room' (heads for_word) (read_for tables s'))
     for_branch = open_branch room room' rs for_word
-        (λ r. sooner (λ q h. refl) (branch (for_statement_part tables (k.test r) (k.law r) (k.starts r)) (λ ts x h. right ts x (right ts x (right ts x (right ts x (right ts x (right ts x (in_room room (Grammar.for_statement tables S) r ts x h)))))))))
+        (λ r. sooner (λ q h. refl) (branch (for_statement_part tables (k.test r) (k.law r) (k.starts r))
+        (λ ts x h. right ts x (right ts x (right ts x (right ts x (right ts x (right ts x (in_room room (Grammar.for_statement tables S) r ts x h)))))))))
         some_statement
         (for_rest tables F)
-        (first_strict (for_of tables) for_word read_header (read_block s') (then_strict keep_second for_word (and_then keep_second (one_of opening) (and_then keep_second (one_of let_word) (and_bind pair_of (one_of name) read_turns)))))
+        (first_strict (for_of tables) for_word read_header (read_block s')
+        (then_strict keep_second for_word (and_then keep_second (one_of opening)
+        (and_then keep_second (one_of let_word) (and_bind pair_of (one_of name) read_turns)))))
 
     -- the statements at this level
-    pub statement_part : Part P (Grammar.statement tables prints room E I S) (Grammar.statement tables prints true H J F) (no_such else_word) (read_statement tables prints room e i s) (read_statement tables prints room' e' i' s')
+    pub statement_part : Part P (Grammar.statement tables prints room E I S) (Grammar.statement tables prints true H J F)
+        (no_such else_word) (read_statement tables prints room e i s) (read_statement tables prints room' e' i' s')
     statement_part =
-        let ifs = choose_branch (heads if_word) (heads_test if_word) if_branch for_branch (λ ts x rest h. if_heads tables prints room E I S ts x rest (room_of room (Grammar.if_statement I S) ts x h)) (λ ts x rest h q. lacks first if_word 6 6 if_first (omega arith) (for_starts tables prints room E I S 6 refl) ts x rest h) in
-        let prints' = choose_branch (heads print_word) (heads_test print_word) print_branch ifs (λ ts x rest h. then_heads print_word ts x rest (room_of room (Grammar.print_statement I) ts x (room_of prints (if_room room (Grammar.print_statement I)) ts x h))) (λ ts x rest h q. lacks first print_word 5 5 print_first (omega arith) (if_starts tables prints room E I S) ts x rest h) in
-        let assigns = choose_branch (heads name) (heads_test name) (sooner (λ q h. refl) (branch (assign_line_part tables k.here) (λ ts x h. right ts x (right ts x (right ts x (left ts x h)))))) prints' (λ ts x rest h. then_heads name ts x rest h) (λ ts x rest h q. lacks first name 4 4 name_first (omega arith) (print_starts tables prints room E I S) ts x rest h) in
-        let consts = choose_branch (heads const_word) (heads_test const_word) (sooner (λ q h. refl) (branch (const_line_part tables k.here) (λ ts x h. right ts x (right ts x (left ts x h))))) assigns (λ ts x rest h. then_heads const_word ts x rest h) (λ ts x rest h q. lacks first const_word 3 3 const_first (omega arith) (assign_starts tables prints room E I S) ts x rest h) in
-        let lets = choose_branch (heads let_word) (heads_test let_word) (sooner (λ q h. refl) (branch (let_line_part tables k.here) (λ ts x h. right ts x (left ts x h)))) consts (λ ts x rest h. then_heads let_word ts x rest h) (λ ts x rest h q. lacks first let_word 2 2 let_first (omega arith) (const_starts tables prints room E I S) ts x rest h) in
-        part_of (choose_branch (heads open_brace) (heads_test open_brace) block_branch lets (λ ts x rest h. block_heads tables prints room E I S ts x rest (room_of room (Mapped block (Grammar.block_part S)) ts x h)) (λ ts x rest h q. lacks first open_brace 1 1 open_brace_of (omega arith) (let_starts tables prints room E I S) ts x rest h)) some_statement
+        let ifs = choose_branch (heads if_word) (heads_test if_word) if_branch for_branch
+        (λ ts x rest h. if_heads tables prints room E I S ts x rest (room_of room (Grammar.if_statement I S) ts x h))
+        (λ ts x rest h q. lacks first if_word 6 6 if_first (omega arith) (for_starts tables prints room E I S 6 refl) ts x rest h) in
+        let prints' = choose_branch (heads print_word) (heads_test print_word) print_branch ifs
+        (λ ts x rest h. then_heads print_word ts x rest (room_of room (Grammar.print_statement I) ts x
+        (room_of prints (if_room room (Grammar.print_statement I)) ts x h)))
+        (λ ts x rest h q. lacks first print_word 5 5 print_first (omega arith) (if_starts tables prints room E I S) ts x rest h) in
+        let assigns = choose_branch (heads name) (heads_test name) (sooner (λ q h. refl)
+        (branch (assign_line_part tables k.here) (λ ts x h. right ts x (right ts x (right ts x (left ts x h)))))) prints'
+        (λ ts x rest h. then_heads name ts x rest h) (λ ts x rest h q. lacks first name 4 4 name_first (omega arith)
+        (print_starts tables prints room E I S) ts x rest h) in
+        let consts = choose_branch (heads const_word) (heads_test const_word)
+        (sooner (λ q h. refl) (branch (const_line_part tables k.here) (λ ts x h. right ts x (right ts x (left ts x h))))) assigns
+        (λ ts x rest h. then_heads const_word ts x rest h) (λ ts x rest h q. lacks first const_word 3 3 const_first (omega arith)
+        (assign_starts tables prints room E I S) ts x rest h) in
+        let lets = choose_branch (heads let_word) (heads_test let_word)
+        (sooner (λ q h. refl) (branch (let_line_part tables k.here) (λ ts x h. right ts x (left ts x h)))) consts
+        (λ ts x rest h. then_heads let_word ts x rest h) (λ ts x rest h q. lacks first let_word 2 2 let_first (omega arith)
+        (const_starts tables prints room E I S) ts x rest h) in
+        part_of (choose_branch (heads open_brace) (heads_test open_brace) block_branch lets
+        (λ ts x rest h. block_heads tables prints room E I S ts x rest (room_of room (Mapped block (Grammar.block_part S)) ts x h))
+        (λ ts x rest h q. lacks first open_brace 1 1 open_brace_of (omega arith) (let_starts tables prints room E I S) ts x rest h)) some_statement
 
   -- [ Directive ; ]
   abbrev strict : Lang GrammarToken (Unit {0})

@@ -186,7 +186,8 @@ module _ {T A : Type 0} {Script : ℕ → Lang T A} {stops : List T → Bool} {r
         let a = (all_law n).deep ts (t ∷ after) e in
         let g : a.front ≡ front = append_cancel_right a.front front (t ∷ after) (sym a.whole ∙ w) in
         let same_head : t ≡ a.token = let q = a.there in cc in
-        let s1 : AllOf (suc n) (front ++ t ∷ a.more) a.value = subst (λ q. AllOf (suc n) (q ++ t ∷ a.more) a.value) g (subst (λ u. AllOf (suc n) (a.front ++ u ∷ a.more) a.value) (sym same_head) a.spells) in
+        let s1 : AllOf (suc n) (front ++ t ∷ a.more) a.value = subst (λ q. AllOf (suc n) (q ++ t ∷ a.more) a.value) g
+        (subst (λ u. AllOf (suc n) (a.front ++ u ∷ a.more) a.value) (sym same_head) a.spells) in
         (a.more, a.value, from_all (suc n) ((front ++ t ∷ []) ++ a.more) a.value (subst (λ q. AllOf (suc n) q a.value) (sym (append_assoc front (t ∷ []) a.more)) s1))
 
     -- at the end nothing is too deep

@@ -17,10 +17,14 @@ module _ {K : Type 0} (letters : K → List ℕ) where
   pub get_seen : (es : List (K × ℕ)) (q : List ℕ) → get (seen letters es) q ≡ lookup (is_at (λ k. slice_cmp nat_cmp q (letters k))) es
   get_seen es q = get-from_entries nat_list_cmp_total (by_letters letters es) q ∙ find_lookup q es
 
-  put_entry : (es : List (K × ℕ)) (k : K) (v : ℕ) → by_letters letters (insert_entry (λ x y. slice_cmp nat_cmp (letters x) (letters y)) es k v) ≡ put (slice_cmp nat_cmp) (letters k) v (by_letters letters es)
+  put_entry : (es : List (K × ℕ)) (k : K) (v : ℕ) → by_letters letters
+      (insert_entry (λ x y. slice_cmp nat_cmp (letters x) (letters y)) es k v) ≡ put (slice_cmp nat_cmp) (letters k) v (by_letters letters es)
   put_entry [] k v = refl
   put_entry (e ∷ es) k v =
-      elim (slice_cmp nat_cmp (letters k) (letters e.0)) as (λ o. by_letters letters (match_ordering o ((k, v) ∷ e ∷ es) ((e.0, v) ∷ es) (e ∷ insert_entry (λ x y. slice_cmp nat_cmp (letters x) (letters y)) es k v)) ≡ by_order o ((letters k, v) ∷ by_letters letters (e ∷ es)) ((letters e.0, v) ∷ by_letters letters es) ((letters e.0, e.1) ∷ put (slice_cmp nat_cmp) (letters k) v (by_letters letters es))) [
+      elim (slice_cmp nat_cmp (letters k) (letters e.0)) as (λ o. by_letters letters
+      (match_ordering o ((k, v) ∷ e ∷ es) ((e.0, v) ∷ es) (e ∷ insert_entry (λ x y. slice_cmp nat_cmp (letters x) (letters y)) es k v)) ≡
+      by_order o ((letters k, v) ∷ by_letters letters (e ∷ es)) ((letters e.0, v) ∷ by_letters letters es)
+      ((letters e.0, e.1) ∷ put (slice_cmp nat_cmp) (letters k) v (by_letters letters es))) [
         | Less ↦ refl
         | Equal ↦ refl
         | Greater ↦ ap (λ r. (letters e.0, e.1) ∷ r) (put_entry es k v)

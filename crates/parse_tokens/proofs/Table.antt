@@ -48,8 +48,10 @@ old_at n new len more e f most = go (nat_eq n len) refl
         let b : nat_lt new more ≡ true = lt-ltb new more (omega arith) in
         rw (a, b) (ap Some (sym x))
 
-pub entered : (numbers : FinMap (slice_cmp nat_cmp) ℕ) (names : List (List ℕ)) (letters : List ℕ) → Agrees numbers names → position (bytes_eq letters) names ≡ None → Agrees (insert numbers letters (length names)) (names ++ letters ∷ [])
-entered numbers names letters agrees none q = get-insert nat_list_cmp_total numbers letters (length names) q ∙ (ap (λ b. cond b (Some (length names)) (get numbers q)) (is_eq-slice_cmp q letters) ∙ go (bytes_eq q letters) refl)
+pub entered : (numbers : FinMap (slice_cmp nat_cmp) ℕ) (names : List (List ℕ)) (letters : List ℕ) → Agrees numbers names → position
+    (bytes_eq letters) names ≡ None → Agrees (insert numbers letters (length names)) (names ++ letters ∷ [])
+entered numbers names letters agrees none q = get-insert nat_list_cmp_total numbers letters (length names) q ∙
+    (ap (λ b. cond b (Some (length names)) (get numbers q)) (is_eq-slice_cmp q letters) ∙ go (bytes_eq q letters) refl)
   where
     more : length (names ++ letters ∷ []) ≡ length names + 1
     more = length-append names (letters ∷ [])
@@ -63,5 +65,7 @@ entered numbers names letters agrees none q = get-insert nat_list_cmp_total numb
     go false e = agrees q ∙ old_at (place_in names q) _ (length names) _ (position_or_len_push (bytes_eq q) names letters ∙ rw e refl) more (prefix_len-le-length _ names)
 
 -- the same of what the calls gave
-pub entered_by : (numbers more : FinMap (slice_cmp nat_cmp) ℕ) (names table : List (List ℕ)) (letters copy : List ℕ) (number : ℕ) → Agrees numbers names → position (bytes_eq letters) names ≡ None → number ≡ length names → more ≡ insert numbers letters number → copy ≡ letters → table ≡ names ++ copy ∷ [] → Agrees more table
+pub entered_by : (numbers more : FinMap (slice_cmp nat_cmp) ℕ) (names table : List (List ℕ)) (letters copy : List ℕ) (number : ℕ) → Agrees
+    numbers names → position (bytes_eq letters) names ≡ None → number ≡ length names → more ≡ insert numbers letters number → copy ≡ letters →
+    table ≡ names ++ copy ∷ [] → Agrees more table
 entered_by numbers more names table letters copy number agrees none n e c t = rw (e, t, c, n) (entered numbers names letters agrees none)

@@ -1,5 +1,34 @@
 -- What is asked for to be run, by what the getters of the matches answer.
-use Rattle.std.proofs.Common.{◌≡◌, ◌&&◌, ◌||◌, ◌<◌, ◌≤◌, ℕ, Bool, true, false, not, List, [], ◌∷◌, length, map, None, Some, refl, ap, sym, ◌∙◌, codes, is_some, option_map, unwrap_or, arith, true≢false, if◌then◌else◌}
+use Rattle.std.proofs.Common.{
+  ◌≡◌,
+  ◌&&◌,
+  ◌||◌,
+  ◌<◌,
+  ◌≤◌,
+  ℕ,
+  Bool,
+  true,
+  false,
+  not,
+  List,
+  [],
+  ◌∷◌,
+  length,
+  map,
+  None,
+  Some,
+  refl,
+  ap,
+  sym,
+  ◌∙◌,
+  codes,
+  is_some,
+  option_map,
+  unwrap_or,
+  arith,
+  true≢false,
+  if◌then◌else◌,
+}
 use Rattle.std.proofs.lemmas.Bool.{ne_eqb}
 use Rattle.std.specs.declared.option.Option.{Option}
 use Rattle.clap.specs.Walk.{is_empty}
@@ -39,14 +68,17 @@ named_by some prelude scripts = if some then Some (files prelude scripts) else N
 
 module _ (rows : List Row) (given : List (List ℕ)) (is : files_in rows ≡ given) where
   pub none_named : length given ≡ 0 → named_in rows ≡ None
-  none_named none = ap (λ some. named_by some (first_of (codes "prelude") rows) (files_in rows)) (ap (λ (scripts : List (List ℕ)). nat_le 1 (length scripts) && nat_le (length scripts) 4096) is ∙ too_few given none)
+  none_named none = ap (λ some. named_by some (first_of (codes "prelude") rows) (files_in rows))
+      (ap (λ (scripts : List (List ℕ)). nat_le 1 (length scripts) && nat_le (length scripts) 4096) is ∙ too_few given none)
 
   pub too_many_named : 4096 < length given → named_in rows ≡ None
-  too_many_named many = ap (λ some. named_by some (first_of (codes "prelude") rows) (files_in rows)) (ap (λ (scripts : List (List ℕ)). nat_le 1 (length scripts) && nat_le (length scripts) 4096) is ∙ too_many given many)
+  too_many_named many = ap (λ some. named_by some (first_of (codes "prelude") rows) (files_in rows))
+      (ap (λ (scripts : List (List ℕ)). nat_le 1 (length scripts) && nat_le (length scripts) 4096) is ∙ too_many given many)
 
   pub some_named : (prelude : Option (List ℕ)) → first_of (codes "prelude") rows ≡ prelude → (length given ≡ 0 → ⊥) → length given ≤ 4096 → named_in rows ≡ Some (files prelude given)
   some_named prelude prelude_is some few =
-      ap (λ some. named_by some (first_of (codes "prelude") rows) (files_in rows)) (ap (λ (scripts : List (List ℕ)). nat_le 1 (length scripts) && nat_le (length scripts) 4096) is ∙ some_files given some few)
+      ap (λ some. named_by some (first_of (codes "prelude") rows) (files_in rows))
+      (ap (λ (scripts : List (List ℕ)). nat_le 1 (length scripts) && nat_le (length scripts) 4096) is ∙ some_files given some few)
       ∙ ap (λ p. Some (files p (files_in rows))) prelude_is ∙ ap (λ fs. Some (files prelude fs)) is
 
 abbrev generated_by : Bool → Bool → Option ℕ → Option Asked

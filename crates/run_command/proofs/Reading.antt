@@ -1,5 +1,41 @@
 -- What the getters of the matches read of an option.
-use Rattle.std.proofs.Common.{◌≡◌, ◌⊎◌, ◌≤◌, ◌≤ℤ◌, ◌<ℤ◌, ℕ, zero, suc, ℤ, pos, neg_ℤ, nat_abs, cond, w64, to_z, of_z, FitsSigned, Bool, true, false, List, None, Some, Ok, Err, refl, ap, subst, sym, ◌∙◌, codes, unwrap_or, arith, true≢false, if◌then◌else◌}
+use Rattle.std.proofs.Common.{
+  ◌≡◌,
+  ◌⊎◌,
+  ◌≤◌,
+  ◌≤ℤ◌,
+  ◌<ℤ◌,
+  ℕ,
+  zero,
+  suc,
+  ℤ,
+  pos,
+  neg_ℤ,
+  nat_abs,
+  cond,
+  w64,
+  to_z,
+  of_z,
+  FitsSigned,
+  Bool,
+  true,
+  false,
+  List,
+  None,
+  Some,
+  Ok,
+  Err,
+  refl,
+  ap,
+  subst,
+  sym,
+  ◌∙◌,
+  codes,
+  unwrap_or,
+  arith,
+  true≢false,
+  if◌then◌else◌,
+}
 use Rattle.std.specs.declared.option.Option.{Option}
 use Rattle.std.specs.Prelude.{Result, option_and_then}
 use Rattle.std.specs.Result.{result_ok}
@@ -63,11 +99,13 @@ module _ (least most : ℕ) (f : Found) (id : Text) where
           let parsed = parsed_to z x parses is in
           of_text (Some text) None given (no_number least most text (λ is. grind (arith, out, parsed.1, is.2, is.3)))
 
-      pub number_inside : (z : ℤ) (x : Result ℤ E) → ParsesSigned w64 10 text x → Some z ≡ result_ok x → pos least ≤ℤ z → z ≤ℤ pos most → option_number least most id (rows_of f) ≡ Some (nat_abs (to_z w64 (of_z w64 z)))
+      pub number_inside : (z : ℤ) (x : Result ℤ E) → ParsesSigned w64 10 text x → Some z ≡ result_ok x → pos least ≤ℤ z → z ≤ℤ pos most →
+          option_number least most id (rows_of f) ≡ Some (nat_abs (to_z w64 (of_z w64 z)))
       number_inside z x parses is low high =
           let parsed = parsed_to z x parses is in
           let value : z ≡ signed_digits_value 10 text = parsed.1 in
-          let read : number_in least most text ≡ Some (digits_value 10 (without_leading_sign text)) = a_number least most text (parsed.0.0, parsed.0.1, subst (λ (k : ℤ). pos least ≤ℤ k) value low, subst (λ (k : ℤ). k ≤ℤ pos most) value high) in
+          let read : number_in least most text ≡ Some (digits_value 10 (without_leading_sign text)) = a_number least most text
+          (parsed.0.0, parsed.0.1, subst (λ (k : ℤ). pos least ≤ℤ k) value low, subst (λ (k : ℤ). k ≤ℤ pos most) value high) in
           let same : nat_abs (to_z w64 (of_z w64 z)) ≡ nat_abs z = ap nat_abs (to_z-of_z w64 z (subst (λ (k : ℤ). FitsSigned w64 k) (sym value) parsed.0.1)) in
           of_text (Some text) (Some (nat_abs (to_z w64 (of_z w64 z)))) given
           (read ∙ ap Some (sym (same ∙ ap nat_abs value ∙ signless (starts_with_minus text) (digits_value 10 (without_leading_sign text)))))

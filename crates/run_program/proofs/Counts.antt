@@ -20,7 +20,8 @@ module _ {K : Type 0} {eq : K → K → Bool} (same : (a b : K) → Decides (eq 
   unique_same [] q = refl
   unique_same (x ∷ xs) q = by (is_member eq xs x) (eq q x) refl refl (unique_same xs q)
     where
-      by : (b c : Bool) → is_member eq xs x ≡ b → eq q x ≡ c → is_member eq (unique_keys eq xs) q ≡ is_member eq xs q → is_member eq (cond b (unique_keys eq xs) (x ∷ unique_keys eq xs)) q ≡ (c || is_member eq xs q)
+      by : (b c : Bool) → is_member eq xs x ≡ b → eq q x ≡ c → is_member eq (unique_keys eq xs) q ≡ is_member eq xs q → is_member eq
+          (cond b (unique_keys eq xs) (x ∷ unique_keys eq xs)) q ≡ (c || is_member eq xs q)
       by true true m t r = r ∙ (ap (is_member eq xs) ((same q x).0 t) ∙ m)
       by true false m t r = r
       by false c m t r = rw t (ap (λ v. c || v) r)
@@ -29,7 +30,8 @@ module _ {K : Type 0} {eq : K → K → Bool} (same : (a b : K) → Decides (eq 
   unique_count [] = refl
   unique_count (x ∷ xs) = by (is_member eq xs x) refl (unique_count xs)
     where
-      by : (b : Bool) → is_member eq xs x ≡ b → distinct_count eq (unique_keys eq xs) ≡ length (unique_keys eq xs) → distinct_count eq (cond b (unique_keys eq xs) (x ∷ unique_keys eq xs)) ≡ length (cond b (unique_keys eq xs) (x ∷ unique_keys eq xs))
+      by : (b : Bool) → is_member eq xs x ≡ b → distinct_count eq (unique_keys eq xs) ≡ length (unique_keys eq xs) → distinct_count eq
+          (cond b (unique_keys eq xs) (x ∷ unique_keys eq xs)) ≡ length (cond b (unique_keys eq xs) (x ∷ unique_keys eq xs))
       by true m r = r
       by false m r = ap (λ b. length (cond b (unique_keys eq (unique_keys eq xs)) (x ∷ unique_keys eq (unique_keys eq xs)))) (unique_same xs x ∙ m) ∙ ap suc r
 

@@ -66,7 +66,8 @@ module _ {F : Type 0} {b c : State F} (l : Later b c) where
   came_later : (f : RunFile) → WasFileRun b f → WasFileRun c f
   came_later f h = record { ended = ended_later f.mean f.lines f.part f.end h.ended; within_ids = h.within_ids; within_words = h.within_words }
 
-pub run_later : {F : Type 0} (z : StoreSizes) (s t : State F) (files : List RunFile) → AreRun z s files → Later s t → t.history ≡ s.history → t.used_ids ≡ s.used_ids → t.used_words ≡ s.used_words → AreRun z t files
+pub run_later : {F : Type 0} (z : StoreSizes) (s t : State F) (files : List RunFile) → AreRun z s files → Later s t → t.history ≡ s.history
+    → t.used_ids ≡ s.used_ids → t.used_words ≡ s.used_words → AreRun z t files
 run_later z s t files r l history ids words = record {
   sizes = l.sizes ∙ r.sizes;
   each = every_map (came_later l) files r.each;
@@ -134,7 +135,8 @@ module _ {F : Type 0} (z : StoreSizes) (s t : State F) (files : List RunFile) (a
         each = every_append (WasFileRun t) files fs (every_map (came_later (grows_later r.grows)) files a.each) (jobs_came mean t js os r.parts r.each);
         history = r.history ∙ (ap (λ h. h ++ pairs_of r.parts) a.history ∙ (sym (pairs_append (parts_of files) r.parts) ∙ ap pairs_of (sym e)));
         used_ids = (let k : ids_of (parts_of (files ++ fs)) ≡ ids_of (parts_of files ++ r.parts) = ap ids_of e in omega (arith, k, r.used_ids, a.used_ids, ids_append (parts_of files) r.parts));
-        used_words = (let k : words_of (parts_of (files ++ fs)) ≡ words_of (parts_of files ++ r.parts) = ap words_of e in omega (arith, k, r.used_words, a.used_words, words_append (parts_of files) r.parts));
+        used_words = (let k : words_of (parts_of (files ++ fs)) ≡ words_of (parts_of files ++ r.parts) = ap words_of e in omega
+            (arith, k, r.used_words, a.used_words, words_append (parts_of files) r.parts));
       }
 
   pub run_jobs : (mean : Job → Flow) (js : List Job) (os : List Outcome) → RanJobs mean s t js os → (more : List RunFile) × AreJobs mean js os more × AreRun z t (files ++ more)

@@ -49,7 +49,8 @@ module _ {F : Type 0} (s : State F) (prelude : RunFile) (scripts : List Flow) wh
   after files (Full r) is h a = alone files (λ d. let both : Full r ≡ Done = sym is ∙ d in cc) a
   after files Memory is h a = alone files (λ d. let both : Memory ≡ Done = sym is ∙ d in cc) a
 
-pub are_first : {F : Type 0} (s : State F) (prelude : Option Flow) (scripts : List Flow) (files : List RunFile) → Every (WasFileRun s) files → AreFilesOf prelude scripts files → AreFirst (all_meant prelude scripts) files
+pub are_first : {F : Type 0} (s : State F) (prelude : Option Flow) (scripts : List Flow) (files : List RunFile) → Every (WasFileRun s) files
+    → AreFilesOf prelude scripts files → AreFirst (all_meant prelude scripts) files
 are_first s None scripts files c h = record { rest = []; split = sym h ∙ sym (append-nil (means_of files)); all = λ m. refl }
 are_first s (Some m) scripts [] c h = absurd h
 are_first s (Some m) scripts (f ∷ files) c h = subst (λ (x : Flow). AreFirst (x ∷ after_prelude x.out scripts) (f ∷ files)) h.0 (after s f scripts files f.end refl c.0.ended h.1)

@@ -70,7 +70,8 @@ module _ (a b : State SessionFrame) (script : Script) (o : Outcome) (after : Lis
   leaves : o.end ≡ Done → after ≡ flow.bindings.top
   leaves done = let h : Finished a b [] o.lines after Done flow = subst (λ (e : End). Evaluates a b [] o.lines after e flow) done ev in h.bindings
 
-  module _ (c : State SessionFrame) (env : List (Binding (Item JsStr))) (js : List Job) (os : List Outcome) (is : after ≡ bounds_seen b number (bounds_of env)) (done : o.end ≡ Done) (r : Runs b c env js os) where
+  module _ (c : State SessionFrame) (env : List (Binding (Item JsStr))) (js : List Job) (os : List Outcome) (is : after ≡ bounds_seen
+      b number (bounds_of env)) (done : o.end ≡ Done) (r : Runs b c env js os) where
     as_meant : map (means b env) js ≡ scripts_meant a.limit (Some (tree_of script)) (job_trees js)
     as_meant = means_jobs js (bounds_seen b number (bounds_of env)) b.limit
         ∙ (ap (λ (top : List (Bound Val)). map (λ t. meaning t top b.limit) (job_trees js)) (sym is ∙ leaves done)

@@ -17,7 +17,26 @@ use Rattle.js_eval.specs.Script.{Flow, flow_ledger}
 use Rattle.js_eval.specs.Evaluates.{Finished, Interrupted, Evaluates}
 use Rattle.run_program.specs.declared.job.Job.{Job}
 use Rattle.run_program.specs.declared.job.Outcome.{Outcome}
-use Rattle.run_program.specs.Jobs.{JobUse, fault_in, Reports, Whole, Broken, HasJobEnd, CameOf, AtEach, pairs_of, ids_of, words_of, job_ids_needed, job_words_needed, most_ids_wanted, most_words_wanted, Later, RanJobs, HasNoLines}
+use Rattle.run_program.specs.Jobs.{
+  JobUse,
+  fault_in,
+  Reports,
+  Whole,
+  Broken,
+  HasJobEnd,
+  CameOf,
+  AtEach,
+  pairs_of,
+  ids_of,
+  words_of,
+  job_ids_needed,
+  job_words_needed,
+  most_ids_wanted,
+  most_words_wanted,
+  Later,
+  RanJobs,
+  HasNoLines,
+}
 
 -- lists of three
 module _ {X Y Z : Type 0} where
@@ -29,7 +48,8 @@ module _ {X Y Z : Type 0} where
   each_weaker P Q f (x ∷ xs) [] zs h = absurd h
   each_weaker P Q f (x ∷ xs) (y ∷ ys) [] h = absurd h
 
-  pub each_append : (P : X → Y → Z → Type 0) → (xs : List X) (ys : List Y) (zs : List Z) (us : List X) (vs : List Y) (ws : List Z) → AtEach P xs ys zs → AtEach P us vs ws → AtEach P (xs ++ us) (ys ++ vs) (zs ++ ws)
+  pub each_append : (P : X → Y → Z → Type 0) → (xs : List X) (ys : List Y) (zs : List Z) (us : List X) (vs : List Y) (ws : List Z) → AtEach
+      P xs ys zs → AtEach P us vs ws → AtEach P (xs ++ us) (ys ++ vs) (zs ++ ws)
   each_append P [] [] [] us vs ws h k = k
   each_append P (x ∷ xs) (y ∷ ys) (z ∷ zs) us vs ws h k = (h.0, each_append P xs ys zs us vs ws h.1 k)
   each_append P [] [] (z ∷ zs) us vs ws h k = absurd h
@@ -113,11 +133,13 @@ ran_none mean a = record {
 }
 
 -- some jobs, and then others
-pub ran_then : {F : Type 0} (mean : Job → Flow) (a b c : State F) (js : List Job) (os : List Outcome) (ks : List Job) (us : List Outcome) → RanJobs mean a b js os → RanJobs mean b c ks us → RanJobs mean a c (js ++ ks) (os ++ us)
+pub ran_then : {F : Type 0} (mean : Job → Flow) (a b c : State F) (js : List Job) (os : List Outcome) (ks : List Job) (us : List Outcome) →
+    RanJobs mean a b js os → RanJobs mean b c ks us → RanJobs mean a c (js ++ ks) (os ++ us)
 ran_then mean a b c js os ks us r s = record {
   grows = grows_trans r.grows s.grows;
   parts = r.parts ++ s.parts;
-  each = each_append (λ j. CameOf c (mean j) j) js os r.parts ks us s.parts (each_weaker (λ j. CameOf b (mean j) j) (λ j. CameOf c (mean j) j) (λ j. came_later (grows_later s.grows) (mean j) j) js os r.parts r.each) s.each;
+  each = each_append (λ j. CameOf c (mean j) j) js os r.parts ks us s.parts
+      (each_weaker (λ j. CameOf b (mean j) j) (λ j. CameOf c (mean j) j) (λ j. came_later (grows_later s.grows) (mean j) j) js os r.parts r.each) s.each;
   history = s.history ∙ (ap (λ h. h ++ pairs_of s.parts) r.history ∙ (append_assoc a.history (pairs_of r.parts) (pairs_of s.parts) ∙ ap (λ h. a.history ++ h) (sym (pairs_append r.parts s.parts))));
   used_ids = omega (arith, r.used_ids, s.used_ids, ids_append r.parts s.parts);
   used_words = omega (arith, r.used_words, s.used_words, words_append r.parts s.parts);
@@ -132,7 +154,8 @@ ran_more mean a b c js os k j o h len is r s =
     subst (λ (x : List Job). RanJobs mean a c x (take (k + 1) (set os k o))) (sym e)
     (subst (λ (y : List Outcome). RanJobs mean a c (take k js ++ j ∷ []) y) (sym f) (ran_then mean a b c (take k js) (take k os) (j ∷ []) (o ∷ []) r s))
 
-pub empty_more : (os : List Outcome) (k : ℕ) (o : Outcome) → ((i : ℕ) (d : Outcome) → k ≤ i → i < length os → HasNoLines (get_or os i d)) → (i : ℕ) (d : Outcome) → k + 1 ≤ i → i < length (set os k o) → HasNoLines (get_or (set os k o) i d)
+pub empty_more : (os : List Outcome) (k : ℕ) (o : Outcome) → ((i : ℕ) (d : Outcome) → k ≤ i → i < length os → HasNoLines
+    (get_or os i d)) → (i : ℕ) (d : Outcome) → k + 1 ≤ i → i < length (set os k o) → HasNoLines (get_or (set os k o) i d)
 empty_more os k o f i d m h = let P : Outcome → Type 0 = λ x. HasNoLines x in
     subst P (sym (get_or-set_other os k i o d (λ e. absurd (omega arith)))) (f i d (omega arith) (omega (arith, h, length-set os k o)))
 
@@ -218,7 +241,8 @@ module _ {F : Type 0} (mean : Job → Flow) (a b : State F) (g : Grows a b) (j :
       }) (ap (λ x. x.history) same ∙ sym (append-nil a.history)) (omega (arith, ap (λ x. x.used_ids) same)) (omega (arith, ap (λ x. x.used_words) same))
 
 -- what the jobs used, with the want of any one report besides, is at most what they need
-pub ids_within : {F : Type 0} (mean : Job → Flow) (b : State F) (js : List Job) (os : List Outcome) (ps : List JobUse) → AtEach (λ j. CameOf b (mean j) j) js os ps → ids_of ps + most_ids_wanted os ≤ job_ids_needed mean js
+pub ids_within : {F : Type 0} (mean : Job → Flow) (b : State F) (js : List Job) (os : List Outcome) (ps : List JobUse) → AtEach
+    (λ j. CameOf b (mean j) j) js os ps → ids_of ps + most_ids_wanted os ≤ job_ids_needed mean js
 ids_within mean b [] [] [] h = omega arith
 ids_within mean b (j ∷ js) (o ∷ os) (p ∷ ps) h = omega (arith, h.0.within_ids, ids_within mean b js os ps h.1)
 ids_within mean b [] [] (z ∷ zs) h = absurd h
@@ -226,7 +250,8 @@ ids_within mean b [] (y ∷ ys) zs h = absurd h
 ids_within mean b (x ∷ xs) [] zs h = absurd h
 ids_within mean b (x ∷ xs) (y ∷ ys) [] h = absurd h
 
-pub words_within : {F : Type 0} (mean : Job → Flow) (b : State F) (js : List Job) (os : List Outcome) (ps : List JobUse) → AtEach (λ j. CameOf b (mean j) j) js os ps → words_of ps + most_words_wanted os ≤ job_words_needed mean js
+pub words_within : {F : Type 0} (mean : Job → Flow) (b : State F) (js : List Job) (os : List Outcome) (ps : List JobUse) → AtEach
+    (λ j. CameOf b (mean j) j) js os ps → words_of ps + most_words_wanted os ≤ job_words_needed mean js
 words_within mean b [] [] [] h = omega arith
 words_within mean b (j ∷ js) (o ∷ os) (p ∷ ps) h = omega (arith, h.0.within_words, words_within mean b js os ps h.1)
 words_within mean b [] [] (z ∷ zs) h = absurd h
@@ -234,8 +259,10 @@ words_within mean b [] (y ∷ ys) zs h = absurd h
 words_within mean b (x ∷ xs) [] zs h = absurd h
 words_within mean b (x ∷ xs) (y ∷ ys) [] h = absurd h
 
-pub ran_within_ids : {F : Type 0} (mean : Job → Flow) (a b : State F) (js : List Job) (os : List Outcome) → RanJobs mean a b js os → b.used_ids + most_ids_wanted os ≤ a.used_ids + job_ids_needed mean js
+pub ran_within_ids : {F : Type 0} (mean : Job → Flow) (a b : State F) (js : List Job) (os : List Outcome) → RanJobs mean a b js os →
+    b.used_ids + most_ids_wanted os ≤ a.used_ids + job_ids_needed mean js
 ran_within_ids mean a b js os r = omega (arith, r.used_ids, ids_within mean b js os r.parts r.each)
 
-pub ran_within_words : {F : Type 0} (mean : Job → Flow) (a b : State F) (js : List Job) (os : List Outcome) → RanJobs mean a b js os → b.used_words + most_words_wanted os ≤ a.used_words + job_words_needed mean js
+pub ran_within_words : {F : Type 0} (mean : Job → Flow) (a b : State F) (js : List Job) (os : List Outcome) → RanJobs mean a b js os →
+    b.used_words + most_words_wanted os ≤ a.used_words + job_words_needed mean js
 ran_within_words mean a b js os r = omega (arith, r.used_words, words_within mean b js os r.parts r.each)

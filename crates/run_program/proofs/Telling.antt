@@ -129,7 +129,8 @@ is_ran setup prelude trees ran size belongs t = let h = t.have in
       has_prelude = same_prelude (limit_units setup.limit) prelude ran.prelude h.has_prelude;
       in_places = h.in_places;
       run = h.run;
-      tells = tells (setup_sizes setup) s (all_meant (prelude_meant (limit_units setup.limit) prelude) (scripts_meant (limit_units setup.limit) prelude trees)) h.files all (session_sound v setup.limit table belongs.5) h.run
+      tells = tells (setup_sizes setup) s (all_meant (prelude_meant (limit_units setup.limit) prelude)
+          (scripts_meant (limit_units setup.limit) prelude trees)) h.files all (session_sound v setup.limit table belongs.5) h.run
           (are_first s (prelude_meant (limit_units setup.limit) prelude) (scripts_meant (limit_units setup.limit) prelude trees) h.files h.run.each h.are);
       sizes = size;
       of_heap = belongs.0;

@@ -98,8 +98,10 @@ module _ {F : Type 0} (s : State F) where
   listed_meant [] h u c = c
   listed_meant (f ∷ fs) h u c = let first = first_lists_of s f.mean f.lines f.part f.end h.0.ended in
       let d = subst (λ (x : List (List ℕ)). Contains x u) (map-append (λ (q : List ℕ × ℕ). q.0) f.part.pairs (pairs_of (parts_of fs))) c in
-      ⊎_elim (λ a. Contains-append_left (flow_ledger f.mean).interned (lists_interned (means_of fs)) u (subst (λ (x : List (List ℕ)). Contains x u) (sym first.split) (Contains-append_left (keys_of f.part.pairs) first.left u a)))
-      (λ b. Contains-append_right (flow_ledger f.mean).interned (lists_interned (means_of fs)) u (listed_meant fs h.1 u b)) (Contains-append_cases (keys_of f.part.pairs) (keys_of (pairs_of (parts_of fs))) u d)
+      ⊎_elim (λ a. Contains-append_left (flow_ledger f.mean).interned (lists_interned (means_of fs)) u
+      (subst (λ (x : List (List ℕ)). Contains x u) (sym first.split) (Contains-append_left (keys_of f.part.pairs) first.left u a)))
+      (λ b. Contains-append_right (flow_ledger f.mean).interned (lists_interned (means_of fs)) u (listed_meant fs h.1 u b))
+      (Contains-append_cases (keys_of f.part.pairs) (keys_of (pairs_of (parts_of fs))) u d)
 
   -- where each end is the meaning's they are all of those
   listed_all : (fs : List RunFile) → Every (WasFileRun s) fs → Every IsAsMeant fs → keys_of (pairs_of (parts_of fs)) ≡ lists_interned (means_of fs)
@@ -109,7 +111,11 @@ module _ {F : Type 0} (s : State F) where
 
 each_meant : (fs : List RunFile) → Every (λ f. (u : List ℕ) → Contains (flow_ledger f.mean).interned u → Contains (lists_interned (means_of fs)) u) fs
 each_meant [] = tt
-each_meant (f ∷ fs) = ((λ u c. Contains-append_left (flow_ledger f.mean).interned (lists_interned (means_of fs)) u c), every_map (λ g k u c. Contains-append_right (flow_ledger f.mean).interned (lists_interned (means_of fs)) u (k u c)) fs (each_meant fs))
+each_meant (f ∷ fs) = (
+  (λ u c. Contains-append_left (flow_ledger f.mean).interned (lists_interned (means_of fs)) u c),
+  every_map
+      (λ g k u c. Contains-append_right (flow_ledger f.mean).interned (lists_interned (means_of fs)) u (k u c)) fs (each_meant fs),
+)
 
 -- what is known of one file and of all together
 record Facts {F : Type 0} (s : State F) (means : List Flow) (f : RunFile) : Type 0 where
@@ -123,7 +129,8 @@ module _ (s : State SessionFrame) (means : List Flow) (all : HasWholeCounts s) (
     ids_out : (at want end : ℕ) → Broken s m lines (store.Full (Ids at want end)) p → s.used_ids + want ≤ ids_needed means → RanOut s.sizes s means m p (Ids at want end)
     ids_out at want end b w = let r = b.reports in (omega (arith, r.0, r.1, r.2, r.3, all.low_ids, all.ids), omega (arith, r.0, r.1, r.2, r.3, all.low_ids, w))
 
-    words_out : (at want end : ℕ) → Broken s m lines (store.Full (Words at want end)) p → p.words + want ≤ (flow_ledger m).words → s.used_words + want ≤ words_needed means → RanOut s.sizes s means m p (Words at want end)
+    words_out : (at want end : ℕ) → Broken s m lines (store.Full (Words at want end)) p → p.words + want ≤ (flow_ledger m).words →
+        s.used_words + want ≤ words_needed means → RanOut s.sizes s means m p (Words at want end)
     words_out at want end b n w = let r = b.reports in (omega (arith, r.0, r.1, r.2, all.low_words, n), omega (arith, r.0, r.1, r.2, all.low_words, w))
 
     next_out : (n : ℕ) (left : List (List ℕ)) → (flow_ledger m).interned ≡ keys_of p.pairs ++ left → NextShut s (store.Full (Slots n)) left → SlotsRanOut s.sizes s means m p
@@ -142,7 +149,8 @@ module _ (s : State SessionFrame) (means : List Flow) (all : HasWholeCounts s) (
           unfit = omega (arith, held, more, e);
         }
 
-    end_tells : (e : End) → HasJobEnd s m lines e p → p.words + words_wanted (fault_in e) ≤ (flow_ledger m).words → s.used_ids + ids_wanted (fault_in e) ≤ ids_needed means → s.used_words + words_wanted (fault_in e) ≤ words_needed means
+    end_tells : (e : End) → HasJobEnd s m lines e p → p.words + words_wanted (fault_in e) ≤ (flow_ledger m).words → s.used_ids + ids_wanted
+        (fault_in e) ≤ ids_needed means → s.used_words + words_wanted (fault_in e) ≤ words_needed means
         → EndTells s.sizes s means m p e
     end_tells Done h n i w = h.end_is
     end_tells (Threw k) h n i w = h.end_is
@@ -176,7 +184,8 @@ every_both f (x ∷ xs) p q = (f x p.0 q.0, every_both f xs p.1 q.1)
 module _ (z : StoreSizes) (s : State SessionFrame) (means : List Flow) (files : List RunFile) (all : HasWholeCounts s) (sound : Sound s) (run : AreRun z s files) (first : AreFirst means files) where
   front : (u : List ℕ) → Contains (lists_interned (means_of files)) u → Contains (lists_interned means) u
   front u c = subst (λ (ms : List Flow). Contains (lists_interned ms) u) (sym first.split)
-      (subst (λ (x : List (List ℕ)). Contains x u) (sym (flat_map-append (λ m. (flow_ledger m).interned) (means_of files) first.rest)) (Contains-append_left (lists_interned (means_of files)) (lists_interned first.rest) u c))
+      (subst (λ (x : List (List ℕ)). Contains x u) (sym (flat_map-append (λ m. (flow_ledger m).interned) (means_of files) first.rest))
+      (Contains-append_left (lists_interned (means_of files)) (lists_interned first.rest) u c))
 
   into_meant : (u : List ℕ) → Contains (keys_of s.history) u → Contains (lists_interned means) u
   into_meant u c = front u (listed_meant s files run.each u (subst (λ (h : List (List ℕ × ℕ)). Contains (keys_of h) u) run.history c))

@@ -75,7 +75,8 @@ before_more n i =
 
 -- ---- one more round
 
-pub letters_more : (y state j : ℕ) (text : List ℕ) → text ≡ joined_up_to (λ j. (97 + draw (state_after j y) 26) ∷ []) j → state ≡ state_after j y → text ++ (97 + draw state 26) ∷ [] ≡ joined_up_to (λ j. (97 + draw (state_after j y) 26) ∷ []) (j + 1)
+pub letters_more : (y state j : ℕ) (text : List ℕ) → text ≡ joined_up_to (λ j. (97 + draw (state_after j y) 26) ∷ []) j → state ≡
+    state_after j y → text ++ (97 + draw state 26) ∷ [] ≡ joined_up_to (λ j. (97 + draw (state_after j y) 26) ∷ []) (j + 1)
 letters_more y state j text is at = rw (is, at) (sym (each_more (λ j. (97 + draw (state_after j y) 26) ∷ []) j))
 
 pub state_more : (x y j : ℕ) → x ≡ state_after j y → next x ≡ state_after (j + 1) y
@@ -91,7 +92,8 @@ before_after n state i at = rw (at) (sym (before_more n i))
 pub lines_more : (x state l : ℕ) (front text line : List ℕ) → text ≡ front ++ joined_up_to (λ k. drawn_line (state_after (4 * k) x)) l → state ≡ state_after (4 * l) x → line ≡ drawn_line state
     → text ++ line ≡ front ++ joined_up_to (λ k. drawn_line (state_after (4 * k) x)) (l + 1)
 lines_more x state l front text line is at drawn =
-    rw (is, drawn, at) (append_assoc front (joined_up_to (λ k. drawn_line (state_after (4 * k) x)) l) (drawn_line (state_after (4 * l) x)) ∙ ap (λ rest. front ++ rest) (sym (each_more (λ k. drawn_line (state_after (4 * k) x)) l)))
+    rw (is, drawn, at) (append_assoc front (joined_up_to (λ k. drawn_line (state_after (4 * k) x)) l) (drawn_line (state_after (4 * l) x)) ∙
+    ap (λ rest. front ++ rest) (sym (each_more (λ k. drawn_line (state_after (4 * k) x)) l)))
 
 pub rounds_more : (size x state l : ℕ) → state ≡ state_after (size * l) x → state_after size state ≡ state_after (size * (l + 1)) x
 rounds_more size x state l at =
@@ -105,7 +107,8 @@ drawn_is x s1 s2 s3 k a b c e1 e2 e3 kind first second third =
     let t1 : s1 ≡ state_after 1 x = e1 ∙ sym (after_one x) in
     let t2 : s2 ≡ state_after 2 x = e2 ∙ ap next e1 ∙ sym (after_two x) in
     let t3 : s3 ≡ state_after 3 x = e3 ∙ ap next (e2 ∙ ap next e1) ∙ sym (after_three x) in
-    ap₂ (λ m n. generated_line m n b c) kind (first ∙ ap (λ s. draw s 16) t1) ∙ ap₂ (λ m n. generated_line (draw x 6) (draw (state_after 1 x) 16) m n) (second ∙ ap (λ s. draw s 16) t2) (third ∙ ap (λ s. draw s 8) t3)
+    ap₂ (λ m n. generated_line m n b c) kind (first ∙ ap (λ s. draw s 16) t1) ∙ ap₂
+    (λ m n. generated_line (draw x 6) (draw (state_after 1 x) 16) m n) (second ∙ ap (λ s. draw s 16) t2) (third ∙ ap (λ s. draw s 8) t3)
 
 pub four_is : (x s1 s2 s3 s4 : ℕ) → s1 ≡ next x → s2 ≡ next s1 → s3 ≡ next s2 → s4 ≡ next s3 → s4 ≡ state_after 4 x
 four_is x s1 s2 s3 s4 e1 e2 e3 e4 = e4 ∙ ap next (e3 ∙ ap next (e2 ∙ ap next e1)) ∙ sym (after_four x)

@@ -54,22 +54,30 @@ word_line_small i letters few short =
 
 find_small : (a : ℕ) → a < 1000 → length (codes "n = n + all.indexOf(w" ++ (decimal a ++ codes ");\n")) ≤ 72
 find_small a few =
-    let all : length (codes "n = n + all.indexOf(w" ++ (decimal a ++ codes ");\n")) ≤ 27 = joined 21 6 (codes "n = n + all.indexOf(w") _ (omega arith) (joined 3 3 (decimal a) _ (number a few) (omega arith)) in
+    let all : length (codes "n = n + all.indexOf(w" ++ (decimal a ++ codes ");\n")) ≤ 27 = joined 21 6 (codes "n = n + all.indexOf(w") _
+    (omega arith) (joined 3 3 (decimal a) _ (number a few) (omega arith)) in
     omega (arith, all)
 
-pad_small : (a b d : ℕ) → a < 1000 → b < 1000 → d < 1000 → length (codes "acc = (acc + w" ++ (decimal a ++ (codes ".padStart(" ++ (decimal d ++ (codes ", w" ++ (decimal b ++ codes ")).slice(-16);\n")))))) ≤ 72
+pad_small : (a b d : ℕ) → a < 1000 → b < 1000 → d < 1000 → length (codes "acc = (acc + w" ++
+    (decimal a ++ (codes ".padStart(" ++ (decimal d ++ (codes ", w" ++ (decimal b ++ codes ")).slice(-16);\n")))))) ≤ 72
 pad_small a b d few less more =
-    let all : length (codes "acc = (acc + w" ++ (decimal a ++ (codes ".padStart(" ++ (decimal d ++ (codes ", w" ++ (decimal b ++ codes ")).slice(-16);\n")))))) ≤ 51 = joined 14 37 (codes "acc = (acc + w") _ (omega arith) (joined 3 34 (decimal a) _ (number a few) (joined 10 24 (codes ".padStart(") _ (omega arith)
+    let all : length (codes "acc = (acc + w" ++ (decimal a ++ (codes ".padStart(" ++
+    (decimal d ++ (codes ", w" ++ (decimal b ++ codes ")).slice(-16);\n")))))) ≤ 51 = joined 14 37 (codes "acc = (acc + w") _
+    (omega arith) (joined 3 34 (decimal a) _ (number a few) (joined 10 24 (codes ".padStart(") _ (omega arith)
     (joined 3 21 (decimal d) _ (number d more) (joined 3 18 (codes ", w") _ (omega arith) (joined 3 15 (decimal b) _ (number b less) (omega arith)))))) in
     omega (arith, all)
 
 repeat_small : (a c : ℕ) → a < 1000 → c < 1000 → length (codes "acc = (acc + w" ++ (decimal a ++ (codes ".repeat(" ++ (decimal c ++ codes ")).slice(-16);\n")))) ≤ 72
 repeat_small a c few less =
-    let all : length (codes "acc = (acc + w" ++ (decimal a ++ (codes ".repeat(" ++ (decimal c ++ codes ")).slice(-16);\n")))) ≤ 43 = joined 14 29 (codes "acc = (acc + w") _ (omega arith) (joined 3 26 (decimal a) _ (number a few) (joined 8 18 (codes ".repeat(") _ (omega arith)
+    let all : length (codes "acc = (acc + w" ++ (decimal a ++ (codes ".repeat(" ++
+    (decimal c ++ codes ")).slice(-16);\n")))) ≤ 43 = joined 14 29 (codes "acc = (acc + w") _ (omega arith)
+    (joined 3 26 (decimal a) _ (number a few) (joined 8 18 (codes ".repeat(") _ (omega arith)
     (joined 3 15 (decimal c) _ (number c less) (omega arith)))) in
     omega (arith, all)
 
-symbol_small : (a b : ℕ) → a < 1000 → b < 1000 → length (codes "if (Symbol.for(w" ++ (decimal a ++ (codes " + w" ++ (decimal b ++ (codes ") === Symbol.for(w" ++ (decimal b ++ (codes " + w" ++ (decimal a ++ codes ")) { n = n + 1; }\n")))))))) ≤ 72
+symbol_small : (a b : ℕ) → a < 1000 → b < 1000 → length (codes "if (Symbol.for(w" ++
+    (decimal a ++ (codes " + w" ++ (decimal b ++ (codes ") === Symbol.for(w" ++
+    (decimal b ++ (codes " + w" ++ (decimal a ++ codes ")) { n = n + 1; }\n")))))))) ≤ 72
 symbol_small a b few less =
     joined 16 56 (codes "if (Symbol.for(w") _ (omega arith) (joined 3 53 (decimal a) _ (number a few) (joined 4 49 (codes " + w") _ (omega arith)
     (joined 3 46 (decimal b) _ (number b less) (joined 18 28 (codes ") === Symbol.for(w") _ (omega arith) (joined 3 25 (decimal b) _ (number b less)
@@ -77,12 +85,15 @@ symbol_small a b few less =
 
 replace_small : (a : ℕ) → a < 1000 → length (codes "n = n + all.replaceAll(',', w" ++ (decimal a ++ codes ").length;\n")) ≤ 72
 replace_small a few =
-    let all : length (codes "n = n + all.replaceAll(',', w" ++ (decimal a ++ codes ").length;\n")) ≤ 42 = joined 29 13 (codes "n = n + all.replaceAll(',', w") _ (omega arith) (joined 3 10 (decimal a) _ (number a few) (omega arith)) in
+    let all : length (codes "n = n + all.replaceAll(',', w" ++ (decimal a ++ codes ").length;\n")) ≤ 42 = joined 29 13
+    (codes "n = n + all.replaceAll(',', w") _ (omega arith) (joined 3 10 (decimal a) _ (number a few) (omega arith)) in
     omega (arith, all)
 
 split_small : (a b : ℕ) → a < 1000 → b < 1000 → length (codes "n = n + all.split(',')[" ++ (decimal a ++ (codes "].length + JSON.stringify(w" ++ (decimal b ++ codes ").length;\n")))) ≤ 72
 split_small a b few less =
-    let all : length (codes "n = n + all.split(',')[" ++ (decimal a ++ (codes "].length + JSON.stringify(w" ++ (decimal b ++ codes ").length;\n")))) ≤ 66 = joined 23 43 (codes "n = n + all.split(',')[") _ (omega arith) (joined 3 40 (decimal a) _ (number a few)
+    let all : length (codes "n = n + all.split(',')[" ++ (decimal a ++
+    (codes "].length + JSON.stringify(w" ++ (decimal b ++ codes ").length;\n")))) ≤ 66 = joined 23 43 (codes "n = n + all.split(',')[") _
+    (omega arith) (joined 3 40 (decimal a) _ (number a few)
     (joined 27 13 (codes "].length + JSON.stringify(w") _ (omega arith) (joined 3 10 (decimal b) _ (number b less) (omega arith)))) in
     omega (arith, all)
 
@@ -93,13 +104,19 @@ line_small k a b c few less least =
     let padded : c + 20 < 1000 = omega (arith, least) in
     let times : c < 1000 = omega (arith, least) in
     either (k == 0) 72 (codes "n = n + all.indexOf(w" ++ (decimal a ++ codes ");\n")) _ (find_small a first)
-    (either (k == 1) 72 (codes "acc = (acc + w" ++ (decimal a ++ (codes ".padStart(" ++ (decimal (c + 20) ++ (codes ", w" ++ (decimal b ++ codes ")).slice(-16);\n")))))) _ (pad_small a b (c + 20) first second padded)
+    (either (k == 1) 72 (codes "acc = (acc + w" ++ (decimal a ++ (codes ".padStart(" ++
+    (decimal (c + 20) ++ (codes ", w" ++ (decimal b ++ codes ")).slice(-16);\n")))))) _ (pad_small a b (c + 20) first second padded)
     (either (k == 2) 72 (codes "acc = (acc + w" ++ (decimal a ++ (codes ".repeat(" ++ (decimal c ++ codes ")).slice(-16);\n")))) _ (repeat_small a c first times)
-    (either (k == 3) 72 (codes "if (Symbol.for(w" ++ (decimal a ++ (codes " + w" ++ (decimal b ++ (codes ") === Symbol.for(w" ++ (decimal b ++ (codes " + w" ++ (decimal a ++ codes ")) { n = n + 1; }\n")))))))) _ (symbol_small a b first second)
-    (either (k == 4) 72 (codes "n = n + all.replaceAll(',', w" ++ (decimal a ++ codes ").length;\n")) (codes "n = n + all.split(',')[" ++ (decimal a ++ (codes "].length + JSON.stringify(w" ++ (decimal b ++ codes ").length;\n")))) (replace_small a first) (split_small a b first second)))))
+    (either (k == 3) 72 (codes "if (Symbol.for(w" ++ (decimal a ++ (codes " + w" ++
+    (decimal b ++ (codes ") === Symbol.for(w" ++ (decimal b ++ (codes " + w" ++ (decimal a ++ codes ")) { n = n + 1; }\n")))))))) _
+    (symbol_small a b first second)
+    (either (k == 4) 72 (codes "n = n + all.replaceAll(',', w" ++ (decimal a ++ codes ").length;\n"))
+    (codes "n = n + all.split(',')[" ++ (decimal a ++ (codes "].length + JSON.stringify(w" ++ (decimal b ++ codes ").length;\n"))))
+    (replace_small a first) (split_small a b first second)))))
 
 drawn_small : (x : ℕ) → length (drawn_line x) ≤ 72
-drawn_small x = line_small (draw x 6) (draw (state_after 1 x) 16) (draw (state_after 2 x) 16) (draw (state_after 3 x) 8) (draw_below (state_after 1 x) 16 (omega arith)) (draw_below (state_after 2 x) 16 (omega arith)) (draw_below (state_after 3 x) 8 (omega arith))
+drawn_small x = line_small (draw x 6) (draw (state_after 1 x) 16) (draw (state_after 2 x) 16) (draw (state_after 3 x) 8)
+    (draw_below (state_after 1 x) 16 (omega arith)) (draw_below (state_after 2 x) 16 (omega arith)) (draw_below (state_after 3 x) 8 (omega arith))
 
 print_small : (j : ℕ) → j < 1000 → length (print_line j) ≤ 25
 print_small j few =
@@ -119,7 +136,8 @@ prelude_small n =
 
 script_small : (j x : ℕ) → j < 1000 → length (script j x) ≤ 4096
 script_small j x few =
-    let drawn : length (joined_up_to (λ l. drawn_line (state_after (4 * l) x)) 32) ≤ 72 * 32 = length-each (λ l. drawn_line (state_after (4 * l) x)) 72 32 (λ l lt. drawn_small (state_after (4 * l) x)) in
+    let drawn : length (joined_up_to (λ l. drawn_line (state_after (4 * l) x)) 32) ≤ 72 * 32 = length-each
+    (λ l. drawn_line (state_after (4 * l) x)) 72 32 (λ l lt. drawn_small (state_after (4 * l) x)) in
     let all : length (script j x) ≤ 2354 = joined 25 2329 (codes "let acc = '';\nlet n = 0;\n") _ (omega arith)
     (joined 2304 25 (joined_up_to (λ l. drawn_line (state_after (4 * l) x)) 32) (print_line j) (omega (arith, drawn)) (print_small j few)) in
     omega (arith, all)

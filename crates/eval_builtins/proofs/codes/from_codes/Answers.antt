@@ -23,4 +23,5 @@ returns-clause-did g c =
     let room : length vs ≤ 1048576 = rw (length-map c.args.args.now (λ v. seen a number v)) c.if-args-gt1048576.false in
     let e = c.deref.ensures.value in
     let d = c.make.ensures.did vs in
-    codes_does number a c.args.which c.args.at vs (g.S.Strings.state c.numbers.new.store) (g.S.Strings.state c.make.new.store) c.in_ok-numbers.numbers c.make.result room c.in_ok-numbers.ensures.did (rw e at d)
+    codes_does number a c.args.which c.args.at vs (g.S.Strings.state c.numbers.new.store) (g.S.Strings.state c.make.new.store)
+    c.in_ok-numbers.numbers c.make.result room c.in_ok-numbers.ensures.did (rw e at d)

@@ -26,7 +26,9 @@ loop-value-init g c =
       every = rw e tt;
       count = rw e refl;
       within = omega arith;
-      completes = λ b r d. subst (λ (o : Out (List Num)). GivesNumbers a b c.args.which r o) (sym (each_map (number_out (taken_of c.args.which vs) c.args.at vs) (λ v. seen a number v) c.args.args.now)) (as_numbers a b c.args.which r _ (rw e at d));
+      completes = λ b r d. subst (λ (o : Out (List Num)). GivesNumbers a b c.args.which r o)
+          (sym (each_map (number_out (taken_of c.args.which vs) c.args.at vs) (λ v. seen a number v) c.args.args.now))
+          (as_numbers a b c.args.which r _ (rw e at d));
     }
 
 pub returns-in_err-number-clause-did : goal.returns-in_err-number-clause-did
@@ -37,7 +39,10 @@ returns-in_err-number-clause-did g c =
     let p = err_from_is_err_and c.from_residual.result c.from_residual.ensures.1 in
     let b = g.S.Strings.state c.number.new.store in
     rw (p.1, p.2) (c.loop-value.invariant.completes b (Err c.in_err-number.field-0.0)
-    (each_halt (λ s n. n) (λ s n. IsFor c.args.which n) a b (λ v. number_out (taken_of c.args.which vs) c.args.at vs (seen a number v)) c.loop-value.numbers.items c.args.args.now c.loop-value.value-index c.value-item.result c.loop-value-test.true c.value-item.is c.in_err-number.field-0.0 (as_first number a (g.S.Strings.state c.loop-value.store) b b c.args.which c.args.at vs c.value-item.result (Err c.in_err-number.field-0.0) c.loop-value.invariant.same refl (c.in_err-number.ensures.did vs))))
+    (each_halt (λ s n. n) (λ s n. IsFor c.args.which n) a b (λ v. number_out (taken_of c.args.which vs) c.args.at vs (seen a number v))
+    c.loop-value.numbers.items c.args.args.now c.loop-value.value-index c.value-item.result c.loop-value-test.true c.value-item.is
+    c.in_err-number.field-0.0 (as_first number a (g.S.Strings.state c.loop-value.store) b b c.args.which c.args.at vs c.value-item.result
+    (Err c.in_err-number.field-0.0) c.loop-value.invariant.same refl (c.in_err-number.ensures.did vs))))
 
 pub returns-in_err-push-clause-did : goal.returns-in_err-push-clause-did
 returns-in_err-push-clause-did g c =
@@ -47,7 +52,10 @@ returns-in_err-push-clause-did g c =
     let p = err_from_is_err_and c.from_residual-in_err-push.result c.from_residual-in_err-push.ensures.1 in
     let b = g.S.Strings.state c.number.new.store in
     rw (p.1, p.2, c.in_err-push.ensures.fault) (c.loop-value.invariant.completes b (Err (Store Memory))
-    (each_full (λ s n. n) (λ s n. IsFor c.args.which n) a b (λ v. number_out (taken_of c.args.which vs) c.args.at vs (seen a number v)) c.loop-value.numbers.items c.args.args.now c.loop-value.value-index c.value-item.result c.loop-value-test.true c.value-item.is c.in_ok-number.number (as_first number a (g.S.Strings.state c.loop-value.store) b b c.args.which c.args.at vs c.value-item.result (Ok c.in_ok-number.number) c.loop-value.invariant.same refl (c.in_ok-number.ensures.did vs))))
+    (each_full (λ s n. n) (λ s n. IsFor c.args.which n) a b (λ v. number_out (taken_of c.args.which vs) c.args.at vs (seen a number v))
+    c.loop-value.numbers.items c.args.args.now c.loop-value.value-index c.value-item.result c.loop-value-test.true c.value-item.is
+    c.in_ok-number.number (as_first number a (g.S.Strings.state c.loop-value.store) b b c.args.which c.args.at vs c.value-item.result
+    (Ok c.in_ok-number.number) c.loop-value.invariant.same refl (c.in_ok-number.ensures.did vs))))
 
 pub loop-value-preserved : goal.loop-value-preserved
 loop-value-preserved g c =
@@ -60,10 +68,16 @@ loop-value-preserved g c =
     let still = e.same ∙ i.same in
     record {
       same = still;
-      every = rw p (fine_turn (λ s n. n) (λ s n. IsFor c.args.which n) a a (λ v. number_out (taken_of c.args.which vs) c.args.at vs (seen a number v)) c.loop-value.numbers.items c.args.args.now c.loop-value.value-index c.value-item.result c.loop-value-test.true c.value-item.is c.in_ok-number.number (λ n k. k) i.every e.is_for);
+      every = rw p (fine_turn (λ s n. n) (λ s n. IsFor c.args.which n) a a
+          (λ v. number_out (taken_of c.args.which vs) c.args.at vs (seen a number v)) c.loop-value.numbers.items c.args.args.now
+          c.loop-value.value-index c.value-item.result c.loop-value-test.true c.value-item.is c.in_ok-number.number (λ n k. k) i.every e.is_for);
       count = rw p (count_push c.loop-value.numbers.items c.in_ok-number.number c.loop-value.value-index i.count);
       within = omega (arith, c.loop-value-test.true);
-      completes = λ b r f. i.completes b r (each_turn (λ s n. n) (λ s n. IsFor c.args.which n) a a (λ v. number_out (taken_of c.args.which vs) c.args.at vs (seen a number v)) c.loop-value.numbers.items c.args.args.now c.loop-value.value-index c.value-item.result c.loop-value-test.true c.value-item.is b c.in_ok-number.number r (λ n k. refl) i.every (as_first number a (g.S.Strings.state c.loop-value.store) a (g.S.Strings.state c.number.new.store) c.args.which c.args.at vs c.value-item.result (Ok c.in_ok-number.number) i.same still (e.did vs)) (rw p at f));
+      completes = λ b r f. i.completes b r (each_turn (λ s n. n) (λ s n. IsFor c.args.which n) a a
+          (λ v. number_out (taken_of c.args.which vs) c.args.at vs (seen a number v)) c.loop-value.numbers.items c.args.args.now
+          c.loop-value.value-index c.value-item.result c.loop-value-test.true c.value-item.is b c.in_ok-number.number r (λ n k. refl) i.every
+          (as_first number a (g.S.Strings.state c.loop-value.store) a (g.S.Strings.state c.number.new.store) c.args.which c.args.at vs
+          c.value-item.result (Ok c.in_ok-number.number) i.same still (e.did vs)) (rw p at f));
     }
 
 pub returns-clause-did : goal.returns-clause-did

@@ -25,6 +25,7 @@ invariant-loop-value g l =
       count : length l.numbers.items ≡ l.value-index;
       within : l.value-index ≤ length l.args;
       completes : (b : State g.S.Strings.Frame) (r : Result (Vec Num Global) Stop) →
-          ComesTo a b (λ s (w : Vec Num Global). map (λ n. n) w.items) (λ s (w : Vec Num Global). Every (λ n. IsFor l.which n) w.items) r (each_behind (λ v. number_out (taken_of l.which vs) l.at vs (seen a number v)) (drop l.value-index l.args) (map (λ n. n) l.numbers.items)) →
+          ComesTo a b (λ s (w : Vec Num Global). map (λ n. n) w.items) (λ s (w : Vec Num Global). Every (λ n. IsFor l.which n) w.items) r
+          (each_behind (λ v. number_out (taken_of l.which vs) l.at vs (seen a number v)) (drop l.value-index l.args) (map (λ n. n) l.numbers.items)) →
           GivesNumbers a b l.which r (each (number_out (taken_of l.which vs) l.at vs) vs);
     }

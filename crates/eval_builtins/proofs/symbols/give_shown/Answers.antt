@@ -16,7 +16,9 @@ returns-clause-did g c =
     let a = state c.args.store.now in
     let u = text a (number c.args.key) in
     let e = c.in_ok-r.ensures in
-    within_given number a (state c.shown.new.store) {k = wide_words (length u) + flat_words (shown_symbol u)} a.limit row_ids (λ r. row_words r) (shown_symbol u) c.in_ok-r.r e.value c.requires.short e.uses.step e.uses.history (omega arith) (omega (arith, flat_words_most (shown_symbol u), shown_length u))
+    within_given number a (state c.shown.new.store) {k = wide_words (length u) + flat_words (shown_symbol u)} a.limit row_ids
+    (λ r. row_words r) (shown_symbol u) c.in_ok-r.r e.value c.requires.short e.uses.step e.uses.history (omega arith)
+    (omega (arith, flat_words_most (shown_symbol u), shown_length u))
 
 pub returns-in_err-r-clause-did : goal.returns-in_err-r-clause-did
 returns-in_err-r-clause-did g c =
@@ -26,4 +28,6 @@ returns-in_err-r-clause-did g c =
     let u = text a (number c.args.key) in
     let e = c.in_err-r.ensures in
     let p = err_from_is_err_and c.from_residual.result c.from_residual.ensures.1 in
-    rw (p.1, p.2) (shown_stops number a (state c.shown.new.store) {k = wide_words (length u) + flat_words (shown_symbol u)} u c.in_err-r.field-0.0 c.requires.short e.throws e.uses.step e.uses.history e.uses.no_slots (omega arith) (omega (arith, flat_words_most (shown_symbol u), shown_length u)))
+    rw (p.1, p.2) (shown_stops number a (state c.shown.new.store) {k = wide_words (length u) + flat_words (shown_symbol u)} u
+    c.in_err-r.field-0.0 c.requires.short e.throws e.uses.step e.uses.history e.uses.no_slots (omega arith)
+    (omega (arith, flat_words_most (shown_symbol u), shown_length u)))

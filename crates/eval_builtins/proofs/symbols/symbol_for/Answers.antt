@@ -14,11 +14,13 @@ pub returns-clause-did : goal.returns-clause-did
 returns-clause-did g c =
     let state = g.S.Strings.state in
     let e = c.in_ok-key.ensures in
-    symbol_does g.S.Strings.number (state c.args.store.now) (state c.to_text.new.store) (state c.register.new.store) c.args.value.now c.in_ok-key.key c.register.result e.short e.did c.register.ensures.did
+    symbol_does g.S.Strings.number (state c.args.store.now) (state c.to_text.new.store) (state c.register.new.store) c.args.value.now
+    c.in_ok-key.key c.register.result e.short e.did c.register.ensures.did
 
 pub returns-clause-settled : goal.returns-clause-settled
 returns-clause-settled g c =
     let state = g.S.Strings.state in
     let number = g.S.Strings.number in
     let e = c.register.ensures in
-    on_ok_weaker c.register.result (λ h. strings_read number (state c.to_text.new.store) (state c.register.new.store) e.grows c.args.value.now (number c.in_ok-key.key) c.in_ok-key.ensures.own h) e.settled
+    on_ok_weaker c.register.result (λ h. strings_read number (state c.to_text.new.store) (state c.register.new.store) e.grows
+    c.args.value.now (number c.in_ok-key.key) c.in_ok-key.ensures.own h) e.settled

@@ -22,4 +22,5 @@ returns-in-Err-clause-did g c = λ t l.
     let a = state c.args.store.now in
     let o = outcome_of c.args.which (text a (number c.args.s)) in
     let e = c.in-Err.ensures in
-    rw c.stop.ensures (uri_stops number a (state c.answer.new.store) a.limit t o c.in-Err.fault {k = settling a (number c.args.s) + outcome_words a.limit o} e.throws e.uses.step e.uses.history e.uses.no_slots (omega (arith, l)))
+    rw c.stop.ensures (uri_stops number a (state c.answer.new.store) a.limit t o c.in-Err.fault {k = settling a (number c.args.s) +
+    outcome_words a.limit o} e.throws e.uses.step e.uses.history e.uses.no_slots (omega (arith, l)))

@@ -15,11 +15,13 @@ pub returns-clause-did : goal.returns-clause-did
 returns-clause-did g c =
     let state = g.S.Strings.state in
     let e = c.in_ok-text.ensures in
-    uri_does g.S.Strings.number (outcome_of c.args.which) (state c.args.store.now) (state c.to_text.new.store) (state c.give_uri.new.store) c.args.value.now c.in_ok-text.text c.give_uri.result e.grows.limit e.settles e.did c.give_uri.ensures.did
+    uri_does g.S.Strings.number (outcome_of c.args.which) (state c.args.store.now) (state c.to_text.new.store) (state c.give_uri.new.store)
+    c.args.value.now c.in_ok-text.text c.give_uri.result e.grows.limit e.settles e.did c.give_uri.ensures.did
 
 pub returns-clause-settled : goal.returns-clause-settled
 returns-clause-settled g c =
     let state = g.S.Strings.state in
     let number = g.S.Strings.number in
     let e = c.give_uri.ensures in
-    on_ok_weaker c.give_uri.result (λ h. strings_read number (state c.to_text.new.store) (state c.give_uri.new.store) e.grows c.args.value.now (number c.in_ok-text.text) c.in_ok-text.ensures.own h) e.settled
+    on_ok_weaker c.give_uri.result (λ h. strings_read number (state c.to_text.new.store) (state c.give_uri.new.store) e.grows
+    c.args.value.now (number c.in_ok-text.text) c.in_ok-text.ensures.own h) e.settled

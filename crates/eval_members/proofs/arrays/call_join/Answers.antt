@@ -14,21 +14,24 @@ returns-clause-did g c =
     let e = c.in_ok-sep.ensures in
     let m = c.first_is_missing.ensures in
     let f = c.if-first_is_missing.false in
-    join_does number a (state c.first_text.new.store) (state c.join_with.new.store) c.args.list.now (all_seen a number c.args.args.now) c.in_ok-sep.sep c.join_with.result e.grows c.requires.known (rw (← m) f) e.short e.did c.join_with.ensures.did
+    join_does number a (state c.first_text.new.store) (state c.join_with.new.store) c.args.list.now (all_seen a number c.args.args.now)
+    c.in_ok-sep.sep c.join_with.result e.grows c.requires.known (rw (← m) f) e.short e.did c.join_with.ensures.did
 
 pub returns-clause-separator_settled : goal.returns-clause-separator_settled
 returns-clause-separator_settled g c =
     let state = g.S.Strings.state in
     let number = g.S.Strings.number in
     let e = c.join_with.ensures in
-    on_ok_weaker c.join_with.result (λ h. first_read number (state c.first_text.new.store) (state c.join_with.new.store) e.grows c.args.args.now (number c.in_ok-sep.sep) c.in_ok-sep.ensures.own h) e.separator_settled
+    on_ok_weaker c.join_with.result (λ h. first_read number (state c.first_text.new.store) (state c.join_with.new.store) e.grows
+    c.args.args.now (number c.in_ok-sep.sep) c.in_ok-sep.ensures.own h) e.separator_settled
 
 pub returns-then-first_is_missing-clause-separator_settled : goal.returns-then-first_is_missing-clause-separator_settled
 returns-then-first_is_missing-clause-separator_settled g c =
     let state = g.S.Strings.state in
     let number = g.S.Strings.number in
     let d = state c.join_with_commas.new.store in
-    on_ok_always c.join_with_commas.result (OfFirst (λ v. StringsSettled d number v) c.args.args.now) (missing_read (state c.args.store.now) d number c.args.args.now (sym c.first_is_missing.ensures ∙ c.if-first_is_missing.true))
+    on_ok_always c.join_with_commas.result (OfFirst (λ v. StringsSettled d number v) c.args.args.now)
+    (missing_read (state c.args.store.now) d number c.args.args.now (sym c.first_is_missing.ensures ∙ c.if-first_is_missing.true))
 
 pub returns-in_err-sep-clause-did : goal.returns-in_err-sep-clause-did
 returns-in_err-sep-clause-did g c =

@@ -17,4 +17,5 @@ returns-in_err-r-in-Int-clause-did g c =
     let w = maybe_text (unit_at u c.args.index) in
     let e = c.in_err-r-in-Int.ensures in
     let p = err_from_is_err_and c.from_residual.result c.from_residual.ensures.1 in
-    rw (p.1, p.2) (row_stops number a (state c.at.new.store) row_ids (row_words (length u + string_units w)) w c.in_err-r-in-Int.field-0.0 e.throws e.uses.step e.uses.history e.uses.no_slots (omega arith) (omega arith))
+    rw (p.1, p.2) (row_stops number a (state c.at.new.store) row_ids (row_words (length u + string_units w)) w c.in_err-r-in-Int.field-0.0
+    e.throws e.uses.step e.uses.history e.uses.no_slots (omega arith) (omega arith))

@@ -10,4 +10,5 @@ returns-in_err-concat-clause-did g c =
     let a = state c.args.store.now in
     let e = c.in_err-concat.ensures in
     let p = err_from_is_err_and c.from_residual.result c.from_residual.ensures.1 in
-    rw (p.1, p.2) (joined_stops number a (state c.concat.new.store) a.limit (text a (number c.args.s)) (text a (number c.args.w)) c.in_err-concat.field-0.0 e.throws e.uses.step e.uses.history e.uses.no_slots)
+    rw (p.1, p.2) (joined_stops number a (state c.concat.new.store) a.limit (text a (number c.args.s)) (text a (number c.args.w))
+    c.in_err-concat.field-0.0 e.throws e.uses.step e.uses.history e.uses.no_slots)

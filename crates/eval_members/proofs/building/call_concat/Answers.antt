@@ -24,8 +24,11 @@ loop-value-preserved g c =
       grows = grows_trans i.grows e.grows;
       fine = every_map (λ v k. fine_still b d number e.grows v k) c.args.args.now i.fine;
       known = e.known;
-      read = every_more (λ v. ElementsSettled d number v) c.args.args.now c.loop-value.value-index c.value-item.result c.loop-value-test.true c.value-item.is (every_map (λ v k. elements_still number b d e.grows v k) (take c.loop-value.value-index c.args.args.now) i.read) e.read;
-      completes = λ z r f. i.completes z r (concat_turn number a b d c.args.args.now c.loop-value.value-index c.value-item.result c.loop-value.text i.grows c.requires.args c.loop-value-test.true c.value-item.is z c.in_ok-text.text r e.did f);
+      read = every_more (λ v. ElementsSettled d number v) c.args.args.now c.loop-value.value-index c.value-item.result
+          c.loop-value-test.true c.value-item.is (every_map (λ v k. elements_still number b d e.grows v k)
+          (take c.loop-value.value-index c.args.args.now) i.read) e.read;
+      completes = λ z r f. i.completes z r (concat_turn number a b d c.args.args.now c.loop-value.value-index c.value-item.result
+          c.loop-value.text i.grows c.requires.args c.loop-value-test.true c.value-item.is z c.in_ok-text.text r e.did f);
     }
 
 pub returns-in_err-text-clause-did : goal.returns-in_err-text-clause-did
@@ -38,7 +41,8 @@ returns-in_err-text-clause-did g c =
     let i = c.loop-value.invariant in
     let p = err_from_is_err_and c.from_residual.result c.from_residual.ensures.1 in
     rw (p.1, p.2) (i.completes d (Err c.in_err-text.field-0.0)
-    (concat_halt number a b d c.args.args.now c.loop-value.value-index c.value-item.result c.loop-value.text i.grows c.requires.args c.loop-value-test.true c.value-item.is c.in_err-text.field-0.0 c.in_err-text.ensures.did))
+    (concat_halt number a b d c.args.args.now c.loop-value.value-index c.value-item.result c.loop-value.text i.grows c.requires.args
+    c.loop-value-test.true c.value-item.is c.in_err-text.field-0.0 c.in_err-text.ensures.did))
 
 pub returns-clause-did : goal.returns-clause-did
 returns-clause-did g c =

@@ -14,11 +14,13 @@ pub returns-clause-did : goal.returns-clause-did
 returns-clause-did g c =
     let state = g.S.Strings.state in
     let e = c.in_ok-w.ensures in
-    join_does g.S.Strings.number (state c.args.store.now) (state c.to_text.new.store) (state c.append.new.store) c.args.s c.in_ok-w.w c.args.value.now c.append.result e.grows c.requires.known e.did c.append.ensures.did
+    join_does g.S.Strings.number (state c.args.store.now) (state c.to_text.new.store) (state c.append.new.store) c.args.s c.in_ok-w.w
+    c.args.value.now c.append.result e.grows c.requires.known e.did c.append.ensures.did
 
 pub returns-clause-read : goal.returns-clause-read
 returns-clause-read g c =
     let state = g.S.Strings.state in
     let number = g.S.Strings.number in
     let d = state c.append.new.store in
-    on_ok_always c.append.result (ElementsSettled d number c.args.value.now) (elements_read number (state c.to_text.new.store) d c.append.ensures.grows c.args.value.now (number c.in_ok-w.w) c.in_ok-w.ensures.own)
+    on_ok_always c.append.result (ElementsSettled d number c.args.value.now)
+    (elements_read number (state c.to_text.new.store) d c.append.ensures.grows c.args.value.now (number c.in_ok-w.w) c.in_ok-w.ensures.own)

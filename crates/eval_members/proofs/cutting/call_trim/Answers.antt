@@ -14,4 +14,5 @@ returns-in_err-r-clause-did g c = λ t k.
     let u = text a (number c.args.s) in
     let e = c.in_err-r.ensures in
     let p = err_from_is_err_and c.from_residual.result c.from_residual.ensures.1 in
-    rw (p.1, p.2) (within_stops number a (state c.trimmed.new.store) a.limit row_ids (λ r. row_words (t + r)) (trimmed_of c.args.trim u) c.in_err-r.field-0.0 e.throws e.uses.step e.uses.history e.uses.no_slots (omega arith) (omega arith) (omega arith))
+    rw (p.1, p.2) (within_stops number a (state c.trimmed.new.store) a.limit row_ids (λ r. row_words (t + r)) (trimmed_of c.args.trim u)
+    c.in_err-r.field-0.0 e.throws e.uses.step e.uses.history e.uses.no_slots (omega arith) (omega arith) (omega arith))

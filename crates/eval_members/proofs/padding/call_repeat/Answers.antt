@@ -11,4 +11,5 @@ returns-in_err-r-clause-did g c =
     let e = c.in_err-r.ensures in
     let same = c.in_ok-n.ensures.same in
     let p = err_from_is_err_and c.from_residual-in_err-r.result c.from_residual-in_err-r.ensures.1 in
-    rw (p.1, p.2, ← c.in_ok-n.ensures.value) (repeat_stops a.limit (text a (number c.args.s)) c.in_ok-n.n (rw same at e.uses.history) (omega arith) (omega arith) number c.in_err-r.field-0.0 (rw same at e.throws) (rw same at e.uses.step) e.uses.no_slots)
+    rw (p.1, p.2, ← c.in_ok-n.ensures.value) (repeat_stops a.limit (text a (number c.args.s)) c.in_ok-n.n (rw same at e.uses.history)
+    (omega arith) (omega arith) number c.in_err-r.field-0.0 (rw same at e.throws) (rw same at e.uses.step) e.uses.no_slots)

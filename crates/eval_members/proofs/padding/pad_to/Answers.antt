@@ -20,7 +20,8 @@ returns-then-max-from-clause-did g c =
     let a = state c.args.store.now in
     let e = c.len-len.ensures in
     let l : c.args.max ≤ length (text a (number c.args.s)) = omega (arith, c.if-max-from.true, c.from.ensures, e.value) in
-    pads_itself number a (state c.len-len.new.self) (state c.itself.new.store) (padded_of c.args.pad) c.args.s c.args.max (second_of (all_seen a number c.args.args.now)) c.itself.result e.uses.step e.uses.history c.requires.known l c.itself.ensures.did
+    pads_itself number a (state c.len-len.new.self) (state c.itself.new.store) (padded_of c.args.pad) c.args.s c.args.max
+    (second_of (all_seen a number c.args.args.now)) c.itself.result e.uses.step e.uses.history c.requires.known l c.itself.ensures.did
 
 pub fill-requires-clause-args : goal.fill-requires-clause-args
 fill-requires-clause-args g c =
@@ -33,7 +34,8 @@ returns-else-max-from-clause-did g c =
     let a = state c.args.store.now in
     let e = c.len-len.ensures in
     let l : length (text a (number c.args.s)) < c.args.max = omega (arith, c.if-max-from.false, c.from.ensures, e.value) in
-    pads_more number a (state c.len-len.new.self) (state c.fill.new.store) (padded_of c.args.pad) c.args.s c.args.max c.args.args.now c.fill.result e.uses.step e.uses.history c.requires.known c.requires.args l c.fill.ensures.did
+    pads_more number a (state c.len-len.new.self) (state c.fill.new.store) (padded_of c.args.pad) c.args.s c.args.max c.args.args.now
+    c.fill.result e.uses.step e.uses.history c.requires.known c.requires.args l c.fill.ensures.did
 
 pub returns-then-max-from-clause-filler_settled : goal.returns-then-max-from-clause-filler_settled
 returns-then-max-from-clause-filler_settled g c =
@@ -55,5 +57,6 @@ returns-else-max-from-clause-filler_settled g c =
     let d = state c.fill.new.store in
     let vs = c.args.args.now in
     let grows = c.len-len.ensures.uses.step.grows in
-    let one = subst (λ (u : List ℕ). OnOk c.fill.result (FillerSettled d number (c.args.max - length u) (second_units (all_seen b number vs)) vs)) (text_still grows (number c.args.s) c.requires.known) c.fill.ensures.filler_settled in
+    let one = subst (λ (u : List ℕ). OnOk c.fill.result (FillerSettled d number (c.args.max - length u)
+    (second_units (all_seen b number vs)) vs)) (text_still grows (number c.args.s) c.requires.known) c.fill.ensures.filler_settled in
     subst (λ (o : List Val). OnOk c.fill.result (FillerSettled d number (c.args.max - length (text a (number c.args.s))) (second_units o) vs)) (values_still a b number grows vs c.requires.args) one

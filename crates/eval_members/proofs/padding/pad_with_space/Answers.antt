@@ -15,4 +15,5 @@ returns-in_err-r-clause-did g c =
     let w : List ℕ = 32 ∷ [] in
     let e = c.in_err-r.ensures in
     let p = err_from_is_err_and c.from_residual.result c.from_residual.ensures.1 in
-    rw (p.1, p.2) (within_stops number a b a.limit pad_ids (λ k. pad_words (length u + 1)) (padded_of c.args.pad u c.args.max w) c.in_err-r.field-0.0 e.throws e.uses.step e.uses.history e.uses.no_slots (omega arith) (omega arith) (omega arith))
+    rw (p.1, p.2) (within_stops number a b a.limit pad_ids (λ k. pad_words (length u + 1)) (padded_of c.args.pad u c.args.max w)
+    c.in_err-r.field-0.0 e.throws e.uses.step e.uses.history e.uses.no_slots (omega arith) (omega arith) (omega arith))

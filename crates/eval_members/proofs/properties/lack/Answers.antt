@@ -13,4 +13,5 @@ returns-in_err-units-clause-did g c =
     let l = c.len.ensures in
     let e = c.in_err-units.ensures in
     let p = err_from_is_err_and c.from_residual.result c.from_residual.ensures.1 in
-    rw (p.1, p.2) (no_memory g.S.Strings.number a (state c.copied.new.store) (lacking c.args.at (text a (g.S.Strings.number c.args.key))) (step_after l.uses.step e.uses.step (omega arith) (omega arith)) (e.uses.history ∙ l.uses.history))
+    rw (p.1, p.2) (no_memory g.S.Strings.number a (state c.copied.new.store) (lacking c.args.at (text a (g.S.Strings.number c.args.key)))
+    (step_after l.uses.step e.uses.step (omega arith) (omega arith)) (e.uses.history ∙ l.uses.history))

@@ -18,13 +18,15 @@ pub returns-in_ok-copy-in-Some-clause-fine : goal.returns-in_ok-copy-in-Some-cla
 returns-in_ok-copy-in-Some-clause-fine g c =
     let state = g.S.Strings.state in
     let e = c.in-Some.ensures in
-    fine_given g.S.Strings.number (state c.args.store.now) (state c.get.new.store) e.uses.step e.uses.history c.args.object.now c.requires.fine c.args.key c.in-Some.value.now c.in_ok-copy-in-Some.field-0 e.value c.in_ok-copy-in-Some.ensures
+    fine_given g.S.Strings.number (state c.args.store.now) (state c.get.new.store) e.uses.step e.uses.history c.args.object.now
+    c.requires.fine c.args.key c.in-Some.value.now c.in_ok-copy-in-Some.field-0 e.value c.in_ok-copy-in-Some.ensures
 
 pub returns-in_ok-copy-in-Some-clause-did : goal.returns-in_ok-copy-in-Some-clause-did
 returns-in_ok-copy-in-Some-clause-did g c =
     let state = g.S.Strings.state in
     let e = c.in-Some.ensures in
-    plain_given g.S.Strings.number (state c.args.store.now) (state c.get.new.store) e.uses.step e.uses.history c.args.object.now c.requires.fine c.args.key c.in-Some.value.now c.in_ok-copy-in-Some.field-0 e.value c.in_ok-copy-in-Some.ensures
+    plain_given g.S.Strings.number (state c.args.store.now) (state c.get.new.store) e.uses.step e.uses.history c.args.object.now
+    c.requires.fine c.args.key c.in-Some.value.now c.in_ok-copy-in-Some.field-0 e.value c.in_ok-copy-in-Some.ensures
 
 pub returns-in-None-clause-did : goal.returns-in-None-clause-did
 returns-in-None-clause-did g c =

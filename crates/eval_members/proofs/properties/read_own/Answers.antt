@@ -22,7 +22,8 @@ pub returns-in_ok-copy-in-Some-clause-fine : goal.returns-in_ok-copy-in-Some-cla
 returns-in_ok-copy-in-Some-clause-fine g c =
     let state = g.S.Strings.state in
     let e = c.in-Some.ensures in
-    fine_given g.S.Strings.number (state c.args.store.now) (state c.get.new.store) e.uses.step e.uses.history c.args.object.now c.requires.fine c.args.key c.in-Some.value.now c.in_ok-copy-in-Some.field-0 e.value c.in_ok-copy-in-Some.ensures
+    fine_given g.S.Strings.number (state c.args.store.now) (state c.get.new.store) e.uses.step e.uses.history c.args.object.now
+    c.requires.fine c.args.key c.in-Some.value.now c.in_ok-copy-in-Some.field-0 e.value c.in_ok-copy-in-Some.ensures
 
 pub returns-in_err-copy-in-Some-clause-did : goal.returns-in_err-copy-in-Some-clause-did
 returns-in_err-copy-in-Some-clause-did g c =
@@ -38,10 +39,12 @@ pub returns-in_ok-copy-in-Some-clause-did : goal.returns-in_ok-copy-in-Some-clau
 returns-in_ok-copy-in-Some-clause-did g c =
     let state = g.S.Strings.state in
     let e = c.in-Some.ensures in
-    got_given g.S.Strings.number (state c.args.store.now) (state c.get.new.store) e.uses.step e.uses.history c.args.object.now c.requires.fine c.args.key c.in-Some.value.now c.in_ok-copy-in-Some.field-0 e.value c.in_ok-copy-in-Some.ensures c.args.at
+    got_given g.S.Strings.number (state c.args.store.now) (state c.get.new.store) e.uses.step e.uses.history c.args.object.now
+    c.requires.fine c.args.key c.in-Some.value.now c.in_ok-copy-in-Some.field-0 e.value c.in_ok-copy-in-Some.ensures c.args.at
 
 pub returns-in-None-clause-did : goal.returns-in-None-clause-did
 returns-in-None-clause-did g c =
     let state = g.S.Strings.state in
     let e = c.in-None.ensures in
-    got_none g.S.Strings.number (state c.args.store.now) (state c.get.new.store) e.uses.step e.uses.history c.args.object.now c.requires.fine c.args.key (state c.lack.new.store) c.lack.result c.args.at c.requires.key.known e.value c.lack.ensures.did
+    got_none g.S.Strings.number (state c.args.store.now) (state c.get.new.store) e.uses.step e.uses.history c.args.object.now
+    c.requires.fine c.args.key (state c.lack.new.store) c.lack.result c.args.at c.requires.key.known e.value c.lack.ensures.did

@@ -19,4 +19,6 @@ returns-in_err-r-clause-did g c =
     let n = c.in_ok-n.n in
     let e = c.in_err-r.ensures in
     let p = err_from_is_err_and c.from_residual-in_err-r.result c.from_residual-in_err-r.ensures.1 in
-    rw (p.1, p.2, ← c.in_ok-n.ensures.value) (row_stops number a (state c.char_at.new.store) row_ids (row_words (t + length (char_at_of u n))) (text_value (char_at_of u n)) c.in_err-r.field-0.0 e.throws (rw c.in_ok-n.ensures.same at e.uses.step) (rw c.in_ok-n.ensures.same at e.uses.history) e.uses.no_slots (omega arith) (omega arith))
+    rw (p.1, p.2, ← c.in_ok-n.ensures.value) (row_stops number a (state c.char_at.new.store) row_ids
+    (row_words (t + length (char_at_of u n))) (text_value (char_at_of u n)) c.in_err-r.field-0.0 e.throws
+    (rw c.in_ok-n.ensures.same at e.uses.step) (rw c.in_ok-n.ensures.same at e.uses.history) e.uses.no_slots (omega arith) (omega arith))

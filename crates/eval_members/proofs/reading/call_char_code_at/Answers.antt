@@ -19,4 +19,6 @@ returns-in_err-code-clause-did g c =
     let n = c.in_ok-n.n in
     let e = c.in_err-code.ensures in
     let p = err_from_is_err_and c.from_residual-in_err-code.result c.from_residual-in_err-code.ensures.1 in
-    rw (p.1, p.2, ← c.in_ok-n.ensures.value) (row_stops number a (state c.char_code_at.new.store) row_ids (row_words (t)) (number_value (char_code_of u n)) c.in_err-code.field-0.0 e.throws (rw c.in_ok-n.ensures.same at e.uses.step) (rw c.in_ok-n.ensures.same at e.uses.history) e.uses.no_slots (omega arith) (omega arith))
+    rw (p.1, p.2, ← c.in_ok-n.ensures.value) (row_stops number a (state c.char_code_at.new.store) row_ids (row_words (t))
+    (number_value (char_code_of u n)) c.in_err-code.field-0.0 e.throws (rw c.in_ok-n.ensures.same at e.uses.step)
+    (rw c.in_ok-n.ensures.same at e.uses.history) e.uses.no_slots (omega arith) (omega arith))

@@ -19,4 +19,6 @@ returns-in_err-point-clause-did g c =
     let n = c.in_ok-n.n in
     let e = c.in_err-point.ensures in
     let p = err_from_is_err_and c.from_residual-in_err-point.result c.from_residual-in_err-point.ensures.1 in
-    rw (p.1, p.2, ← c.in_ok-n.ensures.value) (row_stops number a (state c.code_point_at.new.store) row_ids (row_words (t)) (maybe_count (code_point_of u n)) c.in_err-point.field-0.0 e.throws (rw c.in_ok-n.ensures.same at e.uses.step) (rw c.in_ok-n.ensures.same at e.uses.history) e.uses.no_slots (omega arith) (omega arith))
+    rw (p.1, p.2, ← c.in_ok-n.ensures.value) (row_stops number a (state c.code_point_at.new.store) row_ids (row_words (t))
+    (maybe_count (code_point_of u n)) c.in_err-point.field-0.0 e.throws (rw c.in_ok-n.ensures.same at e.uses.step)
+    (rw c.in_ok-n.ensures.same at e.uses.history) e.uses.no_slots (omega arith) (omega arith))

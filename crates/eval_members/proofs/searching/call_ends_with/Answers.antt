@@ -27,7 +27,11 @@ returns-in_err-w-clause-did g c =
     let u = text b (number c.args.s) in
     let v = c.second_or_none-end.ensures.value in
     let p = err_from_is_err_and c.from_residual.result c.from_residual.ensures.1 in
-    rw (p.1, p.2, ← v) (search_after number (state c.args.store.now) b (state c.first_text.new.store) c.args.s c.args.args.now (Err c.in_err-w.field-0.0) (λ u x q. bool (ends_at u x q)) (converted_of c.second_or_none-end.result) o.uses.step o.uses.history c.requires.known c.requires.args (text_fails number (reads (length u + all_units vs)) b (state c.first_text.new.store) c.in_err-w.field-0.0 (to_string b.limit (first_of vs)) (λ x. search_answer (length u + first_text_units vs) (λ e. bool (ends_at u x e)) (converted_of c.second_or_none-end.result)) c.in_err-w.ensures.did))
+    rw (p.1, p.2, ← v) (search_after number (state c.args.store.now) b (state c.first_text.new.store) c.args.s c.args.args.now
+    (Err c.in_err-w.field-0.0) (λ u x q. bool (ends_at u x q)) (converted_of c.second_or_none-end.result) o.uses.step o.uses.history
+    c.requires.known c.requires.args (text_fails number (reads (length u + all_units vs)) b (state c.first_text.new.store)
+    c.in_err-w.field-0.0 (to_string b.limit (first_of vs)) (λ x. search_answer (length u + first_text_units vs) (λ e. bool (ends_at u x e))
+    (converted_of c.second_or_none-end.result)) c.in_err-w.ensures.did))
 
 pub returns-clause-did : goal.returns-clause-did
 returns-clause-did g c =
@@ -38,10 +42,15 @@ returns-clause-did g c =
     let vs = all_seen b number c.args.args.now in
     let v = c.second_or_none-end.ensures.value in
     let e = c.in_ok-w.ensures in
-    rw (← v) (search_after number (state c.args.store.now) b (state c.find_end.new.store) c.args.s c.args.args.now c.find_end.result (λ u x q. bool (ends_at u x q)) (converted_of c.second_or_none-end.result) o.uses.step o.uses.history c.requires.known c.requires.args (search_does number b (state c.first_text.new.store) (state c.find_end.new.store) c.args.s c.in_ok-w.w c.find_end.result (length (text b (number c.args.s)) + all_units vs) (first_text_units vs) (λ u x q. bool (ends_at u x q)) (first_of vs) (converted_of c.second_or_none-end.result) e.grows (known_still o.uses.step.grows (number c.args.s) c.requires.known) e.short e.did c.find_end.ensures.did))
+    rw (← v) (search_after number (state c.args.store.now) b (state c.find_end.new.store) c.args.s c.args.args.now c.find_end.result
+    (λ u x q. bool (ends_at u x q)) (converted_of c.second_or_none-end.result) o.uses.step o.uses.history c.requires.known c.requires.args
+    (search_does number b (state c.first_text.new.store) (state c.find_end.new.store) c.args.s c.in_ok-w.w c.find_end.result
+    (length (text b (number c.args.s)) + all_units vs) (first_text_units vs) (λ u x q. bool (ends_at u x q)) (first_of vs)
+    (converted_of c.second_or_none-end.result) e.grows (known_still o.uses.step.grows (number c.args.s) c.requires.known) e.short e.did c.find_end.ensures.did))
 
 pub first_text-requires : goal.first_text-requires
-first_text-requires g c = values_fine_still (g.S.Strings.state c.args.store.now) (g.S.Strings.state c.second_or_none-end.new.store) g.S.Strings.number c.second_or_none-end.ensures.uses.step.grows c.args.args.now c.requires.args
+first_text-requires g c = values_fine_still (g.S.Strings.state c.args.store.now) (g.S.Strings.state c.second_or_none-end.new.store)
+    g.S.Strings.number c.second_or_none-end.ensures.uses.step.grows c.args.args.now c.requires.args
 
 pub returns-clause-grows : goal.returns-clause-grows
 returns-clause-grows g c = grows_trans c.second_or_none-end.ensures.uses.step.grows (grows_trans c.in_ok-w.ensures.grows c.find_end.ensures.grows)
@@ -51,4 +60,5 @@ returns-clause-needle_settled g c =
     let state = g.S.Strings.state in
     let number = g.S.Strings.number in
     let e = c.find_end.ensures in
-    on_ok_weaker c.find_end.result (λ h. first_read number (state c.first_text.new.store) (state c.find_end.new.store) e.grows c.args.args.now (number c.in_ok-w.w) c.in_ok-w.ensures.own h) e.needle_settled
+    on_ok_weaker c.find_end.result (λ h. first_read number (state c.first_text.new.store) (state c.find_end.new.store) e.grows
+    c.args.args.now (number c.in_ok-w.w) c.in_ok-w.ensures.own h) e.needle_settled

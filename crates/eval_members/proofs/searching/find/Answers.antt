@@ -13,4 +13,6 @@ returns-in_err-searched-clause-did g c = λ t k.
     let a = state c.args.store.now in
     let e = c.in_err-searched.ensures in
     let p = err_from_is_err_and c.from_residual-in_err-searched.result c.from_residual-in_err-searched.ensures.1 in
-    rw (p.1, p.2, c.in_ok-n.was) (row_stops number a (state c.searched.new.store) row_ids (row_words t) (search_of c.args.search (text a (number c.args.s)) (text a (number c.args.w)) c.in_ok-n.n) c.in_err-searched.field-0.0 e.throws e.uses.step e.uses.history e.uses.no_slots (omega arith) (omega (arith, k)))
+    rw (p.1, p.2, c.in_ok-n.was) (row_stops number a (state c.searched.new.store) row_ids (row_words t)
+    (search_of c.args.search (text a (number c.args.s)) (text a (number c.args.w)) c.in_ok-n.n) c.in_err-searched.field-0.0 e.throws
+    e.uses.step e.uses.history e.uses.no_slots (omega arith) (omega (arith, k)))

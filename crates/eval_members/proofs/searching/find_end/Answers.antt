@@ -14,4 +14,6 @@ returns-in_err-ends-clause-did g c = λ t k.
     let a = state c.args.store.now in
     let e = c.in_err-ends.ensures in
     let p = err_from_is_err_and c.from_residual-in_err-ends.result c.from_residual-in_err-ends.ensures.1 in
-    rw (p.1, p.2, c.in_ok-end.was) (row_stops number a (state c.ends_with.new.store) row_ids (row_words t) (bool (ends_at (text a (number c.args.s)) (text a (number c.args.w)) c.in_ok-end.end)) c.in_err-ends.field-0.0 e.throws e.uses.step e.uses.history e.uses.no_slots (omega arith) (omega (arith, k)))
+    rw (p.1, p.2, c.in_ok-end.was) (row_stops number a (state c.ends_with.new.store) row_ids (row_words t)
+    (bool (ends_at (text a (number c.args.s)) (text a (number c.args.w)) c.in_ok-end.end)) c.in_err-ends.field-0.0 e.throws e.uses.step
+    e.uses.history e.uses.no_slots (omega arith) (omega (arith, k)))

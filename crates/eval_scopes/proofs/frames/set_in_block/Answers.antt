@@ -10,7 +10,11 @@ pub set-requires : goal.set-requires
 set-requires g c = at_block c.args.blocks.now.items c.args.block c.args.index c.index_mut.result.now c.requires c.index_mut.ensures.value
 
 pub returns-clause-put : goal.returns-clause-put
-returns-clause-put g c = put_in_set c.args.blocks.now.items c.args.block c.args.index c.args.value c.index_mut.result.now (record { names = c.index_mut.result.now.names; bound = c.set.new.self; outside = c.index_mut.result.now.outside }) (in_block c.args.blocks.now.items c.args.block c.args.index c.requires) c.index_mut.ensures.value refl c.set.ensures
+returns-clause-put g c = put_in_set c.args.blocks.now.items c.args.block c.args.index c.args.value c.index_mut.result.now
+    (record { names = c.index_mut.result.now.names; bound = c.set.new.self; outside = c.index_mut.result.now.outside })
+    (in_block c.args.blocks.now.items c.args.block c.args.index c.requires) c.index_mut.ensures.value refl c.set.ensures
 
 pub returns-clause-outsides : goal.returns-clause-outsides
-returns-clause-outsides g c = outsides_kept c.args.blocks.now.items c.args.block c.index_mut.result.now (record { names = c.index_mut.result.now.names; bound = c.set.new.self; outside = c.index_mut.result.now.outside }) (in_block c.args.blocks.now.items c.args.block c.args.index c.requires) c.index_mut.ensures.value refl
+returns-clause-outsides g c = outsides_kept c.args.blocks.now.items c.args.block c.index_mut.result.now
+    (record { names = c.index_mut.result.now.names; bound = c.set.new.self; outside = c.index_mut.result.now.outside })
+    (in_block c.args.blocks.now.items c.args.block c.args.index c.requires) c.index_mut.ensures.value refl

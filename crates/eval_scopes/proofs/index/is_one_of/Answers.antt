@@ -9,4 +9,5 @@ returns-then-is-clause-found c =
 
 pub loop-i-preserved : goal.loop-i-preserved
 loop-i-preserved c =
-    one_more (λ n. bytes_eq n c.args.name.now ≡ false) c.args.names.now c.loop-i.i c.index-names-i.result (omega (arith, c.loop-i-test.true, c.requires.within)) c.index-names-i.is (sym c.is.ensures ∙ c.if-is.false) c.loop-i.invariant
+    one_more (λ n. bytes_eq n c.args.name.now ≡ false) c.args.names.now c.loop-i.i c.index-names-i.result
+    (omega (arith, c.loop-i-test.true, c.requires.within)) c.index-names-i.is (sym c.is.ensures ∙ c.if-is.false) c.loop-i.invariant

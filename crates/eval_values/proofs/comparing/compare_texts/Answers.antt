@@ -21,4 +21,5 @@ returns-clause-did g c =
     let number = g.S.Strings.number in
     let e = c.in_ok-settle_both.ensures in
     let q = c.compare.ensures in
-    texts_order (state c.args.store.now) (state c.settle_both.new.store) (state c.compare.new.store) (number c.args.a) (number c.args.b) c.requires.left c.requires.right e.uses.step e.uses.history q.uses.step q.uses.history c.compare.result q.order
+    texts_order (state c.args.store.now) (state c.settle_both.new.store) (state c.compare.new.store) (number c.args.a) (number c.args.b)
+    c.requires.left c.requires.right e.uses.step e.uses.history q.uses.step q.uses.history c.compare.result q.order

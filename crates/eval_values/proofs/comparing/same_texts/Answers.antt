@@ -20,7 +20,8 @@ returns-clause-did g c =
     let number = g.S.Strings.number in
     let e = c.in_ok-settle_both.ensures in
     let q = c.equal.ensures in
-    texts_same (state c.args.store.now) (state c.settle_both.new.store) (state c.equal.new.store) (number c.args.a) (number c.args.b) c.requires.left c.requires.right e.uses.step e.uses.history q.uses.step q.uses.history c.equal.result q.value
+    texts_same (state c.args.store.now) (state c.settle_both.new.store) (state c.equal.new.store) (number c.args.a) (number c.args.b)
+    c.requires.left c.requires.right e.uses.step e.uses.history q.uses.step q.uses.history c.equal.result q.value
 
 pub returns-then-is_one-clause-did : goal.returns-then-is_one-clause-did
 returns-then-is_one-clause-did g c =

@@ -17,4 +17,5 @@ returns-else-has_to_string-clause-did g c =
     let number = g.S.Strings.number in
     let a = state c.args.store.now in
     let e = c.has_to_string.ensures in
-    string_made number a (state c.has_to_string.new.store) (fields_mapped (says a number) c.args.object.now) e.uses.step e.uses.history (state c.word.new.store) c.word.result (sym e.value ∙ c.if-has_to_string.false) c.word.ensures.did
+    string_made number a (state c.has_to_string.new.store) (fields_mapped (says a number) c.args.object.now) e.uses.step e.uses.history
+    (state c.word.new.store) c.word.result (sym e.value ∙ c.if-has_to_string.false) c.word.ensures.did

@@ -45,9 +45,12 @@ returns-in_err-text-clause-did g c =
     let b = state c.loop-value.store in
     let i = c.loop-value.invariant in
     let p = err_from_is_err_and c.from_residual.result c.from_residual.ensures.1 in
-    let d = text_as_first number a b (state c.to_text.new.store) c.args.values.now c.loop-value.value-index c.value-item.result (Err c.in_err-text.field-0.0) i.grows c.requires c.loop-value-test.true c.value-item.is c.in_err-text.ensures.did in
+    let d = text_as_first number a b (state c.to_text.new.store) c.args.values.now c.loop-value.value-index c.value-item.result
+    (Err c.in_err-text.field-0.0) i.grows c.requires c.loop-value-test.true c.value-item.is c.in_err-text.ensures.did in
     rw (p.1, p.2) (i.completes (state c.to_text.new.store) (Err c.in_err-text.field-0.0)
-    (each_halt (λ s r. text s (number r)) (λ s r. IsKnown s (number r)) b (state c.to_text.new.store) (λ v. to_string a.limit (seen a number v)) c.loop-value.texts.items c.args.values.now c.loop-value.value-index c.value-item.result c.loop-value-test.true c.value-item.is c.in_err-text.field-0.0 d))
+    (each_halt (λ s r. text s (number r)) (λ s r. IsKnown s (number r)) b (state c.to_text.new.store)
+    (λ v. to_string a.limit (seen a number v)) c.loop-value.texts.items c.args.values.now c.loop-value.value-index c.value-item.result
+    c.loop-value-test.true c.value-item.is c.in_err-text.field-0.0 d))
 
 pub returns-in_err-push-clause-grows : goal.returns-in_err-push-clause-grows
 returns-in_err-push-clause-grows g c = grows_trans c.loop-value.invariant.grows c.in_ok-text.ensures.grows
@@ -60,9 +63,12 @@ returns-in_err-push-clause-did g c =
     let b = state c.loop-value.store in
     let i = c.loop-value.invariant in
     let p = err_from_is_err_and c.from_residual-in_err-push.result c.from_residual-in_err-push.ensures.1 in
-    let d = text_as_first number a b (state c.to_text.new.store) c.args.values.now c.loop-value.value-index c.value-item.result (Ok c.in_ok-text.text) i.grows c.requires c.loop-value-test.true c.value-item.is c.in_ok-text.ensures.did in
+    let d = text_as_first number a b (state c.to_text.new.store) c.args.values.now c.loop-value.value-index c.value-item.result
+    (Ok c.in_ok-text.text) i.grows c.requires c.loop-value-test.true c.value-item.is c.in_ok-text.ensures.did in
     rw (p.1, p.2, c.in_err-push.ensures.fault) (i.completes (state c.to_text.new.store) (Err (Store Memory))
-    (each_full (λ s r. text s (number r)) (λ s r. IsKnown s (number r)) b (state c.to_text.new.store) (λ v. to_string a.limit (seen a number v)) c.loop-value.texts.items c.args.values.now c.loop-value.value-index c.value-item.result c.loop-value-test.true c.value-item.is c.in_ok-text.text d))
+    (each_full (λ s r. text s (number r)) (λ s r. IsKnown s (number r)) b (state c.to_text.new.store)
+    (λ v. to_string a.limit (seen a number v)) c.loop-value.texts.items c.args.values.now c.loop-value.value-index c.value-item.result
+    c.loop-value-test.true c.value-item.is c.in_ok-text.text d))
 
 pub loop-value-preserved : goal.loop-value-preserved
 loop-value-preserved g c =
@@ -78,10 +84,18 @@ loop-value-preserved g c =
     record {
       grows = grows_trans i.grows e.grows;
       fine = every_map (λ v k. fine_still b d number e.grows v k) c.args.values.now i.fine;
-      known = rw p (fine_turn (λ s r. text s (number r)) (λ s r. IsKnown s (number r)) b d (λ v. to_string a.limit (seen a number v)) c.loop-value.texts.items c.args.values.now c.loop-value.value-index c.value-item.result c.loop-value-test.true c.value-item.is c.in_ok-text.text (λ r k. known_still e.grows (number r) k) i.known e.known);
-      read = every_more (λ v. ElementsSettled d number v) c.args.values.now c.loop-value.value-index c.value-item.result c.loop-value-test.true c.value-item.is (every_map (λ v k. elements_still number b d e.grows v k) (take c.loop-value.value-index c.args.values.now) i.read) (elements_read number d d (grows_refl d) c.value-item.result (number c.in_ok-text.text) e.own);
-      settles = rw p (settle_turn number a b d c.loop-value.texts.items c.in_ok-text.text c.args.values.now c.loop-value.value-index c.value-item.result _ i.grows e.grows c.requires i.known c.loop-value-test.true c.value-item.is i.settles e.settles);
-      completes = λ z r f. i.completes z r (each_turn (λ s r. text s (number r)) (λ s r. IsKnown s (number r)) b d (λ v. to_string a.limit (seen a number v)) c.loop-value.texts.items c.args.values.now c.loop-value.value-index c.value-item.result c.loop-value-test.true c.value-item.is z c.in_ok-text.text r (λ q k. text_still e.grows (number q) k) i.known did (rw p at f));
+      known = rw p (fine_turn (λ s r. text s (number r)) (λ s r. IsKnown s (number r)) b d (λ v. to_string a.limit (seen a number v))
+          c.loop-value.texts.items c.args.values.now c.loop-value.value-index c.value-item.result c.loop-value-test.true c.value-item.is
+          c.in_ok-text.text (λ r k. known_still e.grows (number r) k) i.known e.known);
+      read = every_more (λ v. ElementsSettled d number v) c.args.values.now c.loop-value.value-index c.value-item.result
+          c.loop-value-test.true c.value-item.is (every_map (λ v k. elements_still number b d e.grows v k)
+          (take c.loop-value.value-index c.args.values.now) i.read) (elements_read number d d (grows_refl d) c.value-item.result
+          (number c.in_ok-text.text) e.own);
+      settles = rw p (settle_turn number a b d c.loop-value.texts.items c.in_ok-text.text c.args.values.now c.loop-value.value-index
+          c.value-item.result _ i.grows e.grows c.requires i.known c.loop-value-test.true c.value-item.is i.settles e.settles);
+      completes = λ z r f. i.completes z r (each_turn (λ s r. text s (number r)) (λ s r. IsKnown s (number r)) b d
+          (λ v. to_string a.limit (seen a number v)) c.loop-value.texts.items c.args.values.now c.loop-value.value-index c.value-item.result
+          c.loop-value-test.true c.value-item.is z c.in_ok-text.text r (λ q k. text_still e.grows (number q) k) i.known did (rw p at f));
     }
 
 pub returns-clause-did : goal.returns-clause-did

@@ -21,8 +21,10 @@ invariant-loop-value g l =
       fine : AllFine (state l.store) number l.values;
       known : AllKnown (state l.store) number l.texts.items;
       read : Every (λ v. ElementsSettled (state l.store) number v) (take l.value-index l.values);
-      settles : settle_most (state l.store) number l.texts.items + string_words (all_seen (state l.fn.store) number (drop l.value-index l.values)) ≤ string_words (all_seen (state l.fn.store) number l.values);
+      settles : settle_most (state l.store) number l.texts.items + string_words
+          (all_seen (state l.fn.store) number (drop l.value-index l.values)) ≤ string_words (all_seen (state l.fn.store) number l.values);
       completes : (c : State g.S.Strings.Frame) (r : Result (Vec g.row.S-Ref.Denot Global) Stop) →
-          GivesTexts number (state l.store) c r (each_behind (λ v. to_string (state l.fn.store).limit (seen (state l.fn.store) number v)) (drop l.value-index l.values) (texts_seen (state l.store) number l.texts.items)) →
+          GivesTexts number (state l.store) c r (each_behind (λ v. to_string (state l.fn.store).limit (seen (state l.fn.store) number v))
+          (drop l.value-index l.values) (texts_seen (state l.store) number l.texts.items)) →
           GivesTexts number (state l.fn.store) c r (each (to_string (state l.fn.store).limit) (all_seen (state l.fn.store) number l.values));
     }

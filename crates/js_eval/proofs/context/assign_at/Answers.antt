@@ -21,4 +21,5 @@ returns-clause-context g c =
 pub returns-clause-went : goal.returns-clause-went
 returns-clause-went g c = λ n p x.
     let s = g.S.Strings.state c.args._store.now in
-    assign_done s g.S.Strings.number x (bindings_of c.args.context.now.scope) (bindings_of c.set.new.self) n (bound_of c.at.result.now) c.args.value (p.reads ∙ sym c.at.ensures) c.if-at.false (c.set.ensures ∙ sym (p.writes c.args.value))
+    assign_done s g.S.Strings.number x (bindings_of c.args.context.now.scope) (bindings_of c.set.new.self) n (bound_of c.at.result.now)
+    c.args.value (p.reads ∙ sym c.at.ensures) c.if-at.false (c.set.ensures ∙ sym (p.writes c.args.value))

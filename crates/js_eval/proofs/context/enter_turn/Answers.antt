@@ -7,7 +7,8 @@ use Rattle.js_eval.proofs.context.enter_turn.Goals as goal
 pub returns-in-Ok-clause-context : goal.returns-in-Ok-clause-context
 returns-in-Ok-clause-context g c = record {
   literals = c.requires.context.literals;
-  bindings = rw c.in-Ok.ensures.entered (turned_fine (g.S.Strings.state c.args._store.now) g.S.Strings.number c.args.name.now c.args.value (bindings_of c.args.context.now.scope) c.requires.value c.requires.context.bindings);
+  bindings = rw c.in-Ok.ensures.entered (turned_fine (g.S.Strings.state c.args._store.now) g.S.Strings.number c.args.name.now c.args.value
+      (bindings_of c.args.context.now.scope) c.requires.value c.requires.context.bindings);
 }
 
 pub returns-in-Ok-clause-entered : goal.returns-in-Ok-clause-entered

@@ -15,4 +15,5 @@ pub returns-clause-did : goal.returns-clause-did
 returns-clause-did g c = λ n p.
     let s = g.S.Strings.state c.args._store.now in
     let b = bound_of c.at.result.now in
-    read_one s g.S.Strings.number (bindings_of c.args.context.now.scope) n b c.in_ok-copy.field-0 (p.reads ∙ sym c.at.ensures) (place_fine s g.S.Strings.number c.args.context.now.scope c.args.place b c.requires.context.bindings c.at.ensures) c.in_ok-copy.ensures
+    read_one s g.S.Strings.number (bindings_of c.args.context.now.scope) n b c.in_ok-copy.field-0 (p.reads ∙ sym c.at.ensures)
+    (place_fine s g.S.Strings.number c.args.context.now.scope c.args.place b c.requires.context.bindings c.at.ensures) c.in_ok-copy.ensures

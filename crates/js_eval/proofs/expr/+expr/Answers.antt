@@ -17,7 +17,37 @@ use Rattle.eval_values.specs.Does.{GivesValues}
 use Rattle.eval_values.proofs.Compose.{ran_free}
 use Rattle.eval_values.proofs.Each.{each_turn, each_halt, each_full, fine_turn}
 use Rattle.js_eval.proofs.Leaves.{tree_of_literal, tree_of_number}
-use Rattle.js_eval.proofs.Expressions.{seen_does, written_does, unary_does, chain_does, chain_stops, post_does, post_stops, builtin_does, builtin_stops, index_does, index_stops, link_decided, link_does, link_stops, condition_holds, condition_fails, condition_stops, name_does, name_fails, copy_does, copy_stops, links_turn, links_halt, steps_turn, steps_halt, call_does, call_stops, call_absent, exprs_are}
+use Rattle.js_eval.proofs.Expressions.{
+  seen_does,
+  written_does,
+  unary_does,
+  chain_does,
+  chain_stops,
+  post_does,
+  post_stops,
+  builtin_does,
+  builtin_stops,
+  index_does,
+  index_stops,
+  link_decided,
+  link_does,
+  link_stops,
+  condition_holds,
+  condition_fails,
+  condition_stops,
+  name_does,
+  name_fails,
+  copy_does,
+  copy_stops,
+  links_turn,
+  links_halt,
+  steps_turn,
+  steps_halt,
+  call_does,
+  call_stops,
+  call_absent,
+  exprs_are,
+}
 use Rattle.eval_values.proofs.Still.{seen_still, fine_still}
 use Rattle.js_eval.proofs.Making.{key_stops, value_stops, entry_does, entries_turn, entries_halt, literal_does, literal_stops}
 use Rattle.js_eval.proofs.Stays.{scope_still, context_fine_still}
@@ -31,7 +61,9 @@ pub unary-returns-clause-did : goal.unary-returns-clause-did
 unary-returns-clause-did g t c =
     let state = g.S.Strings.state in
     let i = c.in_ok-value.ensures.did in
-    (unary_does g.S.Strings.number (state c.args.store.now) (state c.expr.new.store) (state c.apply_unary.new.store) c.in_ok-value.value c.apply_unary.result c.args.at c.args.minus (expr_tree c.args.of.now) (scope_of (state c.args.store.now) g.S.Strings.number c.args.context.now) i c.apply_unary.ensures.did)
+    (unary_does g.S.Strings.number (state c.args.store.now) (state c.expr.new.store) (state c.apply_unary.new.store) c.in_ok-value.value
+    c.apply_unary.result c.args.at c.args.minus (expr_tree c.args.of.now)
+    (scope_of (state c.args.store.now) g.S.Strings.number c.args.context.now) i c.apply_unary.ensures.did)
 
 pub chain-returns-in_err-value-clause-did : goal.chain-returns-in_err-value-clause-did
 chain-returns-in_err-value-clause-did g t c =
@@ -39,14 +71,16 @@ chain-returns-in_err-value-clause-did g t c =
     let p = err_from_is_err_and c.from_residual.result c.from_residual.ensures.1 in
     let i = c.in_err-value.ensures.did in
     rw (p.1, p.2)
-    (chain_stops g.S.Strings.number (state c.args.store.now) (state c.expr.new.store) c.in_err-value.field-0.0 (expr_tree c.args.first.now) (links_tree c.args.rest.now) (scope_of (state c.args.store.now) g.S.Strings.number c.args.context.now) i)
+    (chain_stops g.S.Strings.number (state c.args.store.now) (state c.expr.new.store) c.in_err-value.field-0.0 (expr_tree c.args.first.now)
+    (links_tree c.args.rest.now) (scope_of (state c.args.store.now) g.S.Strings.number c.args.context.now) i)
 
 pub chain-returns-clause-did : goal.chain-returns-clause-did
 chain-returns-clause-did g t c =
     let state = g.S.Strings.state in
     let i = c.in_ok-value.ensures.did in
     let k = c.links.ensures.did in
-    (chain_does g.S.Strings.number (state c.args.store.now) (state c.expr.new.store) (state c.links.new.store) c.in_ok-value.value c.links.result (expr_tree c.args.first.now) (links_tree c.args.rest.now) c.args.context.now c.in_ok-value.ensures.grows c.requires i k)
+    (chain_does g.S.Strings.number (state c.args.store.now) (state c.expr.new.store) (state c.links.new.store) c.in_ok-value.value
+    c.links.result (expr_tree c.args.first.now) (links_tree c.args.rest.now) c.args.context.now c.in_ok-value.ensures.grows c.requires i k)
 
 pub builtin-returns-in_err-values-clause-did : goal.builtin-returns-in_err-values-clause-did
 builtin-returns-in_err-values-clause-did g t c =
@@ -54,11 +88,13 @@ builtin-returns-in_err-values-clause-did g t c =
     let p = err_from_is_err_and c.from_residual.result c.from_residual.ensures.1 in
     let i = c.in_err-values.ensures.did in
     rw (p.1, p.2)
-    (builtin_stops g.S.Strings.number (state c.args.store.now) (state c.exprs.new.store) c.in_err-values.field-0.0 c.args.at c.args.which (exprs_tree c.args.args.now) (scope_of (state c.args.store.now) g.S.Strings.number c.args.context.now) i)
+    (builtin_stops g.S.Strings.number (state c.args.store.now) (state c.exprs.new.store) c.in_err-values.field-0.0 c.args.at c.args.which
+    (exprs_tree c.args.args.now) (scope_of (state c.args.store.now) g.S.Strings.number c.args.context.now) i)
 
 pub builtin-returns-clause-context : goal.builtin-returns-clause-context
 builtin-returns-clause-context g t c =
-    context_fine_still (g.S.Strings.state c.exprs.new.store) (g.S.Strings.state c.call_builtin.new.store) g.S.Strings.number c.call_builtin.ensures.grows c.args.context.now c.in_ok-values.ensures.context
+    context_fine_still (g.S.Strings.state c.exprs.new.store) (g.S.Strings.state c.call_builtin.new.store) g.S.Strings.number
+    c.call_builtin.ensures.grows c.args.context.now c.in_ok-values.ensures.context
 
 pub builtin-returns-clause-did : goal.builtin-returns-clause-did
 builtin-returns-clause-did g t c =
@@ -66,7 +102,9 @@ builtin-returns-clause-did g t c =
     let i = c.in_ok-values.ensures.did in
     let k = c.call_builtin.ensures.did in
     let e = c.deref.ensures.value in
-    (builtin_does g.S.Strings.number (state c.args.store.now) (state c.exprs.new.store) (state c.call_builtin.new.store) c.in_ok-values.values c.call_builtin.result c.args.at c.args.which (exprs_tree c.args.args.now) c.args.context.now c.in_ok-values.ensures.grows i (rw e at k))
+    (builtin_does g.S.Strings.number (state c.args.store.now) (state c.exprs.new.store) (state c.call_builtin.new.store)
+    c.in_ok-values.values c.call_builtin.result c.args.at c.args.which (exprs_tree c.args.args.now) c.args.context.now
+    c.in_ok-values.ensures.grows i (rw e at k))
 
 pub links-returns-in_err-value-clause-did : goal.links-returns-in_err-value-clause-did
 links-returns-in_err-value-clause-did g t c =
@@ -77,7 +115,8 @@ links-returns-in_err-value-clause-did g t c =
     let same = scope_still (state c.args.store.now) (state c.loop-link.store) number i.grows c.args.context.now c.requires.context in
     let d = c.in_err-value.ensures.did in
     rw (p.1, p.2) (i.completes (state c.one_link.new.store) (Err c.in_err-value.field-0.0)
-    (links_halt number (state c.loop-link.store) (state c.one_link.new.store) c.loop-link.value c.args.rest.now c.loop-link.link-index c.link-item.result (scope_of (state c.args.store.now) number c.args.context.now)
+    (links_halt number (state c.loop-link.store) (state c.one_link.new.store) c.loop-link.value c.args.rest.now c.loop-link.link-index
+    c.link-item.result (scope_of (state c.args.store.now) number c.args.context.now)
     c.loop-link-test.true c.link-item.is c.in_err-value.field-0.0 (rw same at d)))
 
 pub links-loop-link-preserved : goal.links-loop-link-preserved
@@ -92,7 +131,8 @@ links-loop-link-preserved g t c =
       context = c.in_ok-value.ensures.context;
       fine = c.in_ok-value.ensures.fine;
       completes = λ e r f. i.completes e r
-          (links_turn number (state c.loop-link.store) (state c.one_link.new.store) e c.loop-link.value c.in_ok-value.value c.args.rest.now c.loop-link.link-index c.link-item.result (scope_of (state c.args.store.now) number c.args.context.now)
+          (links_turn number (state c.loop-link.store) (state c.one_link.new.store) e c.loop-link.value c.in_ok-value.value c.args.rest.now
+          c.loop-link.link-index c.link-item.result (scope_of (state c.args.store.now) number c.args.context.now)
           c.loop-link-test.true c.link-item.is (rw same at d) r f);
     }
 
@@ -114,14 +154,17 @@ pub one_link-returns-then-is_decided-clause-did : goal.one_link-returns-then-is_
 one_link-returns-then-is_decided-clause-did g t c =
     let state = g.S.Strings.state in
     let d = c.is_decided.ensures in
-    link_decided g.S.Strings.number (state c.args.store.now) (state c.is_decided.new.store) c.args.left (link_tree c.args.link.now) d.uses.step d.uses.history c.requires.left (scope_of (state c.args.store.now) g.S.Strings.number c.args.context.now) (sym d.value ∙ c.if-is_decided.true)
+    link_decided g.S.Strings.number (state c.args.store.now) (state c.is_decided.new.store) c.args.left (link_tree c.args.link.now)
+    d.uses.step d.uses.history c.requires.left (scope_of (state c.args.store.now) g.S.Strings.number c.args.context.now) (sym d.value ∙ c.if-is_decided.true)
 
 pub one_link-returns-in_err-right-clause-did : goal.one_link-returns-in_err-right-clause-did
 one_link-returns-in_err-right-clause-did g t c =
     let p = err_from_is_err_and c.from_residual.result c.from_residual.ensures.1 in
     let state = g.S.Strings.state in
     let d = c.is_decided.ensures in
-    rw (p.1, p.2) (link_stops g.S.Strings.number (state c.args.store.now) (state c.is_decided.new.store) c.args.left (link_tree c.args.link.now) d.uses.step d.uses.history c.requires.left (state c.expr.new.store) c.in_err-right.field-0.0 c.args.context.now c.requires.context (sym d.value ∙ c.if-is_decided.false) c.in_err-right.ensures.did)
+    rw (p.1, p.2) (link_stops g.S.Strings.number (state c.args.store.now) (state c.is_decided.new.store) c.args.left
+    (link_tree c.args.link.now) d.uses.step d.uses.history c.requires.left (state c.expr.new.store) c.in_err-right.field-0.0
+    c.args.context.now c.requires.context (sym d.value ∙ c.if-is_decided.false) c.in_err-right.ensures.did)
 
 pub one_link-returns-clause-context : goal.one_link-returns-clause-context
 one_link-returns-clause-context g t c =
@@ -145,7 +188,8 @@ steps-returns-in_err-next-clause-did g t c =
     let of = c.latest-of.ensures.is in
     let d = c.in_err-next.ensures.did in
     rw (p.1, p.2) (i.completes (state c.one_step.new.store) (Err c.in_err-next.field-0.0)
-    (steps_halt number (state c.loop-step.store) (state c.one_step.new.store) (unwrap_or c.loop-step.value c.args.first.now) c.args.rest.now c.loop-step.step-index c.step-item.result (scope_of (state c.args.store.now) number c.args.context.now)
+    (steps_halt number (state c.loop-step.store) (state c.one_step.new.store) (unwrap_or c.loop-step.value c.args.first.now) c.args.rest.now
+    c.loop-step.step-index c.step-item.result (scope_of (state c.args.store.now) number c.args.context.now)
     c.loop-step-test.true c.step-item.is c.in_err-next.field-0.0 (rw (same, of) at d)))
 
 pub steps-loop-step-preserved : goal.steps-loop-step-preserved
@@ -161,7 +205,8 @@ steps-loop-step-preserved g t c =
       context = c.in_ok-next.ensures.context;
       fine = c.in_ok-next.ensures.fine;
       completes = λ e r f. i.completes e r
-          (steps_turn number (state c.loop-step.store) (state c.one_step.new.store) e (unwrap_or c.loop-step.value c.args.first.now) c.in_ok-next.next c.args.rest.now c.loop-step.step-index c.step-item.result (scope_of (state c.args.store.now) number c.args.context.now)
+          (steps_turn number (state c.loop-step.store) (state c.one_step.new.store) e (unwrap_or c.loop-step.value c.args.first.now)
+          c.in_ok-next.next c.args.rest.now c.loop-step.step-index c.step-item.result (scope_of (state c.args.store.now) number c.args.context.now)
           c.loop-step-test.true c.step-item.is (rw (same, of) at d) r f);
     }
 
@@ -207,8 +252,12 @@ exprs-loop-e-preserved g t c =
     record {
       grows = grows_trans i.grows e.grows;
       context = e.context;
-      fine = rw p (fine_turn (λ s v. seen s number v) (λ s v. IsFine s number v) b d (λ x. expr_out (expr_tree x) meant) c.loop-e.values.items c.args.list.now c.loop-e.e-index c.e-item.result c.loop-e-test.true c.e-item.is c.in_ok-value.value (λ v k. fine_still b d number e.grows v k) i.fine e.fine);
-      completes = λ z r f. i.completes z r (each_turn (λ s v. seen s number v) (λ s v. IsFine s number v) b d (λ x. expr_out (expr_tree x) meant) c.loop-e.values.items c.args.list.now c.loop-e.e-index c.e-item.result c.loop-e-test.true c.e-item.is z c.in_ok-value.value r (λ v k. seen_still b d number e.grows v k) i.fine (rw same at did) (rw p at f));
+      fine = rw p (fine_turn (λ s v. seen s number v) (λ s v. IsFine s number v) b d (λ x. expr_out (expr_tree x) meant)
+          c.loop-e.values.items c.args.list.now c.loop-e.e-index c.e-item.result c.loop-e-test.true c.e-item.is c.in_ok-value.value
+          (λ v k. fine_still b d number e.grows v k) i.fine e.fine);
+      completes = λ z r f. i.completes z r (each_turn (λ s v. seen s number v) (λ s v. IsFine s number v) b d
+          (λ x. expr_out (expr_tree x) meant) c.loop-e.values.items c.args.list.now c.loop-e.e-index c.e-item.result c.loop-e-test.true
+          c.e-item.is z c.in_ok-value.value r (λ v k. seen_still b d number e.grows v k) i.fine (rw same at did) (rw p at f));
     }
 
 pub exprs-returns-in_err-value-clause-did : goal.exprs-returns-in_err-value-clause-did
@@ -221,7 +270,9 @@ exprs-returns-in_err-value-clause-did g t c =
     let did = c.in_err-value.ensures.did in
     let same = scope_still a (state c.loop-e.store) number i.grows c.args.context.now c.requires in
     rw (p.1, p.2) (i.completes (state c.expr.new.store) (Err c.in_err-value.field-0.0)
-    (each_halt (λ s v. seen s number v) (λ s v. IsFine s number v) (state c.loop-e.store) (state c.expr.new.store) (λ x. expr_out (expr_tree x) (scope_of a number c.args.context.now)) c.loop-e.values.items c.args.list.now c.loop-e.e-index c.e-item.result c.loop-e-test.true c.e-item.is c.in_err-value.field-0.0 (rw same at did)))
+    (each_halt (λ s v. seen s number v) (λ s v. IsFine s number v) (state c.loop-e.store) (state c.expr.new.store)
+    (λ x. expr_out (expr_tree x) (scope_of a number c.args.context.now)) c.loop-e.values.items c.args.list.now c.loop-e.e-index
+    c.e-item.result c.loop-e-test.true c.e-item.is c.in_err-value.field-0.0 (rw same at did)))
 
 pub exprs-returns-in_err-push-clause-did : goal.exprs-returns-in_err-push-clause-did
 exprs-returns-in_err-push-clause-did g t c =
@@ -233,7 +284,9 @@ exprs-returns-in_err-push-clause-did g t c =
     let did = c.in_ok-value.ensures.did in
     let same = scope_still a (state c.loop-e.store) number i.grows c.args.context.now c.requires in
     rw (p.1, p.2, c.in_err-push.ensures.fault) (i.completes (state c.expr.new.store) (Err (Store Memory))
-    (each_full (λ s v. seen s number v) (λ s v. IsFine s number v) (state c.loop-e.store) (state c.expr.new.store) (λ x. expr_out (expr_tree x) (scope_of a number c.args.context.now)) c.loop-e.values.items c.args.list.now c.loop-e.e-index c.e-item.result c.loop-e-test.true c.e-item.is c.in_ok-value.value (rw same at did)))
+    (each_full (λ s v. seen s number v) (λ s v. IsFine s number v) (state c.loop-e.store) (state c.expr.new.store)
+    (λ x. expr_out (expr_tree x) (scope_of a number c.args.context.now)) c.loop-e.values.items c.args.list.now c.loop-e.e-index
+    c.e-item.result c.loop-e-test.true c.e-item.is c.in_ok-value.value (rw same at did)))
 
 pub exprs-returns-clause-did : goal.exprs-returns-clause-did
 exprs-returns-clause-did g t c =
@@ -247,7 +300,8 @@ one_step-returns-in_err-present-in-Call-clause-did g t c =
     let number = g.S.Strings.number in
     let p = err_from_is_err_and c.from_residual.result c.from_residual.ensures.1 in
     rw (p.1, p.2, c.in-Call.is, tree_of_call c.in-Call.at c.in-Call.method c.in-Call.args)
-    (call_absent number a c.args.value.now c.in_err-present-in-Call.field-0.0 c.in-Call.at c.in-Call.method (exprs_tree c.in-Call.args.items) (scope_of a number c.args.context.now) c.in_err-present-in-Call.ensures)
+    (call_absent number a c.args.value.now c.in_err-present-in-Call.field-0.0 c.in-Call.at c.in-Call.method
+    (exprs_tree c.in-Call.args.items) (scope_of a number c.args.context.now) c.in_err-present-in-Call.ensures)
 
 pub one_step-returns-in_err-values-in-Call-clause-did : goal.one_step-returns-in_err-values-in-Call-clause-did
 one_step-returns-in_err-values-in-Call-clause-did g t c =
@@ -256,7 +310,8 @@ one_step-returns-in_err-values-in-Call-clause-did g t c =
     let e = c.deref.ensures.value in
     let d = c.in_err-values-in-Call.ensures.did in
     rw (p.1, p.2, c.in-Call.is, tree_of_call c.in-Call.at c.in-Call.method c.in-Call.args)
-    (call_stops g.S.Strings.number (state c.args.store.now) (state c.exprs.new.store) c.args.value.now c.in_err-values-in-Call.field-0.0 c.in-Call.at c.in-Call.method (exprs_tree c.in-Call.args.items) c.args.context.now c.in_ok-present-in-Call.ensures (rw e at d))
+    (call_stops g.S.Strings.number (state c.args.store.now) (state c.exprs.new.store) c.args.value.now c.in_err-values-in-Call.field-0.0
+    c.in-Call.at c.in-Call.method (exprs_tree c.in-Call.args.items) c.args.context.now c.in_ok-present-in-Call.ensures (rw e at d))
 
 pub one_step-returns-in_ok-values-in-Call-clause-context : goal.one_step-returns-in_ok-values-in-Call-clause-context
 one_step-returns-in_ok-values-in-Call-clause-context g t c =
@@ -270,24 +325,30 @@ one_step-returns-in_ok-values-in-Call-clause-did g t c =
     let d = c.in_ok-values-in-Call.ensures.did in
     let k = c.call.ensures.did in
     rw (c.in-Call.is, tree_of_call c.in-Call.at c.in-Call.method c.in-Call.args)
-    (call_does g.S.Strings.number (state c.args.store.now) (state c.exprs.new.store) (state c.call.new.store) c.args.value.now c.in_ok-values-in-Call.values c.call.result c.in-Call.at c.in-Call.method (exprs_tree c.in-Call.args.items) c.args.context.now c.in_ok-values-in-Call.ensures.grows c.requires.value c.in_ok-present-in-Call.ensures (rw e at d) (rw f at k))
+    (call_does g.S.Strings.number (state c.args.store.now) (state c.exprs.new.store) (state c.call.new.store) c.args.value.now
+    c.in_ok-values-in-Call.values c.call.result c.in-Call.at c.in-Call.method (exprs_tree c.in-Call.args.items) c.args.context.now
+    c.in_ok-values-in-Call.ensures.grows c.requires.value c.in_ok-present-in-Call.ensures (rw e at d) (rw f at k))
 
 pub one_step-returns-in_err-index-in-None-clause-did : goal.one_step-returns-in_err-index-in-None-clause-did
 one_step-returns-in_err-index-in-None-clause-did g t c =
     let state = g.S.Strings.state in
     let p = err_from_is_err_and c.from_residual-in_err-index-in-None.result c.from_residual-in_err-index-in-None.ensures.1 in
     rw (p.1, p.2, c.in-Index.is, tree_of_index c.in-Index.at c.in-Index.index)
-    (index_stops g.S.Strings.number (state c.args.store.now) (state c.expr.new.store) c.args.value.now c.in_err-index-in-None.field-0.0 c.in-Index.at (expr_tree c.in-Index.index) (scope_of (state c.args.store.now) g.S.Strings.number c.args.context.now) c.in_err-index-in-None.ensures.did)
+    (index_stops g.S.Strings.number (state c.args.store.now) (state c.expr.new.store) c.args.value.now c.in_err-index-in-None.field-0.0
+    c.in-Index.at (expr_tree c.in-Index.index) (scope_of (state c.args.store.now) g.S.Strings.number c.args.context.now) c.in_err-index-in-None.ensures.did)
 
 pub one_step-returns-in_ok-index-in-None-clause-context : goal.one_step-returns-in_ok-index-in-None-clause-context
 one_step-returns-in_ok-index-in-None-clause-context g t c =
-    context_fine_still (g.S.Strings.state c.expr.new.store) (g.S.Strings.state c.read_index-in-None.new.store) g.S.Strings.number c.read_index-in-None.ensures.grows c.args.context.now c.in_ok-index-in-None.ensures.context
+    context_fine_still (g.S.Strings.state c.expr.new.store) (g.S.Strings.state c.read_index-in-None.new.store) g.S.Strings.number
+    c.read_index-in-None.ensures.grows c.args.context.now c.in_ok-index-in-None.ensures.context
 
 pub one_step-returns-in_ok-index-in-None-clause-did : goal.one_step-returns-in_ok-index-in-None-clause-did
 one_step-returns-in_ok-index-in-None-clause-did g t c =
     let state = g.S.Strings.state in
     rw (c.in-Index.is, tree_of_index c.in-Index.at c.in-Index.index)
-    (index_does g.S.Strings.number (state c.args.store.now) (state c.expr.new.store) (state c.read_index-in-None.new.store) c.args.value.now c.in_ok-index-in-None.index c.read_index-in-None.result c.in-Index.at (expr_tree c.in-Index.index) c.args.context.now c.in_ok-index-in-None.ensures.grows c.requires.value c.in_ok-index-in-None.ensures.did c.read_index-in-None.ensures.did)
+    (index_does g.S.Strings.number (state c.args.store.now) (state c.expr.new.store) (state c.read_index-in-None.new.store) c.args.value.now
+    c.in_ok-index-in-None.index c.read_index-in-None.result c.in-Index.at (expr_tree c.in-Index.index) c.args.context.now
+    c.in_ok-index-in-None.ensures.grows c.requires.value c.in_ok-index-in-None.ensures.did c.read_index-in-None.ensures.did)
 
 pub one_step-returns-in-Some-clause-context : goal.one_step-returns-in-Some-clause-context
 one_step-returns-in-Some-clause-context g t c =
@@ -298,7 +359,8 @@ one_step-returns-in-Some-clause-did g t c =
     let state = g.S.Strings.state in
     let a = state c.args.store.now in
     rw (c.in-Index.is, tree_of_index c.in-Index.at c.in-Index.index)
-    (index_does g.S.Strings.number a a (state c.read_index.new.store) c.args.value.now c.in-Some.index.now c.read_index.result c.in-Index.at (expr_tree c.in-Index.index) c.args.context.now (grows_refl a) c.requires.value c.in-Some.ensures.did c.read_index.ensures.did)
+    (index_does g.S.Strings.number a a (state c.read_index.new.store) c.args.value.now c.in-Some.index.now c.read_index.result c.in-Index.at
+    (expr_tree c.in-Index.index) c.args.context.now (grows_refl a) c.requires.value c.in-Some.ensures.did c.read_index.ensures.did)
 
 pub exprs-returns-in_err-value-clause-grows : goal.exprs-returns-in_err-value-clause-grows
 exprs-returns-in_err-value-clause-grows g t c = grows_trans c.loop-e.invariant.grows c.in_err-value.ensures.grows
@@ -312,21 +374,29 @@ conditional-returns-in_err-value-clause-did g t c =
     let p = err_from_is_err_and c.from_residual.result c.from_residual.ensures.1 in
     let i = c.in_err-value.ensures.did in
     rw (p.1, p.2)
-    (condition_stops g.S.Strings.number (state c.args.store.now) (state c.expr.new.store) c.in_err-value.field-0.0 (expr_tree c.args.test.now) (expr_tree c.args.yes.now) (expr_tree c.args.no.now) (scope_of (state c.args.store.now) g.S.Strings.number c.args.context.now) i)
+    (condition_stops g.S.Strings.number (state c.args.store.now) (state c.expr.new.store) c.in_err-value.field-0.0
+    (expr_tree c.args.test.now) (expr_tree c.args.yes.now) (expr_tree c.args.no.now)
+    (scope_of (state c.args.store.now) g.S.Strings.number c.args.context.now) i)
 
 pub conditional-returns-then-is_true-clause-did : goal.conditional-returns-then-is_true-clause-did
 conditional-returns-then-is_true-clause-did g t c =
     let state = g.S.Strings.state in
     let i = c.in_ok-value.ensures.did in
     let k = c.expr-then-is_true.ensures.did in
-    (condition_holds g.S.Strings.number (state c.args.store.now) (state c.expr.new.store) (state c.is_true.new.store) (state c.expr-then-is_true.new.store) c.in_ok-value.value c.expr-then-is_true.result (expr_tree c.args.test.now) (expr_tree c.args.yes.now) (expr_tree c.args.no.now) c.args.context.now c.in_ok-value.ensures.grows c.is_true.ensures.uses.step c.is_true.ensures.uses.history c.requires i (sym c.is_true.ensures.value ∙ c.if-is_true.true) k)
+    (condition_holds g.S.Strings.number (state c.args.store.now) (state c.expr.new.store) (state c.is_true.new.store)
+    (state c.expr-then-is_true.new.store) c.in_ok-value.value c.expr-then-is_true.result (expr_tree c.args.test.now)
+    (expr_tree c.args.yes.now) (expr_tree c.args.no.now) c.args.context.now c.in_ok-value.ensures.grows c.is_true.ensures.uses.step
+    c.is_true.ensures.uses.history c.requires i (sym c.is_true.ensures.value ∙ c.if-is_true.true) k)
 
 pub conditional-returns-clause-did : goal.conditional-returns-clause-did
 conditional-returns-clause-did g t c =
     let state = g.S.Strings.state in
     let i = c.in_ok-value.ensures.did in
     let k = c.expr-else-is_true.ensures.did in
-    (condition_fails g.S.Strings.number (state c.args.store.now) (state c.expr.new.store) (state c.is_true.new.store) (state c.expr-else-is_true.new.store) c.in_ok-value.value c.expr-else-is_true.result (expr_tree c.args.test.now) (expr_tree c.args.yes.now) (expr_tree c.args.no.now) c.args.context.now c.in_ok-value.ensures.grows c.is_true.ensures.uses.step c.is_true.ensures.uses.history c.requires i (sym c.is_true.ensures.value ∙ c.if-is_true.false) k)
+    (condition_fails g.S.Strings.number (state c.args.store.now) (state c.expr.new.store) (state c.is_true.new.store)
+    (state c.expr-else-is_true.new.store) c.in_ok-value.value c.expr-else-is_true.result (expr_tree c.args.test.now)
+    (expr_tree c.args.yes.now) (expr_tree c.args.no.now) c.args.context.now c.in_ok-value.ensures.grows c.is_true.ensures.uses.step
+    c.is_true.ensures.uses.history c.requires i (sym c.is_true.ensures.value ∙ c.if-is_true.false) k)
 
 pub steps_of_name-returns-in-None-clause-did : goal.steps_of_name-returns-in-None-clause-did
 steps_of_name-returns-in-None-clause-did g t c =
@@ -338,7 +408,8 @@ pub steps_of_name-returns-in-Some-clause-did : goal.steps_of_name-returns-in-Som
 steps_of_name-returns-in-Some-clause-did g t c =
     let state = g.S.Strings.state in
     let s = scope_of (state c.args.store.now) g.S.Strings.number c.args.context.now in
-    name_does g.S.Strings.number (state c.args.store.now) (meant s.bindings c.args.name.now) (state c.steps.new.store) c.in-Some.value.now c.steps.result (λ v. steps_out (steps_tree c.args.rest.now) s v) c.in-Some.ensures.meant c.in-Some.ensures.fine c.steps.ensures.did
+    name_does g.S.Strings.number (state c.args.store.now) (meant s.bindings c.args.name.now) (state c.steps.new.store) c.in-Some.value.now
+    c.steps.result (λ v. steps_out (steps_tree c.args.rest.now) s v) c.in-Some.ensures.meant c.in-Some.ensures.fine c.steps.ensures.did
 
 pub expr-returns-in-Literal-clause-did : goal.expr-returns-in-Literal-clause-did
 expr-returns-in-Literal-clause-did g t c =
@@ -363,14 +434,16 @@ post-returns-in_err-value-in-None-clause-did g t c =
     let p = err_from_is_err_and c.from_residual.result c.from_residual.ensures.1 in
     let i = c.in_err-value-in-None.ensures.did in
     rw (p.1, p.2)
-    (post_stops g.S.Strings.number (state c.args.store.now) (state c.expr.new.store) c.in_err-value-in-None.field-0.0 (expr_tree c.args.of.now) (steps_tree c.args.rest.now) (scope_of (state c.args.store.now) g.S.Strings.number c.args.context.now) i)
+    (post_stops g.S.Strings.number (state c.args.store.now) (state c.expr.new.store) c.in_err-value-in-None.field-0.0
+    (expr_tree c.args.of.now) (steps_tree c.args.rest.now) (scope_of (state c.args.store.now) g.S.Strings.number c.args.context.now) i)
 
 pub post-returns-in_ok-value-in-None-clause-did : goal.post-returns-in_ok-value-in-None-clause-did
 post-returns-in_ok-value-in-None-clause-did g t c =
     let state = g.S.Strings.state in
     let i = c.in_ok-value-in-None.ensures.did in
     let k = c.steps.ensures.did in
-    (post_does g.S.Strings.number (state c.args.store.now) (state c.expr.new.store) (state c.steps.new.store) c.in_ok-value-in-None.value c.steps.result (expr_tree c.args.of.now) (steps_tree c.args.rest.now) c.args.context.now c.in_ok-value-in-None.ensures.grows c.requires i k)
+    (post_does g.S.Strings.number (state c.args.store.now) (state c.expr.new.store) (state c.steps.new.store) c.in_ok-value-in-None.value
+    c.steps.result (expr_tree c.args.of.now) (steps_tree c.args.rest.now) c.args.context.now c.in_ok-value-in-None.ensures.grows c.requires i k)
 
 pub steps-returns-in_err-copy-in-None-clause-did : goal.steps-returns-in_err-copy-in-None-clause-did
 steps-returns-in_err-copy-in-None-clause-did g t c =
@@ -423,12 +496,15 @@ object_literal-returns-in_err-object-clause-did g t c =
     let state = g.S.Strings.state in
     let p = err_from_is_err_and c.from_residual.result c.from_residual.ensures.1 in
     rw (p.1, p.2)
-    (literal_stops g.S.Strings.number (state c.args.store.now) (state c.members_of.new.store) c.args.at (entries_tree c.args.members.now) (scope_of (state c.args.store.now) g.S.Strings.number c.args.context.now) c.in_err-object.field-0.0 c.in_err-object.ensures.did)
+    (literal_stops g.S.Strings.number (state c.args.store.now) (state c.members_of.new.store) c.args.at (entries_tree c.args.members.now)
+    (scope_of (state c.args.store.now) g.S.Strings.number c.args.context.now) c.in_err-object.field-0.0 c.in_err-object.ensures.did)
 
 pub object_literal-returns-clause-did : goal.object_literal-returns-clause-did
 object_literal-returns-clause-did g t c =
     let state = g.S.Strings.state in
-    literal_does g.S.Strings.number (state c.args.store.now) (state c.members_of.new.store) c.args.at (entries_tree c.args.members.now) (scope_of (state c.args.store.now) g.S.Strings.number c.args.context.now) (state c.members_of.new.store) c.in_ok-object.object c.bounded.result c.in_ok-object.ensures.did c.bounded.ensures.did
+    literal_does g.S.Strings.number (state c.args.store.now) (state c.members_of.new.store) c.args.at (entries_tree c.args.members.now)
+    (scope_of (state c.args.store.now) g.S.Strings.number c.args.context.now) (state c.members_of.new.store) c.in_ok-object.object
+    c.bounded.result c.in_ok-object.ensures.did c.bounded.ensures.did
 
 pub members_of-loop-member-init : goal.members_of-loop-member-init
 members_of-loop-member-init g t c =
@@ -454,7 +530,8 @@ members_of-returns-in_err-object-clause-did g t c =
     let same = scope_still a b number i.grows c.args.context.now c.requires in
     let d = c.in_err-object.ensures.did in
     rw (p.1, p.2) (i.completes (state c.with_member.new.store) (Err c.in_err-object.field-0.0)
-    (entries_halt number b (state c.with_member.new.store) (scope_of a number c.args.context.now) c.loop-member.object c.args.members.now c.loop-member.member-index c.member-item.result c.loop-member-test.true c.member-item.is c.in_err-object.field-0.0 (rw same at d)))
+    (entries_halt number b (state c.with_member.new.store) (scope_of a number c.args.context.now) c.loop-member.object c.args.members.now
+    c.loop-member.member-index c.member-item.result c.loop-member-test.true c.member-item.is c.in_err-object.field-0.0 (rw same at d)))
 
 pub members_of-loop-member-preserved : goal.members_of-loop-member-preserved
 members_of-loop-member-preserved g t c =
@@ -470,7 +547,9 @@ members_of-loop-member-preserved g t c =
       context = c.in_ok-object.ensures.context;
       fine = c.in_ok-object.ensures.fine;
       completes = λ e r f. i.completes e r
-          (entries_turn number b (state c.with_member.new.store) (scope_of a number c.args.context.now) c.loop-member.object c.args.members.now c.loop-member.member-index c.member-item.result c.loop-member-test.true c.member-item.is e c.in_ok-object.object r (rw same at d) f);
+          (entries_turn number b (state c.with_member.new.store) (scope_of a number c.args.context.now) c.loop-member.object
+          c.args.members.now c.loop-member.member-index c.member-item.result c.loop-member-test.true c.member-item.is e
+          c.in_ok-object.object r (rw same at d) f);
     }
 
 pub members_of-returns-clause-did : goal.members_of-returns-clause-did
@@ -484,14 +563,17 @@ with_member-returns-in_err-key-clause-did g t c =
     let state = g.S.Strings.state in
     let p = err_from_is_err_and c.from_residual.result c.from_residual.ensures.1 in
     let d = c.in_err-key.ensures.did in
-    rw (p.1, p.2) (key_stops g.S.Strings.number (state c.args.store.now) (state c.intern_key.new.store) c.args.member.now.0 (expr_tree c.args.member.now.1) c.args.context.now c.args.object c.in_err-key.field-0.0 (rw c.as_slice.ensures at d))
+    rw (p.1, p.2) (key_stops g.S.Strings.number (state c.args.store.now) (state c.intern_key.new.store) c.args.member.now.0
+    (expr_tree c.args.member.now.1) c.args.context.now c.args.object c.in_err-key.field-0.0 (rw c.as_slice.ensures at d))
 
 pub with_member-returns-in_err-value-clause-did : goal.with_member-returns-in_err-value-clause-did
 with_member-returns-in_err-value-clause-did g t c =
     let state = g.S.Strings.state in
     let p = err_from_is_err_and c.from_residual-in_err-value.result c.from_residual-in_err-value.ensures.1 in
     let d = c.in_ok-key.ensures.did in
-    rw (p.1, p.2) (value_stops g.S.Strings.number (state c.args.store.now) (state c.intern_key.new.store) c.args.member.now.0 (expr_tree c.args.member.now.1) c.args.context.now c.args.object c.in_ok-key.key c.in_ok-key.ensures.grows c.requires.context (rw c.as_slice.ensures at d) (state c.expr.new.store) c.in_err-value.field-0.0 c.in_err-value.ensures.did)
+    rw (p.1, p.2) (value_stops g.S.Strings.number (state c.args.store.now) (state c.intern_key.new.store) c.args.member.now.0
+    (expr_tree c.args.member.now.1) c.args.context.now c.args.object c.in_ok-key.key c.in_ok-key.ensures.grows c.requires.context
+    (rw c.as_slice.ensures at d) (state c.expr.new.store) c.in_err-value.field-0.0 c.in_err-value.ensures.did)
 
 pub with_member-put-requires-clause-object : goal.with_member-put-requires-clause-object
 with_member-put-requires-clause-object g t c =
@@ -514,7 +596,10 @@ pub with_member-returns-clause-did : goal.with_member-returns-clause-did
 with_member-returns-clause-did g t c =
     let state = g.S.Strings.state in
     let d = c.in_ok-key.ensures.did in
-    entry_does g.S.Strings.number (state c.args.store.now) (state c.intern_key.new.store) c.args.member.now.0 (expr_tree c.args.member.now.1) c.args.context.now c.args.object c.in_ok-key.key c.in_ok-key.ensures.grows c.requires.context (rw c.as_slice.ensures at d) (state c.expr.new.store) (state c.put.new.store) c.in_ok-value.value c.put.result c.in_ok-value.ensures.grows c.requires.object c.in_ok-key.ensures.fine c.in_ok-value.ensures.did c.put.ensures.did
+    entry_does g.S.Strings.number (state c.args.store.now) (state c.intern_key.new.store) c.args.member.now.0
+    (expr_tree c.args.member.now.1) c.args.context.now c.args.object c.in_ok-key.key c.in_ok-key.ensures.grows c.requires.context
+    (rw c.as_slice.ensures at d) (state c.expr.new.store) (state c.put.new.store) c.in_ok-value.value c.put.result
+    c.in_ok-value.ensures.grows c.requires.object c.in_ok-key.ensures.fine c.in_ok-value.ensures.did c.put.ensures.did
 
 pub one_step-returns-in-Property-clause-context : goal.one_step-returns-in-Property-clause-context
 one_step-returns-in-Property-clause-context g t c =

@@ -38,7 +38,8 @@ invariant-steps-loop-step g l =
       context : ContextFine (state l.store) number l.context;
       fine : IsFine (state l.store) number (unwrap_or l.value l.first);
       completes : (c : State g.S.Strings.Frame) (r : Result (Item g.row.S-Ref.Denot) Stop) →
-          GivesValue number (state l.store) c r (steps_out (steps_tree (drop l.step-index l.rest)) (scope_of (state l.fn.store) number l.context) (seen (state l.store) number (unwrap_or l.value l.first))) →
+          GivesValue number (state l.store) c r (steps_out (steps_tree (drop l.step-index l.rest))
+          (scope_of (state l.fn.store) number l.context) (seen (state l.store) number (unwrap_or l.value l.first))) →
           GivesValue number (state l.fn.store) c r (steps_out (steps_tree l.rest) (scope_of (state l.fn.store) number l.context) (seen (state l.fn.store) number l.first));
     }
 
@@ -65,7 +66,8 @@ invariant-members_of-loop-member g l =
       context : ContextFine (state l.store) number l.context;
       fine : FineFields (strings_of (state l.store)) number l.object;
       completes : (c : State g.S.Strings.Frame) (r : Result (Fields g.row.S-Ref.Denot) Stop) →
-          Makes number (state l.store) c r (entries_paid (entries_tree (drop l.member-index l.members)) (scope_of (state l.fn.store) number l.context) (fields_mapped (says (state l.store) number) l.object)) →
+          Makes number (state l.store) c r (entries_paid (entries_tree (drop l.member-index l.members))
+          (scope_of (state l.fn.store) number l.context) (fields_mapped (says (state l.store) number) l.object)) →
           Makes number (state l.fn.store) c r (entries_paid (entries_tree l.members) (scope_of (state l.fn.store) number l.context) no_fields);
     }
 

@@ -36,8 +36,12 @@ loop-units-preserved g c =
     let did = e.did in
     record {
       grows = grows_trans i.grows e.grows;
-      known = rw p (fine_turn (λ s r. text s (number r)) (λ s r. IsKnown s (number r)) b d (literal_out limit) c.loop-units.interned.items c.args.literals.now c.loop-units.units-index c.units-item.result c.loop-units-test.true c.units-item.is c.in_ok-string.string (λ r k. known_still e.grows (number r) k) i.known e.known);
-      completes = λ z r f. i.completes z r (each_turn (λ s r. text s (number r)) (λ s r. IsKnown s (number r)) b d (literal_out limit) c.loop-units.interned.items c.args.literals.now c.loop-units.units-index c.units-item.result c.loop-units-test.true c.units-item.is z c.in_ok-string.string r (λ q k. text_still e.grows (number q) k) i.known (rw (c.as_slice.ensures, i.grows.limit) at did) (rw p at f));
+      known = rw p (fine_turn (λ s r. text s (number r)) (λ s r. IsKnown s (number r)) b d (literal_out limit) c.loop-units.interned.items
+          c.args.literals.now c.loop-units.units-index c.units-item.result c.loop-units-test.true c.units-item.is c.in_ok-string.string
+          (λ r k. known_still e.grows (number r) k) i.known e.known);
+      completes = λ z r f. i.completes z r (each_turn (λ s r. text s (number r)) (λ s r. IsKnown s (number r)) b d (literal_out limit)
+          c.loop-units.interned.items c.args.literals.now c.loop-units.units-index c.units-item.result c.loop-units-test.true c.units-item.is
+          z c.in_ok-string.string r (λ q k. text_still e.grows (number q) k) i.known (rw (c.as_slice.ensures, i.grows.limit) at did) (rw p at f));
     }
 
 pub returns-in_err-string-clause-did : goal.returns-in_err-string-clause-did
@@ -48,7 +52,9 @@ returns-in_err-string-clause-did g c =
     let p = err_from_is_err_and c.from_residual.result c.from_residual.ensures.1 in
     let did = c.in_err-string.ensures.did in
     rw (p.1, p.2) (i.completes (state c.intern_literal.new.store) (Err c.in_err-string.field-0.0)
-    (each_halt (λ s r. text s (number r)) (λ s r. IsKnown s (number r)) (state c.loop-units.store) (state c.intern_literal.new.store) (literal_out (state c.args.store.now).limit) c.loop-units.interned.items c.args.literals.now c.loop-units.units-index c.units-item.result c.loop-units-test.true c.units-item.is c.in_err-string.field-0.0 (rw (c.as_slice.ensures, i.grows.limit) at did)))
+    (each_halt (λ s r. text s (number r)) (λ s r. IsKnown s (number r)) (state c.loop-units.store) (state c.intern_literal.new.store)
+    (literal_out (state c.args.store.now).limit) c.loop-units.interned.items c.args.literals.now c.loop-units.units-index
+    c.units-item.result c.loop-units-test.true c.units-item.is c.in_err-string.field-0.0 (rw (c.as_slice.ensures, i.grows.limit) at did)))
 
 pub returns-in_err-push-clause-did : goal.returns-in_err-push-clause-did
 returns-in_err-push-clause-did g c =
@@ -58,7 +64,9 @@ returns-in_err-push-clause-did g c =
     let p = err_from_is_err_and c.from_residual-in_err-push.result c.from_residual-in_err-push.ensures.1 in
     let did = c.in_ok-string.ensures.did in
     rw (p.1, p.2, c.in_err-push.ensures.fault) (i.completes (state c.intern_literal.new.store) (Err (Store Memory))
-    (each_full (λ s r. text s (number r)) (λ s r. IsKnown s (number r)) (state c.loop-units.store) (state c.intern_literal.new.store) (literal_out (state c.args.store.now).limit) c.loop-units.interned.items c.args.literals.now c.loop-units.units-index c.units-item.result c.loop-units-test.true c.units-item.is c.in_ok-string.string (rw (c.as_slice.ensures, i.grows.limit) at did)))
+    (each_full (λ s r. text s (number r)) (λ s r. IsKnown s (number r)) (state c.loop-units.store) (state c.intern_literal.new.store)
+    (literal_out (state c.args.store.now).limit) c.loop-units.interned.items c.args.literals.now c.loop-units.units-index
+    c.units-item.result c.loop-units-test.true c.units-item.is c.in_ok-string.string (rw (c.as_slice.ensures, i.grows.limit) at did)))
 
 pub returns-clause-did : goal.returns-clause-did
 returns-clause-did g c =

@@ -13,10 +13,12 @@ pub returns-clause-fine : goal.returns-clause-fine
 returns-clause-fine g c =
     let state = g.S.Strings.state in
     let e = c.in_ok-insert.ensures in
-    (put_does g.S.Strings.number (state c.args.store.now) (state c.insert.new.store) c.args.object c.args.key c.args.value e.uses.step e.uses.history c.insert.new.self c.requires.object c.requires.key c.requires.value e.added).good
+    (put_does g.S.Strings.number (state c.args.store.now) (state c.insert.new.store) c.args.object c.args.key c.args.value e.uses.step
+    e.uses.history c.insert.new.self c.requires.object c.requires.key c.requires.value e.added).good
 
 pub returns-clause-did : goal.returns-clause-did
 returns-clause-did g c =
     let state = g.S.Strings.state in
     let e = c.in_ok-insert.ensures in
-    put_does g.S.Strings.number (state c.args.store.now) (state c.insert.new.store) c.args.object c.args.key c.args.value e.uses.step e.uses.history c.insert.new.self c.requires.object c.requires.key c.requires.value e.added
+    put_does g.S.Strings.number (state c.args.store.now) (state c.insert.new.store) c.args.object c.args.key c.args.value e.uses.step
+    e.uses.history c.insert.new.self c.requires.object c.requires.key c.requires.value e.added

@@ -19,7 +19,8 @@ block-returns-in_err-enter-clause-went g t c =
     let number = g.S.Strings.number in
     let a = g.S.Strings.state c.args.store.now in
     let p = err_from_is_err_and c.from_residual.result c.from_residual.ensures.1 in
-    rw (p.1, p.2, c.in_err-enter.ensures.fault) (memory_went a number c.args.lines.now (context_bindings a number c.enter.new.context) (block_flow (block_tree c.args.b.now) (scope_of a number c.args.context.now)))
+    rw (p.1, p.2, c.in_err-enter.ensures.fault) (memory_went a number c.args.lines.now (context_bindings a number c.enter.new.context)
+    (block_flow (block_tree c.args.b.now) (scope_of a number c.args.context.now)))
 
 pub block-returns-clause-went : goal.block-returns-clause-went
 block-returns-clause-went g t c =
@@ -31,7 +32,8 @@ block-returns-clause-went g t c =
     let e = c.in_ok-enter.ensures in
     let d = c.deref.ensures.value in
     let w = r.ensures.went in
-    block_went number a b c.args.lines.now r.new.lines c.args.b.now c.args.context.now c.enter.new.context r.result (context_bindings b number r.new.context) (context_bindings b number c.leave.new.context) e.literals e.entered (rw d at w) c.leave.ensures.left
+    block_went number a b c.args.lines.now r.new.lines c.args.b.now c.args.context.now c.enter.new.context r.result
+    (context_bindings b number r.new.context) (context_bindings b number c.leave.new.context) e.literals e.entered (rw d at w) c.leave.ensures.left
 
 -- a turn
 pub turn-returns-in_err-enter_turn-clause-went : goal.turn-returns-in_err-enter_turn-clause-went
@@ -39,7 +41,9 @@ turn-returns-in_err-enter_turn-clause-went g t c =
     let number = g.S.Strings.number in
     let a = g.S.Strings.state c.args.store.now in
     let p = err_from_is_err_and c.from_residual.result c.from_residual.ensures.1 in
-    rw (p.1, p.2, c.in_err-enter_turn.ensures.fault) (memory_went a number c.args.lines.now (context_bindings a number c.enter_turn.new.context) (turn_flow c.args.name.now (block_tree c.args.body.now) (scope_of a number c.args.context.now) c.args.i (context_bindings a number c.args.context.now)))
+    rw (p.1, p.2, c.in_err-enter_turn.ensures.fault) (memory_went a number c.args.lines.now
+    (context_bindings a number c.enter_turn.new.context) (turn_flow c.args.name.now (block_tree c.args.body.now)
+    (scope_of a number c.args.context.now) c.args.i (context_bindings a number c.args.context.now)))
 
 pub turn-returns-clause-went : goal.turn-returns-clause-went
 turn-returns-clause-went g t c =
@@ -49,7 +53,9 @@ turn-returns-clause-went g t c =
     let r = c.block-result in
     let b = state r.new.store in
     let e = c.in_ok-enter_turn.ensures in
-    turn_went number a b c.args.lines.now r.new.lines c.args.name.now c.args.i (block_tree c.args.body.now) c.args.context.now c.enter_turn.new.context (seen a number c.turn_number-count.result) r.result (context_bindings b number r.new.context) (context_bindings b number c.leave.new.context) e.literals c.turn_number-count.ensures.seen e.entered r.ensures.went c.leave.ensures.left
+    turn_went number a b c.args.lines.now r.new.lines c.args.name.now c.args.i (block_tree c.args.body.now) c.args.context.now
+    c.enter_turn.new.context (seen a number c.turn_number-count.result) r.result (context_bindings b number r.new.context)
+    (context_bindings b number c.leave.new.context) e.literals c.turn_number-count.ensures.seen e.entered r.ensures.went c.leave.ensures.left
 
 -- the kinds of statement
 pub statement-returns-in-Block-clause-went : goal.statement-returns-in-Block-clause-went
@@ -65,7 +71,11 @@ pub statement-returns-in-Assign-clause-went : goal.statement-returns-in-Assign-c
 statement-returns-in-Assign-clause-went g t c = rw (c.in-Assign.is, tree_of_assign c.in-Assign.at c.in-Assign.name c.in-Assign.value) (c.evaluate_assign.ensures.went c.in-Assign.at c.args.lines.now)
 
 pub statement-returns-in-Append-clause-went : goal.statement-returns-in-Append-clause-went
-statement-returns-in-Append-clause-went g t c = rw (c.in-Append.is, tree_of_append c.in-Append.at c.in-Append.name_at c.in-Append.name c.in-Append.value) (c.evaluate_append.ensures.went c.in-Append.name_at c.args.lines.now)
+statement-returns-in-Append-clause-went g t c = rw (
+  c.in-Append.is,
+  tree_of_append c.in-Append.at c.in-Append.name_at c.in-Append.name
+      c.in-Append.value,
+) (c.evaluate_append.ensures.went c.in-Append.name_at c.args.lines.now)
 
 pub statement-returns-in-Print-clause-went : goal.statement-returns-in-Print-clause-went
 statement-returns-in-Print-clause-went g t c =
@@ -92,7 +102,8 @@ statements-returns-in_err-statement-clause-went g t c =
     let n = c.statement.new in
     let bs = context_bindings (state n.store) number n.context in
     rw (p.1, p.2) (l.invariant.completes (state n.store) n.lines (Err c.in_err-statement.field-0.0) bs
-    (body_halt number (state l.store) (state n.store) l.lines n.lines c.args.body.now l.s-index c.s-item.result l.context c.loop-s-test.true c.s-item.is c.in_err-statement.field-0.0 bs c.in_err-statement.ensures.went))
+    (body_halt number (state l.store) (state n.store) l.lines n.lines c.args.body.now l.s-index c.s-item.result l.context c.loop-s-test.true
+    c.s-item.is c.in_err-statement.field-0.0 bs c.in_err-statement.ensures.went))
 
 pub statements-loop-s-preserved : goal.statements-loop-s-preserved
 statements-loop-s-preserved g t c =
@@ -107,7 +118,8 @@ statements-loop-s-preserved g t c =
       fine = e.context;
       literals = e.literals ∙ i.literals;
       completes = λ d z r bs w. i.completes d z r bs
-          (body_turn number (state l.store) (state n.store) l.lines n.lines c.args.body.now l.s-index c.s-item.result l.context c.loop-s-test.true c.s-item.is d z n.context r bs e.grows i.fine e.literals e.went w);
+          (body_turn number (state l.store) (state n.store) l.lines n.lines c.args.body.now l.s-index c.s-item.result l.context
+          c.loop-s-test.true c.s-item.is d z n.context r bs e.grows i.fine e.literals e.went w);
     }
 
 pub statements-returns-clause-went : goal.statements-returns-clause-went
@@ -134,8 +146,10 @@ turns-returns-in_err-turn-clause-went g t c =
     let first = scope_of a number c.args.context.now in
     let left : c.args.bound - l.i ≡ suc (c.args.bound - (l.i + 1)) = omega arith in
     rw (p.1, p.2) (i.completes (state n.store) n.lines (Err c.in_err-turn.field-0.0) bs
-    (turns_halt b (state n.store) l.lines n.lines (turn_flow c.args.name.now (block_tree c.args.body.now) first) l.i (c.args.bound - (l.i + 1)) (c.args.bound - l.i) c.in_err-turn.field-0.0 (context_bindings b number l.context) bs left
-    (turn_after number a b (state n.store) l.lines n.lines c.args.name.now l.i (block_tree c.args.body.now) c.args.context.now l.context (Err c.in_err-turn.field-0.0) bs i.grows c.requires i.literals c.in_err-turn.ensures.went)))
+    (turns_halt b (state n.store) l.lines n.lines (turn_flow c.args.name.now (block_tree c.args.body.now) first) l.i
+    (c.args.bound - (l.i + 1)) (c.args.bound - l.i) c.in_err-turn.field-0.0 (context_bindings b number l.context) bs left
+    (turn_after number a b (state n.store) l.lines n.lines c.args.name.now l.i (block_tree c.args.body.now) c.args.context.now l.context
+    (Err c.in_err-turn.field-0.0) bs i.grows c.requires i.literals c.in_err-turn.ensures.went)))
 
 pub turns-loop-i-preserved : goal.turns-loop-i-preserved
 turns-loop-i-preserved g t c =
@@ -155,7 +169,8 @@ turns-loop-i-preserved g t c =
       fine = e.context;
       literals = e.literals ∙ i.literals;
       completes = λ d z r cs w. i.completes d z r cs
-          (turns_turn b (state n.store) d l.lines n.lines z (turn_flow c.args.name.now (block_tree c.args.body.now) first) l.i (c.args.bound - (l.i + 1)) (c.args.bound - l.i) r (context_bindings b number l.context) bs cs left
+          (turns_turn b (state n.store) d l.lines n.lines z (turn_flow c.args.name.now (block_tree c.args.body.now) first) l.i
+          (c.args.bound - (l.i + 1)) (c.args.bound - l.i) r (context_bindings b number l.context) bs cs left
           (turn_after number a b (state n.store) l.lines n.lines c.args.name.now l.i (block_tree c.args.body.now) c.args.context.now l.context (Ok tt) bs i.grows c.requires i.literals e.went) w);
     }
 
@@ -183,7 +198,8 @@ arms-returns-in_err-held-clause-went g t c =
     let e = c.in_err-held.ensures in
     let b = state c.holds.new.store in
     rw (p.1, p.2) (l.invariant.completes b l.lines (Err c.in_err-held.field-0.0) (context_bindings b number l.context)
-    (arms_halt number (state l.store) b l.lines c.args.list.now l.arm-index c.arm-item.result (λ q. block_flow (block_tree c.args.rest.now) q) l.context c.loop-arm-test.true c.arm-item.is c.in_err-held.field-0.0 e.grows l.invariant.fine e.did))
+    (arms_halt number (state l.store) b l.lines c.args.list.now l.arm-index c.arm-item.result
+    (λ q. block_flow (block_tree c.args.rest.now) q) l.context c.loop-arm-test.true c.arm-item.is c.in_err-held.field-0.0 e.grows l.invariant.fine e.did))
 
 pub arms-returns-then-held-clause-went : goal.arms-returns-then-held-clause-went
 arms-returns-then-held-clause-went g t c =
@@ -194,7 +210,9 @@ arms-returns-then-held-clause-went g t c =
     let n = c.block.new in
     let bs = context_bindings (state n.store) number n.context in
     l.invariant.completes (state n.store) n.lines c.block.result bs
-    (arms_take number (state l.store) (state c.holds.new.store) l.lines c.args.list.now l.arm-index c.arm-item.result (λ q. block_flow (block_tree c.args.rest.now) q) l.context c.loop-arm-test.true c.arm-item.is (state n.store) n.lines c.block.result bs c.in_ok-held.held c.if-held.true e.grows l.invariant.fine e.did c.block.ensures.went)
+    (arms_take number (state l.store) (state c.holds.new.store) l.lines c.args.list.now l.arm-index c.arm-item.result
+    (λ q. block_flow (block_tree c.args.rest.now) q) l.context c.loop-arm-test.true c.arm-item.is (state n.store) n.lines c.block.result bs
+    c.in_ok-held.held c.if-held.true e.grows l.invariant.fine e.did c.block.ensures.went)
 
 pub arms-returns-then-held-clause-grows : goal.arms-returns-then-held-clause-grows
 arms-returns-then-held-clause-grows g t c = grows_trans (grows_trans c.loop-arm.invariant.grows c.in_ok-held.ensures.grows) c.block.ensures.grows
@@ -211,7 +229,9 @@ arms-loop-arm-preserved g t c =
       fine = e.context;
       literals = i.literals;
       completes = λ d z r bs w. i.completes d z r bs
-          (arms_turn number (state l.store) (state c.holds.new.store) l.lines c.args.list.now l.arm-index c.arm-item.result (λ q. block_flow (block_tree c.args.rest.now) q) l.context c.loop-arm-test.true c.arm-item.is d z r bs c.in_ok-held.held c.if-held.false e.grows i.fine e.did w);
+          (arms_turn number (state l.store) (state c.holds.new.store) l.lines c.args.list.now l.arm-index c.arm-item.result
+          (λ q. block_flow (block_tree c.args.rest.now) q) l.context c.loop-arm-test.true c.arm-item.is d z r bs c.in_ok-held.held
+          c.if-held.false e.grows i.fine e.did w);
     }
 
 pub arms-returns-clause-went : goal.arms-returns-clause-went

@@ -15,7 +15,8 @@ returns-in_err-value-clause-went g c = λ n q at x.
     let s = scope_of a number c.args.context.now in
     let e = c.in_err-value.ensures in
     let p = err_from_is_err_and c.from_residual.result c.from_residual.ensures.1 in
-    rw (p.1, p.2) (then_halts number a (state c.sum_with.new.store) x c.args.context.now c.in_err-value.field-0.0 (sum_of_both c.args.at n (expr_tree c.args.value.now) s) (λ v. assigned (meant s.bindings n) n v s.bindings) e.grows c.requires.context (e.did n q))
+    rw (p.1, p.2) (then_halts number a (state c.sum_with.new.store) x c.args.context.now c.in_err-value.field-0.0
+    (sum_of_both c.args.at n (expr_tree c.args.value.now) s) (λ v. assigned (meant s.bindings n) n v s.bindings) e.grows c.requires.context (e.did n q))
 
 pub returns-clause-went : goal.returns-clause-went
 returns-clause-went g c = λ n q at x.
@@ -25,4 +26,6 @@ returns-clause-went g c = λ n q at x.
     let b = state c.sum_with.new.store in
     let s = scope_of a number c.args.context.now in
     let e = c.in_ok-value.ensures in
-    then_went number a b b x c.args.context.now c.in_ok-value.value c.assign_at.result (context_bindings b number c.assign_at.new.context) (sum_of_both c.args.at n (expr_tree c.args.value.now) s) (λ s v. assigned (meant s.bindings n) n v s.bindings) e.grows c.requires.context (e.did n q) (c.assign_at.ensures.went n q x)
+    then_went number a b b x c.args.context.now c.in_ok-value.value c.assign_at.result (context_bindings b number c.assign_at.new.context)
+    (sum_of_both c.args.at n (expr_tree c.args.value.now) s) (λ s v. assigned (meant s.bindings n) n v s.bindings) e.grows
+    c.requires.context (e.did n q) (c.assign_at.ensures.went n q x)

@@ -25,4 +25,6 @@ returns-in-None-clause-went g c = λ at x.
     let n = c.args.name.now in
     let bs = context_bindings a number c.args.context.now in
     let s = scope_of a number c.args.context.now in
-    bind_halts a a x (λ o v. seen o number v) (λ o v. IsFine o number v) (Threw ReferenceError) bs bs (read_out (meant bs n)) (λ v. bind (expr_out (expr_tree c.args.value.now) s) (λ w. plus c.args.at s.limit v w)) (λ v. assigned (meant bs n) n v bs) refl (unread a number (bindings_of c.args.context.now.scope) n c.in-None.ensures)
+    bind_halts a a x (λ o v. seen o number v) (λ o v. IsFine o number v) (Threw ReferenceError) bs bs (read_out (meant bs n))
+    (λ v. bind (expr_out (expr_tree c.args.value.now) s) (λ w. plus c.args.at s.limit v w)) (λ v. assigned (meant bs n) n v bs) refl
+    (unread a number (bindings_of c.args.context.now.scope) n c.in-None.ensures)

@@ -12,7 +12,8 @@ returns-in_err-value-clause-did g c =
     let state = g.S.Strings.state in
     let a = state c.args.store.now in
     let p = err_from_is_err_and c.from_residual.result c.from_residual.ensures.1 in
-    rw (p.1, p.2) (test_stops g.S.Strings.number a (state c.expr.new.store) c.in_err-value.field-0.0 (expr_out (expr_tree c.args.test.now) (scope_of a g.S.Strings.number c.args.context.now)) c.in_err-value.ensures.did)
+    rw (p.1, p.2) (test_stops g.S.Strings.number a (state c.expr.new.store) c.in_err-value.field-0.0
+    (expr_out (expr_tree c.args.test.now) (scope_of a g.S.Strings.number c.args.context.now)) c.in_err-value.ensures.did)
 
 pub returns-clause-context : goal.returns-clause-context
 returns-clause-context g c =
@@ -26,4 +27,5 @@ returns-clause-did g c =
     let state = g.S.Strings.state in
     let a = state c.args.store.now in
     let t = c.truth.ensures in
-    test_holds g.S.Strings.number a (state c.expr.new.store) (state c.truth.new.store) c.in_ok-value.value c.truth.result (expr_out (expr_tree c.args.test.now) (scope_of a g.S.Strings.number c.args.context.now)) t.value t.uses.step t.uses.history c.in_ok-value.ensures.did
+    test_holds g.S.Strings.number a (state c.expr.new.store) (state c.truth.new.store) c.in_ok-value.value c.truth.result
+    (expr_out (expr_tree c.args.test.now) (scope_of a g.S.Strings.number c.args.context.now)) t.value t.uses.step t.uses.history c.in_ok-value.ensures.did

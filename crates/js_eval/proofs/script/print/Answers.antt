@@ -10,11 +10,13 @@ returns-in_err-values-clause-went g c =
     let state = g.S.Strings.state in
     let p = err_from_is_err_and c.from_residual.result c.from_residual.ensures.1 in
     let e = c.in_err-values.ensures in
-    rw (p.1, p.2) (print_halt g.S.Strings.number (state c.args.store.now) (state c.exprs.new.store) c.args.lines.now (exprs_tree c.args.args.now) c.args.context.now e.grows c.requires c.in_err-values.field-0.0 e.did)
+    rw (p.1, p.2) (print_halt g.S.Strings.number (state c.args.store.now) (state c.exprs.new.store) c.args.lines.now
+    (exprs_tree c.args.args.now) c.args.context.now e.grows c.requires c.in_err-values.field-0.0 e.did)
 
 pub returns-clause-context : goal.returns-clause-context
 returns-clause-context g c =
-    context_fine_still (g.S.Strings.state c.exprs.new.store) (g.S.Strings.state c.print_values.new.store) g.S.Strings.number c.print_values.ensures.grows c.args.context.now c.in_ok-values.ensures.context
+    context_fine_still (g.S.Strings.state c.exprs.new.store) (g.S.Strings.state c.print_values.new.store) g.S.Strings.number
+    c.print_values.ensures.grows c.args.context.now c.in_ok-values.ensures.context
 
 pub returns-clause-went : goal.returns-clause-went
 returns-clause-went g c =
@@ -22,4 +24,6 @@ returns-clause-went g c =
     let d = c.deref.ensures.value in
     let e = c.in_ok-values.ensures in
     let w = c.print_values.ensures.went in
-    print_went g.S.Strings.number (state c.args.store.now) (state c.exprs.new.store) c.args.lines.now (exprs_tree c.args.args.now) c.args.context.now e.grows c.requires (state c.print_values.new.store) c.print_values.new.lines c.in_ok-values.values c.print_values.result (grows_trans e.grows c.print_values.ensures.grows) e.did (rw d at w)
+    print_went g.S.Strings.number (state c.args.store.now) (state c.exprs.new.store) c.args.lines.now (exprs_tree c.args.args.now)
+    c.args.context.now e.grows c.requires (state c.print_values.new.store) c.print_values.new.lines c.in_ok-values.values
+    c.print_values.result (grows_trans e.grows c.print_values.ensures.grows) e.did (rw d at w)

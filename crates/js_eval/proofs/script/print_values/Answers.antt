@@ -10,7 +10,8 @@ returns-in-Ok-clause-went g c = λ bs.
     let e = c.in-Ok.ensures in
     let s = e.uses.step in
     let l = e.added in
-    values_went g.S.Strings.number (state c.args.store.now) (state c.texts.new.store) c.args.lines.now c.args.values.now bs (state c.print_line.new.store) c.print_line.new.self c.in_ok-texts.texts t.did (rw d at s) e.uses.history t.settles (rw d at l)
+    values_went g.S.Strings.number (state c.args.store.now) (state c.texts.new.store) c.args.lines.now c.args.values.now bs
+    (state c.print_line.new.store) c.print_line.new.self c.in_ok-texts.texts t.did (rw d at s) e.uses.history t.settles (rw d at l)
 
 pub returns-clause-went : goal.returns-clause-went
 returns-clause-went g c = λ bs.
@@ -19,7 +20,9 @@ returns-clause-went g c = λ bs.
     let d = c.deref.ensures.value in
     let e = c.in-Err.ensures in
     let s = e.uses.step in
-    (values_halt g.S.Strings.number (state c.args.store.now) (state c.texts.new.store) c.args.lines.now c.args.values.now bs (state c.print_line.new.store) c.print_line.new.self c.in_ok-texts.texts c.in-Err.fault t.did (rw d at s) e.uses.no_slots e.uses.history t.settles e.unchanged)
+    (values_halt g.S.Strings.number (state c.args.store.now) (state c.texts.new.store) c.args.lines.now c.args.values.now bs
+    (state c.print_line.new.store) c.print_line.new.self c.in_ok-texts.texts c.in-Err.fault t.did (rw d at s) e.uses.no_slots e.uses.history
+    t.settles e.unchanged)
 
 pub returns-in_err-texts-clause-went : goal.returns-in_err-texts-clause-went
 returns-in_err-texts-clause-went g c = λ bs.

@@ -15,7 +15,8 @@ pub returns-in_err-right-clause-did : goal.returns-in_err-right-clause-did
 returns-in_err-right-clause-did g c = λ n q.
     let state = g.S.Strings.state in
     let p = err_from_is_err_and c.from_residual-in_err-right.result c.from_residual-in_err-right.ensures.1 in
-    rw (p.1, p.2) (sum_stops g.S.Strings.number (state c.args.store.now) (state c.expr.new.store) c.args.at n (expr_tree c.args.value.now) c.args.context.now c.in_ok-left.left c.in_err-right.field-0.0 (c.in_ok-left.ensures.did n q) c.in_err-right.ensures.did)
+    rw (p.1, p.2) (sum_stops g.S.Strings.number (state c.args.store.now) (state c.expr.new.store) c.args.at n (expr_tree c.args.value.now)
+    c.args.context.now c.in_ok-left.left c.in_err-right.field-0.0 (c.in_ok-left.ensures.did n q) c.in_err-right.ensures.did)
 
 pub apply-requires-clause-left : goal.apply-requires-clause-left
 apply-requires-clause-left g c =
@@ -28,4 +29,6 @@ returns-clause-context g c =
 pub returns-clause-did : goal.returns-clause-did
 returns-clause-did g c = λ n q.
     let state = g.S.Strings.state in
-    sum_does g.S.Strings.number (state c.args.store.now) (state c.expr.new.store) (state c.apply.new.store) c.args.at n (expr_tree c.args.value.now) c.args.context.now c.in_ok-left.left c.in_ok-right.right c.apply.result c.in_ok-right.ensures.grows c.in_ok-left.ensures.fine (c.in_ok-left.ensures.did n q) c.in_ok-right.ensures.did c.apply.ensures.did
+    sum_does g.S.Strings.number (state c.args.store.now) (state c.expr.new.store) (state c.apply.new.store) c.args.at n
+    (expr_tree c.args.value.now) c.args.context.now c.in_ok-left.left c.in_ok-right.right c.apply.result c.in_ok-right.ensures.grows
+    c.in_ok-left.ensures.fine (c.in_ok-left.ensures.did n q) c.in_ok-right.ensures.did c.apply.ensures.did

@@ -8,4 +8,6 @@ returns-clause-did g c =
     let s = g.S.Strings.state c.args.store.now in
     let number = g.S.Strings.number in
     let l = c.args.link.now in
-    short_does number s (scope_of s number c.args.context.now) (expr_tree c.args.first.now) (expr_tree l.right) l.at l.op c.in_ok-m.m c.in_ok-n.n c.of_both.result c.in_ok-m.ensures.did c.in_ok-n.ensures.did (c.is_of_numbers.ensures c.if-not-is_of_numbers.false) c.of_both.ensures.did c.of_both.ensures.fine
+    short_does number s (scope_of s number c.args.context.now) (expr_tree c.args.first.now) (expr_tree l.right) l.at l.op c.in_ok-m.m
+    c.in_ok-n.n c.of_both.result c.in_ok-m.ensures.did c.in_ok-n.ensures.did (c.is_of_numbers.ensures c.if-not-is_of_numbers.false)
+    c.of_both.ensures.did c.of_both.ensures.fine

@@ -9,5 +9,6 @@ returns-in-Ok c = (string c.in-Ok.units c.in-Ok.end c.in-Ok.ensures.ok, literal_
 
 pub returns-in-Err : goal.returns-in-Err
 returns-in-Err c =
-    let t : (c.lex_fault.result ≡ Memory) ⊎ ElementAt c.args.text.now c.args.at (Fault c.lex_fault.result) = rw c.lex_fault.ensures (fault_element c.args.text.now c.args.at c.in-Err.fault c.in-Err.ensures.err) in
+    let t : (c.lex_fault.result ≡ Memory) ⊎ ElementAt c.args.text.now c.args.at (Fault c.lex_fault.result) = rw c.lex_fault.ensures
+    (fault_element c.args.text.now c.args.at c.in-Err.fault c.in-Err.ensures.err) in
     t

@@ -9,4 +9,5 @@ returns-in-None-clause-spells c =
 
 pub returns-in-Some-clause-refused : goal.returns-in-Some-clause-refused
 returns-in-Some-clause-refused c =
-    rw c.name_fault.ensures (told_of_names c.args.role c.args.outer.now c.args.bytes.now (tree_of c.in_ok-script.script) (found_of c.in_ok-script.found) c.in-Some.fault c.in_ok-script.ensures.parses (rw c.in-Some.is at c.in_ok-first_fault.ensures))
+    rw c.name_fault.ensures (told_of_names c.args.role c.args.outer.now c.args.bytes.now (tree_of c.in_ok-script.script)
+    (found_of c.in_ok-script.found) c.in-Some.fault c.in_ok-script.ensures.parses (rw c.in-Some.is at c.in_ok-first_fault.ensures))

@@ -24,5 +24,6 @@ returns-in-Err g c =
 pub returns : goal.returns
 returns g c =
     let out = g.O.Sink.state c.args.out.now in
-    memory_stopped c.args.setup (program_from (generated c.args.number)) (ended c.stopped-in-Err-made_sources.result) (sinks out (g.E.Sink.state c.args.err.now)) (sinks out (g.E.Sink.state c.stopped-in-Err-made_sources.new.err))
+    memory_stopped c.args.setup (program_from (generated c.args.number)) (ended c.stopped-in-Err-made_sources.result)
+    (sinks out (g.E.Sink.state c.args.err.now)) (sinks out (g.E.Sink.state c.stopped-in-Err-made_sources.new.err))
     c.stopped-in-Err-made_sources.ensures.kept (c.stopped-in-Err-made_sources.ensures.told out)

@@ -20,7 +20,8 @@ returns-in-Err-clause-becomes g c =
     let state = g.F.Files.state in
     let out = g.O.Sink.state c.args.out.now in
     λ request asked is.
-    file_stopped request (state c.args.files.now) (state c.read_sources.new.files) (ended c.stopped.result) (sinks out (g.E.Sink.state c.args.err.now)) (sinks out (g.E.Sink.state c.stopped.new.err)) _ _
+    file_stopped request (state c.args.files.now) (state c.read_sources.new.files) (ended c.stopped.result)
+    (sinks out (g.E.Sink.state c.args.err.now)) (sinks out (g.E.Sink.state c.stopped.new.err)) _ _
     c.in-Err.stop asked c.in-Err.ensures.refused c.stopped.ensures.kept (c.stopped.ensures.told out)
 
 pub run_sources-requires-clause-few : goal.run_sources-requires-clause-few

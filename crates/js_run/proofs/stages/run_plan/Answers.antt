@@ -15,4 +15,5 @@ pub returns-in-Generated-clause-becomes : goal.returns-in-Generated-clause-becom
 returns-in-Generated-clause-becomes g c =
     let f = g.F.Files.state c.args.files.now in
     made_became (request_for c.args.plan.now) f f (ended c.run_made.result) (sinks (g.O.Sink.state c.args.out.now) (g.E.Sink.state c.args.err.now))
-    (sinks (g.O.Sink.state c.run_made.new.out) (g.E.Sink.state c.run_made.new.err)) c.in-Generated.number c.setup-setup.result (ap asked_for c.in-Generated.is) c.setup-setup.ensures (still_quiet f) c.run_made.ensures
+    (sinks (g.O.Sink.state c.run_made.new.out) (g.E.Sink.state c.run_made.new.err)) c.in-Generated.number c.setup-setup.result
+    (ap asked_for c.in-Generated.is) c.setup-setup.ensures (still_quiet f) c.run_made.ensures

@@ -8,7 +8,8 @@ pub loop-script-preserved : goal.loop-script-preserved
 loop-script-preserved g c =
     let state = g.O.Sink.state in
     λ d r w. c.loop-script.invariant d r
-    (piece_then (λ (o : Outcome). o.lines) (flat_map (λ (o : Outcome). o.lines)) (λ o os. refl) c.args.scripts.now c.loop-script.script-index c.script-item.result c.loop-script-test.true c.script-item.is r (state c.loop-script.out) (state c.write_all.new.sink) d
+    (piece_then (λ (o : Outcome). o.lines) (flat_map (λ (o : Outcome). o.lines)) (λ o os. refl) c.args.scripts.now
+    c.loop-script.script-index c.script-item.result c.loop-script-test.true c.script-item.is r (state c.loop-script.out) (state c.write_all.new.sink) d
     (rw (c.bytes.ensures) at c.in_ok-write_all.ensures) w)
 
 pub returns-in_err-write_all : goal.returns-in_err-write_all
@@ -16,7 +17,9 @@ returns-in_err-write_all g c =
     let state = g.O.Sink.state in
     let p = err_from_is_err_and c.from_residual.result c.from_residual.ensures.1 in
     rw (p.1, p.2) (c.loop-script.invariant (state c.write_all.new.sink) (Err c.in_err-write_all.field-0.0)
-    (piece_failed (λ (o : Outcome). o.lines) (flat_map (λ (o : Outcome). o.lines)) (λ o os. refl) c.args.scripts.now c.loop-script.script-index c.script-item.result c.loop-script-test.true c.script-item.is c.in_err-write_all.field-0.0 (state c.loop-script.out) (state c.write_all.new.sink)
+    (piece_failed (λ (o : Outcome). o.lines) (flat_map (λ (o : Outcome). o.lines)) (λ o os. refl) c.args.scripts.now
+    c.loop-script.script-index c.script-item.result c.loop-script-test.true c.script-item.is c.in_err-write_all.field-0.0
+    (state c.loop-script.out) (state c.write_all.new.sink)
     (rw (c.bytes.ensures) at c.in_err-write_all.ensures)))
 
 pub returns : goal.returns

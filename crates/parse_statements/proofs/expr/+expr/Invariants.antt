@@ -67,25 +67,34 @@ abbrev pub decreases-expression : goal.decreases-expression
 decreases-expression l = 32 * l.room + 17
 
 abbrev pub invariant-args-loop-after : goal.invariant-args-loop-after
-invariant-args-loop-after l = with_front (map expr_tree l.items.items) (all_of (heads comma) (and_then keep_second (one_of comma) (inner (tables_of l.tables) l.room Whole)) l.rest) ≡ with_front (map expr_tree l.initial.items.items) (all_of (heads comma) (and_then keep_second (one_of comma) (inner (tables_of l.tables) l.room Whole)) l.initial.rest)
+invariant-args-loop-after l = with_front (map expr_tree l.items.items)
+    (all_of (heads comma) (and_then keep_second (one_of comma) (inner (tables_of l.tables) l.room Whole)) l.rest) ≡ with_front
+    (map expr_tree l.initial.items.items) (all_of (heads comma) (and_then keep_second (one_of comma) (inner (tables_of l.tables) l.room Whole)) l.initial.rest)
 
 abbrev pub decreases-args-loop-after : goal.decreases-args-loop-after
 decreases-args-loop-after l = length l.rest
 
 abbrev pub invariant-members-loop-after : goal.invariant-members-loop-after
-invariant-members-loop-after l = with_front (map entry_tree l.items.items) (all_of (heads comma) (more_at (tables_of l.tables) l.room) l.rest) ≡ with_front (map entry_tree l.initial.items.items) (all_of (heads comma) (more_at (tables_of l.tables) l.room) l.initial.rest)
+invariant-members-loop-after l = with_front (map entry_tree l.items.items)
+    (all_of (heads comma) (more_at (tables_of l.tables) l.room) l.rest) ≡ with_front (map entry_tree l.initial.items.items)
+    (all_of (heads comma) (more_at (tables_of l.tables) l.room) l.initial.rest)
 
 abbrev pub decreases-members-loop-after : goal.decreases-members-loop-after
 decreases-members-loop-after l = length l.rest
 
 abbrev pub invariant-chained-loop-op : goal.invariant-chained-loop-op
-invariant-chained-loop-op l = (with_front (map link_tree l.links.items) (all_of (heads (operators l.level)) (and_then link_of (one_of (operators l.level)) (operand_at (tables_of l.tables) l.room l.level)) l.rest) ≡ all_of (heads (operators l.level)) (and_then link_of (one_of (operators l.level)) (operand_at (tables_of l.tables) l.room l.level)) l.initial.rest) × (l.first ≡ l.initial.first)
+invariant-chained-loop-op l = (with_front (map link_tree l.links.items)
+    (all_of (heads (operators l.level)) (and_then link_of (one_of (operators l.level)) (operand_at (tables_of l.tables) l.room l.level))
+    l.rest) ≡ all_of (heads (operators l.level)) (and_then link_of (one_of (operators l.level))
+    (operand_at (tables_of l.tables) l.room l.level)) l.initial.rest) × (l.first ≡ l.initial.first)
 
 abbrev pub decreases-chained-loop-op : goal.decreases-chained-loop-op
 decreases-chained-loop-op l = length l.rest
 
 abbrev pub invariant-postfix-loop-rest : goal.invariant-postfix-loop-rest
-invariant-postfix-loop-rest l = (with_front (map step_tree l.steps.items) (all_of (heads step_mark) (step_at (tables_of l.tables) l.room) l.rest) ≡ all_of (heads step_mark) (step_at (tables_of l.tables) l.room) l.initial.rest) × (l.of ≡ l.initial.of)
+invariant-postfix-loop-rest l = (with_front (map step_tree l.steps.items)
+    (all_of (heads step_mark) (step_at (tables_of l.tables) l.room) l.rest) ≡ all_of (heads step_mark) (step_at (tables_of l.tables) l.room)
+    l.initial.rest) × (l.of ≡ l.initial.of)
 
 abbrev pub decreases-postfix-loop-rest : goal.decreases-postfix-loop-rest
 decreases-postfix-loop-rest l = length l.rest

@@ -27,7 +27,8 @@ abbrev pub decreases-list : goal.decreases-list
 decreases-list l = 16 * l.room + 4
 
 abbrev pub invariant-if_statement-loop-after : goal.invariant-if_statement-loop-after
-invariant-if_statement-loop-after l = with_front (map arm_tree l.arms.items) (others_at (tables_of l.tables) l.prints l.room l.rest) ≡ with_front (map arm_tree l.initial.arms.items) (others_at (tables_of l.tables) l.prints l.room l.initial.rest)
+invariant-if_statement-loop-after l = with_front (map arm_tree l.arms.items) (others_at (tables_of l.tables) l.prints l.room l.rest) ≡
+    with_front (map arm_tree l.initial.arms.items) (others_at (tables_of l.tables) l.prints l.room l.initial.rest)
 
 abbrev pub decreases-if_statement-loop-after : goal.decreases-if_statement-loop-after
 decreases-if_statement-loop-after l = length l.rest

@@ -9,4 +9,5 @@ returns-in_err-value-in-Some c =
     rw (p.1, p.2) (init_fails (tables_of c.args.tables.now) c.args.room c.args.tokens.now c.in-Some.rest.now c.in-Some.ensures c.in_err-value-in-Some.field-0.0 c.in_err-value-in-Some.ensures)
 
 pub returns-in_ok-value-in-Some : goal.returns-in_ok-value-in-Some
-returns-in_ok-value-in-Some c = init_done (tables_of c.args.tables.now) c.args.room c.args.tokens.now c.in-Some.rest.now c.in_ok-value-in-Some.rest.now c.in_ok-value-in-Some.value c.in-Some.ensures c.in_ok-value-in-Some.ensures
+returns-in_ok-value-in-Some c = init_done (tables_of c.args.tables.now) c.args.room c.args.tokens.now c.in-Some.rest.now
+    c.in_ok-value-in-Some.rest.now c.in_ok-value-in-Some.value c.in-Some.ensures c.in_ok-value-in-Some.ensures

@@ -42,6 +42,9 @@ tokens-preserved c =
       names = omega arith;
       keys = omega arith;
       agrees = on_ok _ c.add.result ok c.add.ensures.agrees;
-      goes = goes_on text c.tokens.at t c.tokens.opened c.in-Ok-is_key.key c.opens_member-opens.result s.tokens.items c.add.new.script.tokens.items s.literals.items c.add.new.script.literals.items s.names.items c.add.new.script.names.items s.keys.items c.add.new.script.keys.items on c.in-Ok-is_key.ensures.key c.opens_member-opens.ensures c.tokens.invariant.goes (tokens, literals, names, keys);
+      goes = goes_on text c.tokens.at t c.tokens.opened c.in-Ok-is_key.key c.opens_member-opens.result s.tokens.items
+          c.add.new.script.tokens.items s.literals.items c.add.new.script.literals.items s.names.items c.add.new.script.names.items
+          s.keys.items c.add.new.script.keys.items on c.in-Ok-is_key.ensures.key c.opens_member-opens.ensures c.tokens.invariant.goes
+          (tokens, literals, names, keys);
       fails = λ fault h. c.tokens.invariant.fails fault (on.fails fault h);
     }

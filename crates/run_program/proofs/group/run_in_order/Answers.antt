@@ -11,7 +11,8 @@ pub run_job-requires-clause-empty : goal.run_job-requires-clause-empty
 run_job-requires-clause-empty g c = let v = c.loop-k.invariant in v.empty c.loop-k.k _ (omega arith) (omega (arith, v.lengths, c.loop-k-test.true))
 
 pub run_job-requires-clause-env : goal.run_job-requires-clause-env
-run_job-requires-clause-env g c = bounds_fine_still (g.S.Shared.state c.args.session.now) (g.S.Shared.state c.loop-k.session) number c.loop-k.invariant.ran.grows (bounds_of c.args.env.now) c.requires.env
+run_job-requires-clause-env g c = bounds_fine_still (g.S.Shared.state c.args.session.now) (g.S.Shared.state c.loop-k.session) number
+    c.loop-k.invariant.ran.grows (bounds_of c.args.env.now) c.requires.env
 
 pub loop-k-preserved : goal.loop-k-preserved
 loop-k-preserved g c = let v = c.loop-k.invariant in let s = g.S.Shared.state in let a = s c.args.session.now in record {

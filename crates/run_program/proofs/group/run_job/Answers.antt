@@ -24,5 +24,7 @@ returns g c = let s = g.S.Shared.state in let a = s c.args.session.now in
     let e = c.run-outcome in
     let after : List (Bound Val) = bounds_seen (s e.new.self) number (bounds_of e.new.env) in
     ran_one (means a c.args.env.now) a (s e.new.self) e.ensures.grows c.args.job.now _ refl after e.result refl
-    (subst (λ (bs : List (Bound Val)). Evaluates a (s e.new.self) [] e.new.lines after e.result (meaning (tree_of c.args.job.now.script) bs a.limit)) (bounds_copy a number c.in-Ok.copy c.args.env.now c.in-Ok.ensures)
-    (subst (λ (x : List ℕ). Evaluates a (s e.new.self) x e.new.lines after e.result (meaning (tree_of c.args.job.now.script) (bounds_seen a number (bounds_of c.in-Ok.copy)) a.limit)) c.requires.empty e.ensures.meaning))
+    (subst (λ (bs : List (Bound Val)). Evaluates a (s e.new.self) [] e.new.lines after e.result
+    (meaning (tree_of c.args.job.now.script) bs a.limit)) (bounds_copy a number c.in-Ok.copy c.args.env.now c.in-Ok.ensures)
+    (subst (λ (x : List ℕ). Evaluates a (s e.new.self) x e.new.lines after e.result
+    (meaning (tree_of c.args.job.now.script) (bounds_seen a number (bounds_of c.in-Ok.copy)) a.limit)) c.requires.empty e.ensures.meaning))

@@ -9,5 +9,6 @@ use Rattle.run_program.proofs.laws.ends_tell.Goals as goal
 
 pub returns : goal.returns
 returns c whole z prelude scripts files run of = let s = c.args._session.now in let table = table_of s.text.reader.heap.now in
-    tells z (state_in s) (all_meant prelude scripts) files (whole_all (session_view s) (limit_units s.limit) table s.text.reader.belongs.5 whole) (session_sound (session_view s) s.limit table s.text.reader.belongs.5) run
+    tells z (state_in s) (all_meant prelude scripts) files (whole_all (session_view s) (limit_units s.limit) table s.text.reader.belongs.5
+    whole) (session_sound (session_view s) s.limit table s.text.reader.belongs.5) run
     (are_first (state_in s) prelude scripts files run.each of)

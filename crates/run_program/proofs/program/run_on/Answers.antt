@@ -26,6 +26,7 @@ returns-clause-told g c = let h = c.args.heap.now in let setup = c.args.setup in
     let limit = kept_limit setup h prelude trees f.result os k.result a b t d
     is c.requires.size f.ensures.grows f.ensures.ran c.whole_has_all.ensures c.totals.ensures.state k.ensures.uses.step k.ensures.uses.history k.ensures.count in
     subst (λ (x : State SessionFrame). IsTold setup x prelude trees f.result os k.result)
-    (same_state (session_view s) (view_of c.into_agent.result) (limit_units s.limit) (limit_units setup.limit) (table_of s.text.reader.heap.now) (table_of h) (sym c.into_agent.ensures.view) limit of.0)
+    (same_state (session_view s) (view_of c.into_agent.result) (limit_units s.limit) (limit_units setup.limit)
+    (table_of s.text.reader.heap.now) (table_of h) (sym c.into_agent.ensures.view) limit of.0)
     (kept_told setup h prelude trees f.result os k.result a b t d
     is c.requires.size f.ensures.grows f.ensures.ran c.whole_has_all.ensures c.totals.ensures.state k.ensures.uses.step k.ensures.uses.history k.ensures.count)

@@ -10,4 +10,5 @@ pub returns : goal.returns
 returns g c = let r = c.run_on-first in let setup = c.args.setup in let prelude = tree_if c.args.prelude in
     let ran : Ran = record { prelude = r.result.0; scripts = r.new.outcomes; interned = r.result.1; kept = record { heap = c.in-Ok.heap; agent = r.result.2 } } in
     is_ran setup prelude (trees_of c.args.scripts.items) ran c.in-Ok.ensures.size r.ensures.belongs
-    (subst (λ (trees : List Tree). IsTold setup (state_kept setup ran.kept) prelude trees ran.prelude ran.scripts.items ran.interned) (ap job_trees c.deref.ensures.value ∙ c.in_ok-jobs.ensures.trees) r.ensures.told)
+    (subst (λ (trees : List Tree). IsTold setup (state_kept setup ran.kept) prelude trees ran.prelude ran.scripts.items ran.interned)
+    (ap job_trees c.deref.ensures.value ∙ c.in_ok-jobs.ensures.trees) r.ensures.told)

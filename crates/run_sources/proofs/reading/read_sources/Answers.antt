@@ -9,7 +9,8 @@ pub returns-in_err-prelude-clause-refused : goal.returns-in_err-prelude-clause-r
 returns-in_err-prelude-clause-refused g c =
     let state = g.F.Files.state in
     let p = err_from_is_err_and c.from_residual.result c.from_residual.ensures.1 in
-    rw (p.1, p.2) (prelude_halt (state c.args.files.now) (state c.read_prelude.new.files) (option_map (λ (n : Bor (List ℕ)). n.now) c.args.prelude) (map (λ (n : Bor (List ℕ)). n.now) c.args.scripts.now)
+    rw (p.1, p.2) (prelude_halt (state c.args.files.now) (state c.read_prelude.new.files)
+    (option_map (λ (n : Bor (List ℕ)). n.now) c.args.prelude) (map (λ (n : Bor (List ℕ)). n.now) c.args.scripts.now)
     c.in_err-prelude.field-0.0 c.in_err-prelude.ensures.refused)
 
 pub returns-in_err-scripts-clause-refused : goal.returns-in_err-scripts-clause-refused
@@ -26,7 +27,8 @@ returns-clause-read g c =
     let e = c.in_ok-prelude.ensures in
     record {
       prelude = e.read;
-      scripts = read_of (state c.args.files.now) (state c.read_prelude.new.files) (map (λ (n : Bor (List ℕ)). n.now) c.args.scripts.now) (map source_for c.in_ok-scripts.scripts.items) e.keeps c.in_ok-scripts.ensures.read;
+      scripts = read_of (state c.args.files.now) (state c.read_prelude.new.files) (map (λ (n : Bor (List ℕ)). n.now) c.args.scripts.now)
+          (map source_for c.in_ok-scripts.scripts.items) e.keeps c.in_ok-scripts.ensures.read;
     }
 
 pub returns-clause-short : goal.returns-clause-short
@@ -35,5 +37,6 @@ returns-clause-short g c =
     let e = c.in_ok-prelude.ensures in
     read_short (state c.args.files.now).held (names_for c.args.prelude c.args.scripts.now) (sources_for (record { prelude = c.in_ok-prelude.prelude; scripts = c.in_ok-scripts.scripts })) (record {
       prelude = e.read;
-      scripts = read_of (state c.args.files.now) (state c.read_prelude.new.files) (map (λ (n : Bor (List ℕ)). n.now) c.args.scripts.now) (map source_for c.in_ok-scripts.scripts.items) e.keeps c.in_ok-scripts.ensures.read;
+      scripts = read_of (state c.args.files.now) (state c.read_prelude.new.files) (map (λ (n : Bor (List ℕ)). n.now) c.args.scripts.now)
+          (map source_for c.in_ok-scripts.scripts.items) e.keeps c.in_ok-scripts.ensures.read;
     })

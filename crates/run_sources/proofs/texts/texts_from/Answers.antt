@@ -23,7 +23,8 @@ loop-j-preserved c =
     let made : GeneratedText = record { name = c.in_ok-script_name.field-0; text = c.in_ok-script.field-0 } in
     let pushed : c.push-in-loop-j.new.self.items ≡ c.loop-j.texts.items ++ made ∷ [] = search rules in
     record {
-      texts = next_text n state j c.loop-j.texts.items c.push-in-loop-j.new.self.items made c.loop-j.invariant.texts c.loop-j.invariant.state pushed c.in_ok-script_name.ensures c.in_ok-script.ensures.text;
+      texts = next_text n state j c.loop-j.texts.items c.push-in-loop-j.new.self.items made c.loop-j.invariant.texts
+          c.loop-j.invariant.state pushed c.in_ok-script_name.ensures c.in_ok-script.ensures.text;
       state = c.in_ok-script.ensures.state ∙ rounds_more 128 (before n 16) state j c.loop-j.invariant.state;
     }
 

@@ -11,7 +11,8 @@ position_in-requires-clause-before g c =
     let bs = take c.self.inside.used c.self.inside.all.items in
     let none = subst (λ (q : List (Binding g.row.T.Denot)). NoneNamed q c.args.name.now (min few c.args.all)) (sym c.self.view_is) c.requires.few in
     subst (λ (q : List (Binding g.row.T.Denot)). NoneNamed q c.args.name.now c.in-Some.start) (c.self.view_is ∙ sym c.list.ensures)
-    (binding_start c.self.inside.first bs c.args.name.now c.key.result (min few c.args.all) c.in-Some.start c.key.ensures (ap (λ q. min few q) (c.requires.all ∙ ap length (sym c.self.view_is))) none c.self.invariant.index (sym c.in-Some.is ∙ c.start.ensures))
+    (binding_start c.self.inside.first bs c.args.name.now c.key.result (min few c.args.all) c.in-Some.start c.key.ensures
+    (ap (λ q. min few q) (c.requires.all ∙ ap length (sym c.self.view_is))) none c.self.invariant.index (sym c.in-Some.is ∙ c.start.ensures))
 
 pub returns-in-Some : goal.returns-in-Some
 returns-in-Some g c =
@@ -25,4 +26,5 @@ returns-in-None g c =
     let bs = take c.self.inside.used c.self.inside.all.items in
     let none = subst (λ (q : List (Binding g.row.T.Denot)). NoneNamed q c.args.name.now (min few c.args.all)) (sym c.self.view_is) c.requires.few in
     subst (λ (q : List (Binding g.row.T.Denot)). bound_in (bounds_of q) c.args.name.now ≡ None) c.self.view_is
-    (no_binding_start c.self.inside.first bs c.args.name.now c.key.result (min few c.args.all) c.key.ensures (ap (λ q. min few q) (c.requires.all ∙ ap length (sym c.self.view_is))) none c.self.invariant.index (sym c.in-None.is ∙ c.start.ensures))
+    (no_binding_start c.self.inside.first bs c.args.name.now c.key.result (min few c.args.all) c.key.ensures
+    (ap (λ q. min few q) (c.requires.all ∙ ap length (sym c.self.view_is))) none c.self.invariant.index (sym c.in-None.is ∙ c.start.ensures))

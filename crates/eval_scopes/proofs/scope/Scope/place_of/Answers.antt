@@ -10,7 +10,8 @@ loop-block-init g c = sought_all c.args.self.now.blocks.frames (bounds_of c.args
 pub returns-in-Some : goal.returns-in-Some
 returns-in-Some g c =
     let k = c.loop-block.block - 1 in
-    block_place c.args.self.now c.args.name.now c.loop-block.block k c.in-Some.index c.index-frames-block.result (omega arith) (omega (arith, ap length c.frames-frames.ensures)) (rw c.frames-frames.ensures at c.index-frames-block.is) c.loop-block.invariant c.in-Some.ensures
+    block_place c.args.self.now c.args.name.now c.loop-block.block k c.in-Some.index c.index-frames-block.result (omega arith)
+    (omega (arith, ap length c.frames-frames.ensures)) (rw c.frames-frames.ensures at c.index-frames-block.is) c.loop-block.invariant c.in-Some.ensures
 
 pub returns-then-declares : goal.returns-then-declares
 returns-then-declares g c =
@@ -19,7 +20,9 @@ returns-then-declares g c =
     let top = bounds_of c.args.self.now.top in
     let e : c.loop-block.block ≡ suc k = omega arith in
     let l : k < length fs = omega (arith, ap length c.frames-frames.ensures) in
-    look_blocks c.args.self.now.blocks top c.args.name.now ∙ sought_unset fs top c.args.name.now k c.index-frames-block.result l (rw c.frames-frames.ensures at c.index-frames-block.is) (subst (λ q. Sought fs top c.args.name.now q) e c.loop-block.invariant) c.in_default.ensures (sym c.declares.ensures ∙ c.if-declares.true)
+    look_blocks c.args.self.now.blocks top c.args.name.now ∙ sought_unset fs top c.args.name.now k c.index-frames-block.result l
+    (rw c.frames-frames.ensures at c.index-frames-block.is) (subst (λ q. Sought fs top c.args.name.now q) e c.loop-block.invariant)
+    c.in_default.ensures (sym c.declares.ensures ∙ c.if-declares.true)
 
 pub loop-block-preserved : goal.loop-block-preserved
 loop-block-preserved g c =
@@ -28,7 +31,8 @@ loop-block-preserved g c =
     let top = bounds_of c.args.self.now.top in
     let e : c.loop-block.block ≡ suc k = omega arith in
     let l : k < length fs = omega (arith, ap length c.frames-frames.ensures) in
-    sought_on fs top c.args.name.now k c.index-frames-block.result l (rw c.frames-frames.ensures at c.index-frames-block.is) (subst (λ q. Sought fs top c.args.name.now q) e c.loop-block.invariant) c.in_default.ensures (sym c.declares.ensures ∙ c.if-declares.false)
+    sought_on fs top c.args.name.now k c.index-frames-block.result l (rw c.frames-frames.ensures at c.index-frames-block.is)
+    (subst (λ q. Sought fs top c.args.name.now q) e c.loop-block.invariant) c.in_default.ensures (sym c.declares.ensures ∙ c.if-declares.false)
 
 pub returns-in-Some-position : goal.returns-in-Some-position
 returns-in-Some-position g c =

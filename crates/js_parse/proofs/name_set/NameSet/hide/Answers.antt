@@ -11,7 +11,8 @@ loop-name-preserved c =
     let test = has c.loop-name.self in
     let new = has c.remove.new.self in
     record {
-      without = turn false c.args.names.now c.loop-name.name-index c.name-item.result test new c.loop-name-test.true c.name-item.is (c.remove.ensures.names ∙ ap (λ (l : List ℕ). marked false l test) c.as_bytes-letters.ensures)
+      without = turn false c.args.names.now c.loop-name.name-index c.name-item.result test new c.loop-name-test.true c.name-item.is
+          (c.remove.ensures.names ∙ ap (λ (l : List ℕ). marked false l test) c.as_bytes-letters.ensures)
           ∙ c.loop-name.invariant.without;
       again = elim c.if-remove.branch [
         | then-remove+in_ok-push w ↦

@@ -6,7 +6,8 @@ use Rattle.js_parse.proofs.name_set.NameSet.insert_all.Goals as goal
 
 pub loop-name-preserved : goal.loop-name-preserved
 loop-name-preserved c =
-    turn true c.args.names.now c.loop-name.name-index c.name-item.result (has c.loop-name.self) (has c.insert.new.self) c.loop-name-test.true c.name-item.is (c.in_ok-insert.ensures.names ∙ ap (λ (l : List ℕ). marked true l (has c.loop-name.self)) c.as_bytes.ensures)
+    turn true c.args.names.now c.loop-name.name-index c.name-item.result (has c.loop-name.self) (has c.insert.new.self)
+    c.loop-name-test.true c.name-item.is (c.in_ok-insert.ensures.names ∙ ap (λ (l : List ℕ). marked true l (has c.loop-name.self)) c.as_bytes.ensures)
     ∙ c.loop-name.invariant
 
 pub returns : goal.returns
