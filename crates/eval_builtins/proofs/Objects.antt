@@ -1,39 +1,8 @@
 -- How long the JSON text of an object is, what reading its strings takes, and its keys as an array.
 use Rattle.eval_builtins.specs.Parts.{keys_out}
 use Rattle.eval_values.specs.RowNames.{row_ids, row_words, parts_words}
-use Rattle.std.proofs.Common.{
-  arith,
-  ◌≡◌,
-  ℕ,
-  zero,
-  suc,
-  ◌+◌,
-  ◌*◌,
-  ◌<◌,
-  ◌≤◌,
-  Bool,
-  true,
-  false,
-  Option,
-  Some,
-  None,
-  List,
-  [],
-  ◌∷◌,
-  map,
-  length,
-  length-append,
-  refl,
-  ap,
-  sym,
-  ◌∙◌,
-  subst,
-  Ok,
-  Vec,
-  Global,
-  slice_index_or,
-  if◌then◌else◌,
-}
+use Rattle.std.proofs.Common.{arith, ◌≡◌, ℕ, zero, suc, ◌+◌, ◌*◌, ◌<◌, ◌≤◌, Bool, true, false, Option, Some, None, List, [], ◌∷◌, map, length, length-append}
+use Rattle.std.proofs.Common.{refl, ap, sym, ◌∙◌, subst, Ok, Vec, Global, slice_index_or, if◌then◌else◌}
 use Rattle.std.specs.Prelude.{pos, negsuc}
 use Rattle.std.proofs.lemmas.Fmt.{length_signed_le}
 use Rattle.std.proofs.lemmas.List.{append-nil}

@@ -1,39 +1,7 @@
 -- The parts of a string.
 use Rattle.eval_values.specs.RowNames.{parts_ids, parts_words}
-use Rattle.std.proofs.Common.{
-  arith,
-  ◌≡◌,
-  ℕ,
-  zero,
-  suc,
-  ◌+◌,
-  ◌*◌,
-  ◌<◌,
-  ◌≤◌,
-  List,
-  [],
-  ◌∷◌,
-  length,
-  ap,
-  ◌∙◌,
-  Bool,
-  true,
-  false,
-  Option,
-  Some,
-  None,
-  nat_lt,
-  if◌then◌else◌,
-  slice_index_or,
-  Result,
-  Ok,
-  Err,
-  refl,
-  sym,
-  subst,
-  Vec,
-  Global,
-}
+use Rattle.std.proofs.Common.{arith, ◌≡◌, ℕ, zero, suc, ◌+◌, ◌*◌, ◌<◌, ◌≤◌, List, [], ◌∷◌, length, ap, ◌∙◌, Bool, true, false, Option, Some, None, nat_lt}
+use Rattle.std.proofs.Common.{if◌then◌else◌, slice_index_or, Result, Ok, Err, refl, sym, subst, Vec, Global}
 use Rattle.std.proofs.lemmas.List.{append-nil}
 use Rattle.js_store.specs.State.{State, NamesUnits, Grows, IsKnown, text as units_of}
 use Rattle.js_store.specs.Faults.{StoreStep, NeverSlots}

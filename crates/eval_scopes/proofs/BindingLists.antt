@@ -1,39 +1,6 @@
 -- The bindings in use, in front of those that were left in place, with their index and their mask.
-use Rattle.std.proofs.Common.{
-  arith,
-  ◌≡◌,
-  ℕ,
-  ◌+◌,
-  ◌<◌,
-  ◌≤◌,
-  zero,
-  suc,
-  max,
-  true,
-  false,
-  Bool,
-  List,
-  [],
-  ◌∷◌,
-  ◌++◌,
-  length,
-  map,
-  refl,
-  ap,
-  sym,
-  ◌∙◌,
-  subst,
-  Some,
-  None,
-  slice_get,
-  get_or,
-  set,
-  take,
-  bytes_eq,
-  ◌⊎◌,
-  inl,
-  inr,
-}
+use Rattle.std.proofs.Common.{arith, ◌≡◌, ℕ, ◌+◌, ◌<◌, ◌≤◌, zero, suc, max, true, false, Bool, List, [], ◌∷◌, ◌++◌, length, map, refl, ap, sym, ◌∙◌, subst}
+use Rattle.std.proofs.Common.{Some, None, slice_get, get_or, set, take, bytes_eq, ◌⊎◌, inl, inr}
 use Rattle.std.specs.Prelude.{IsSome, bit_or}
 use Rattle.std.specs.Int.{bit_at}
 use Rattle.std.specs.Ordering.{nat_cmp}

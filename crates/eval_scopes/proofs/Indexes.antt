@@ -1,40 +1,6 @@
 -- The index of names by their keys.
-use Rattle.std.proofs.Common.{
-  arith,
-  ◌≡◌,
-  ℕ,
-  ◌<◌,
-  min,
-  zero,
-  suc,
-  ◌+◌,
-  true,
-  false,
-  Bool,
-  List,
-  [],
-  ◌∷◌,
-  ◌++◌,
-  length,
-  length-append,
-  map,
-  refl,
-  ap,
-  sym,
-  ◌∙◌,
-  subst,
-  if◌then◌else◌,
-  Option,
-  Some,
-  None,
-  option_map,
-  slice_get,
-  get_or,
-  bytes_eq,
-  ◌⊎◌,
-  inl,
-  inr,
-}
+use Rattle.std.proofs.Common.{arith, ◌≡◌, ℕ, ◌<◌, min, zero, suc, ◌+◌, true, false, Bool, List, [], ◌∷◌, ◌++◌, length, length-append, map, refl, ap, sym, ◌∙◌}
+use Rattle.std.proofs.Common.{subst, if◌then◌else◌, Option, Some, None, option_map, slice_get, get_or, bytes_eq, ◌⊎◌, inl, inr}
 use Rattle.std.specs.Prelude.{IsSome, MatchOption}
 use Rattle.std.specs.Ordering.{nat_cmp}
 use Rattle.std.specs.Map.{lookup}

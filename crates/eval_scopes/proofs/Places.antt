@@ -1,39 +1,7 @@
 -- Where a name stands.
 use Rattle.eval_scopes.specs.Changes.{with_bound}
-use Rattle.std.proofs.Common.{
-  arith,
-  ◌≡◌,
-  ℕ,
-  ◌+◌,
-  ◌<◌,
-  zero,
-  suc,
-  true,
-  false,
-  List,
-  [],
-  ◌∷◌,
-  length,
-  map,
-  refl,
-  ap,
-  sym,
-  ◌∙◌,
-  subst,
-  Some,
-  None,
-  slice_get,
-  get_or,
-  set,
-  take,
-  drop,
-  reverse,
-  ◌++◌,
-  append_assoc,
-  bytes_eq,
-  inl,
-  inr,
-}
+use Rattle.std.proofs.Common.{arith, ◌≡◌, ℕ, ◌+◌, ◌<◌, zero, suc, true, false, List, [], ◌∷◌, length, map, refl, ap, sym, ◌∙◌, subst, Some, None, slice_get}
+use Rattle.std.proofs.Common.{get_or, set, take, drop, reverse, ◌++◌, append_assoc, bytes_eq, inl, inr}
 use Rattle.std.proofs.Math.ListN.{drop_of_length-le}
 use Rattle.std.proofs.Math.Seq.{take-length}
 use Rattle.std.proofs.lemmas.Bool.Decides.{leb_tells}

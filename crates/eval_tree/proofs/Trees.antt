@@ -16,54 +16,10 @@ use Rattle.eval_tree.specs.declared.tree.Stmt.TheViews.{out-Stmt, For, rolls-For
 use Rattle.eval_tree.specs.declared.tree.Stmt.TheVariants.{Let, Const, Assign, Append, Print}
 use Rattle.eval_tree.specs.declared.tree.Arm.{Arm, fold_out-Arm}
 use Rattle.eval_tree.specs.declared.tree.Block.{Block, fold_out-Block}
-use Rattle.eval_tree.specs.Tree.{
-  StmtTree,
-  ArmTree,
-  BlockTree,
-  block,
-  let_line,
-  const_line,
-  assign,
-  append,
-  print,
-  if_line,
-  for_line,
-  block_of,
-  arms,
-  init_tree,
-  stmt_layer,
-  arm_layer,
-  block_layer,
-  stmt_tree,
-  stmts_tree,
-  arm_tree,
-  block_tree,
-}
-use Rattle.eval_tree.specs.Tree.{
-  ExprTree,
-  StepTree,
-  LinkTree,
-  chain,
-  conditional,
-  unary,
-  post,
-  builtin,
-  object,
-  of_call,
-  of_index,
-  of_property,
-  links,
-  expr_layer,
-  step_layer,
-  link_layer,
-  expr_tree,
-  step_tree,
-  link_tree,
-  links_tree,
-  steps_tree,
-  exprs_tree,
-  entries_tree,
-}
+use Rattle.eval_tree.specs.Tree.{StmtTree, ArmTree, BlockTree, block, let_line, const_line, assign, append, print, if_line, for_line, block_of, arms, init_tree}
+use Rattle.eval_tree.specs.Tree.{stmt_layer, arm_layer, block_layer, stmt_tree, stmts_tree, arm_tree, block_tree}
+use Rattle.eval_tree.specs.Tree.{ExprTree, StepTree, LinkTree, chain, conditional, unary, post, builtin, object, of_call, of_index, of_property, links}
+use Rattle.eval_tree.specs.Tree.{expr_layer, step_layer, link_layer, expr_tree, step_tree, link_tree, links_tree, steps_tree, exprs_tree, entries_tree}
 
 link_is : (l : Link) → fold-Link ExprTree StepTree LinkTree expr_layer step_layer link_layer l ≡ link_tree l
 link_is l = fold_out-Link ExprTree StepTree LinkTree expr_layer step_layer link_layer l

@@ -1,37 +1,6 @@
 -- What a bit that is set, or a word laid over another, does to what is in a set.
-use Rattle.std.proofs.Common.{
-  ◌≡◌,
-  ◌≢◌,
-  ℕ,
-  ◌*◌,
-  ◌/◌,
-  ◌%◌,
-  ◌^◌,
-  ◌<◌,
-  ◌≤◌,
-  ◌⊎◌,
-  inl,
-  inr,
-  ⊎_elim,
-  List,
-  length,
-  get_or,
-  set,
-  bit_or,
-  max,
-  replicate,
-  [],
-  ◌∷◌,
-  subst,
-  refl,
-  sym,
-  ap,
-  ◌∙◌,
-  arith,
-  w64,
-  get_or-set_same,
-  get_or-set_other,
-}
+use Rattle.std.proofs.Common.{◌≡◌, ◌≢◌, ℕ, ◌*◌, ◌/◌, ◌%◌, ◌^◌, ◌<◌, ◌≤◌, ◌⊎◌, inl, inr, ⊎_elim, List, length, get_or, set, bit_or, max, replicate, [], ◌∷◌}
+use Rattle.std.proofs.Common.{subst, refl, sym, ap, ◌∙◌, arith, w64, get_or-set_same, get_or-set_other}
 use Rattle.std.specs.Int.{bit_at}
 use Rattle.std.proofs.lemmas.Bool.{cases_eq, cases_lt}
 use Rattle.std.specs.List.{AllZip}

@@ -17,28 +17,9 @@ use Rattle.heap_rule.specs.Kinds.{take_slot, flatten, thin}
 use Rattle.heap_rule.specs.Agents.{spent, left_after_split, right_after_split, joined_view}
 use Rattle.heap_rule.specs.Sound.{IsSound}
 use Rattle.heap_core.specs.Core.{Core, core}
-use Rattle.heap_core.specs.Events.{
-  IsSoundCore,
-  CanSplit,
-  after_split,
-  CanJoin,
-  after_join,
-  CanLoadHeader,
-  after_load_header,
-  CanLoadWord,
-  after_load_word,
-  LiveAt,
-  view_at,
-  CanFlatten,
-  after_flatten,
-  CanThinTo,
-  after_thin,
-  CanLoadSlot,
-  after_load_slot,
-  CanTakeSlot,
-  after_take_slot,
-  Kept,
-}
+use Rattle.heap_core.specs.Events.{IsSoundCore, CanSplit, after_split, CanJoin, after_join, CanLoadHeader, after_load_header, CanLoadWord, after_load_word}
+use Rattle.heap_core.specs.Events.{LiveAt, view_at, CanFlatten, after_flatten, CanThinTo, after_thin, CanLoadSlot, after_load_slot, CanTakeSlot}
+use Rattle.heap_core.specs.Events.{after_take_slot, Kept}
 use Rattle.heap_rule.proofs.ListLemmas.{at_index}
 use Rattle.heap_rule.proofs.KindsKept.{form_loaded, length_loaded, word_loaded, slot_loaded, birth_by, kinds_keep}
 use Rattle.heap_rule.proofs.Steps.{sizes_are}

@@ -1,36 +1,6 @@
 -- What the executable steps on slots do to the machine, as plain data.
-use Rattle.std.proofs.Common.{
-  ◌≡◌,
-  ℕ,
-  zero,
-  suc,
-  ◌+◌,
-  ◌/◌,
-  ◌%◌,
-  ◌^◌,
-  cond,
-  eqb,
-  refl,
-  ◌<◌,
-  ⊎_elim,
-  Bool,
-  true,
-  false,
-  List,
-  length,
-  get_or,
-  set,
-  sym,
-  ap,
-  ◌∙◌,
-  subst,
-  arith,
-  Some,
-  Option,
-  Result,
-  Ok,
-  Err,
-}
+use Rattle.std.proofs.Common.{◌≡◌, ℕ, zero, suc, ◌+◌, ◌/◌, ◌%◌, ◌^◌, cond, eqb, refl, ◌<◌, ⊎_elim, Bool, true, false, List, length, get_or, set, sym, ap, ◌∙◌}
+use Rattle.std.proofs.Common.{subst, arith, Some, Option, Result, Ok, Err}
 use Rattle.js_header.specs.Form.{IsInRange, form_of, word_of, form_by_tag, first_field, second_field, is_wide_word, is_fixed}
 use Rattle.heap_rule.proofs.Learning.{if_some}
 use Rattle.std.proofs.Math.Nat.{mod-lt}

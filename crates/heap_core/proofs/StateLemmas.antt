@@ -1,42 +1,6 @@
 -- What the executable steps do to the machine, as plain data.
-use Rattle.std.proofs.Common.{
-  ◌≡◌,
-  ◌≢◌,
-  ℕ,
-  zero,
-  suc,
-  ◌+◌,
-  ◌^◌,
-  ◌<◌,
-  ◌≤◌,
-  ⊎_elim,
-  Bool,
-  true,
-  false,
-  cond,
-  List,
-  [],
-  ◌∷◌,
-  ◌++◌,
-  length,
-  get_or,
-  set,
-  sym,
-  refl,
-  ap,
-  ◌∙◌,
-  subst,
-  arith,
-  IsTrue,
-  Option,
-  Some,
-  None,
-  Bor,
-  Ok,
-  eqb,
-  eq-eqb,
-  ne_eqb,
-}
+use Rattle.std.proofs.Common.{◌≡◌, ◌≢◌, ℕ, zero, suc, ◌+◌, ◌^◌, ◌<◌, ◌≤◌, ⊎_elim, Bool, true, false, cond, List, [], ◌∷◌, ◌++◌, length, get_or, set, sym, refl}
+use Rattle.std.proofs.Common.{ap, ◌∙◌, subst, arith, IsTrue, Option, Some, None, Bor, Ok, eqb, eq-eqb, ne_eqb}
 use Rattle.std.specs.Prelude.{unwrap_or, is_some, IfSome, IsNone}
 use Rattle.std.proofs.lemmas.List.{set-get_or, set-append_left}
 use Rattle.std.proofs.Math.ListN.{get_or-append}

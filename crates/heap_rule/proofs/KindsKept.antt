@@ -1,35 +1,6 @@
 -- Each kind of step keeps the rule and the units of every born id.
-use Rattle.std.proofs.Common.{
-  ◌≡◌,
-  ℕ,
-  zero,
-  suc,
-  ◌+◌,
-  ◌<◌,
-  Bool,
-  true,
-  false,
-  cond,
-  List,
-  [],
-  ◌∷◌,
-  ◌++◌,
-  length,
-  get_or,
-  set,
-  eqb,
-  eqb-true,
-  ne_eqb,
-  arith,
-  Option,
-  Some,
-  None,
-  sym,
-  refl,
-  ap,
-  ◌∙◌,
-  subst,
-}
+use Rattle.std.proofs.Common.{◌≡◌, ℕ, zero, suc, ◌+◌, ◌<◌, Bool, true, false, cond, List, [], ◌∷◌, ◌++◌, length, get_or, set, eqb, eqb-true, ne_eqb, arith}
+use Rattle.std.proofs.Common.{Option, Some, None, sym, refl, ap, ◌∙◌, subst}
 use Rattle.std.specs.Prelude.{unwrap_or}
 use Rattle.std.proofs.lemmas.List.{set-get_or}
 use Rattle.std.specs.FinMap.{get, insert, contains_key}
@@ -52,28 +23,8 @@ use Rattle.heap_rule.specs.Loads.{with_form, loaded_form, loaded_length, MayLoad
 use Rattle.heap_rule.specs.HeaderMoves.{seen_form, MayFlatten, flattened, MayThin}
 use Rattle.heap_rule.specs.Slots.{with_slot, MayEnter, loaded_slot, Differs, MayTakeSlot, took_slot}
 use Rattle.heap_rule.specs.Sound.{At, IsSound}
-use Rattle.heap_rule.specs.Kinds.{
-  StepKind,
-  load_counter,
-  claim,
-  store_word,
-  store_length,
-  birth,
-  load_form,
-  load_length,
-  load_word,
-  flatten,
-  thin,
-  load_slot,
-  take_slot,
-  MayCome,
-  place_of,
-  access_of,
-  word_left,
-  view_after,
-  KeepsRule,
-  KindsKeep,
-}
+use Rattle.heap_rule.specs.Kinds.{StepKind, load_counter, claim, store_word, store_length, birth, load_form, load_length, load_word, flatten, thin, load_slot}
+use Rattle.heap_rule.specs.Kinds.{take_slot, MayCome, place_of, access_of, word_left, view_after, KeepsRule, KindsKeep}
 use Rattle.heap_rule.proofs.ListLemmas.{set_there}
 use Rattle.heap_rule.proofs.Agreement.{Agrees, born_then, units_stay}
 use Rattle.heap_rule.proofs.Steps.{keeps_loaded_counter, keeps_won_claim, agrees_won_claim, keeps_stored_word, agrees_stored_word, keeps_stored_length, agrees_stored_length, sizes_are}

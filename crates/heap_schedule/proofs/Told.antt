@@ -17,28 +17,8 @@ use Rattle.heap_schedule.specs.Text.{reads, refuses, schedule_of}
 use Rattle.heap_schedule.specs.Play.{EndsAfter, all_played, machine_made, words_for}
 use Rattle.heap_schedule.specs.Kept.{WasPlayed}
 use Rattle.heap_schedule.specs.Shown.{shown_lines}
-use Rattle.heap_schedule.specs.Outcome.{
-  FileOutcome,
-  HasPlayCause,
-  IsFileRead,
-  HasNoReadFault,
-  IsShown,
-  PlayOutcome,
-  TextOutcome,
-  PlayVerdict,
-  CauseBy,
-  IsOf,
-  bad_words,
-  file_in,
-  no_memory,
-  not_of_form,
-  not_read,
-  play_status,
-  play_report,
-  stop_line,
-  too_large,
-  was_played,
-}
+use Rattle.heap_schedule.specs.Outcome.{FileOutcome, HasPlayCause, IsFileRead, HasNoReadFault, IsShown, PlayOutcome, TextOutcome, PlayVerdict, CauseBy, IsOf}
+use Rattle.heap_schedule.specs.Outcome.{bad_words, file_in, no_memory, not_of_form, not_read, play_status, play_report, stop_line, too_large, was_played}
 use Rattle.heap_schedule.proofs.Kept.{play_kept}
 use Rattle.js_io.specs.Report.{IsEnd, IsTold, Sinks, TakesAll, TakesUntil, Printed, sinks}
 

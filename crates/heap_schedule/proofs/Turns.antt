@@ -4,26 +4,8 @@ use Rattle.std.specs.List.{prefix_len}
 use Rattle.std.proofs.lemmas.List.{append_assoc, append-nil, length-append, map-append}
 use Rattle.heap_schedule.specs.Fields.{differs, fields_between}
 use Rattle.heap_schedule.specs.Lines.{Turn, named}
-use Rattle.heap_schedule.specs.Text.{
-  GivesLines,
-  GivesSchedule,
-  ScheduleLines,
-  Reading,
-  lines_after,
-  lines_from,
-  reads,
-  refuses,
-  made_then,
-  making_in,
-  onto,
-  open_line,
-  refused,
-  schedule_by,
-  schedule_of,
-  turn_in,
-  turn_then,
-  turns,
-}
+use Rattle.heap_schedule.specs.Text.{GivesLines, GivesSchedule, ScheduleLines, Reading, lines_after, lines_from, reads, refuses, made_then, making_in, onto}
+use Rattle.heap_schedule.specs.Text.{open_line, refused, schedule_by, schedule_of, turn_in, turn_then, turns}
 use Rattle.heap_schedule.specs.declared.line.Line.{Line}
 use Rattle.heap_schedule.specs.declared.line.Making.{Making}
 use Rattle.heap_schedule.specs.declared.text.TextStop.{TextStop}

@@ -1,39 +1,6 @@
 -- Each step of the table keeps the rule.
-use Rattle.std.proofs.Common.{
-  ◌≡◌,
-  ◌≢◌,
-  ℕ,
-  zero,
-  suc,
-  [],
-  ◌∷◌,
-  ◌+◌,
-  ◌^◌,
-  ◌<◌,
-  ◌≤◌,
-  ⊎_elim,
-  ◌⊎◌,
-  eqb,
-  List,
-  length,
-  get_or,
-  set,
-  sym,
-  refl,
-  ap,
-  ◌∙◌,
-  subst,
-  arith,
-  eq-eqb,
-  ne_eqb,
-  cond,
-  Bool,
-  true,
-  false,
-  Option,
-  Some,
-  None,
-}
+use Rattle.std.proofs.Common.{◌≡◌, ◌≢◌, ℕ, zero, suc, [], ◌∷◌, ◌+◌, ◌^◌, ◌<◌, ◌≤◌, ⊎_elim, ◌⊎◌, eqb, List, length, get_or, set, sym, refl, ap, ◌∙◌, subst}
+use Rattle.std.proofs.Common.{arith, eq-eqb, ne_eqb, cond, Bool, true, false, Option, Some, None}
 use Rattle.std.specs.Prelude.{unwrap_or, is_some}
 use Rattle.std.proofs.lemmas.List.{set-get_or}
 use mathlib.Core.Option.{none, some, some-injective}
@@ -85,27 +52,8 @@ use Rattle.heap_table.specs.Taken.{taken}
 use Rattle.heap_table.proofs.Agreeing.{both_agree, taken_is}
 use Rattle.heap_table.proofs.Alike.{IsAlike, alike_flattened, alike_joined, alike_now, alike_put, alike_same, alike_split, alike_thinned, alike_unborn, now_born}
 use Rattle.heap_table.proofs.Stay.{known_form, known_length, known_word, known_birth, known_flattened, known_thinned, known_slot, known_took}
-use Rattle.heap_table.specs.Plays.{
-  Looked,
-  Noted,
-  Sat,
-  FoundCounter,
-  LoadedCounter,
-  Claimed,
-  StoredWord,
-  StoredLength,
-  GaveBirth,
-  FlattenedForm,
-  ThinnedForm,
-  LoadedForm,
-  LoadedLength,
-  LoadedWord,
-  SawSlot,
-  TookSlot,
-  FoundForm,
-  FoundSlot,
-  StaysSound,
-}
+use Rattle.heap_table.specs.Plays.{Looked, Noted, Sat, FoundCounter, LoadedCounter, Claimed, StoredWord, StoredLength, GaveBirth, FlattenedForm, ThinnedForm}
+use Rattle.heap_table.specs.Plays.{LoadedForm, LoadedLength, LoadedWord, SawSlot, TookSlot, FoundForm, FoundSlot, StaysSound}
 use Rattle.heap_table.specs.Agents.{Belongs}
 use Rattle.heap_table.specs.Known.{KeepsKnown}
 use Rattle.heap_table.specs.declared.agent.Agent.{Agent}

@@ -1,35 +1,6 @@
 -- One lemma for each kind of expression, and for its early end.
-use Rattle.std.proofs.Common.{
-  arith,
-  ◌≡◌,
-  ℕ,
-  List,
-  [],
-  ◌∷◌,
-  refl,
-  ap,
-  ◌∙◌,
-  sym,
-  subst,
-  ◌<◌,
-  ◌+◌,
-  length,
-  get_or,
-  drop,
-  Bool,
-  true,
-  false,
-  if◌then◌else◌,
-  Option,
-  Some,
-  None,
-  option_map,
-  Vec,
-  Global,
-  Result,
-  Ok,
-  Err,
-}
+use Rattle.std.proofs.Common.{arith, ◌≡◌, ℕ, List, [], ◌∷◌, refl, ap, ◌∙◌, sym, subst, ◌<◌, ◌+◌, length, get_or, drop, Bool, true, false, if◌then◌else◌, Option}
+use Rattle.std.proofs.Common.{Some, None, option_map, Vec, Global, Result, Ok, Err}
 use Rattle.js_store.specs.State.{State, Grows}
 use Rattle.js_store.specs.Faults.{StoreStep}
 use Rattle.js_store.specs.declared.faults.StoreFault.TheVariants.{Memory}
@@ -39,31 +10,8 @@ use Rattle.eval_tree.specs.declared.tree.Link.{Link}
 use Rattle.eval_tree.specs.declared.tree.PostStep.{PostStep}
 use Rattle.eval_tree.specs.declared.tree.Method.{Method}
 use Rattle.eval_tree.specs.declared.tree.Builtin.{Builtin}
-use Rattle.eval_tree.specs.Tree.{
-  ExprTree,
-  chain,
-  unary,
-  conditional,
-  post,
-  builtin,
-  Links,
-  StepList,
-  Exprs,
-  LinkTree,
-  StepTree,
-  of_length,
-  of_description,
-  of_call,
-  of_index,
-  of_property,
-  with_step,
-  expr_tree,
-  link_tree,
-  links_tree,
-  step_tree,
-  steps_tree,
-  exprs_tree,
-}
+use Rattle.eval_tree.specs.Tree.{ExprTree, chain, unary, conditional, post, builtin, Links, StepList, Exprs, LinkTree, StepTree, of_length, of_description}
+use Rattle.eval_tree.specs.Tree.{of_call, of_index, of_property, with_step, expr_tree, link_tree, links_tree, step_tree, steps_tree, exprs_tree}
 use Rattle.js_item.specs.declared.item.Item.{Item}
 use Rattle.js_item.specs.declared.item.Item.TheVariants.{Undefined, Null, Bool as Boolean, Number, Text, Symbol, List as Listed, Object}
 use Rattle.eval_values.specs.declared.value.Kind.TheVariants.{ReferenceError}

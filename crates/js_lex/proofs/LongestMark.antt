@@ -1,34 +1,9 @@
 -- The mark that is taken is the longest.
 use Rattle.std.proofs.Common.{◌≡◌, ℕ, ◌≤◌, List, [], ◌∷◌, ◌++◌, length, Option, Some, None, refl, sym, ap, ◌∙◌, subst, arith}
 use Rattle.js_lex.specs.declared.token.Mark.{Mark}
-use Rattle.js_lex.specs.declared.token.Mark.TheVariants.{
-  StrictEqual,
-  StrictUnequal,
-  AtMost,
-  AtLeast,
-  And,
-  Or,
-  AddAssign,
-  Increment,
-  Decrement,
-  OpenBrace,
-  CloseBrace,
-  OpenParen,
-  CloseParen,
-  OpenBracket,
-  CloseBracket,
-  Point,
-  Semicolon,
-  Comma,
-  Less,
-  Greater,
-  Plus,
-  Minus,
-  Not,
-  Question,
-  Colon,
-  Assign,
-}
+use Rattle.js_lex.specs.declared.token.Mark.TheVariants.{StrictEqual, StrictUnequal, AtMost, AtLeast, And, Or, AddAssign, Increment, Decrement, OpenBrace}
+use Rattle.js_lex.specs.declared.token.Mark.TheVariants.{CloseBrace, OpenParen, CloseParen, OpenBracket, CloseBracket, Point, Semicolon, Comma, Less, Greater}
+use Rattle.js_lex.specs.declared.token.Mark.TheVariants.{Plus, Minus, Not, Question, Colon, Assign}
 use Rattle.js_lex.specs.MarkReader.{mark_front, or_else, one_front, two_front, three_front}
 use Rattle.js_lex.specs.Marks.{spelling}
 

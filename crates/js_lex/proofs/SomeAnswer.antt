@@ -12,30 +12,8 @@ use Rattle.js_literal.specs.declared.fault.NumberFault.{NumberFault}
 use Rattle.js_literal.proofs.Places.{cut_stands}
 use Rattle.js_literal.proofs.Laws.{some_literal}
 use Rattle.js_literal.proofs.NumberLaws.{some_number}
-use Rattle.js_lex.specs.Tokens.{
-  Element,
-  End,
-  Skip,
-  TokenOf,
-  Fault,
-  ElementAt,
-  string,
-  string_fault,
-  number,
-  number_fault,
-  Lexes,
-  done,
-  skip,
-  token,
-  FailsFrom,
-  fault,
-  skip_on,
-  token_on,
-  TokensOf,
-  LexFaultOf,
-  no_text,
-  in_text,
-}
+use Rattle.js_lex.specs.Tokens.{Element, End, Skip, TokenOf, Fault, ElementAt, string, string_fault, number, number_fault, Lexes, done, skip, token, FailsFrom}
+use Rattle.js_lex.specs.Tokens.{fault, skip_on, token_on, TokensOf, LexFaultOf, no_text, in_text}
 use Rattle.js_lex.specs.Reader.{Lookahead, front, token_at}
 use Rattle.js_lex.specs.Reader as ahead
 use Rattle.js_lex.specs.declared.token.Token.{Token}

@@ -6,30 +6,8 @@ use Rattle.std.specs.Prelude.{IsUtf8, encode_utf8_all}
 use Rattle.std.proofs.lemmas.Str.{encodes-append, encodes-chars}
 use Rattle.js_literal.specs.Place.{StandsAt}
 use Rattle.js_literal.proofs.Places.{bytes_of}
-use Rattle.js_lex.specs.Tokens.{
-  Element,
-  End,
-  Skip,
-  TokenOf,
-  Fault,
-  ElementAt,
-  ended,
-  blank,
-  line,
-  block,
-  open_block,
-  word,
-  string,
-  string_fault,
-  number,
-  number_fault,
-  mark,
-  bad,
-  Lexes,
-  done,
-  skip,
-  token,
-}
+use Rattle.js_lex.specs.Tokens.{Element, End, Skip, TokenOf, Fault, ElementAt, ended, blank, line, block, open_block, word, string, string_fault, number}
+use Rattle.js_lex.specs.Tokens.{number_fault, mark, bad, Lexes, done, skip, token}
 use Rattle.js_lex.specs.Spans.{InOrder}
 use Rattle.js_lex.specs.Steps.{IsForward}
 use Rattle.js_lex.specs.declared.token.Token.{Token}

@@ -8,61 +8,13 @@ use Rattle.js_literal.specs.Place.{StandsAt}
 use Rattle.js_literal.specs.Number.{is_word_start}
 use Rattle.js_lex.specs.Elements.{is_word_part}
 use Rattle.js_lex.specs.Marks.{spelling, IsLongest}
-use Rattle.js_lex.specs.Tokens.{
-  Element,
-  End,
-  Skip,
-  TokenOf,
-  Fault,
-  ElementAt,
-  ended,
-  blank,
-  line,
-  block,
-  open_block,
-  word,
-  string,
-  string_fault,
-  number,
-  number_fault,
-  mark,
-  bad,
-  Lexes,
-  done,
-  skip,
-  token,
-  TokensOf,
-}
+use Rattle.js_lex.specs.Tokens.{Element, End, Skip, TokenOf, Fault, ElementAt, ended, blank, line, block, open_block, word, string, string_fault, number}
+use Rattle.js_lex.specs.Tokens.{number_fault, mark, bad, Lexes, done, skip, token, TokensOf}
 use Rattle.js_lex.specs.Spans.{InOrder, is_word, begins_word_part, IsWordAt, IsMarkAt, IsSpelledAt, IsSpelled, IsWithin}
 use Rattle.js_lex.specs.declared.token.Mark.{Mark}
-use Rattle.js_lex.specs.declared.token.Mark.TheVariants.{
-  StrictEqual,
-  StrictUnequal,
-  AtMost,
-  AtLeast,
-  And,
-  Or,
-  AddAssign,
-  Increment,
-  Decrement,
-  OpenBrace,
-  CloseBrace,
-  OpenParen,
-  CloseParen,
-  OpenBracket,
-  CloseBracket,
-  Point,
-  Semicolon,
-  Comma,
-  Less,
-  Greater,
-  Plus,
-  Minus,
-  Not,
-  Question,
-  Colon,
-  Assign,
-}
+use Rattle.js_lex.specs.declared.token.Mark.TheVariants.{StrictEqual, StrictUnequal, AtMost, AtLeast, And, Or, AddAssign, Increment, Decrement, OpenBrace}
+use Rattle.js_lex.specs.declared.token.Mark.TheVariants.{CloseBrace, OpenParen, CloseParen, OpenBracket, CloseBracket, Point, Semicolon, Comma, Less, Greater}
+use Rattle.js_lex.specs.declared.token.Mark.TheVariants.{Plus, Minus, Not, Question, Colon, Assign}
 use Rattle.js_lex.specs.declared.token.Token.{Token}
 use Rattle.js_lex.specs.declared.token.LexFault.{LexFault}
 use Rattle.js_lex.proofs.Spans.{in_order, span_of}

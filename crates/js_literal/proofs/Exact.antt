@@ -3,28 +3,8 @@ use Rattle.std.proofs.Common.{◌≡◌, ℕ, ◌+◌, ◌*◌, List, [], ◌∷
 use Rattle.std.proofs.lemmas.Bool.Decides.{nat_tests}
 use Rattle.std.specs.Prelude.{nat_le, ◌&&◌, ◌||◌}
 use Rattle.js_units.specs.Text.{utf16_of}
-use Rattle.js_literal.specs.Literal.{
-  is_quote,
-  hex_value,
-  hex_number,
-  letter_unit,
-  is_plain,
-  is_itself,
-  LiteralPiece,
-  plain,
-  letter,
-  null,
-  two,
-  four,
-  braces,
-  both_ends,
-  return,
-  line_end,
-  itself,
-  RawLineEnd,
-  CodePointTooLarge,
-  LegacyOctal,
-}
+use Rattle.js_literal.specs.Literal.{is_quote, hex_value, hex_number, letter_unit, is_plain, is_itself, LiteralPiece, plain, letter, null, two, four, braces}
+use Rattle.js_literal.specs.Literal.{both_ends, return, line_end, itself, RawLineEnd, CodePointTooLarge, LegacyOctal}
 use Rattle.js_literal.specs.Reader.{two_front, close_braces, unicode_of, one_unit, after_return, escape_of, reading, Take, Shut, Break, begins_digit, begins_line_feed}
 use Rattle.js_literal.proofs.Fronts.{front_number, two_reads, four_reads, run_reads}
 

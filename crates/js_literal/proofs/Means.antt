@@ -3,61 +3,11 @@ use Rattle.std.proofs.Common.{◌≡◌, ℕ, List, [], ◌∷◌, ◌++◌, Opt
 use Rattle.std.proofs.lemmas.Bool.Decides.{nat_tests}
 use Rattle.std.specs.Prelude.{nat_le, ◌&&◌, ◌||◌}
 use Rattle.js_units.specs.Text.{utf16_of}
-use Rattle.js_literal.specs.Literal.{
-  is_quote,
-  hex_number,
-  letter_unit,
-  is_plain,
-  is_itself,
-  LiteralPiece,
-  plain,
-  letter,
-  null,
-  two,
-  four,
-  braces,
-  both_ends,
-  return,
-  line_end,
-  itself,
-  StringFaultKind,
-  Unclosed,
-  RawLineEnd,
-  BadEscape,
-  CodePointTooLarge,
-  LegacyOctal,
-  IsCodePointTooLarge,
-  large,
-  Breaks,
-  ended,
-  ended_escape,
-  raw_line_end,
-  octal,
-  octal_zero,
-  too_large,
-  bad,
-}
-use Rattle.js_literal.specs.Reader.{
-  hex_front,
-  two_front,
-  four_front,
-  hex_run,
-  run_braces,
-  close_braces,
-  braces_of,
-  unicode_of,
-  one_unit,
-  after_return,
-  other_escape,
-  chosen_escape,
-  escape_of,
-  reading,
-  Reading,
-  Take,
-  Shut,
-  Break,
-  begins_digit,
-}
+use Rattle.js_literal.specs.Literal.{is_quote, hex_number, letter_unit, is_plain, is_itself, LiteralPiece, plain, letter, null, two, four, braces, both_ends}
+use Rattle.js_literal.specs.Literal.{return, line_end, itself, StringFaultKind, Unclosed, RawLineEnd, BadEscape, CodePointTooLarge, LegacyOctal}
+use Rattle.js_literal.specs.Literal.{IsCodePointTooLarge, large, Breaks, ended, ended_escape, raw_line_end, octal, octal_zero, too_large, bad}
+use Rattle.js_literal.specs.Reader.{hex_front, two_front, four_front, hex_run, run_braces, close_braces, braces_of, unicode_of, one_unit, after_return}
+use Rattle.js_literal.specs.Reader.{other_escape, chosen_escape, escape_of, reading, Reading, Take, Shut, Break, begins_digit}
 use Rattle.js_literal.proofs.Fronts.{front_some, two_some, four_some, run_some}
 use Rattle.js_literal.proofs.Exact.{is, at_backslash, null_looks, x_looks, u_looks, braces_looks, octal_looks, piece_looks}
 

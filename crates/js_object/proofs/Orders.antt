@@ -1,36 +1,6 @@
 -- Elements whose indexes differ have one order, and `ordered` gives it.
-use Rattle.std.proofs.Common.{
-  inl,
-  inr,
-  arith,
-  ◌≡◌,
-  ℕ,
-  zero,
-  suc,
-  ◌+◌,
-  ◌<◌,
-  ◌≤◌,
-  cond,
-  true,
-  false,
-  Option,
-  Some,
-  None,
-  List,
-  [],
-  ◌∷◌,
-  ◌++◌,
-  map,
-  filter,
-  length,
-  get_or,
-  refl,
-  sym,
-  ap,
-  subst,
-  ◌∙◌,
-  Bool,
-}
+use Rattle.std.proofs.Common.{inl, inr, arith, ◌≡◌, ℕ, zero, suc, ◌+◌, ◌<◌, ◌≤◌, cond, true, false, Option, Some, None, List, [], ◌∷◌, ◌++◌, map, filter}
+use Rattle.std.proofs.Common.{length, get_or, refl, sym, ap, subst, ◌∙◌, Bool}
 use Rattle.std.specs.Prelude.{◌⊎◌, IsSome, Contains, bytes_eq}
 use Rattle.std.specs.Option.{is_none}
 use Rattle.std.specs.List.{IsDistinct, AllByRecursion}

@@ -1,39 +1,6 @@
 -- The parts of a string, one after another.
-use Rattle.std.proofs.Common.{
-  arith,
-  ◌≡◌,
-  ℕ,
-  zero,
-  suc,
-  ◌+◌,
-  ◌-◌,
-  ◌<◌,
-  ◌≤◌,
-  min,
-  max,
-  List,
-  [],
-  ◌∷◌,
-  ◌++◌,
-  length,
-  length-append,
-  refl,
-  ap,
-  sym,
-  ◌∙◌,
-  subst,
-  take,
-  drop,
-  get_or,
-  append_assoc,
-  append-nil,
-  cond,
-  Bool,
-  true,
-  false,
-  inl,
-  inr,
-}
+use Rattle.std.proofs.Common.{arith, ◌≡◌, ℕ, zero, suc, ◌+◌, ◌-◌, ◌<◌, ◌≤◌, min, max, List, [], ◌∷◌, ◌++◌, length, length-append, refl, ap, sym, ◌∙◌, subst}
+use Rattle.std.proofs.Common.{take, drop, get_or, append_assoc, append-nil, cond, Bool, true, false, inl, inr}
 use Rattle.std.specs.Prelude.{Option, Some, None, slice_range, nat_lt, if◌then◌else◌}
 use Rattle.std.proofs.lemmas.List.{get_or_default, map-append, length-map, length-take, length-drop, take_all}
 use Rattle.std.proofs.lemmas.Bool.Decides.{leb_tells}

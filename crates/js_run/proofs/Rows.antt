@@ -17,26 +17,8 @@ use Rattle.js_run.specs.Cause.{HasCauseBy, OfTexts, names_in}
 use Rattle.js_io.specs.Report.{TakesAll, IsTold, IsEnd, Report, Refusal, Printed, Sinks}
 use Rattle.js_run.specs.Outcome.{CallOutcome}
 use Rattle.js_run.specs.Rows as row
-use Rattle.js_run.specs.Rows.{
-  NoFault,
-  OrWant,
-  Exactly,
-  IsFileFault,
-  IsToldLarge,
-  IsNoScript,
-  IsToldRefused,
-  HasRefusalStatus,
-  IsRefusalTold,
-  IsMemory,
-  HasRun,
-  Prints,
-  PrintsAll,
-  PrintsEarly,
-  PrintsFull,
-  IsCutShort,
-  IsHonest,
-  IsDone,
-}
+use Rattle.js_run.specs.Rows.{NoFault, OrWant, Exactly, IsFileFault, IsToldLarge, IsNoScript, IsToldRefused, HasRefusalStatus, IsRefusalTold, IsMemory, HasRun}
+use Rattle.js_run.specs.Rows.{Prints, PrintsAll, PrintsEarly, PrintsFull, IsCutShort, IsHonest, IsDone}
 use Rattle.js_run.proofs.Contents.{OneScript, NoneRefused, not_large, read_small, none_refused, same_trees, texts_read, texts_same}
 use Rattle.js_run.proofs.Ends.{IsRunStatus, status_is, done_status, done_out, done_err, early_status, full_first, complete}
 

@@ -1,38 +1,6 @@
 -- The strings of a list, one after another.
-use Rattle.std.proofs.Common.{
-  arith,
-  add-one,
-  drop-cons,
-  ◌≡◌,
-  ℕ,
-  zero,
-  suc,
-  ◌+◌,
-  ◌≤◌,
-  ◌<◌,
-  Bool,
-  true,
-  false,
-  IsTrue,
-  List,
-  [],
-  ◌∷◌,
-  map,
-  refl,
-  subst,
-  ap,
-  sym,
-  ◌∙◌,
-  length,
-  get_or,
-  take,
-  drop,
-  ◌-◌,
-  Result,
-  Ok,
-  Err,
-  Some,
-}
+use Rattle.std.proofs.Common.{arith, add-one, drop-cons, ◌≡◌, ℕ, zero, suc, ◌+◌, ◌≤◌, ◌<◌, Bool, true, false, IsTrue, List, [], ◌∷◌, map, refl, subst, ap, sym}
+use Rattle.std.proofs.Common.{◌∙◌, length, get_or, take, drop, ◌-◌, Result, Ok, Err, Some}
 use Rattle.std.proofs.Math.Seq.{take-length}
 use Rattle.std.proofs.lemmas.List.{length-drop}
 use Rattle.std.proofs.lemmas.Option.{slice_get-get_or}

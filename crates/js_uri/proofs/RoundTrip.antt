@@ -1,39 +1,6 @@
 -- Decoding what encoding made.
-use Rattle.std.proofs.Common.{
-  ◌≡◌,
-  ℕ,
-  zero,
-  suc,
-  ◌+◌,
-  ◌-◌,
-  ◌*◌,
-  ◌/◌,
-  ◌%◌,
-  ◌<◌,
-  ◌≤◌,
-  List,
-  [],
-  ◌∷◌,
-  ◌++◌,
-  length,
-  drop,
-  Bool,
-  true,
-  false,
-  Option,
-  Some,
-  None,
-  Ok,
-  Err,
-  arith,
-  refl,
-  ap,
-  sym,
-  ◌∙◌,
-  inl,
-  inr,
-  All,
-}
+use Rattle.std.proofs.Common.{◌≡◌, ℕ, zero, suc, ◌+◌, ◌-◌, ◌*◌, ◌/◌, ◌%◌, ◌<◌, ◌≤◌, List, [], ◌∷◌, ◌++◌, length, drop, Bool, true, false, Option, Some, None}
+use Rattle.std.proofs.Common.{Ok, Err, arith, refl, ap, sym, ◌∙◌, inl, inr, All}
 use Rattle.std.specs.Prelude.{◌&&◌, ◌||◌, ◌==◌, nat_eq, nat_lt, if◌then◌else◌, encode_utf8, bytes_eq, flat_map}
 use Rattle.std.specs.List.{list_all}
 use Rattle.std.proofs.lemmas.Bool.{cases_eq, cases_lt, cases_Bool, and_parts, and_from, not-true, eqb-true, ne_eqb, lt-ltb, le-ltb, ltb-true, leb-true, cond-true, cond-false}
@@ -43,25 +10,8 @@ use Rattle.js_units.specs.Text.{is_lead, is_trail, pair_value, points, utf16_of}
 use Rattle.js_uri.specs.Outcome.{UriOutcome, uri_after, after_some, uri_and_then}
 use Rattle.js_uri.specs.Sets.{no_hold}
 use Rattle.js_uri.specs.Encoding.{upper_hex, escape, escapes, encoded_point, encoded_points}
-use Rattle.js_uri.specs.Decoding.{
-  DecodedPart,
-  digit,
-  byte_of,
-  escaped_byte,
-  cons_bytes,
-  escaped_bytes,
-  sequence_len,
-  bits,
-  is_scalar,
-  spelled_by,
-  utf8_point,
-  ascii_part,
-  point_part,
-  escaped_part,
-  after_part,
-  decoded_behind,
-  decoded,
-}
+use Rattle.js_uri.specs.Decoding.{DecodedPart, digit, byte_of, escaped_byte, cons_bytes, escaped_bytes, sequence_len, bits, is_scalar, spelled_by, utf8_point}
+use Rattle.js_uri.specs.Decoding.{ascii_part, point_part, escaped_part, after_part, decoded_behind, decoded}
 use Rattle.js_uri.specs.Decoding.{first_part}
 use Rattle.js_uri.specs.Laws.{Undoes}
 use Rattle.js_uri.proofs.Escapes.{length-escapes}

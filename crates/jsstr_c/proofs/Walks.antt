@@ -15,39 +15,8 @@ pub use prog.Routine.{Routine}
 pub use prog.Wp.{WpFn, Tables}
 pub use sound.WpLaws.{fm_of, WpFn-mono}
 pub use types.Logic.{Logic, sem}
-pub use types.Kit.{
-  Item,
-  ‵,
-  raw,
-  ◌⊛◌,
-  some,
-  later,
-  prop,
-  at_ret,
-  ◌$◌,
-  ◌∵◌,
-  !,
-  qed,
-  done,
-  move,
-  keep,
-  drop,
-  use1,
-  split,
-  split3,
-  join,
-  fsplit,
-  fjoin,
-  fpick,
-  fpack,
-  feq_l,
-  feq_i,
-  pick,
-  await,
-  rewrite,
-  regoal,
-  suffices,
-}
+pub use types.Kit.{Item, ‵, raw, ◌⊛◌, some, later, prop, at_ret, ◌$◌, ◌∵◌, !, qed, done, move, keep, drop, use1, split, split3, join, fsplit, fjoin, fpick}
+pub use types.Kit.{fpack, feq_l, feq_i, pick, await, rewrite, regoal, suffices}
 pub use types.Part.{whole, sub, agg}
 pub use types.Run.{stop, fld, no_more, and_then, of_opd, first, blocks, exec, enter, returns}
 pub use types.ByLocal.{alloc_all, pass_all, free_all, look_at, get, get_in, sets, lands_as, lands_last, env}

@@ -10,21 +10,8 @@ use Rattle.parse_syntax.specs.declared.token.GrammarToken.{GrammarToken}
 use Rattle.parse_syntax.specs.Tables.{TokenTables}
 use Rattle.eval_tree.specs.Tree.{ExprTree}
 use Rattle.parse_syntax.proofs.Stops.{begins_unary, is_step}
-use Rattle.parse_syntax.proofs.Expressions.{
-  Inner,
-  step_part,
-  step_starts,
-  unary_part,
-  unary_starts,
-  sum_part,
-  sum_starts,
-  comparison_part,
-  comparison_starts,
-  equality_part,
-  equality_starts,
-  conjunction_part,
-  conjunction_starts,
-}
+use Rattle.parse_syntax.proofs.Expressions.{Inner, step_part, step_starts, unary_part, unary_starts, sum_part, sum_starts, comparison_part, comparison_starts}
+use Rattle.parse_syntax.proofs.Expressions.{equality_part, equality_starts, conjunction_part, conjunction_starts}
 use Rattle.parse_syntax.proofs.Scripts.{lowest, inner_levels, same_expressions}
 use Rattle.parse_look.specs.declared.look.Level.{Level}
 use Rattle.parse_look.specs.declared.look.Level.TheVariants as level

@@ -14,25 +14,8 @@ use Rattle.parse_syntax.specs.Terminals.{Identifier, directive, name, assign_op}
 use Rattle.parse_syntax.specs.Grammar.{pair_of, assign_of}
 use Rattle.parse_syntax.specs.Reading.{no_inside, print_of, arm_of, if_of, inside_of, let_of, const_of, for_of}
 use Rattle.parse_syntax.specs.Reading.{goes_on, read_at, read_header, read_strict, read_statements}
-use Rattle.parse_statements.specs.At.{
-  inner_statement,
-  expression_at,
-  args_at,
-  parens_at,
-  init_at,
-  let_at,
-  const_at,
-  assign_at,
-  print_at,
-  statement_at,
-  statements_at,
-  block_at,
-  arm_at,
-  others_at,
-  rest_at,
-  if_at,
-  for_at,
-}
+use Rattle.parse_statements.specs.At.{inner_statement, expression_at, args_at, parens_at, init_at, let_at, const_at, assign_at, print_at, statement_at}
+use Rattle.parse_statements.specs.At.{statements_at, block_at, arm_at, others_at, rest_at, if_at, for_at}
 use Rattle.parse_statements.proofs.Rooms.{room_for, no_room_for, bind_got, bind_bind, word_then, head_of, less_one}
 use Rattle.parse_syntax.specs.MarksAndWords.{semicolon, assign_mark, let_word, const_word, print_word, open_brace, close_brace, else_word, if_word}
 

@@ -23,25 +23,8 @@ use Rattle.parse_look.specs.declared.look.Level.TheVariants as level
 use Rattle.parse_look.specs.declared.look.Opener.{Opener}
 use Rattle.parse_look.specs.declared.look.Opener.TheVariants as opener
 use Rattle.parse_look.specs.Look.{opener_of, openers, read_string_called, read_called}
-use Rattle.parse_statements.specs.At.{
-  has_room,
-  inner,
-  parens_at,
-  args_at,
-  given_at,
-  builtin_at,
-  entry_at,
-  members_at,
-  literal_at,
-  primary_at,
-  member_at,
-  step_at,
-  post_at,
-  unary_at,
-  chain_at,
-  branches_at,
-  expression_at,
-}
+use Rattle.parse_statements.specs.At.{has_room, inner, parens_at, args_at, given_at, builtin_at, entry_at, members_at, literal_at, primary_at, member_at}
+use Rattle.parse_statements.specs.At.{step_at, post_at, unary_at, chain_at, branches_at, expression_at}
 use Rattle.std.specs.Prelude.{is_some}
 use Rattle.parse_syntax.specs.MarksAndWords.{opening, closing, open_bracket, close_bracket, open_literal, point, question, colon, sign, string_word, symbol_word, json_word, object_word, uri_function}
 

@@ -6,45 +6,10 @@ use Rattle.parse_syntax.specs.Lang.{Lang, One, one, Then, both, Mapped, mapped, 
 use Rattle.parse_syntax.specs.Reader.{TokenReader, SyntaxFaultKind, map_by, and_then, one_of, choose, heads, keep_first, keep_second}
 use Rattle.parse_syntax.proofs.Laws.{Holds}
 use Rattle.parse_syntax.proofs.Wider.{Begins, Starts, one_starts, then_starts, either_starts, head_gives, some_of}
-use Rattle.parse_syntax.proofs.Part.{
-  anything,
-  Branch,
-  Part,
-  both_hold,
-  one_part,
-  then_part,
-  next_part,
-  map_part,
-  branch,
-  sooner,
-  part_of,
-  choose_branch,
-  nothing_branch,
-  heads_test,
-  Rooms,
-  then_strict,
-  map_strict,
-  open_branch,
-  many_part,
-}
-use Rattle.parse_syntax.proofs.Heads.{
-  one_heads,
-  then_heads,
-  mapped_heads,
-  then_some,
-  begins_length,
-  either_lacks,
-  room_of,
-  in_room,
-  deeper,
-  over,
-  one_lacks,
-  then_lacks,
-  lacks,
-  one_over,
-  first_over,
-  lower,
-}
+use Rattle.parse_syntax.proofs.Part.{anything, Branch, Part, both_hold, one_part, then_part, next_part, map_part, branch, sooner, part_of, choose_branch}
+use Rattle.parse_syntax.proofs.Part.{nothing_branch, heads_test, Rooms, then_strict, map_strict, open_branch, many_part}
+use Rattle.parse_syntax.proofs.Heads.{one_heads, then_heads, mapped_heads, then_some, begins_length, either_lacks, room_of, in_room, deeper, over, one_lacks}
+use Rattle.parse_syntax.proofs.Heads.{then_lacks, lacks, one_over, first_over, lower}
 use Rattle.parse_syntax.specs.declared.token.GrammarToken.{GrammarToken}
 use Rattle.parse_syntax.specs.declared.token.GrammarKind.{GrammarKind}
 use Rattle.parse_syntax.specs.declared.token.GrammarKind.TheVariants as kind
@@ -60,108 +25,18 @@ use Rattle.parse_syntax.specs.Terminals.{member_word, property_word, method, key
 use Rattle.parse_syntax.specs.Grammar
 use Rattle.parse_syntax.specs.Grammar.{pair_of, method_step, builtin_of, post_of, chain_of, cond_of}
 use Rattle.parse_syntax.specs.Reading.{method_args, index, branches, single_of, index_read, object_of, uri_of, plain_string, unary_of, branches_of, list_of, none_of, link_of}
-use Rattle.parse_syntax.specs.Reading.{
-  read_parens,
-  read_items,
-  read_args,
-  read_string,
-  read_symbol,
-  read_json,
-  read_uri,
-  read_object_call,
-  read_entry,
-  read_entries,
-  read_members,
-  read_literal,
-  read_primary,
-  read_method_args,
-  read_word,
-  read_member,
-  read_index,
-  read_step,
-  step_mark,
-  read_post,
-  read_unary,
-  read_chain,
-  read_sum,
-  read_comparison,
-  read_equality,
-  read_conjunction,
-  read_disjunction,
-  read_branches,
-  read_conditional,
-}
-use Rattle.parse_syntax.proofs.Stops.{
-  sample,
-  with_kind,
-  stops,
-  stops_more,
-  HasLevel,
-  question_level,
-  or_level,
-  and_level,
-  equal_level,
-  compare_level,
-  sum_level,
-  step_level,
-  opening_level,
-  colon_level,
-  closing_level,
-  close_bracket_level,
-  close_brace_level,
-  comma_level,
-  none_of_level,
-  class,
-  simple_of,
-  opening_of,
-  string_of,
-  symbol_of,
-  json_of,
-  uri_function_of,
-  literal_of,
-  sign_of,
-  begins_unary,
-  sign_begins,
-  primary_begins,
-  no_closing,
-  part,
-  point_of,
-  bracket_of,
-  paren_of,
-  member_of,
-  property_of,
-  is_step,
-  point_step,
-  bracket_step,
-  step_no_args,
-  entry_class,
-  key_of,
-  close_brace_of,
-}
+use Rattle.parse_syntax.specs.Reading.{read_parens, read_items, read_args, read_string, read_symbol, read_json, read_uri, read_object_call, read_entry}
+use Rattle.parse_syntax.specs.Reading.{read_entries, read_members, read_literal, read_primary, read_method_args, read_word, read_member, read_index, read_step}
+use Rattle.parse_syntax.specs.Reading.{step_mark, read_post, read_unary, read_chain, read_sum, read_comparison, read_equality, read_conjunction}
+use Rattle.parse_syntax.specs.Reading.{read_disjunction, read_branches, read_conditional}
+use Rattle.parse_syntax.proofs.Stops.{sample, with_kind, stops, stops_more, HasLevel, question_level, or_level, and_level, equal_level, compare_level}
+use Rattle.parse_syntax.proofs.Stops.{sum_level, step_level, opening_level, colon_level, closing_level, close_bracket_level, close_brace_level, comma_level}
+use Rattle.parse_syntax.proofs.Stops.{none_of_level, class, simple_of, opening_of, string_of, symbol_of, json_of, uri_function_of, literal_of, sign_of}
+use Rattle.parse_syntax.proofs.Stops.{begins_unary, sign_begins, primary_begins, no_closing, part, point_of, bracket_of, paren_of, member_of, property_of}
+use Rattle.parse_syntax.proofs.Stops.{is_step, point_step, bracket_step, step_no_args, entry_class, key_of, close_brace_of}
 use Rattle.parse_syntax.proofs.Stops.{object_of as object_word_of, method_of as method_word_of}
-use Rattle.parse_syntax.specs.MarksAndWords.{
-  string_word,
-  symbol_word,
-  json_word,
-  object_word,
-  uri_function,
-  opening,
-  closing,
-  open_bracket,
-  close_bracket,
-  open_literal,
-  close_brace,
-  comma,
-  point,
-  question,
-  colon,
-  sign,
-  or_op,
-  and_op,
-  equal_op,
-  compare_op,
-  sum_op,
-}
+use Rattle.parse_syntax.specs.MarksAndWords.{string_word, symbol_word, json_word, object_word, uri_function, opening, closing, open_bracket, close_bracket}
+use Rattle.parse_syntax.specs.MarksAndWords.{open_literal, close_brace, comma, point, question, colon, sign, or_op, and_op, equal_op, compare_op, sum_op}
 
 -- a token of a lower level ends what is above it
 

@@ -1,29 +1,8 @@
 -- All that is known of a reader and its language in one record, and how it is put together.
 use Rattle.std.proofs.Common.{◌≡◌, ◌<◌, List, [], ◌∷◌, ◌++◌, length, Bool, true, false, cond, Option, Some, None, refl, sym, ap, ◌∙◌, subst, arith, length-append}
 use Rattle.parse_syntax.specs.Lang.{Lang, One, one, Then, both, Bind, bound, Mapped, mapped, Nothing, nothing, Either, left, right, Many, end, Never, if_room, ◌▸◌}
-use Rattle.parse_syntax.specs.Reader.{
-  Got,
-  Bad,
-  TokenReader,
-  ◌>>=◌,
-  SyntaxFaultKind,
-  TooDeep,
-  wrong,
-  too_deep,
-  map_by,
-  and_then,
-  and_bind,
-  take_or,
-  one_of,
-  succeed,
-  opens,
-  choose,
-  all_of,
-  heads,
-  heads_two,
-  allowed,
-  keep_second,
-}
+use Rattle.parse_syntax.specs.Reader.{Got, Bad, TokenReader, ◌>>=◌, SyntaxFaultKind, TooDeep, wrong, too_deep, map_by, and_then, and_bind, take_or, one_of}
+use Rattle.parse_syntax.specs.Reader.{succeed, opens, choose, all_of, heads, heads_two, allowed, keep_second}
 use Rattle.parse_syntax.proofs.Laws.{IsLawful, Holds, then_lawful, one_lawful, map_lawful, choose_lawful, loop_lawful, within, succeed_lawful, no_room_lawful, wrong_lawful}
 use Rattle.parse_syntax.proofs.Local.{same_front, Stands, IsLocal, IsTest, IsEating, then_local, one_local, map_local, choose_local, loop_local, deep_local, wrong_local, succeed_local}
 use Rattle.parse_syntax.proofs.Wider.{IsIn, itself, then_wider, mapped_wider, either_wider, many_wider, some_of, is_some_of}

@@ -7,33 +7,9 @@ use Rattle.parse_syntax.specs.Reader.{TokenReader, SyntaxFaultKind, map_by, and_
 use Rattle.parse_syntax.proofs.Laws.{Holds}
 use Rattle.parse_syntax.proofs.Local.{SameHead, IsTest}
 use Rattle.parse_syntax.proofs.Wider.{Starts, then_starts, mapped_starts, either_starts, head_gives}
-use Rattle.parse_syntax.proofs.Part.{
-  anything,
-  Branch,
-  Part,
-  both_hold,
-  one_part,
-  then_part,
-  next_part,
-  map_part,
-  bind_part,
-  branch,
-  sooner,
-  part_of,
-  choose_branch,
-  nothing_branch,
-  never_branch,
-  heads_test,
-  Rooms,
-  then_strict,
-  first_strict,
-  map_strict,
-  open_branch,
-  IsItem,
-  many_part,
-  no_such,
-  series_part,
-}
+use Rattle.parse_syntax.proofs.Part.{anything, Branch, Part, both_hold, one_part, then_part, next_part, map_part, bind_part, branch, sooner, part_of}
+use Rattle.parse_syntax.proofs.Part.{choose_branch, nothing_branch, never_branch, heads_test, Rooms, then_strict, first_strict, map_strict, open_branch, IsItem}
+use Rattle.parse_syntax.proofs.Part.{many_part, no_such, series_part}
 use Rattle.parse_syntax.proofs.Heads.{one_heads, then_heads, begins_length, room_of, in_room, deeper, IsOf, over, none_over, then_lacks, lacks, first_over, lower}
 use Rattle.parse_syntax.specs.declared.token.GrammarToken.{GrammarToken}
 use Rattle.parse_syntax.specs.declared.token.GrammarKind.{GrammarKind}
@@ -46,25 +22,8 @@ use Rattle.parse_syntax.specs.Terminals.{Identifier, directive, name, the_name, 
 use Rattle.parse_syntax.specs.Grammar
 use Rattle.parse_syntax.specs.Grammar.{pair_of, assign_of}
 use Rattle.parse_syntax.specs.Reading.{for_header, no_inside, print_of, inside_of, arm_of, if_of, let_of, const_of, for_of}
-use Rattle.parse_syntax.specs.Reading.{
-  goes_on,
-  read_args,
-  read_parens,
-  read_block,
-  read_init,
-  read_let,
-  read_const,
-  read_assign,
-  read_print,
-  read_arm,
-  read_rest,
-  read_if,
-  read_turns,
-  read_header,
-  read_for,
-  read_statement,
-  read_strict,
-}
+use Rattle.parse_syntax.specs.Reading.{goes_on, read_args, read_parens, read_block, read_init, read_let, read_const, read_assign, read_print, read_arm}
+use Rattle.parse_syntax.specs.Reading.{read_rest, read_if, read_turns, read_header, read_for, read_statement, read_strict}
 use Rattle.parse_syntax.proofs.Stops.{sample, with_kind, stops, level_of, HasLevel, begins_unary}
 use Rattle.parse_syntax.proofs.Expressions.{one_stops, heads_stop, parens_part, args_part, no_args, held_parens, opening_part, closing_part}
 use Rattle.std.specs.Prelude.{is_some}

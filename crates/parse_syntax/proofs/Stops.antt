@@ -15,29 +15,8 @@ use Rattle.parse_syntax.specs.Tables.{TokenTables}
 use Rattle.parse_syntax.specs.Terminals.{member_word, property_word, method, key, simple, constant}
 use Rattle.parse_syntax.specs.Reading.{step_mark}
 use Rattle.std.specs.Prelude.{is_some}
-use Rattle.parse_syntax.specs.MarksAndWords.{
-  string_word,
-  symbol_word,
-  json_word,
-  object_word,
-  uri_function,
-  opening,
-  closing,
-  open_bracket,
-  close_bracket,
-  open_literal,
-  close_brace,
-  comma,
-  point,
-  question,
-  colon,
-  sign,
-  or_op,
-  and_op,
-  equal_op,
-  compare_op,
-  sum_op,
-}
+use Rattle.parse_syntax.specs.MarksAndWords.{string_word, symbol_word, json_word, object_word, uri_function, opening, closing, open_bracket, close_bracket}
+use Rattle.parse_syntax.specs.MarksAndWords.{open_literal, close_brace, comma, point, question, colon, sign, or_op, and_op, equal_op, compare_op, sum_op}
 
 -- a token of a kind, and the token with another kind
 

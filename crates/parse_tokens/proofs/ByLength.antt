@@ -1,37 +1,6 @@
 -- Reserved words by their length, and words that stand one behind the other.
-use Rattle.std.proofs.Common.{
-  ◌≡◌,
-  ℕ,
-  suc,
-  ◌+◌,
-  ◌<◌,
-  ◌≤◌,
-  Bool,
-  true,
-  false,
-  cond,
-  List,
-  [],
-  ◌∷◌,
-  ◌++◌,
-  length,
-  take,
-  drop,
-  refl,
-  sym,
-  ap,
-  ◌∙◌,
-  arith,
-  eq-eqb,
-  eqb-true,
-  take_at,
-  drop_at,
-  length-append,
-  ◌-◌,
-  take_all,
-  length-drop,
-  le_of_eq,
-}
+use Rattle.std.proofs.Common.{◌≡◌, ℕ, suc, ◌+◌, ◌<◌, ◌≤◌, Bool, true, false, cond, List, [], ◌∷◌, ◌++◌, length, take, drop, refl, sym, ap, ◌∙◌, arith, eq-eqb}
+use Rattle.std.proofs.Common.{eqb-true, take_at, drop_at, length-append, ◌-◌, take_all, length-drop, le_of_eq}
 use Rattle.std.specs.Prelude.{nat_eq, filter, ◌||◌}
 use Rattle.std.specs.List.{list_any}
 use Rattle.std.specs.Str.{bytes_eq}

@@ -1,34 +1,6 @@
 -- How the parts of a plain store stay consistent: after one more string, one more list in the table and one more answer.
-use Rattle.std.specs.Prelude.{
-  ◌≡◌,
-  ℕ,
-  zero,
-  suc,
-  ◌<◌,
-  ◌≤◌,
-  Bool,
-  true,
-  false,
-  cond,
-  List,
-  [],
-  ◌∷◌,
-  ◌++◌,
-  length,
-  Some,
-  None,
-  Result,
-  Ok,
-  Err,
-  OnOk,
-  OnErr,
-  if◌then◌else◌,
-  slice_get,
-  slice_index,
-  unwrap_or,
-  All,
-  Contains,
-}
+use Rattle.std.specs.Prelude.{◌≡◌, ℕ, zero, suc, ◌<◌, ◌≤◌, Bool, true, false, cond, List, [], ◌∷◌, ◌++◌, length, Some, None, Result, Ok, Err, OnOk, OnErr}
+use Rattle.std.specs.Prelude.{if◌then◌else◌, slice_get, slice_index, unwrap_or, All, Contains}
 use Rattle.std.proofs.Common.{length-append, arith, refl, ap, sym, subst, ◌∙◌, get_or, ◌⊎◌, inl, inr}
 use Rattle.std.proofs.lemmas.Option.{slice_get-get_or}
 use Rattle.std.proofs.lemmas.List.Elements.{All-from_get_or, All-nil, Contains-append_left}

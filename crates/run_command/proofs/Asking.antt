@@ -1,34 +1,6 @@
 -- What is asked for to be run, by what the getters of the matches answer.
-use Rattle.std.proofs.Common.{
-  ◌≡◌,
-  ◌&&◌,
-  ◌||◌,
-  ◌<◌,
-  ◌≤◌,
-  ℕ,
-  Bool,
-  true,
-  false,
-  not,
-  List,
-  [],
-  ◌∷◌,
-  length,
-  map,
-  None,
-  Some,
-  refl,
-  ap,
-  sym,
-  ◌∙◌,
-  codes,
-  is_some,
-  option_map,
-  unwrap_or,
-  arith,
-  true≢false,
-  if◌then◌else◌,
-}
+use Rattle.std.proofs.Common.{◌≡◌, ◌&&◌, ◌||◌, ◌<◌, ◌≤◌, ℕ, Bool, true, false, not, List, [], ◌∷◌, length, map, None, Some, refl, ap, sym, ◌∙◌, codes, is_some}
+use Rattle.std.proofs.Common.{option_map, unwrap_or, arith, true≢false, if◌then◌else◌}
 use Rattle.std.proofs.lemmas.Bool.{ne_eqb}
 use Rattle.std.specs.declared.option.Option.{Option}
 use Rattle.clap.specs.Walk.{is_empty}

@@ -1,40 +1,6 @@
 -- Every request of lawful words is in its ranges.
-use Rattle.std.proofs.Common.{
-  ◌≡◌,
-  ◌&&◌,
-  ◌||◌,
-  ◌+◌,
-  ◌<◌,
-  ◌≤◌,
-  ◌^◌,
-  ◌≤ℤ◌,
-  ℕ,
-  zero,
-  suc,
-  pos,
-  negsuc,
-  neg_ℤ,
-  cond,
-  Bool,
-  true,
-  false,
-  not,
-  List,
-  length,
-  None,
-  Some,
-  refl,
-  ap,
-  sym,
-  ◌∙◌,
-  codes,
-  is_some,
-  option_map,
-  unwrap_or,
-  arith,
-  subst,
-  if◌then◌else◌,
-}
+use Rattle.std.proofs.Common.{◌≡◌, ◌&&◌, ◌||◌, ◌+◌, ◌<◌, ◌≤◌, ◌^◌, ◌≤ℤ◌, ℕ, zero, suc, pos, negsuc, neg_ℤ, cond, Bool, true, false, not, List, length, None}
+use Rattle.std.proofs.Common.{Some, refl, ap, sym, ◌∙◌, codes, is_some, option_map, unwrap_or, arith, subst, if◌then◌else◌}
 use Rattle.std.proofs.lemmas.Bool.{leb-true}
 use Rattle.std.proofs.lemmas.Int.{ints}
 use Rattle.std.specs.declared.option.Option.{Option}
@@ -48,27 +14,8 @@ use Rattle.clap.proofs.ValueTestLemmas.{accepts-Accepts}
 use Rattle.clap.proofs.WalkLemmas.{both}
 use Rattle.js_store.specs.declared.limit.Limit.{Limit}
 use Rattle.run_command.specs.declared.plan.Sizes.{Sizes}
-use Rattle.run_command.specs.Words.{
-  Asked,
-  IsRequestInRange,
-  IsSomeFiles,
-  Request,
-  asked_in,
-  files,
-  files_in,
-  generated_in,
-  limit_in,
-  made_from,
-  named_in,
-  option_number,
-  request_by,
-  request_in,
-  request_with,
-  sizes_by,
-  sizes_in,
-  summary_in,
-  number_in,
-}
+use Rattle.run_command.specs.Words.{Asked, IsRequestInRange, IsSomeFiles, Request, asked_in, files, files_in, generated_in, limit_in, made_from, named_in}
+use Rattle.run_command.specs.Words.{option_number, request_by, request_in, request_with, sizes_by, sizes_in, summary_in, number_in}
 
 none≢some : {T : Type 0} (x : T) → ◌≡◌ {A = Option T} None (Some x) → ⊥
 none≢some x is = cc

@@ -1,41 +1,6 @@
 -- What the getters of the matches read of an option.
-use Rattle.std.proofs.Common.{
-  ◌≡◌,
-  ◌⊎◌,
-  ◌≤◌,
-  ◌≤ℤ◌,
-  ◌<ℤ◌,
-  ℕ,
-  zero,
-  suc,
-  ℤ,
-  pos,
-  neg_ℤ,
-  nat_abs,
-  cond,
-  w64,
-  to_z,
-  of_z,
-  FitsSigned,
-  Bool,
-  true,
-  false,
-  List,
-  None,
-  Some,
-  Ok,
-  Err,
-  refl,
-  ap,
-  subst,
-  sym,
-  ◌∙◌,
-  codes,
-  unwrap_or,
-  arith,
-  true≢false,
-  if◌then◌else◌,
-}
+use Rattle.std.proofs.Common.{◌≡◌, ◌⊎◌, ◌≤◌, ◌≤ℤ◌, ◌<ℤ◌, ℕ, zero, suc, ℤ, pos, neg_ℤ, nat_abs, cond, w64, to_z, of_z, FitsSigned, Bool, true, false, List, None}
+use Rattle.std.proofs.Common.{Some, Ok, Err, refl, ap, subst, sym, ◌∙◌, codes, unwrap_or, arith, true≢false, if◌then◌else◌}
 use Rattle.std.specs.declared.option.Option.{Option}
 use Rattle.std.specs.Prelude.{Result, option_and_then}
 use Rattle.std.specs.Result.{result_ok}

@@ -17,26 +17,8 @@ use Rattle.js_eval.specs.Script.{Flow, flow_ledger}
 use Rattle.js_eval.specs.Evaluates.{Finished, Interrupted, Evaluates}
 use Rattle.run_program.specs.declared.job.Job.{Job}
 use Rattle.run_program.specs.declared.job.Outcome.{Outcome}
-use Rattle.run_program.specs.Jobs.{
-  JobUse,
-  fault_in,
-  Reports,
-  Whole,
-  Broken,
-  HasJobEnd,
-  CameOf,
-  AtEach,
-  pairs_of,
-  ids_of,
-  words_of,
-  job_ids_needed,
-  job_words_needed,
-  most_ids_wanted,
-  most_words_wanted,
-  Later,
-  RanJobs,
-  HasNoLines,
-}
+use Rattle.run_program.specs.Jobs.{JobUse, fault_in, Reports, Whole, Broken, HasJobEnd, CameOf, AtEach, pairs_of, ids_of, words_of, job_ids_needed}
+use Rattle.run_program.specs.Jobs.{job_words_needed, most_ids_wanted, most_words_wanted, Later, RanJobs, HasNoLines}
 
 -- lists of three
 module _ {X Y Z : Type 0} where

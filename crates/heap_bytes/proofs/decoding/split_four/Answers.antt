@@ -1,12 +1,9 @@
 use Rattle.std.proofs.Common.{arith}
 use Rattle.heap_bytes.proofs.PointBytes.{by_size, spells_four}
 use Rattle.heap_bytes.proofs.decoding.split_four.Goals as goal
-use Rattle.heap_bytes.proofs.decoding.split_four.Goals.{
-  then-bytes-lt4-via-then-bytes-lt4,
-  then-bytes-lt4-via-else-bytes-lt4+then-not-continues,
-  then-bytes-lt4-via-else-bytes-lt4+else-not-continues+then-not-continues-2,
-  then-bytes-lt4-via-else-bytes-lt4+else-not-continues+else-not-continues-2+then-not-continues-3,
-}
+use Rattle.heap_bytes.proofs.decoding.split_four.Goals.{then-bytes-lt4-via-then-bytes-lt4, then-bytes-lt4-via-else-bytes-lt4+then-not-continues}
+use Rattle.heap_bytes.proofs.decoding.split_four.Goals.{then-bytes-lt4-via-else-bytes-lt4+else-not-continues+then-not-continues-2}
+use Rattle.heap_bytes.proofs.decoding.split_four.Goals.{then-bytes-lt4-via-else-bytes-lt4+else-not-continues+else-not-continues-2+then-not-continues-3}
 use Rattle.heap_bytes.proofs.decoding.split_four.Goals.{then-front-lt16-via-then-front-lt16, then-front-lt16-via-else-front-lt16+then-front-ge272}
 
 pub returns-then-bytes-lt4 : goal.returns-then-bytes-lt4

@@ -1,11 +1,8 @@
 use Rattle.std.proofs.Common.{arith}
 use Rattle.heap_bytes.proofs.PointBytes.{by_size, spells_three}
 use Rattle.heap_bytes.proofs.decoding.split_three.Goals as goal
-use Rattle.heap_bytes.proofs.decoding.split_three.Goals.{
-  then-bytes-lt3-via-then-bytes-lt3,
-  then-bytes-lt3-via-else-bytes-lt3+then-not-continues,
-  then-bytes-lt3-via-else-bytes-lt3+else-not-continues+then-not-continues-2,
-}
+use Rattle.heap_bytes.proofs.decoding.split_three.Goals.{then-bytes-lt3-via-then-bytes-lt3, then-bytes-lt3-via-else-bytes-lt3+then-not-continues}
+use Rattle.heap_bytes.proofs.decoding.split_three.Goals.{then-bytes-lt3-via-else-bytes-lt3+else-not-continues+then-not-continues-2}
 
 pub returns-then-bytes-lt3 : goal.returns-then-bytes-lt3
 returns-then-bytes-lt3 c = λ d rest small e. let low = c.requires.first.0 in let high = c.requires.first.1 in

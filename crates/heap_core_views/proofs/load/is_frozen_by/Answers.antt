@@ -1,10 +1,7 @@
 use Rattle.std.proofs.Common.{◌≡◌, ◌∙◌, true, false, sym, arith}
 use Rattle.heap_core_views.proofs.Turning.{in_run, not_in_run}
-use Rattle.heap_core_views.proofs.load.is_frozen_by.Goals.{
-  else-start-at-via-then-start-at+then-at-start+else-contains_key,
-  else-start-at-via-then-start-at+else-at-start,
-  else-start-at-via-else-start-at,
-}
+use Rattle.heap_core_views.proofs.load.is_frozen_by.Goals.{else-start-at-via-then-start-at+then-at-start+else-contains_key}
+use Rattle.heap_core_views.proofs.load.is_frozen_by.Goals.{else-start-at-via-then-start-at+else-at-start, else-start-at-via-else-start-at}
 use Rattle.heap_core_views.proofs.load.is_frozen_by.Goals as goal
 
 pub returns-then-contains_key : goal.returns-then-contains_key

@@ -17,37 +17,10 @@ use Rattle.eval_values.specs.Does.{GivesValues}
 use Rattle.eval_values.proofs.Compose.{ran_free}
 use Rattle.eval_values.proofs.Each.{each_turn, each_halt, each_full, fine_turn}
 use Rattle.js_eval.proofs.Leaves.{tree_of_literal, tree_of_number}
-use Rattle.js_eval.proofs.Expressions.{
-  seen_does,
-  written_does,
-  unary_does,
-  chain_does,
-  chain_stops,
-  post_does,
-  post_stops,
-  builtin_does,
-  builtin_stops,
-  index_does,
-  index_stops,
-  link_decided,
-  link_does,
-  link_stops,
-  condition_holds,
-  condition_fails,
-  condition_stops,
-  name_does,
-  name_fails,
-  copy_does,
-  copy_stops,
-  links_turn,
-  links_halt,
-  steps_turn,
-  steps_halt,
-  call_does,
-  call_stops,
-  call_absent,
-  exprs_are,
-}
+use Rattle.js_eval.proofs.Expressions.{seen_does, written_does, unary_does, chain_does, chain_stops, post_does, post_stops, builtin_does, builtin_stops}
+use Rattle.js_eval.proofs.Expressions.{index_does, index_stops, link_decided, link_does, link_stops, condition_holds, condition_fails, condition_stops}
+use Rattle.js_eval.proofs.Expressions.{name_does, name_fails, copy_does, copy_stops, links_turn, links_halt, steps_turn, steps_halt, call_does, call_stops}
+use Rattle.js_eval.proofs.Expressions.{call_absent, exprs_are}
 use Rattle.eval_values.proofs.Still.{seen_still, fine_still}
 use Rattle.js_eval.proofs.Making.{key_stops, value_stops, entry_does, entries_turn, entries_halt, literal_does, literal_stops}
 use Rattle.js_eval.proofs.Stays.{scope_still, context_fine_still}

@@ -3,35 +3,10 @@ use Rattle.std.proofs.lemmas.Result.{err_from_is_err_and}
 use Rattle.eval_tree.specs.Tree.{expr_tree, step_tree, link_tree, entry_tree}
 use Rattle.parse_syntax.specs.Tables.{tables_of}
 use Rattle.parse_syntax.specs.Grammar.{chain_of, post_of}
-use Rattle.parse_statements.proofs.Turns.{
-  chain_first,
-  chain_right,
-  chain_done,
-  link_smaller,
-  link_kept,
-  post_first,
-  post_step,
-  post_done,
-  step_smaller,
-  step_kept,
-  args_close,
-  args_done,
-  item_smaller,
-  item_kept,
-}
-use Rattle.parse_statements.proofs.Parts.{
-  member_fails as call_fails,
-  member_done as call_done,
-  inside_fails,
-  bracket_fails,
-  step_done,
-  unary_fails,
-  unary_done,
-  yes_fails,
-  colon_fails,
-  no_fails,
-  branches_done,
-}
+use Rattle.parse_statements.proofs.Turns.{chain_first, chain_right, chain_done, link_smaller, link_kept, post_first, post_step, post_done, step_smaller}
+use Rattle.parse_statements.proofs.Turns.{step_kept, args_close, args_done, item_smaller, item_kept}
+use Rattle.parse_statements.proofs.Parts.{member_fails as call_fails, member_done as call_done, inside_fails, bracket_fails, step_done, unary_fails, unary_done}
+use Rattle.parse_statements.proofs.Parts.{yes_fails, colon_fails, no_fails, branches_done}
 use Rattle.parse_statements.proofs.Members.{member_smaller, member_kept, member_fails, members_close, members_done}
 use Rattle.parse_statements.proofs.expr.+expr.Goals as goal
 

@@ -3,24 +3,8 @@ use Rattle.heap_rule.specs.Layout.{content_at, form_at, slot_at}
 use Rattle.heap_core.specs.declared.event.Event.{Event}
 use Rattle.heap_core.specs.declared.event.Event.TheVariants.{Split, Join, LoadCounter, Claim, StoreWord, StoreLength, Birth}
 use Rattle.heap_core.specs.Core.{core_of}
-use Rattle.heap_core.specs.Events.{
-  Enabled,
-  Made,
-  Became,
-  header_at,
-  CanLoadHeader,
-  CanLoadWord,
-  CanFlatten,
-  CanThinTo,
-  CanLoadSlot,
-  CanTakeSlot,
-  after_load_header,
-  after_load_word,
-  after_flatten,
-  after_thin,
-  after_load_slot,
-  after_take_slot,
-}
+use Rattle.heap_core.specs.Events.{Enabled, Made, Became, header_at, CanLoadHeader, CanLoadWord, CanFlatten, CanThinTo, CanLoadSlot, CanTakeSlot}
+use Rattle.heap_core.specs.Events.{after_load_header, after_load_word, after_flatten, after_thin, after_load_slot, after_take_slot}
 use Rattle.heap_core.proofs.EventParts.{to_event, from_event}
 use Rattle.heap_core.proofs.machine.Machine.step.Goals as goal
 
