@@ -85,13 +85,24 @@ def names_of(cases):
         yield f"{name}_{seen[name]}"
 
 
+def use_lines(module, names):
+    """The lines that import these names, each of at most 160 columns."""
+    line = []
+    for name in names:
+        if line and len(f"use {module}.{{{', '.join(line + [name])}}}") > 160:
+            yield f"use {module}.{{{', '.join(line)}}}"
+            line = []
+        line.append(name)
+    yield f"use {module}.{{{', '.join(line)}}}"
+
+
 def imports(body):
     """The `use` lines of a file."""
     plain = re.sub(r"^--.*|\"(?:\\.|[^\"\\])*\"|^\w+ :|^\w+ = |(?:op|method|builtin)\.\w+", "", body, flags=re.M)
     words = set(re.findall(r"[A-Za-z_]+", plain)) | {"◌≡◌", "[]", "◌∷◌", "refl"} | ({"codes"} if 'codes "' in body else set())
     for module, names in MODULES:
         if words & set(names):
-            yield f"use {module}.{{{', '.join(it for it in names if it in words)}}}"
+            yield from use_lines(module, [it for it in names if it in words])
     for short, module in VARIANTS:
         if f"{short}." in plain or re.search(rf"\b{short}\.", body):
             yield f"use {module} as {short}"

@@ -4,7 +4,8 @@ use Rattle.std.specs.Prelude.{◌≡◌, [], ◌∷◌, codes, true}
 use Rattle.core.specs.Fmt.{digits}
 use Rattle.std.proofs.Common.{refl}
 use Rattle.std.proofs.Math.Utf8.{encode}
-use Rattle.eval_tree.specs.Tree.{literal, number, null, bool, unary, chain, post, builtin, object, links, steps, exprs, entries, of_length, of_description, of_call, print}
+use Rattle.eval_tree.specs.Tree.{literal, number, null, bool, unary, chain, post, builtin, object, links, steps, exprs, entries, of_length, of_description}
+use Rattle.eval_tree.specs.Tree.{of_call, print}
 use Rattle.js_search.specs.Places.{first, last}
 use Rattle.js_replace.specs.Matches.{matches}
 use Rattle.eval_values.specs.declared.value.Kind.TheVariants.{RangeError, TypeError}

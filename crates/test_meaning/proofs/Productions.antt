@@ -4,7 +4,9 @@ use Rattle.std.specs.Prelude.{◌≡◌, [], ◌∷◌, codes, true, false, Some
 use Rattle.core.specs.Fmt.{digits}
 use Rattle.std.proofs.Common.{refl}
 use Rattle.std.proofs.Math.Utf8.{encode}
-use Rattle.eval_tree.specs.Tree.{literal, number, variable, undefined, null, bool, nan, infinity, unary, chain, conditional, post, builtin, object, links, steps, exprs, entries, of_length, of_description, of_call, of_index, of_property, block, let_line, const_line, assign, append, print, if_line, for_line, arms}
+use Rattle.eval_tree.specs.Tree.{literal, number, variable, undefined, null, bool, nan, infinity, unary, chain, conditional, post, builtin, object, links}
+use Rattle.eval_tree.specs.Tree.{steps, exprs, entries, of_length, of_description, of_call, of_index, of_property, block, let_line, const_line, assign, append}
+use Rattle.eval_tree.specs.Tree.{print, if_line, for_line, arms}
 use Rattle.js_search.specs.Places.{first, last}
 use Rattle.js_replace.specs.Matches.{matches}
 use Rattle.eval_values.specs.declared.value.Kind.TheVariants.{RangeError, TypeError, ReferenceError, UriError}
