@@ -128,7 +128,7 @@ large_end words ended old new large (WasRun names ran) why end kept = absurd (to
 -- 4
 
 no_script : (words : List (List ℕ)) (old new : FilesState) (v : Verdict) → HasCauseBy (request_of words) old new v → status_in (report_of v) ≡ 4 → IsNoScript words old new
-no_script words old new (Refused name fault) why is = (name, (fault, why))
+no_script words old new (Refused name fault) why is = (name, fault, why)
 no_script words old new BadWords why is = absurd (omega (arith, is))
 no_script words old new (NotRead name) why is = absurd (omega (arith, is))
 no_script words old new (TooLarge name) why is = absurd (omega (arith, is))
