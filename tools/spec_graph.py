@@ -18,6 +18,8 @@ TYPE_HEAD = re.compile(r"^(?:pub(?:\([^)]*\))? )?(struct|enum|trait|type|const|u
 FN_HEAD = re.compile(r"^( *)((?:pub(?:\([^)]*\))? )?(?:const )?(?:unsafe )?(?:extern \"C\" )?)fn (\w+)")
 # The first line of a file of specs/ whose definitions no public contract reaches.
 HELPERS = "-- Helpers: no public contract reaches these definitions."
+# The one name of two types: each program answers one.
+SHARED_NAMES = {"Status"}
 FIXITY = re.compile(r"^ *infix[lr]? \d+ ")
 
 
@@ -459,6 +461,13 @@ class Graph:
         """The files of specs/ that no public contract reaches."""
         reached = {it.path for it in closure(self.public())}
         return [path for path, source in sorted(self.specs.items()) if source.items and path not in reached]
+
+    def same_names(self):
+        """The names that several definitions have of those that public contracts reach, with their places."""
+        places = collections.defaultdict(list)
+        for item in closure(self.public()):
+            places[item.name].append(f"{item.path}:{item.line}")
+        return {name: sorted(found) for name, found in sorted(places.items()) if len(found) > 1 and name not in SHARED_NAMES}
 
     def head_faults(self):
         """What is wrong with the first lines of files of specs/: those that no public contract reaches say so, and no others."""

@@ -16,13 +16,13 @@ abbrev pub spelled : List ℕ → Out (List ℕ)
 spelled u = gave u (cost (reads (length u)))
 
 -- the sum of what f gives of each element
-abbrev pub total : {A : Type 0} → (A → ℕ) → List A → ℕ
-total f [] = 0
-total f (x ∷ xs) = f x + total f xs
+abbrev pub sum_over : {A : Type 0} → (A → ℕ) → List A → ℕ
+sum_over f [] = 0
+sum_over f (x ∷ xs) = f x + sum_over f xs
 
 -- the units of several strings together
 abbrev pub list_units : List (List ℕ) → ℕ
-list_units us = total length us
+list_units us = sum_over length us
 
 -- the elements joined by commas
 abbrev pub comma_joined : List (List ℕ) → List ℕ
@@ -92,7 +92,7 @@ string_units (list us) = list_units us
 string_units _ = 0
 
 abbrev pub all_units : List Val → ℕ
-all_units vs = total string_units vs
+all_units vs = sum_over string_units vs
 
 -- the same of values that were converted by ToString, where an array counts as its string does
 abbrev pub text_units : Val → ℕ

@@ -14,7 +14,7 @@ IsCounterAt seen used size n = (seen ≤ n) × (used ≤ n) × (n ≤ size)
 
 -- Both counters were loaded, so that what the agent sees of them later is no less; nothing else changed. The
 -- rest of the answer are the sizes of the heap, and how many strings are marked as interned.
-pub record HasRoom (x y : Held) (r : Room) : Type 0 where
+pub record IsGauged (x y : Held) (r : Room) : Type 0 where
   pub held : IsHeld y
   pub same : IsSame x y
   pub marks : KeepsMarks x y
@@ -29,4 +29,4 @@ pub record HasRoom (x y : Held) (r : Room) : Type 0 where
 abbrev pub RoomOf : Option Held → Option Held → Room → Type 0
 RoomOf None _ r = ⊥
 RoomOf (Some x) None r = ⊥
-RoomOf (Some x) (Some y) r = HasRoom x y r
+RoomOf (Some x) (Some y) r = IsGauged x y r

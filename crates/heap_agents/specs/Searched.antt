@@ -8,8 +8,8 @@ use Rattle.heap_rule.specs.Views.{IsSeenSettled, history}
 use Rattle.js_search.specs.Order.{Precedes}
 
 -- a string that may be searched, and searched for
-abbrev pub IsReadable : View → ℕ → Type 0
-IsReadable v s = HasKey v.units s × IsSeenSettled v s
+abbrev pub IsSearchable : View → ℕ → Type 0
+IsSearchable v s = HasKey v.units s × IsSeenSettled v s
 
 -- Strings keep their units, and stay settled. The calls of the string table stay, and so do sizes,
 -- shares, and what was used.

@@ -7,9 +7,9 @@ ghost use Rattle.heap_rule.specs.Forms.{IsCons};
 ghost use Rattle.heap_rule.specs.Maps.{Has, HasKey};
 ghost use Rattle.heap_rule.specs.Views.{IsSeenSettled};
 ghost use Rattle.heap_read.specs.Reads.{OnlyLoads};
-ghost use Rattle.heap_export.specs.Index.{IsIndex};
+ghost use Rattle.heap_export.specs.Index.{IsArrayIndex};
 ghost use Rattle.heap_agents.specs.Held.{IsHeld, Leaves, MarksNothing, view_by};
-ghost use Rattle.heap_export.specs.Encoded.{IsWritten, bytes_of, past_latin1, refused};
+ghost use Rattle.heap_export.specs.Encoded.{IsEncodedInto, bytes_of, past_latin1, refused};
 ghost use Rattle.js_search.specs.Order.{units_cmp};
 
 use crate::held::Held;
@@ -58,7 +58,7 @@ impl Held {
         ensures leaves { Leaves self.old self.new }
         ensures reads { OnlyLoads (view_by self.old) (view_by self.new) }
         ensures marked { MarksNothing self.old self.new }
-        ensures index { (us : List ℕ) → Has (view_by self.old).units s.id us → IsIndex us result }
+        ensures index { (us : List ℕ) → Has (view_by self.old).units s.id us → IsArrayIndex us result }
     {
         match &mut self.text {
             Some(text) => heap_export::array_index(text, s),
@@ -97,7 +97,7 @@ impl Held {
         ensures reads { OnlyLoads (view_by self.old) (view_by self.new) }
         ensures marked { MarksNothing self.old self.new }
         ensures written { (us : List ℕ) → Has (view_by self.old).units s.id us
-            → IsWritten (refused unpaired us) (bytes_of unpaired us) out.old out.new result }
+            → IsEncodedInto (refused unpaired us) (bytes_of unpaired us) out.old out.new result }
     {
         match &mut self.text {
             Some(text) => heap_export::write_utf8(text, s, unpaired, out),
@@ -115,7 +115,7 @@ impl Held {
         ensures reads { OnlyLoads (view_by self.old) (view_by self.new) }
         ensures marked { MarksNothing self.old self.new }
         ensures written { (us : List ℕ) → Has (view_by self.old).units s.id us
-            → IsWritten (past_latin1 0 us) us out.old out.new result }
+            → IsEncodedInto (past_latin1 0 us) us out.old out.new result }
     {
         match &mut self.text {
             Some(text) => heap_export::write_latin1(text, s, out),
@@ -133,7 +133,7 @@ impl Held {
         ensures reads { OnlyLoads (view_by self.old) (view_by self.new) }
         ensures marked { MarksNothing self.old self.new }
         ensures written { (us : List ℕ) → Has (view_by self.old).units s.id us
-            → IsWritten None us out.old out.new result }
+            → IsEncodedInto None us out.old out.new result }
     {
         match &mut self.text {
             Some(text) => heap_export::write_units(text, s, out),

@@ -7,7 +7,7 @@ ghost use Rattle.heap_table.specs.Agents.{size_of, view_of};
 ghost use Rattle.heap_table.specs.Plays.{FoundCounter};
 ghost use Rattle.heap_text.specs.Keeping.{KeepsText};
 ghost use Rattle.heap_agents.specs.Held.{IsHeld};
-ghost use Rattle.heap_agents.specs.Room.{HasRoom};
+ghost use Rattle.heap_agents.specs.Room.{IsGauged};
 ghost use Rattle.heap_agents.specs.Shared.{heap_of};
 
 use crate::held::Held;
@@ -51,7 +51,7 @@ impl Held {
     /// counters, and goes once over the marks of the agent.
     pub fn room(&mut self) -> Room
         requires { IsHeld self.old }
-        ensures { HasRoom self.old self.new result }
+        ensures { IsGauged self.old self.new result }
     {
         let (ids, words, size) = match &mut self.text {
             Some(text) => look(text),

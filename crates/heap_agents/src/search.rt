@@ -6,7 +6,7 @@ ghost use Rattle.heap_read.specs.Reads.{OnlyLoads};
 ghost use Rattle.js_search.specs.Order.{units_cmp};
 ghost use Rattle.js_search.specs.Places.{IsFirst, IsLast, Stands, first, last, stands};
 ghost use Rattle.heap_agents.specs.Held.{IsHeld, Searched, view_by, without_text};
-ghost use Rattle.heap_agents.specs.Searched.{IsOrder, IsReadable};
+ghost use Rattle.heap_agents.specs.Searched.{IsOrder, IsSearchable};
 
 use crate::held::Held;
 use crate::looking::Looking;
@@ -33,8 +33,8 @@ impl Held {
     /// The order of two settled strings by their units, where a proper prefix comes first, by loads alone.
     pub fn compare(&mut self, a: JsStr, b: JsStr) -> Ordering
         requires held { IsHeld self.old }
-        requires left { IsReadable (view_by self.old) a.id }
-        requires right { IsReadable (view_by self.old) b.id }
+        requires left { IsSearchable (view_by self.old) a.id }
+        requires right { IsSearchable (view_by self.old) b.id }
         ensures searched { Searched self.old self.new }
         ensures order { (us vs : List ℕ) → Has (view_by self.old).units a.id us
             → Has (view_by self.old).units b.id vs
@@ -53,8 +53,8 @@ impl Held {
     /// Whether two settled strings have the same units, by loads alone.
     pub fn equal(&mut self, a: JsStr, b: JsStr) -> bool
         requires held { IsHeld self.old }
-        requires left { IsReadable (view_by self.old) a.id }
-        requires right { IsReadable (view_by self.old) b.id }
+        requires left { IsSearchable (view_by self.old) a.id }
+        requires right { IsSearchable (view_by self.old) b.id }
         ensures searched { Searched self.old self.new }
         ensures value { (us vs : List ℕ) → Has (view_by self.old).units a.id us
             → Has (view_by self.old).units b.id vs
@@ -70,8 +70,8 @@ impl Held {
     /// Whether the units of `needle` occur in `hay` at place `at`, both settled.
     pub fn starts_with(&mut self, hay: JsStr, needle: JsStr, at: u32) -> bool
         requires held { IsHeld self.old }
-        requires left { IsReadable (view_by self.old) hay.id }
-        requires right { IsReadable (view_by self.old) needle.id }
+        requires left { IsSearchable (view_by self.old) hay.id }
+        requires right { IsSearchable (view_by self.old) needle.id }
         ensures searched { Searched self.old self.new }
         ensures stands { (us vs : List ℕ) → Has (view_by self.old).units hay.id us
             → Has (view_by self.old).units needle.id vs
@@ -92,8 +92,8 @@ impl Held {
     /// The least place at or after `from` at which `needle` occurs in `hay`, both settled.
     pub fn index_of(&mut self, hay: JsStr, needle: JsStr, from: u32) -> Option<u32>
         requires held { IsHeld self.old }
-        requires left { IsReadable (view_by self.old) hay.id }
-        requires right { IsReadable (view_by self.old) needle.id }
+        requires left { IsSearchable (view_by self.old) hay.id }
+        requires right { IsSearchable (view_by self.old) needle.id }
         requires within { (us : List ℕ) × Has (view_by self.old).units hay.id us × (from ≤ length us) }
         ensures searched { Searched self.old self.new }
         ensures least { (us vs : List ℕ) → Has (view_by self.old).units hay.id us
@@ -115,8 +115,8 @@ impl Held {
     /// The greatest place at most `limit` at which `needle` occurs in `hay`, both settled.
     pub fn last_index_of(&mut self, hay: JsStr, needle: JsStr, limit: u32) -> Option<u32>
         requires held { IsHeld self.old }
-        requires left { IsReadable (view_by self.old) hay.id }
-        requires right { IsReadable (view_by self.old) needle.id }
+        requires left { IsSearchable (view_by self.old) hay.id }
+        requires right { IsSearchable (view_by self.old) needle.id }
         ensures searched { Searched self.old self.new }
         ensures greatest { (us vs : List ℕ) → Has (view_by self.old).units hay.id us
             → Has (view_by self.old).units needle.id vs

@@ -7,7 +7,7 @@ ghost use Rattle.heap_rule.specs.Layout.{MAX};
 ghost use Rattle.heap_rule.specs.Maps.{Has, HasKey};
 ghost use Rattle.heap_rule.specs.Views.{IsSeenSettled};
 ghost use Rattle.heap_read.specs.Reads.{OnlyLoads};
-ghost use Rattle.heap_bytes.specs.Spellings.{IsReadable, units_of};
+ghost use Rattle.heap_bytes.specs.Spellings.{IsReadable, spelling_units};
 ghost use Rattle.heap_text.specs.Texts.{IsSpared, KeepsOwn, Told, UsesExactly};
 ghost use Rattle.heap_agents.specs.Held.{IsHeld, Leaves, MarksMade, MarksNothing, held_size, view_by};
 ghost use Rattle.heap_agents.specs.Keys.{FoundUnits, InternedUnits};
@@ -23,21 +23,21 @@ impl Held {
     pub fn make_from(&mut self, source: &Spelling) -> Result<JsStr, TextFull>
         requires held { IsHeld self.old }
         requires read { IsReadable source.now }
-        requires short { length (units_of source.now) ≤ MAX }
+        requires short { length (spelling_units source.now) ≤ MAX }
         ensures leaves { Leaves self.old self.new }
         ensures own { KeepsOwn (view_by self.old) (view_by self.new) }
         ensures marked { MarksMade self.old self.new result }
-        ensures units { IfOk result (λ s. Has (view_by self.new).units s.id (units_of source.now)) }
+        ensures units { IfOk result (λ s. Has (view_by self.new).units s.id (spelling_units source.now)) }
         ensures settled { IfOk result (λ s. IsSeenSettled (view_by self.new) s.id) }
         ensures used { IfOk result
             (λ s. UsesExactly (view_by self.old) (view_by self.new) 1
-            (words_over (is_wide (units_of source.now)) (length (units_of source.now)))) }
+            (words_over (is_wide (spelling_units source.now)) (length (spelling_units source.now)))) }
         ensures refused { IfErr result
             (λ f. Told (view_by self.new) (held_size self.old)
-            (words_over (is_wide (units_of source.now)) (length (units_of source.now))) f) }
+            (words_over (is_wide (spelling_units source.now)) (length (spelling_units source.now))) f) }
         ensures spared { IfErr result
             (λ f. IsSpared (view_by self.old) (view_by self.new)
-            (words_over (is_wide (units_of source.now)) (length (units_of source.now))) f) }
+            (words_over (is_wide (spelling_units source.now)) (length (spelling_units source.now))) f) }
     {
         let made = match &mut self.text {
             Some(text) => text.make_from(source),
@@ -52,8 +52,8 @@ impl Held {
     pub fn intern_from(&mut self, source: &Spelling) -> Result<u32, TableFull>
         requires held { IsHeld self.old }
         requires read { IsReadable source.now }
-        requires short { length (units_of source.now) ≤ MAX }
-        ensures { InternedUnits self.old self.new (units_of source.now) result }
+        requires short { length (spelling_units source.now) ≤ MAX }
+        ensures { InternedUnits self.old self.new (spelling_units source.now) result }
     {
         let answer = match &mut self.text {
             Some(text) => heap_intern::intern_from(&mut text.reader, source),
@@ -69,8 +69,8 @@ impl Held {
     pub fn find_from(&mut self, source: &Spelling) -> Option<u32>
         requires held { IsHeld self.old }
         requires read { IsReadable source.now }
-        requires short { length (units_of source.now) ≤ MAX }
-        ensures { FoundUnits self.old self.new (units_of source.now) result }
+        requires short { length (spelling_units source.now) ≤ MAX }
+        ensures { FoundUnits self.old self.new (spelling_units source.now) result }
     {
         let found = match &mut self.text {
             Some(text) => heap_intern::find_from(&mut text.reader, source),
@@ -96,7 +96,7 @@ impl Held {
         ensures reads { OnlyLoads (view_by self.old) (view_by self.new) }
         ensures marked { MarksNothing self.old self.new }
         ensures order { (us : List ℕ) → Has (view_by self.old).units s.id us
-            → result ≡ units_cmp us (units_of source.now) }
+            → result ≡ units_cmp us (spelling_units source.now) }
     {
         match &mut self.text {
             Some(text) => heap_export::compare_spelled(text, s, source),
@@ -114,7 +114,7 @@ impl Held {
         ensures reads { OnlyLoads (view_by self.old) (view_by self.new) }
         ensures marked { MarksNothing self.old self.new }
         ensures same { (us : List ℕ) → Has (view_by self.old).units s.id us
-            → IsTrue result ↔ (us ≡ units_of source.now) }
+            → IsTrue result ↔ (us ≡ spelling_units source.now) }
     {
         match &mut self.text {
             Some(text) => heap_export::has_spelled(text, s, source),

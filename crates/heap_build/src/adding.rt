@@ -4,7 +4,7 @@ ghost use Rattle.std.specs.Str.{chars};
 ghost use Rattle.heap_rule.specs.Layout.{MAX};
 ghost use Rattle.js_number.specs.Arith.{text_of};
 ghost use Rattle.js_number.specs.declared.Num.TheVariants.{Int};
-ghost use Rattle.heap_build.specs.Built.{Adds, AddsSpelled, room_in, units_in};
+ghost use Rattle.heap_build.specs.Built.{Adds, AddsSpelled, room_in, units_so_far};
 ghost use Rattle.heap_bytes.specs.Points.{IsMeasured};
 ghost use Rattle.heap_build.specs.Spells.{spells};
 ghost use Rattle.heap_build.specs.Room.{HasRoom};
@@ -25,7 +25,7 @@ const MOST_BYTES: usize = 3 * MAX as usize;
 impl Builder {
     /// The empty text. It allocates nothing.
     pub fn new(alloc: Global) -> Builder
-        ensures { units_in result ≡ [] }
+        ensures { units_so_far result ≡ [] }
     {
         Builder {
             units: Vec::new(alloc),
@@ -34,7 +34,7 @@ impl Builder {
 
     /// The units so far.
     pub fn as_slice(&self) -> &[u16]
-        ensures units { result.now ≡ units_in self.now }
+        ensures units { result.now ≡ units_so_far self.now }
         ensures short { length result.now ≤ MAX }
     {
         self.units.as_slice()
@@ -42,7 +42,7 @@ impl Builder {
 
     /// Empties the text, and keeps its memory for the next one.
     pub fn clear(&mut self)
-        ensures empty { units_in self.new ≡ [] }
+        ensures empty { units_so_far self.new ≡ [] }
         ensures room { room_in self.new ≡ room_in self.old }
     {
         self.units.clear();
@@ -50,7 +50,7 @@ impl Builder {
 
     // Sees to it that there is room for so many units more.
     pub(crate) fn make_room(&mut self, count: usize) -> Result<(), BuildFault>
-        ensures units { units_in self.new ≡ units_in self.old }
+        ensures units { units_so_far self.new ≡ units_so_far self.old }
         ensures room { room_in self.old ≤ room_in self.new }
         ensures answer { HasRoom self.old self.new count result }
     {

@@ -7,9 +7,9 @@ use Rattle.heap_bytes.specs.declared.spelling.Spelling.TheVariants.{Latin1, Poin
 use Rattle.heap_bytes.specs.Points.{IsRead, IsSpelled, IsSpelledUpTo, utf16}
 
 -- the units: of Latin-1 one for each byte, and else those of the code points
-abbrev pub units_of : Spelling → List ℕ
-units_of (Latin1 bytes) = bytes.now
-units_of (Points bytes len) = utf16 (chars bytes.now)
+abbrev pub spelling_units : Spelling → List ℕ
+spelling_units (Latin1 bytes) = bytes.now
+spelling_units (Points bytes len) = utf16 (chars bytes.now)
 
 -- the bytes spell units, and so many as are noted
 abbrev pub IsReadable : Spelling → Type 0
@@ -18,12 +18,12 @@ IsReadable (Points bytes len) = IsRead bytes.now × (len ≡ length (utf16 (char
 
 -- what bytes of UTF-8 or WTF-8 spell; or the length of the longest front that spells some
 abbrev pub IsReadAs : Encoding → List ℕ → Result Spelling ℕ → Type 0
-IsReadAs e bytes (Ok s) = IsSpelled e false bytes × IsReadable s × (units_of s ≡ utf16 (chars bytes))
+IsReadAs e bytes (Ok s) = IsSpelled e false bytes × IsReadable s × (spelling_units s ≡ utf16 (chars bytes))
 IsReadAs e bytes (Err n) = IsSpelledUpTo e bytes n
 
 -- the first units are the first `count` in the room, and what is left spells the others
 pub record IsFront (s : Spelling) (room : List ℕ) (count : ℕ) (rest : Spelling) : Type 0 where
   pub some : 0 < count
   pub most : count ≤ length room
-  pub split : units_of s ≡ take count room ++ units_of rest
+  pub split : spelling_units s ≡ take count room ++ spelling_units rest
   pub read : IsReadable rest

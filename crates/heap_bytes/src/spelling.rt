@@ -6,7 +6,7 @@ ghost use Rattle.js_units.specs.Lanes.{hash_of, is_wide};
 ghost use Rattle.js_units.specs.Text.{utf16_of};
 ghost use Rattle.heap_rule.specs.Layout.{MAX};
 ghost use Rattle.heap_bytes.specs.Points.{IsRead, utf16};
-ghost use Rattle.heap_bytes.specs.Spellings.{IsFront, IsReadAs, IsReadable, units_of};
+ghost use Rattle.heap_bytes.specs.Spellings.{IsFront, IsReadAs, IsReadable, spelling_units};
 
 use crate::decoding::{measure, split_point};
 use crate::encoding::Encoding;
@@ -31,7 +31,7 @@ impl<'b> Spelling<'b> {
     pub fn read(encoding: Encoding, bytes: &'b [u8]) -> Result<Spelling<'b>, usize>
         requires { length bytes.now ≤ 3 * MAX }
         ensures read { IsReadAs encoding bytes.now result }
-        ensures most { IfOk result (λ s. length (units_of s) ≤ length bytes.now) }
+        ensures most { IfOk result (λ s. length (spelling_units s) ≤ length bytes.now) }
     {
         match measure(encoding, bytes) {
             Ok(count) => {
@@ -50,8 +50,8 @@ impl<'b> Spelling<'b> {
     /// How many units there are.
     pub fn len(&self) -> u32
         requires read { IsReadable self.now }
-        requires short { length (units_of self.now) ≤ MAX }
-        ensures { result ≡ length (units_of self.now) }
+        requires short { length (spelling_units self.now) ≤ MAX }
+        ensures { result ≡ length (spelling_units self.now) }
     {
         match self {
             Spelling::Latin1(bytes) => bytes.len() as u32,
@@ -63,7 +63,7 @@ impl<'b> Spelling<'b> {
     pub fn split_front(&self, room: &mut [u16]) -> Option<(usize, Spelling<'b>)>
         requires read { IsReadable self.now }
         requires room { 2 ≤ length room.old }
-        ensures { MatchOption result (units_of self.now ≡ [])
+        ensures { MatchOption result (spelling_units self.now ≡ [])
             (λ p. IsFront self.now room.new p.0 p.1) }
     {
         match self {
@@ -87,7 +87,7 @@ impl<'b> Spelling<'b> {
     /// Whether a unit is over 255.
     pub fn is_wide(&self) -> bool
         requires { IsReadable self.now }
-        ensures { result ≡ is_wide (units_of self.now) }
+        ensures { result ≡ is_wide (spelling_units self.now) }
     {
         match self {
             Spelling::Latin1(bytes) => is_wide_byte(bytes),
@@ -98,7 +98,7 @@ impl<'b> Spelling<'b> {
     /// The hash of the units.
     pub fn hash(&self) -> u32
         requires { IsReadable self.now }
-        ensures { result ≡ hash_of (units_of self.now) }
+        ensures { result ≡ hash_of (spelling_units self.now) }
     {
         let mut room = [0; ROOM];
         let mut rest = *self;

@@ -10,7 +10,7 @@ ghost use Rattle.heap_read.specs.Readers.{Moves, view_in};
 ghost use Rattle.heap_read.specs.Reads.{Continues, KeepsBelow, KeepsBeside, KeepsForms, KeepsFrom, Writes};
 ghost use Rattle.heap_read.specs.Sources.{FitsLanes};
 ghost use Rattle.heap_read.specs.Written.{AreWords, IsWritten};
-ghost use Rattle.heap_bytes.specs.Spellings.{IsReadable, units_of};
+ghost use Rattle.heap_bytes.specs.Spellings.{IsReadable, spelling_units};
 
 use crate::spelling::{ROOM, Spelling};
 use heap_read::{HeapRef, Reader, Run, UnitSource};
@@ -20,18 +20,18 @@ use js_units::words_for;
 // The lanes of a run of own words become the units that bytes spell.
 fn fill_spelled<H: HeapRef>(reader: &mut Reader<H>, source: &Spelling, to: Run)
     requires read { IsReadable source.now }
-    requires short { length (units_of source.now) ≤ MAX }
-    requires own { (o : ℕ) → o < length (units_of source.now)
+    requires short { length (spelling_units source.now) ≤ MAX }
+    requires own { (o : ℕ) → o < length (spelling_units source.now)
         → HasKey (view_in reader.old).own_words (to.start + o / lane_count to.wide) }
-    requires fits { FitsLanes to.wide (units_of source.now) }
+    requires fits { FitsLanes to.wide (spelling_units source.now) }
     ensures writes { Moves Writes reader.old reader.new }
     ensures below { KeepsBelow to.start (view_in reader.old) (view_in reader.new) }
-    ensures above { KeepsFrom (to.start + words_over to.wide (length (units_of source.now)))
+    ensures above { KeepsFrom (to.start + words_over to.wide (length (spelling_units source.now)))
         (view_in reader.old) (view_in reader.new) }
     ensures forms { KeepsForms (view_in reader.old) (view_in reader.new) }
     ensures filled { IsFilled to.wide to.start (own_word (view_in reader.old).own_words)
-        (own_word (view_in reader.new).own_words) 0 (length (units_of source.now))
-        (slice_index (units_of source.now)) }
+        (own_word (view_in reader.new).own_words) 0 (length (spelling_units source.now))
+        (slice_index (spelling_units source.now)) }
 {
     let mut room = [0; ROOM];
     let mut rest = *source;
@@ -52,8 +52,8 @@ pub fn write_spelled<H: HeapRef>(
     wide: bool,
 ) -> Result<u32, CounterFull>
     requires read { IsReadable source.now }
-    requires count { length (units_of source.now) ≡ n }
-    requires wide { wide ≡ is_wide (units_of source.now) }
+    requires count { length (spelling_units source.now) ≡ n }
+    requires wide { wide ≡ is_wide (spelling_units source.now) }
     requires short { n ≤ MAX }
     ensures continues { Moves Continues reader.old reader.new }
     ensures ids { (view_in reader.new).used.ids ≡ (view_in reader.old).used.ids }
@@ -61,7 +61,7 @@ pub fn write_spelled<H: HeapRef>(
     ensures own_words { (c : ℕ) → HasKey (view_in reader.old).own_words c
         → HasKey (view_in reader.new).own_words c }
     ensures ok { IfOk result
-        (λ start. IsWritten (view_in reader.new) wide start (units_of source.now)
+        (λ start. IsWritten (view_in reader.new) wide start (spelling_units source.now)
         × ((view_in reader.new).used.words ≡ (view_in reader.old).used.words + words_over wide n)) }
     ensures refused { IfErr result
         (λ f. IsFull f (words_over wide n) (size_of (H.reached reader.old.heap)).words
@@ -91,13 +91,14 @@ pub fn spell_at<H: HeapRef>(
     start: u32,
 )
     requires read { IsReadable source.now }
-    requires count { length (units_of source.now) ≡ n }
-    requires wide { wide ≡ is_wide (units_of source.now) }
+    requires count { length (spelling_units source.now) ≡ n }
+    requires wide { wide ≡ is_wide (spelling_units source.now) }
     requires short { n ≤ MAX }
     requires own { (q : ℕ) → q < words_over wide n → Has (view_in reader.old).own_words (start + q) 0 }
     ensures writes { Moves Writes reader.old reader.new }
     ensures forms { KeepsForms (view_in reader.old) (view_in reader.new) }
-    ensures written { AreWords (view_in reader.new) wide start (units_of source.now) (words_over wide n) }
+    ensures written { AreWords (view_in reader.new) wide start (spelling_units source.now)
+        (words_over wide n) }
     ensures others { KeepsBeside start (words_over wide n) (view_in reader.old) (view_in reader.new) }
 {
     fill_spelled(reader, source, Run { start, wide });

@@ -6,7 +6,7 @@ use Rattle.std.proofs.lemmas.Bool.{and_parts, and_from}
 use Rattle.std.proofs.lemmas.Bool.Decides.{nat_tests}
 use Rattle.std.proofs.lemmas.Str.Parse.{IsNumeralModel, numerals_by_fold, tells_all_ascii_digits}
 use Rattle.std.proofs.lemmas.Fmt.{digits_decimal, digits_value-decimal, length-decimal-le, decimal_nonempty, first_decimal, decimal_digit, decimal-digits_value}
-use Rattle.heap_export.specs.Index.{IsIndex}
+use Rattle.heap_export.specs.Index.{IsArrayIndex}
 use Rattle.heap_export.specs.Digits.{read_on, has_form, index_read}
 
 own : IsNumeralModel (λ ds. all_ascii_digits ds ≡ true) (read_on 0)
@@ -101,17 +101,17 @@ index_most us n e =
     let p = pick (has_form us && nat_le (read_on 0 us) 4294967294) (read_on 0 us) n e in
     omega (arith, le_of (read_on 0 us) 4294967294 (and_parts (has_form us) (nat_le (read_on 0 us) 4294967294) p.0).1, p.1)
 
-is_some : (us : List ℕ) (n : ℕ) → index_read us ≡ Some n → IsIndex us (Some n)
+is_some : (us : List ℕ) (n : ℕ) → index_read us ≡ Some n → IsArrayIndex us (Some n)
 is_some us n e = let l = index_most us n e in (l, (index_means us n l).0 e)
 
-is_none : (us : List ℕ) → index_read us ≡ None → IsIndex us None
+is_none : (us : List ℕ) → index_read us ≡ None → IsArrayIndex us None
 is_none us e n l h = let f = (index_means us n l).1 h in absurd (cc)
 
 -- what is read is the index
-pub index_is : (us : List ℕ) (r : Option ℕ) → index_read us ≡ r → IsIndex us r
+pub index_is : (us : List ℕ) (r : Option ℕ) → index_read us ≡ r → IsArrayIndex us r
 index_is us None e = is_none us e
 index_is us (Some n) e = is_some us n e
 
 -- more than ten units are no index
-pub long_is_none : (us : List ℕ) → 10 < length us → IsIndex us None
+pub long_is_none : (us : List ℕ) → 10 < length us → IsArrayIndex us None
 long_is_none us h n l e = absurd (omega (arith, h, ap length e, length-decimal-le 10 n (omega arith) (omega arith) (omega (arith, l))))

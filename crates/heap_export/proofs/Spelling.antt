@@ -11,7 +11,7 @@ use Rattle.js_units.specs.Text.{alone, is_lead, is_trail, pair_value, points, we
 use Rattle.heap_export.specs.declared.faults.Unpaired.{Unpaired}
 use Rattle.heap_export.specs.declared.faults.Unpaired.TheVariants.{Replace, Refuse, Keep}
 use Rattle.heap_export.specs.declared.points.Point.{Point}
-use Rattle.heap_export.specs.Encoded.{bytes_of, is_surrogate, refused, unpaired}
+use Rattle.heap_export.specs.Encoded.{bytes_of, is_unpaired, refused, unpaired}
 use Rattle.heap_export.specs.Points.{IsPointAt, is_refused, written}
 
 -- the bytes of units, code point by code point
@@ -21,7 +21,7 @@ spelled m us = encode_utf8_all (map (written m) (points us))
 pub pair_range : (u v : ℕ) → is_lead u ≡ true → is_trail v ≡ true → (0x10000 ≤ pair_value u v) × (pair_value u v < 0x110000)
 pair_range u v a b = (omega arith, grind (arith, nat_tests, a, b))
 
-no_surrogate : (c : ℕ) → 0x10000 ≤ c → is_surrogate c ≡ false
+no_surrogate : (c : ℕ) → 0x10000 ≤ c → is_unpaired c ≡ false
 no_surrogate c h = grind (arith, nat_tests, h)
 
 -- a unit that begins no pair
@@ -30,9 +30,9 @@ alone_value u [] h = refl
 alone_value u (v ∷ vs) h = cond-false (is_lead u && is_trail v) (pair_value u v ∷ points vs) (u ∷ points (v ∷ vs)) (h v vs refl)
 
 pub alone_place : (k u : ℕ) (rest : List ℕ) → ((v : ℕ) (vs : List ℕ) → rest ≡ v ∷ vs → (is_lead u && is_trail v) ≡ false)
-    → unpaired k (u ∷ rest) ≡ (if is_surrogate u then Some k else unpaired (k + 1) rest)
+    → unpaired k (u ∷ rest) ≡ (if is_unpaired u then Some k else unpaired (k + 1) rest)
 alone_place k u [] h = refl
-alone_place k u (v ∷ vs) h = cond-false (is_lead u && is_trail v) (unpaired (k + 2) vs) (if is_surrogate u then Some k else unpaired (k + 1) (v ∷ vs)) (h v vs refl)
+alone_place k u (v ∷ vs) h = cond-false (is_lead u && is_trail v) (unpaired (k + 2) vs) (if is_unpaired u then Some k else unpaired (k + 1) (v ∷ vs)) (h v vs refl)
 
 -- U+FFFD in the place of each unpaired surrogate: among the units, or among the code points
 never : (x y : Bool) → x ≡ false → (x && y) ≡ false
@@ -42,7 +42,7 @@ alone_leads_none : (u : ℕ) → is_lead (alone u) ≡ false
 alone_leads_none u = grind (arith, nat_tests)
 
 alone_of_pair : (u v : ℕ) → is_lead u ≡ true → is_trail v ≡ true → alone (pair_value u v) ≡ pair_value u v
-alone_of_pair u v a b = cond-false (is_surrogate (pair_value u v)) 0xFFFD (pair_value u v) (no_surrogate (pair_value u v) (pair_range u v a b).0)
+alone_of_pair u v a b = cond-false (is_unpaired (pair_value u v)) 0xFFFD (pair_value u v) (no_surrogate (pair_value u v) (pair_range u v a b).0)
 
 well_by : (b : Bool) (u v : ℕ) (us : List ℕ) → (is_lead u && is_trail v) ≡ b → points (well us) ≡ map alone (points us) → points (well (v ∷ us)) ≡ map alone (points (v ∷ us))
     → points (well (u ∷ v ∷ us)) ≡ map alone (points (u ∷ v ∷ us))
@@ -113,8 +113,8 @@ module _ (us : List ℕ) (i : ℕ) (l : i < length us) where
         within = omega arith;
         value = ap points whole ∙ cond-true (is_lead u && is_trail v) (pair_value u v ∷ points (drop (i + 2) us)) (u ∷ points (v ∷ drop (i + 2) us)) both_true;
         unpaired = ap (unpaired i) whole
-            ∙ (cond-true (is_lead u && is_trail v) (unpaired (i + 2) (drop (i + 2) us)) (if is_surrogate u then Some i else unpaired (i + 1) (v ∷ drop (i + 2) us)) both_true
-            ∙ sym (cond-false (is_surrogate (pair_value u v)) (Some i) (unpaired (i + 2) (drop (i + 2) us)) (no_surrogate (pair_value u v) r.0)));
+            ∙ (cond-true (is_lead u && is_trail v) (unpaired (i + 2) (drop (i + 2) us)) (if is_unpaired u then Some i else unpaired (i + 1) (v ∷ drop (i + 2) us)) both_true
+            ∙ sym (cond-false (is_unpaired (pair_value u v)) (Some i) (unpaired (i + 2) (drop (i + 2) us)) (no_surrogate (pair_value u v) r.0)));
         short = grind (arith, nat_tests, r.0);
         range = r.1;
       }
@@ -137,8 +137,8 @@ alone_short false c n s h = h
 
 pub few_next : (m : Unpaired) (us : List ℕ) (i : ℕ) (p : Point) → IsPointAt us i p → len_utf8 (written m p.value) ≤ 3 * p.count
 few_next Keep us i p at = at.short
-few_next Replace us i p at = alone_short (is_surrogate p.value) p.value p.count at.some at.short
-few_next Refuse us i p at = alone_short (is_surrogate p.value) p.value p.count at.some at.short
+few_next Replace us i p at = alone_short (is_unpaired p.value) p.value p.count at.some at.short
+few_next Refuse us i p at = alone_short (is_unpaired p.value) p.value p.count at.some at.short
 
 alone_range : (b : Bool) (c : ℕ) → c < 0x110000 → (if b then 0xFFFD else c) < 0x110000
 alone_range true c h = omega arith
@@ -146,18 +146,18 @@ alone_range false c h = h
 
 pub in_range : (m : Unpaired) (c : ℕ) → c < 0x110000 → written m c < 0x110000
 in_range Keep c h = h
-in_range Replace c h = alone_range (is_surrogate c) c h
-in_range Refuse c h = alone_range (is_surrogate c) c h
+in_range Replace c h = alone_range (is_unpaired c) c h
+in_range Refuse c h = alone_range (is_unpaired c) c h
 
 -- the places of unpaired surrogates
 pub refused_at : (m : Unpaired) (us : List ℕ) (i : ℕ) (p : Point) → IsPointAt us i p → is_refused m p.value ≡ true → (m ≡ Refuse → unpaired 0 us ≡ unpaired i (drop i us)) → refused m us ≡ Some i
 refused_at Keep us i p at e h = absurd (let f : false ≡ true = e in cc)
 refused_at Replace us i p at e h = absurd (let f : false ≡ true = e in cc)
-refused_at Refuse us i p at e h = h refl ∙ (at.unpaired ∙ cond-true (is_surrogate p.value) (Some i) (unpaired (i + p.count) (drop (i + p.count) us)) e)
+refused_at Refuse us i p at e h = h refl ∙ (at.unpaired ∙ cond-true (is_unpaired p.value) (Some i) (unpaired (i + p.count) (drop (i + p.count) us)) e)
 
 pub none_yet : (m : Unpaired) (us : List ℕ) (i : ℕ) (p : Point) → IsPointAt us i p → is_refused m p.value ≡ false → (m ≡ Refuse → unpaired 0 us ≡ unpaired i (drop i us))
     → m ≡ Refuse → unpaired 0 us ≡ unpaired (i + p.count) (drop (i + p.count) us)
-none_yet m us i p at e h r = h r ∙ (at.unpaired ∙ cond-false (is_surrogate p.value) (Some i) (unpaired (i + p.count) (drop (i + p.count) us)) (ap (λ k. is_refused k p.value) (sym r) ∙ e))
+none_yet m us i p at e h r = h r ∙ (at.unpaired ∙ cond-false (is_unpaired p.value) (Some i) (unpaired (i + p.count) (drop (i + p.count) us)) (ap (λ k. is_refused k p.value) (sym r) ∙ e))
 
 pub none_at_all : (m : Unpaired) (us : List ℕ) (i : ℕ) → length us ≤ i → (m ≡ Refuse → unpaired 0 us ≡ unpaired i (drop i us)) → refused m us ≡ None
 none_at_all Keep us i l h = refl

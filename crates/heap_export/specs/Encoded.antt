@@ -12,17 +12,17 @@ abbrev pub wtf8 : List ℕ → List ℕ
 wtf8 us = encode_utf8_all (points us)
 
 -- a code point that is a surrogate: among the code points of units, one that is unpaired
-abbrev pub is_surrogate : ℕ → Bool
-is_surrogate c = is_lead c || is_trail c
+abbrev pub is_unpaired : ℕ → Bool
+is_unpaired c = is_lead c || is_trail c
 
 -- The place of the first unpaired surrogate, where the first unit has place k (ECMA-262,
 -- "IsStringWellFormedUnicode").
 abbrev pub unpaired : ℕ → List ℕ → Option ℕ
 unpaired k [] = None
-unpaired k (u ∷ []) = if is_surrogate u then Some k else None
+unpaired k (u ∷ []) = if is_unpaired u then Some k else None
 unpaired k (u ∷ v ∷ us) =
     if is_lead u && is_trail v then unpaired (k + 2) us
-    else (if is_surrogate u then Some k else unpaired (k + 1) (v ∷ us))
+    else (if is_unpaired u then Some k else unpaired (k + 1) (v ∷ us))
 
 -- the place of the first unit that isn't of one byte, where the first unit has place k
 abbrev pub past_latin1 : ℕ → List ℕ → Option ℕ
@@ -40,9 +40,9 @@ refused Refuse us = unpaired 0 us
 refused _ us = None
 
 -- These bytes were written to the front of a list, all or none, unless there is such a place.
-abbrev pub IsWritten : Option ℕ → List ℕ → List ℕ → List ℕ → Result ℕ WriteFault → Type 0
-IsWritten place bs old new (Ok n) =
+abbrev pub IsEncodedInto : Option ℕ → List ℕ → List ℕ → List ℕ → Result ℕ WriteFault → Type 0
+IsEncodedInto place bs old new (Ok n) =
     (place ≡ None) × (n ≡ length bs) × (n ≤ length old) × (new ≡ bs ++ drop n old)
-IsWritten place bs old new (Err (NoRoom n)) =
+IsEncodedInto place bs old new (Err (NoRoom n)) =
     (place ≡ None) × (n ≡ length bs) × (length old < n) × (new ≡ old)
-IsWritten place bs old new (Err (Unmapped at)) = (place ≡ Some at) × (new ≡ old)
+IsEncodedInto place bs old new (Err (Unmapped at)) = (place ≡ Some at) × (new ≡ old)

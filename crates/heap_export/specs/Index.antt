@@ -3,6 +3,6 @@ use Rattle.std.specs.Prelude.{◌≡◌, ℕ, ◌≤◌, List, Option, Some, Non
 
 -- The array index that these units are: the number of which they are the text ("Number::toString"); None
 -- where they are the text of no such number.
-abbrev pub IsIndex : List ℕ → Option ℕ → Type 0
-IsIndex us (Some n) = (n ≤ 4294967294) × (us ≡ decimal n)
-IsIndex us None = (n : ℕ) → n ≤ 4294967294 → ¬ (us ≡ decimal n)
+abbrev pub IsArrayIndex : List ℕ → Option ℕ → Type 0
+IsArrayIndex us (Some n) = (n ≤ 4294967294) × (us ≡ decimal n)
+IsArrayIndex us None = (n : ℕ) → n ≤ 4294967294 → ¬ (us ≡ decimal n)

@@ -8,7 +8,7 @@ use Rattle.heap_read.specs.Reads.{KeepsForms, OnlyLoads}
 use Rattle.heap_export.specs.declared.faults.Unpaired.{Unpaired}
 use Rattle.heap_export.specs.declared.faults.Unpaired.TheVariants.{Refuse, Keep}
 use Rattle.heap_export.specs.declared.points.Point.{Point}
-use Rattle.heap_export.specs.Encoded.{is_surrogate, unpaired}
+use Rattle.heap_export.specs.Encoded.{is_unpaired, unpaired}
 
 -- p is the code point at place i, with the number of its units
 pub record IsPointAt (us : List ℕ) (i : ℕ) (p : Point) : Type 0 where
@@ -16,7 +16,7 @@ pub record IsPointAt (us : List ℕ) (i : ℕ) (p : Point) : Type 0 where
   pub within : i + p.count ≤ length us
   pub value : points (drop i us) ≡ p.value ∷ points (drop (i + p.count) us)
   pub unpaired : unpaired i (drop i us)
-      ≡ (if is_surrogate p.value then Some i else unpaired (i + p.count) (drop (i + p.count) us))
+      ≡ (if is_unpaired p.value then Some i else unpaired (i + p.count) (drop (i + p.count) us))
   pub short : len_utf8 p.value ≤ 3 * p.count
   pub range : p.value < 0x110000
 
@@ -27,7 +27,7 @@ written _ c = alone c
 
 -- whether it is refused
 abbrev pub is_refused : Unpaired → ℕ → Bool
-is_refused Refuse c = is_surrogate c
+is_refused Refuse c = is_unpaired c
 is_refused _ c = false
 
 -- a call that loads content words alone

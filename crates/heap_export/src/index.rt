@@ -9,7 +9,7 @@ ghost use Rattle.heap_read.specs.Sides.{LoadsFewForms};
 ghost use Rattle.heap_read.specs.Windows.{IsWindow};
 ghost use Rattle.heap_text.specs.Keeping.{KeepsText};
 ghost use Rattle.heap_export.specs.Digits.{has_form, index_read, read_on};
-ghost use Rattle.heap_export.specs.Index.{IsIndex};
+ghost use Rattle.heap_export.specs.Index.{IsArrayIndex};
 ghost use Rattle.heap_export.specs.Points.{LoadsWords};
 
 use crate::units::fill_units;
@@ -26,7 +26,8 @@ pub fn array_index<H: HeapRef>(text: &mut Text<H>, s: JsStr) -> Option<u32>
     ensures kept { KeepsText text.old text.new }
     ensures reads { OnlyLoads (view_of text.old.reader.agent) (view_of text.new.reader.agent) }
     ensures few { LoadsFewForms (view_of text.old.reader.agent) (view_of text.new.reader.agent) 3 }
-    ensures index { (us : List ℕ) → Has (view_of text.old.reader.agent).units s.id us → IsIndex us result }
+    ensures index { (us : List ℕ) → Has (view_of text.old.reader.agent).units s.id us → IsArrayIndex us
+        result }
 {
     let window = text.window(s);
     index_in(text, window)
@@ -37,7 +38,7 @@ fn index_in<H: HeapRef>(text: &mut Text<H>, w: Window) -> Option<u32>
     requires window { (us : List ℕ) × IsWindow (view_of text.old.reader.agent) w us }
     ensures kept { KeepsText text.old text.new }
     ensures loads { LoadsWords (view_of text.old.reader.agent) (view_of text.new.reader.agent) }
-    ensures index { (us : List ℕ) → IsWindow (view_of text.old.reader.agent) w us → IsIndex us result }
+    ensures index { (us : List ℕ) → IsWindow (view_of text.old.reader.agent) w us → IsArrayIndex us result }
 {
     let count = w.len as usize;
     if count > MOST_DIGITS {
@@ -53,7 +54,7 @@ fn index_by<H: HeapRef>(text: &mut Text<H>, w: Window, digits: &mut [u16]) -> Op
     requires room { length digits.old ≡ w.len }
     ensures kept { KeepsText text.old text.new }
     ensures loads { LoadsWords (view_of text.old.reader.agent) (view_of text.new.reader.agent) }
-    ensures index { (us : List ℕ) → IsWindow (view_of text.old.reader.agent) w us → IsIndex us result }
+    ensures index { (us : List ℕ) → IsWindow (view_of text.old.reader.agent) w us → IsArrayIndex us result }
 {
     fill_units(text, w, digits);
     index_of_digits(digits)
@@ -61,7 +62,7 @@ fn index_by<H: HeapRef>(text: &mut Text<H>, w: Window, digits: &mut [u16]) -> Op
 
 // The number whose decimal digits the units are, where it is an array index.
 fn index_of_digits(units: &[u16]) -> Option<u32>
-    ensures { IsIndex units.now result }
+    ensures { IsArrayIndex units.now result }
 {
     parsed(units)
 }

@@ -7,7 +7,7 @@ ghost use Rattle.heap_read.specs.Reads.{OnlyLoads};
 ghost use Rattle.heap_read.specs.Sides.{LoadsFewForms};
 ghost use Rattle.heap_read.specs.Windows.{IsWindow};
 ghost use Rattle.heap_text.specs.Keeping.{KeepsText};
-ghost use Rattle.heap_export.specs.Encoded.{IsWritten, past_latin1};
+ghost use Rattle.heap_export.specs.Encoded.{IsEncodedInto, past_latin1};
 ghost use Rattle.heap_export.specs.Points.{LoadsWords};
 
 use crate::faults::WriteFault;
@@ -28,7 +28,7 @@ pub fn write_latin1<H: HeapRef>(
     ensures reads { OnlyLoads (view_of text.old.reader.agent) (view_of text.new.reader.agent) }
     ensures few { LoadsFewForms (view_of text.old.reader.agent) (view_of text.new.reader.agent) 3 }
     ensures written { (us : List ℕ) → Has (view_of text.old.reader.agent).units s.id us
-        → IsWritten (past_latin1 0 us) us out.old out.new result }
+        → IsEncodedInto (past_latin1 0 us) us out.old out.new result }
 {
     let window = text.window(s);
     write(text, window, out)
@@ -40,7 +40,7 @@ fn write<H: HeapRef>(text: &mut Text<H>, w: Window, out: &mut [u8]) -> Result<u3
     ensures kept { KeepsText text.old text.new }
     ensures loads { LoadsWords (view_of text.old.reader.agent) (view_of text.new.reader.agent) }
     ensures written { (us : List ℕ) → IsWindow (view_of text.old.reader.agent) w us
-        → IsWritten (past_latin1 0 us) us out.old out.new result }
+        → IsEncodedInto (past_latin1 0 us) us out.old out.new result }
 {
     match first_past(text, w) {
         Some(at) => Err(WriteFault::Unmapped { at }),
@@ -55,7 +55,7 @@ fn write_all<H: HeapRef>(text: &mut Text<H>, w: Window, out: &mut [u8]) -> Resul
     ensures kept { KeepsText text.old text.new }
     ensures loads { LoadsWords (view_of text.old.reader.agent) (view_of text.new.reader.agent) }
     ensures written { (us : List ℕ) → IsWindow (view_of text.old.reader.agent) w us
-        → IsWritten None us out.old out.new result }
+        → IsEncodedInto None us out.old out.new result }
 {
     let count = w.len as usize;
     if count > out.len() {

@@ -7,7 +7,7 @@ ghost use Rattle.heap_table.specs.Agents.{view_of};
 ghost use Rattle.heap_read.specs.Reads.{OnlyLoads};
 ghost use Rattle.heap_read.specs.Sides.{LoadsFewForms};
 ghost use Rattle.heap_read.specs.Windows.{IsWindow};
-ghost use Rattle.heap_bytes.specs.Spellings.{IsReadable, units_of};
+ghost use Rattle.heap_bytes.specs.Spellings.{IsReadable, spelling_units};
 ghost use Rattle.heap_text.specs.Keeping.{KeepsText};
 ghost use Rattle.heap_export.specs.Points.{LoadsWords};
 
@@ -25,7 +25,7 @@ pub fn compare_spelled<H: HeapRef>(text: &mut Text<H>, s: JsStr, source: &Spelli
     ensures reads { OnlyLoads (view_of text.old.reader.agent) (view_of text.new.reader.agent) }
     ensures few { LoadsFewForms (view_of text.old.reader.agent) (view_of text.new.reader.agent) 3 }
     ensures order { (us : List ℕ) → Has (view_of text.old.reader.agent).units s.id us
-        → result ≡ units_cmp us (units_of source.now) }
+        → result ≡ units_cmp us (spelling_units source.now) }
 {
     let window = text.window(s);
     compare_window(text, window, source)
@@ -40,7 +40,7 @@ pub fn has_spelled<H: HeapRef>(text: &mut Text<H>, s: JsStr, source: &Spelling) 
     ensures reads { OnlyLoads (view_of text.old.reader.agent) (view_of text.new.reader.agent) }
     ensures few { LoadsFewForms (view_of text.old.reader.agent) (view_of text.new.reader.agent) 3 }
     ensures same { (us : List ℕ) → Has (view_of text.old.reader.agent).units s.id us
-        → IsTrue result ↔ (us ≡ units_of source.now) }
+        → IsTrue result ↔ (us ≡ spelling_units source.now) }
 {
     let window = text.window(s);
     compare_window(text, window, source) == Ordering::Equal
@@ -53,7 +53,7 @@ fn compare_window<H: HeapRef>(text: &mut Text<H>, w: Window, source: &Spelling) 
     ensures kept { KeepsText text.old text.new }
     ensures loads { LoadsWords (view_of text.old.reader.agent) (view_of text.new.reader.agent) }
     ensures order { (us : List ℕ) → IsWindow (view_of text.old.reader.agent) w us
-        → result ≡ units_cmp us (units_of source.now) }
+        → result ≡ units_cmp us (spelling_units source.now) }
 {
     let mut room = [0; ROOM];
     let mut rest = *source;

@@ -7,7 +7,7 @@ ghost use Rattle.heap_read.specs.Reads.{OnlyLoads};
 ghost use Rattle.heap_read.specs.Sides.{LoadsFewForms};
 ghost use Rattle.heap_read.specs.Windows.{IsWindow};
 ghost use Rattle.heap_text.specs.Keeping.{KeepsText};
-ghost use Rattle.heap_export.specs.Encoded.{IsWritten};
+ghost use Rattle.heap_export.specs.Encoded.{IsEncodedInto};
 ghost use Rattle.heap_export.specs.Points.{LoadsWords};
 
 use crate::faults::WriteFault;
@@ -26,7 +26,7 @@ pub fn write_units<H: HeapRef>(
     ensures reads { OnlyLoads (view_of text.old.reader.agent) (view_of text.new.reader.agent) }
     ensures few { LoadsFewForms (view_of text.old.reader.agent) (view_of text.new.reader.agent) 3 }
     ensures written { (us : List ℕ) → Has (view_of text.old.reader.agent).units s.id us
-        → IsWritten None us out.old out.new result }
+        → IsEncodedInto None us out.old out.new result }
 {
     let window = text.window(s);
     write_window(text, window, out)
@@ -42,7 +42,7 @@ fn write_window<H: HeapRef>(
     ensures kept { KeepsText text.old text.new }
     ensures loads { LoadsWords (view_of text.old.reader.agent) (view_of text.new.reader.agent) }
     ensures written { (us : List ℕ) → IsWindow (view_of text.old.reader.agent) w us
-        → IsWritten None us out.old out.new result }
+        → IsEncodedInto None us out.old out.new result }
 {
     let count = w.len as usize;
     if count > out.len() {

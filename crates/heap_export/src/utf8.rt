@@ -8,7 +8,7 @@ ghost use Rattle.heap_read.specs.Reads.{OnlyLoads};
 ghost use Rattle.heap_read.specs.Sides.{LoadsFewForms};
 ghost use Rattle.heap_read.specs.Windows.{IsWindow};
 ghost use Rattle.heap_text.specs.Keeping.{KeepsText};
-ghost use Rattle.heap_export.specs.Encoded.{IsWritten, bytes_of, refused};
+ghost use Rattle.heap_export.specs.Encoded.{IsEncodedInto, bytes_of, refused};
 ghost use Rattle.heap_export.specs.Encoded;
 ghost use Rattle.heap_export.specs.Points.{LoadsWords};
 ghost use Rattle.heap_export.specs.Points;
@@ -32,7 +32,7 @@ pub fn write_utf8<H: HeapRef>(
     ensures reads { OnlyLoads (view_of text.old.reader.agent) (view_of text.new.reader.agent) }
     ensures few { LoadsFewForms (view_of text.old.reader.agent) (view_of text.new.reader.agent) 3 }
     ensures written { (us : List ℕ) → Has (view_of text.old.reader.agent).units s.id us
-        → IsWritten (refused unpaired us) (bytes_of unpaired us) out.old out.new result }
+        → IsEncodedInto (refused unpaired us) (bytes_of unpaired us) out.old out.new result }
 {
     let window = text.window(s);
     write(text, window, unpaired, out)
@@ -49,7 +49,7 @@ fn write<H: HeapRef>(
     ensures kept { KeepsText text.old text.new }
     ensures loads { LoadsWords (view_of text.old.reader.agent) (view_of text.new.reader.agent) }
     ensures written { (us : List ℕ) → IsWindow (view_of text.old.reader.agent) w us
-        → IsWritten (refused unpaired us) (bytes_of unpaired us) out.old out.new result }
+        → IsEncodedInto (refused unpaired us) (bytes_of unpaired us) out.old out.new result }
 {
     match size_of(text, w, unpaired) {
         Err(at) => Err(WriteFault::Unmapped { at }),
@@ -71,7 +71,7 @@ fn write_all<H: HeapRef>(
     ensures loads { LoadsWords (view_of text.old.reader.agent) (view_of text.new.reader.agent) }
     ensures written { (us : List ℕ) → IsWindow (view_of text.old.reader.agent) w us
         → size ≡ length (bytes_of unpaired us)
-        → IsWritten None (bytes_of unpaired us) out.old out.new result }
+        → IsEncodedInto None (bytes_of unpaired us) out.old out.new result }
 {
     let count = size as usize;
     if count > out.len() {

@@ -15,13 +15,13 @@ use Rattle.heap_rule.proofs.SlotTests.{shut_at_decides}
 use Rattle.heap_table.specs.Known.{KeepsKnown}
 use Rattle.heap_intern.specs.Answers.{HeaderPlan, IsBehind, IsFixed, IsForwarded, IsFound, IsInternAnswer, IsPlan, UsesNothing}
 use Rattle.heap_intern.specs.Goes.{AddsCalls}
-use Rattle.heap_intern.specs.Seats.{AreSeats, IsSeatFor, IsSeated, is_fixed, is_forwarded}
+use Rattle.heap_intern.specs.Seats.{AreSeats, IsSeatFor, IsSeated, is_fixed_form, is_forwarded}
 use Rattle.heap_intern.proofs.Adopting.{one_units}
 use Rattle.heap_intern.proofs.Going.{goes_slot}
 use Rattle.heap_intern.proofs.Seeking.{one_form}
 use Rattle.heap_intern.proofs.Visiting.{behind_kept, entered_is}
 
-fixed_by : (o : Option Form) → IsTrue (is_fixed o) → (wide : Bool) × (start : ℕ) × (o ≡ Some (Flat wide start true))
+fixed_by : (o : Option Form) → IsTrue (is_fixed_form o) → (wide : Bool) × (start : ℕ) × (o ≡ Some (Flat wide start true))
 fixed_by None h = let e : false ≡ true = h in absurd (cc)
 fixed_by (Some Unborn) h = let e : false ≡ true = h in absurd (cc)
 fixed_by (Some (Flat wide start fixed)) h = (wide, start, ap (λ (b : Bool). Some (Flat wide start b)) h)
@@ -65,7 +65,7 @@ seat_of v s k h = let u = has_key v.units s h.0 in let t = has_key v.slots k h.1
 
 seat_for : (v : View) (s k : ℕ) (x : IsSeat v s k) → IsSeatFor v x.units x.target k × IsTrue (is_forwarded x.target (get v.forms s))
 seat_for v s k x = (
-  (x.fixed.1, subst (λ (o : Option Form). IsTrue (is_fixed o)) (sym x.fixed.0.2) refl, λ j l r. (shut_at_decides v x.units j).1 (x.behind j l r)),
+  (x.fixed.1, subst (λ (o : Option Form). IsTrue (is_fixed_form o)) (sym x.fixed.0.2) refl, λ j l r. (shut_at_decides v x.units j).1 (x.behind j l r)),
   is_forwarded_to v s x.target x.forwards,
 )
 

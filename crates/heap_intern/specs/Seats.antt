@@ -10,13 +10,13 @@ use Rattle.heap_rule.specs.Paths.{rank}
 use Rattle.heap_rule.specs.SlotTests.{shut_at}
 
 -- the form is known, and is a fixed Flat
-abbrev pub is_fixed : Option Form → Bool
-is_fixed None = false
-is_fixed (Some Unborn) = false
-is_fixed (Some (Flat wide start fixed)) = fixed
-is_fixed (Some (Cons wide left right)) = false
-is_fixed (Some (Sliced wide parent offset)) = false
-is_fixed (Some (Thin target)) = false
+abbrev pub is_fixed_form : Option Form → Bool
+is_fixed_form None = false
+is_fixed_form (Some Unborn) = false
+is_fixed_form (Some (Flat wide start fixed)) = fixed
+is_fixed_form (Some (Cons wide left right)) = false
+is_fixed_form (Some (Sliced wide parent offset)) = false
+is_fixed_form (Some (Thin target)) = false
 
 -- the form is known, and forwards to string t or is a fixed Flat
 abbrev pub is_forwarded : ℕ → Option Form → Bool
@@ -30,7 +30,7 @@ is_forwarded t (Some (Thin target)) = target == t
 -- String t in slot k has the units us, is a fixed Flat, and each slot before k on the path of us is known to
 -- be used by a string that differs.
 abbrev pub IsSeatFor : View → List ℕ → ℕ → ℕ → Type 0
-IsSeatFor v us t k = Has v.units t us × IsTrue (is_fixed (get v.forms t))
+IsSeatFor v us t k = Has v.units t us × IsTrue (is_fixed_form (get v.forms t))
     × ((j : ℕ) → j < v.sizes.slots → rank us v.sizes.slots j < rank us v.sizes.slots k
     → IsTrue (shut_at v us j))
 

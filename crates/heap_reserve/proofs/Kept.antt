@@ -29,7 +29,7 @@ use Rattle.heap_reserve.specs.declared.faults.ReserveFault.{ReserveFault}
 use Rattle.heap_reserve.specs.declared.faults.ReserveFault.TheVariants.{Memory, Full}
 use Rattle.heap_reserve.specs.declared.reserve.Reserve.{Reserve}
 use Rattle.heap_reserve.specs.Claims.{IsClaimAnswer, IsIdRefused}
-use Rattle.heap_reserve.specs.Reserves.{IsAscending, IsClaimed, IsGrown, IsReserve, IsTaken, kept_ids, kept_words}
+use Rattle.heap_reserve.specs.Reserves.{IsAscending, IsClaimed, IsGrown, IsReserve, IsTakenFrom, kept_ids, words_kept}
 
 -- any call that leaves the agent what it owns leaves it what it keeps
 pub reserve_kept : (v w : View) (r : Reserve) → KeepsOwn v w → IsReserve v r → IsReserve w r
@@ -61,7 +61,7 @@ rest_ids : (v : View) (i : ℕ) (is : List ℕ) → All (λ j. HasKey v.own_ids 
 rest_ids v i is h = λ k d l. h (suc k) d (omega arith)
 
 -- the rest stays kept when something is taken
-pub reserve_taken : (v w : View) (r s : Reserve) (id n : ℕ) → IsReserve v r → IsTaken v w r s id n → s.start ≤ s.end → IsReserve w s
+pub reserve_taken : (v w : View) (r s : Reserve) (id n : ℕ) → IsReserve v r → IsTakenFrom v w r s id n → s.start ≤ s.end → IsReserve w s
 reserve_taken v w r s id n h t ordered = let up : IsAscending (id ∷ kept_ids s) = subst IsAscending t.ids h.ascending in
     let own : All (λ j. HasKey v.own_ids j) (kept_ids s) = rest_ids v id (kept_ids s) (subst (λ (is : List ℕ). All (λ j. HasKey v.own_ids j) is) t.ids h.ids) in
     let start = t.words.0 in let end = t.words.1 in record {
@@ -73,7 +73,7 @@ reserve_taken v w r s id n h t ordered = let up : IsAscending (id ∷ kept_ids s
     }
 
 -- the words that are taken are own, and 0
-pub zero_taken : (v u : View) (r : Reserve) (start words : ℕ) → OnlyLoads v u → IsReserve v r → words ≤ kept_words r →
+pub zero_taken : (v u : View) (r : Reserve) (start words : ℕ) → OnlyLoads v u → IsReserve v r → words ≤ words_kept r →
     (0 < words → start ≡ r.start) → (q : ℕ) → q < words → Has u.own_words (start + q) 0
 zero_taken v u r start words read h fits first q l = let e = first (omega (arith, l)) in let same : r.start + q ≡ start + q = omega (arith, e) in
     subst (λ (m : FinMap nat_cmp ℕ). Has m (start + q) 0) (sym read.own_words) (subst (λ (c : ℕ). Has v.own_words c 0) same (h.words (r.start + q) (omega arith) (omega (arith, l, fits))))
@@ -96,7 +96,7 @@ all_written p possible wide start words n us e long h empty = record {
 
 -- a flat string was made of what was taken
 pub copy_taken : (v u p z : View) (r s : Reserve) (id start words : ℕ) → OnlyLoads v u → Writes u p → KeepsBeside start words u p → z.used ≡ p.used → KeepsOwnBut p z id start words
-    → kept_ids r ≡ id ∷ kept_ids s → (s.start ≡ r.start + words) × (s.end ≡ r.end) → (0 < words → start ≡ r.start) → IsTaken v z r s id words
+    → kept_ids r ≡ id ∷ kept_ids s → (s.start ≡ r.start + words) × (s.end ≡ r.end) → (0 < words → start ≡ r.start) → IsTakenFrom v z r s id words
 copy_taken v u p z r s id start words read write beside used but ids run first = record {
   ids = ids;
   words = run;
@@ -113,7 +113,7 @@ copy_taken v u p z r s id start words read write beside used but ids run first =
         (λ some. let same = first (omega (arith, some)) in ⊎_elim (λ low. inl (omega (arith, low, same))) (λ high. inr (omega (arith, high, same))) side)
 
 -- and one that needs no word
-pub id_taken : (v z : View) (r s : Reserve) (id : ℕ) → z.used ≡ v.used → KeepsOwnBut v z id 0 0 → kept_ids r ≡ id ∷ kept_ids s → (s.start ≡ r.start) × (s.end ≡ r.end) → IsTaken v z r s id 0
+pub id_taken : (v z : View) (r s : Reserve) (id : ℕ) → z.used ≡ v.used → KeepsOwnBut v z id 0 0 → kept_ids r ≡ id ∷ kept_ids s → (s.start ≡ r.start) × (s.end ≡ r.end) → IsTakenFrom v z r s id 0
 id_taken v z r s id used but ids run = let e = run.0 in record {
   ids = ids;
   words = (omega (arith, e), run.1);
@@ -122,7 +122,7 @@ id_taken v z r s id used but ids run = let e = run.0 in record {
 }
 
 -- what was taken after loads, from before them
-pub taken_after : (v u w : View) (r s : Reserve) (id n : ℕ) → OnlyLoads v u → IsTaken u w r s id n → IsTaken v w r s id n
+pub taken_after : (v u w : View) (r s : Reserve) (id n : ℕ) → OnlyLoads v u → IsTakenFrom u w r s id n → IsTakenFrom v w r s id n
 taken_after v u w r s id n read t = let kept = own_reads v u read in record {
   ids = t.ids;
   words = t.words;

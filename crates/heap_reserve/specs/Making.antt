@@ -12,41 +12,41 @@ use Rattle.heap_text.specs.declared.faults.TextFull.{TextFull}
 use Rattle.heap_text.specs.Joins.{HasPart, HasRope, IsCopied, IsCut, IsJoined, MIN_CONS}
 use Rattle.heap_text.specs.Texts.{KeepsOwn}
 use Rattle.heap_reserve.specs.declared.reserve.Reserve.{Reserve}
-use Rattle.heap_reserve.specs.Reserves.{HasAbove, HasEnough, IsTaken}
+use Rattle.heap_reserve.specs.Reserves.{HasAbove, HasEnough, IsTakenFrom}
 
 -- the content words that hold the units
-abbrev pub words_of : List ℕ → ℕ
-words_of us = words_over (is_wide us) (length us)
+abbrev pub words_holding : List ℕ → ℕ
+words_holding us = words_over (is_wide us) (length us)
 
 module _ (v w : View) (r s : Reserve) where
   -- a new flat string with these units, over the words that left the reserve, with the id that did
   pub record IsFlatTaken (t : JsStr) (us : List ℕ) : Type 0 where
     pub units : Has w.units t.id us
     pub form : (start : ℕ) × Has w.forms t.id (Flat (is_wide us) start false)
-    pub taken : IsTaken v w r s t.id (words_of us)
+    pub taken : IsTakenFrom v w r s t.id (words_holding us)
 
   -- a new Cons of the strings a and b, with these units and the id that left the reserve
   pub record IsRopeTaken (a b t : JsStr) (us : List ℕ) : Type 0 where
     pub units : Has w.units t.id us
     pub rope : HasRope w a b t.id
-    pub taken : IsTaken v w r s t.id 0
+    pub taken : IsTakenFrom v w r s t.id 0
 
   -- a new Sliced of the units of p from `from` on, with these units and the id that left the reserve
   pub record IsPartTaken (p : JsStr) (from : ℕ) (t : JsStr) (us : List ℕ) : Type 0 where
     pub units : Has w.units t.id us
     pub part : HasPart w p from t.id
-    pub taken : IsTaken v w r s t.id 0
+    pub taken : IsTakenFrom v w r s t.id 0
 
   -- Making a string of these units. It takes what it needs from the reserve, where that has it; else the
   -- reserve stays, and it is made by claims, as a `Text` makes it.
   pub record IsMade (z : HeapSize) (us : List ℕ) (answer : Result JsStr TextFull) : Type 0 where
-    pub taken : HasEnough r (words_of us) → (t : JsStr) × (answer ≡ Ok t) × IsFlatTaken t us
-    pub claimed : (HasEnough r (words_of us) → ⊥) → (s ≡ r) × KeepsOwn v w × IsCopied v w z us answer
+    pub taken : HasEnough r (words_holding us) → (t : JsStr) × (answer ≡ Ok t) × IsFlatTaken t us
+    pub claimed : (HasEnough r (words_holding us) → ⊥) → (s ≡ r) × KeepsOwn v w × IsCopied v w z us answer
 
 -- two strings are joined by a copy, and the reserve has what that needs
 abbrev pub IsShortJoin : Reserve → ℕ → List ℕ → List ℕ → Type 0
 IsShortJoin r most us vs = (length us + length vs ≤ most) × (0 < length us) × (0 < length vs)
-    × (length us + length vs < MIN_CONS) × HasEnough r (words_of (us ++ vs))
+    × (length us + length vs < MIN_CONS) × HasEnough r (words_holding (us ++ vs))
 
 -- two strings are joined by a Cons, and the first id of the reserve is greater than theirs
 abbrev pub IsLongJoin : Reserve → ℕ → JsStr → JsStr → List ℕ → List ℕ → Type 0
@@ -56,7 +56,7 @@ IsLongJoin r most a b us vs = (length us + length vs ≤ most) × (0 < length us
 -- a part that is not the whole is a copy, and the reserve has what that needs
 abbrev pub IsShortCut : Reserve → ℕ → ℕ → List ℕ → Type 0
 IsShortCut r from to us = ((0 < from) ⊎ (to < length us)) × (to - from < MIN_CONS)
-    × HasEnough r (words_of (part from (to - from) us))
+    × HasEnough r (words_holding (part from (to - from) us))
 
 -- a part that is not the whole is a Sliced, and the first id of the reserve is greater than the string's
 abbrev pub IsLongCut : Reserve → JsStr → ℕ → ℕ → List ℕ → Type 0

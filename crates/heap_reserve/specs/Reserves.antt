@@ -10,8 +10,8 @@ abbrev pub kept_ids : Reserve → List ℕ
 kept_ids r = r.ids.items
 
 -- how many content words it has
-abbrev pub kept_words : Reserve → ℕ
-kept_words r = r.end - r.start
+abbrev pub words_kept : Reserve → ℕ
+words_kept r = r.end - r.start
 
 -- each number is greater than those before it
 abbrev pub IsAscending : List ℕ → Type 0
@@ -39,7 +39,7 @@ pub record IsClaimed (v w : View) (r s : Reserve) (ids words : ℕ) : Type 0 whe
 
 -- it has an id, and n content words
 abbrev pub HasEnough : Reserve → ℕ → Type 0
-HasEnough r n = (0 < length (kept_ids r)) × (n ≤ kept_words r)
+HasEnough r n = (0 < length (kept_ids r)) × (n ≤ words_kept r)
 
 -- it has an id, and the first one is greater than i
 abbrev pub HasAbove : Reserve → ℕ → Type 0
@@ -47,7 +47,7 @@ HasAbove r i = (0 < length (kept_ids r)) × (i < slice_index (kept_ids r) 0)
 
 -- The first id and the first n content words left the reserve, and nothing was claimed.
 -- All else that the agent owned it owns still.
-pub record IsTaken (v w : View) (r s : Reserve) (id n : ℕ) : Type 0 where
+pub record IsTakenFrom (v w : View) (r s : Reserve) (id n : ℕ) : Type 0 where
   pub ids : kept_ids r ≡ id ∷ kept_ids s
   pub words : (s.start ≡ r.start + n) × (s.end ≡ r.end)
   pub used : w.used ≡ v.used

@@ -6,7 +6,7 @@ use Rattle.heap_rule.specs.Births.{part}
 use Rattle.heap_read.specs.declared.string.JsStr.{JsStr}
 use Rattle.heap_read.specs.Reads.{OnlyLoads}
 use Rattle.heap_reserve.specs.declared.reserve.Reserve.{Reserve}
-use Rattle.heap_reserve.specs.Making.{IsFlatTaken, IsLongCut, IsLongJoin, IsPartTaken, IsRopeTaken, IsShortCut, IsShortJoin, words_of}
+use Rattle.heap_reserve.specs.Making.{IsFlatTaken, IsLongCut, IsLongJoin, IsPartTaken, IsRopeTaken, IsShortCut, IsShortJoin, words_holding}
 use Rattle.heap_reserve.specs.Reserves.{HasAbove, HasEnough}
 
 module _ (v w : View) (r s : Reserve) where
@@ -14,8 +14,8 @@ module _ (v w : View) (r s : Reserve) where
   IsLeft o = (o ≡ None) × (s ≡ r) × OnlyLoads v w
 
   pub record MakesFlat (us : List ℕ) (o : Option JsStr) : Type 0 where
-    pub made : HasEnough r (words_of us) → (t : JsStr) × (o ≡ Some t) × IsFlatTaken v w r s t us
-    pub left : (HasEnough r (words_of us) → ⊥) → IsLeft o
+    pub made : HasEnough r (words_holding us) → (t : JsStr) × (o ≡ Some t) × IsFlatTaken v w r s t us
+    pub left : (HasEnough r (words_holding us) → ⊥) → IsLeft o
 
   pub record MakesRope (a b : JsStr) (us : List ℕ) (o : Option JsStr) : Type 0 where
     pub made : HasAbove r a.id → HasAbove r b.id → (t : JsStr) × (o ≡ Some t) × IsRopeTaken v w r s a b t us

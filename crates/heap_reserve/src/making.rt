@@ -6,7 +6,7 @@ ghost use Rattle.heap_table.specs.Agents.{size_of, view_of};
 ghost use Rattle.heap_read.specs.Readers.{Moves, view_in};
 ghost use Rattle.heap_read.specs.Reads.{Continues};
 ghost use Rattle.heap_read.specs.Sources.{ShowsSource, listed_in};
-ghost use Rattle.heap_bytes.specs.Spellings.{IsReadable, units_of};
+ghost use Rattle.heap_bytes.specs.Spellings.{IsReadable, spelling_units};
 ghost use Rattle.heap_text.specs.Keeping.{KeepsText};
 ghost use Rattle.heap_reserve.specs.Making.{IsMade};
 ghost use Rattle.heap_reserve.specs.Trying.{MakesFlat};
@@ -50,14 +50,14 @@ impl Reserve {
     ) -> Result<JsStr, TextFull>
         requires reserve { IsReserve (view_of text.old.reader.agent) self.old }
         requires read { IsReadable source.now }
-        requires short { length (units_of source.now) ≤ MAX }
+        requires short { length (spelling_units source.now) ≤ MAX }
         ensures kept { KeepsText text.old text.new }
         ensures continues { Continues (view_of text.old.reader.agent) (view_of text.new.reader.agent) }
         ensures reserve { IsReserve (view_of text.new.reader.agent) self.new }
         ensures units { IfOk result
-            (λ s. Has (view_of text.new.reader.agent).units s.id (units_of source.now)) }
+            (λ s. Has (view_of text.new.reader.agent).units s.id (spelling_units source.now)) }
         ensures made { IsMade (view_of text.old.reader.agent) (view_of text.new.reader.agent) self.old
-            self.new (size_of (H.reached text.old.reader.heap)) (units_of source.now) result }
+            self.new (size_of (H.reached text.old.reader.heap)) (spelling_units source.now) result }
     {
         match self.spell(&mut text.reader, source) {
             Some(s) => Ok(s),
@@ -69,11 +69,11 @@ impl Reserve {
     fn spell<H: HeapRef>(&mut self, reader: &mut Reader<H>, source: &Spelling) -> Option<JsStr>
         requires reserve { IsReserve (view_in reader.old) self.old }
         requires read { IsReadable source.now }
-        requires short { length (units_of source.now) ≤ MAX }
+        requires short { length (spelling_units source.now) ≤ MAX }
         ensures continues { Moves Continues reader.old reader.new }
         ensures reserve { IsReserve (view_in reader.new) self.new }
         ensures made { MakesFlat (view_in reader.old) (view_in reader.new) self.old self.new
-            (units_of source.now) result }
+            (spelling_units source.now) result }
     {
         let n = source.len();
         let wide = source.is_wide();

@@ -1,7 +1,7 @@
 // What is kept in advance, and taking from it.
 ghost use Rattle.std.specs.Prelude.{◌≡◌, ◌↔◌, ◌+◌, ◌<◌, ◌≤◌, [], ◌∷◌, IsTrue, length};
 ghost use Rattle.heap_rule.specs.declared.view.View as view;
-ghost use Rattle.heap_reserve.specs.Reserves.{HasAbove, HasEnough, IsReserve, kept_ids, kept_words};
+ghost use Rattle.heap_reserve.specs.Reserves.{HasAbove, HasEnough, IsReserve, kept_ids, words_kept};
 
 use std::alloc::Global;
 use std::collections::VecDeque;
@@ -38,7 +38,7 @@ impl Reserve {
 
     /// How many content words it has.
     pub fn words_left(&self) -> u32
-        ensures { result ≡ kept_words self.now }
+        ensures { result ≡ words_kept self.now }
     {
         self.end.saturating_sub(self.start)
     }

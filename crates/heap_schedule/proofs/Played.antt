@@ -9,7 +9,7 @@ use Rattle.heap_core.specs.declared.event.Event.TheVariants as event
 use Rattle.heap_core.specs.declared.event.Refusal.{Refusal}
 use Rattle.heap_core.specs.declared.event.Refusal.TheVariants.{NotEnabled, Memory}
 use Rattle.heap_core.specs.Events.{Enabled, IsSoundCore, after, found}
-use Rattle.heap_schedule.specs.Lines.{Turn, named, enters, loads_slot, turn_of}
+use Rattle.heap_schedule.specs.Lines.{Turn, turn_named, enters, loads_slot, turn_of}
 use Rattle.heap_schedule.specs.Play.{CanPlay, CanPlayAll, EndsAfter, IsEntering, IsOver, IsPlayed, all_played, slot_units, played, word_for, words_for}
 
 may : (s : Core) (e : Event) → Enabled s e → CanPlay s (turn_of e)
@@ -113,15 +113,15 @@ may_more (u ∷ us) t s all h = (all.0, may_more us t (played s u) all.1 h)
 
 -- the line at a place of a list of lines
 pub take_line : (xs : List Line) (i : ℕ) (x d : Line) → i < length xs → x ≡ get_or xs i d
-    → take (suc i) (map named xs) ≡ take i (map named xs) ++ named x ∷ []
+    → take (suc i) (map turn_named xs) ≡ take i (map turn_named xs) ++ turn_named x ∷ []
 take_line [] i x d h e = absurd (omega arith)
-take_line (y ∷ ys) zero x d h e = ap (λ z. named z ∷ []) (sym e)
-take_line (y ∷ ys) (suc i) x d h e = ap (λ l. named y ∷ l) (take_line ys i x d (omega arith) e)
+take_line (y ∷ ys) zero x d h e = ap (λ z. turn_named z ∷ []) (sym e)
+take_line (y ∷ ys) (suc i) x d h e = ap (λ l. turn_named y ∷ l) (take_line ys i x d (omega arith) e)
 
 pub drop_line : (xs : List Line) (i : ℕ) (x d : Line) → i < length xs → x ≡ get_or xs i d
-    → drop i (map named xs) ≡ named x ∷ drop (suc i) (map named xs)
+    → drop i (map turn_named xs) ≡ turn_named x ∷ drop (suc i) (map turn_named xs)
 drop_line [] i x d h e = absurd (omega arith)
-drop_line (y ∷ ys) zero x d h e = ap (λ z. named z ∷ map named ys) (sym e)
+drop_line (y ∷ ys) zero x d h e = ap (λ z. turn_named z ∷ map turn_named ys) (sym e)
 drop_line (y ∷ ys) (suc i) x d h e = drop_line ys i x d (omega arith) e
 
 -- the first i lines were played, and found these words
@@ -134,35 +134,35 @@ pub record ArePlayed (ts : List Turn) (i : ℕ) (s t : Core) (xs : List ℕ) : T
   pub sound : IsSoundCore t
 
 played_next : (ls : List Line) (i : ℕ) (x d : Line) (s t u : Core) (xs ys : List ℕ) (w : ℕ) → i < length ls → x ≡ get_or ls i d
-    → ArePlayed (map named ls) i s t xs → IsPlayed t (named x) u (Ok w) → ys ≡ xs ++ w ∷ [] → ArePlayed (map named ls) (suc i) s u ys
+    → ArePlayed (map turn_named ls) i s t xs → IsPlayed t (turn_named x) u (Ok w) → ys ≡ xs ++ w ∷ [] → ArePlayed (map turn_named ls) (suc i) s u ys
 played_next ls i x d s t u xs ys w h e p q added =
-    let front = take i (map named ls) in
+    let front = take i (map turn_named ls) in
     let step = take_line ls i x d h e in
-    let here : CanPlay (all_played front s) (named x) = subst (λ c. CanPlay c (named x)) p.after q.0 in
+    let here : CanPlay (all_played front s) (turn_named x) = subst (λ c. CanPlay c (turn_named x)) p.after q.0 in
     record {
-      within = omega (arith, length-map ls named);
+      within = omega (arith, length-map ls turn_named);
       long = ap length added ∙ length-append xs (w ∷ []) ∙ omega (arith, p.long);
-      may = subst (λ ts. CanPlayAll ts s) (sym step) (may_more front (named x) s p.may here);
-      after = q.1 ∙ ap (λ c. played c (named x)) p.after ∙ sym (ap (λ ts. all_played ts s) step ∙ played_more front (named x) s);
-      found = added ∙ ap (λ l. l ++ w ∷ []) p.found ∙ ap (λ v. words_for front s ++ v ∷ []) (q.2 ∙ ap (λ c. word_for c (named x)) p.after)
-          ∙ sym (ap (λ ts. words_for ts s) step ∙ words_more front (named x) s);
+      may = subst (λ ts. CanPlayAll ts s) (sym step) (may_more front (turn_named x) s p.may here);
+      after = q.1 ∙ ap (λ c. played c (turn_named x)) p.after ∙ sym (ap (λ ts. all_played ts s) step ∙ played_more front (turn_named x) s);
+      found = added ∙ ap (λ l. l ++ w ∷ []) p.found ∙ ap (λ v. words_for front s ++ v ∷ []) (q.2 ∙ ap (λ c. word_for c (turn_named x)) p.after)
+          ∙ sym (ap (λ ts. words_for ts s) step ∙ words_more front (turn_named x) s);
       sound = q.3;
     }
 
 pub one_played : (ls : List Line) (i : ℕ) (x d : Line) (s t u : Core) (xs ys : List ℕ) (w : ℕ) → i < length ls → x ≡ get_or ls i d
-    → ArePlayed (map named ls) i s t xs → IsPlayed t (named x) u (Ok w) → ys ≡ xs ++ w ∷ [] → ArePlayed (map named ls) (i + 1) s u ys
+    → ArePlayed (map turn_named ls) i s t xs → IsPlayed t (turn_named x) u (Ok w) → ys ≡ xs ++ w ∷ [] → ArePlayed (map turn_named ls) (i + 1) s u ys
 one_played ls i x d s t u xs ys w h e p q added =
     let one : suc i ≡ i + 1 = omega arith in
-    subst (λ n. ArePlayed (map named ls) n s u ys) one (played_next ls i x d s t u xs ys w h e p q added)
+    subst (λ n. ArePlayed (map turn_named ls) n s u ys) one (played_next ls i x d s t u xs ys w h e p q added)
 
 -- the next line may not be played
 pub ends_here : (ls : List Line) (i : ℕ) (x d : Line) (s t u : Core) (xs : List ℕ) → i < length ls → x ≡ get_or ls i d
-    → ArePlayed (map named ls) i s t xs → IsPlayed t (named x) u (Err NotEnabled) → EndsAfter (map named ls) s i
+    → ArePlayed (map turn_named ls) i s t xs → IsPlayed t (turn_named x) u (Err NotEnabled) → EndsAfter (map turn_named ls) s i
 ends_here ls i x d s t u xs h e p q = record {
   within = p.within;
   play = p.may;
-  over = subst (λ ts. IsOver (all_played (take i (map named ls)) s) ts) (sym (drop_line ls i x d h e))
-      (subst (λ c. CanPlay c (named x) → ⊥) p.after q.0);
+  over = subst (λ ts. IsOver (all_played (take i (map turn_named ls)) s) ts) (sym (drop_line ls i x d h e))
+      (subst (λ c. CanPlay c (turn_named x) → ⊥) p.after q.0);
 }
 
 nothing_left : (ts : List Turn) (i : ℕ) (s : Core) → length ts ≤ i → IsOver s (drop i ts)
@@ -172,14 +172,14 @@ nothing_left (t ∷ ts) zero s h = absurd (omega arith)
 nothing_left (t ∷ ts) (suc i) s h = nothing_left ts i s (omega arith)
 
 -- there is no further line
-pub ends_last : (ls : List Line) (i : ℕ) (s t : Core) (xs : List ℕ) → length ls ≤ i → ArePlayed (map named ls) i s t xs → EndsAfter (map named ls) s i
+pub ends_last : (ls : List Line) (i : ℕ) (s t : Core) (xs : List ℕ) → length ls ≤ i → ArePlayed (map turn_named ls) i s t xs → EndsAfter (map turn_named ls) s i
 ends_last ls i s t xs h p = record {
   within = p.within;
   play = p.may;
-  over = nothing_left (map named ls) i (all_played (take i (map named ls)) s) (omega (arith, h, length-map ls named));
+  over = nothing_left (map turn_named ls) i (all_played (take i (map turn_named ls)) s) (omega (arith, h, length-map ls turn_named));
 }
 
-pub none_played : (ls : List Line) (s : Core) (xs : List ℕ) → xs ≡ [] → IsSoundCore s → ArePlayed (map named ls) 0 s s xs
+pub none_played : (ls : List Line) (s : Core) (xs : List ℕ) → xs ≡ [] → IsSoundCore s → ArePlayed (map turn_named ls) 0 s s xs
 none_played ls s xs e h = record {
   within = omega arith;
   long = ap length e;

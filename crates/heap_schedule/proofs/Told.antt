@@ -12,7 +12,7 @@ use Rattle.heap_core.specs.Core.{Core}
 use Rattle.heap_core.specs.Events.{IsSoundCore}
 use Rattle.heap_schedule.specs.declared.line.Line.{Line}
 use Rattle.heap_schedule.specs.declared.line.Making.{Making}
-use Rattle.heap_schedule.specs.Lines.{Turn, is_small, named}
+use Rattle.heap_schedule.specs.Lines.{Turn, is_small, turn_named}
 use Rattle.heap_schedule.specs.Text.{reads, refuses, schedule_of}
 use Rattle.heap_schedule.specs.Play.{EndsAfter, all_played, machine_made, words_for}
 use Rattle.heap_schedule.specs.Kept.{WasPlayed}
@@ -49,18 +49,18 @@ module _ {E : Type 0} (lines n : ℕ) (bytes : List ℕ) (o p e f : SinkState) w
 
 -- the lines were played, the bytes are made from what they found and led to
 pub play_shown : (m : Making) (ls ds : List Line) (s t : Core) (xs ys bytes : List ℕ) (n : ℕ) → ds ≡ ls → s ≡ machine_made m → IsSoundCore s
-    → EndsAfter (map named ds) s (length xs) → t ≡ all_played (take (length xs) (map named ds)) s → xs ≡ words_for (take (length xs) (map named ds)) s
-    → bytes ≡ shown_lines t ys → ys ≡ xs → n ≡ length xs → IsShown m (map named ls) bytes n
+    → EndsAfter (map turn_named ds) s (length xs) → t ≡ all_played (take (length xs) (map turn_named ds)) s → xs ≡ words_for (take (length xs) (map turn_named ds)) s
+    → bytes ≡ shown_lines t ys → ys ≡ xs → n ≡ length xs → IsShown m (map turn_named ls) bytes n
 play_shown m ls ds s t xs ys bytes n lines first sound ends after found made_of same long =
-    let P : ℕ → Core → Type 0 = λ k c. WasPlayed (map named ds) c k
-    × (bytes ≡ shown_lines (all_played (take k (map named ds)) c) (words_for (take k (map named ds)) c)) in
+    let P : ℕ → Core → Type 0 = λ k c. WasPlayed (map turn_named ds) c k
+    × (bytes ≡ shown_lines (all_played (take k (map turn_named ds)) c) (words_for (take k (map turn_named ds)) c)) in
     let here : P (length xs) s = (
       play_kept ds (length xs) s sound ends,
-      made_of ∙ ap (shown_lines t) same ∙ ap (λ c. shown_lines c xs) after ∙ ap (shown_lines (all_played (take (length xs) (map named ds)) s)) found,
+      made_of ∙ ap (shown_lines t) same ∙ ap (λ c. shown_lines c xs) after ∙ ap (shown_lines (all_played (take (length xs) (map turn_named ds)) s)) found,
     ) in
     let counted : P n s = subst (λ k. P k s) (sym long) here in
     let begun : P n (machine_made m) = subst (P n) first counted in
-    subst (λ l. IsShown m (map named l) bytes n) lines begun
+    subst (λ l. IsShown m (map turn_named l) bytes n) lines begun
 
 -- ---- of a text
 

@@ -3,7 +3,7 @@ use Rattle.std.proofs.Common.{◌≡◌, ◌⊎◌, ℕ, zero, suc, ◌+◌, ◌
 use Rattle.std.specs.List.{prefix_len}
 use Rattle.std.proofs.lemmas.List.{append_assoc, append-nil, length-append, map-append}
 use Rattle.heap_schedule.specs.Fields.{differs, fields_between}
-use Rattle.heap_schedule.specs.Lines.{Turn, named}
+use Rattle.heap_schedule.specs.Lines.{Turn, turn_named}
 use Rattle.heap_schedule.specs.Text.{GivesLines, GivesSchedule, ScheduleLines, Reading, lines_after, lines_from, reads, refuses, made_then, making_in, onto}
 use Rattle.heap_schedule.specs.Text.{open_line, refused, schedule_by, schedule_of, turn_in, turn_then, turns}
 use Rattle.heap_schedule.specs.declared.line.Line.{Line}
@@ -49,16 +49,16 @@ lines_bad ts k bs n e h is =
 
 -- a line, and more behind it
 pub lines_more : (xs ys : List Line) (x : Line) (bs rest : List ℕ) (n : ℕ) → prefix_len (differs 10) bs ≡ n → n < length bs
-    → rest ≡ drop (n + 1) bs → turn_in (take n bs) ≡ Some (named x) → ys ≡ xs ++ x ∷ []
-    → behind (map named ys) (lines_from (length ys + 2) (fields_between 10 rest)) ≡ behind (map named xs) (lines_from (length xs + 2) (fields_between 10 bs))
+    → rest ≡ drop (n + 1) bs → turn_in (take n bs) ≡ Some (turn_named x) → ys ≡ xs ++ x ∷ []
+    → behind (map turn_named ys) (lines_from (length ys + 2) (fields_between 10 rest)) ≡ behind (map turn_named xs) (lines_from (length xs + 2) (fields_between 10 bs))
 lines_more xs ys x bs rest n e h is found added =
-    let more : map named ys ≡ map named xs ++ named x ∷ [] = ap (map named) added ∙ map-append named xs (x ∷ []) in
+    let more : map turn_named ys ≡ map turn_named xs ++ turn_named x ∷ [] = ap (map turn_named) added ∙ map-append turn_named xs (x ∷ []) in
     let long : length ys + 2 ≡ suc (length xs + 2) = omega (arith, ap length added, length-append xs (x ∷ [])) in
     ap (λ ts. behind ts (lines_from (length ys + 2) (fields_between 10 rest))) more
-    ∙ ap (λ k. behind (map named xs ++ named x ∷ []) (lines_from k (fields_between 10 rest))) long
-    ∙ sym (ap (behind (map named xs)) (lines_cut (length xs + 2) bs rest n e h is)
-    ∙ ap (λ t. behind (map named xs) (turn_then (length xs + 2) t (lines_from (suc (length xs + 2)) (fields_between 10 rest)))) found
-    ∙ one_more (map named xs) (named x) (lines_from (suc (length xs + 2)) (fields_between 10 rest)))
+    ∙ ap (λ k. behind (map turn_named xs ++ turn_named x ∷ []) (lines_from k (fields_between 10 rest))) long
+    ∙ sym (ap (behind (map turn_named xs)) (lines_cut (length xs + 2) bs rest n e h is)
+    ∙ ap (λ t. behind (map turn_named xs) (turn_then (length xs + 2) t (lines_from (suc (length xs + 2)) (fields_between 10 rest)))) found
+    ∙ one_more (map turn_named xs) (turn_named x) (lines_from (suc (length xs + 2)) (fields_between 10 rest)))
 
 -- the end
 pub lines_end : (ts : List Turn) (k : ℕ) (bs : List ℕ) → length bs ≡ 0 → behind ts (lines_from k (fields_between 10 bs)) ≡ turns ts

@@ -39,9 +39,9 @@ turn_of (event.LoadSlot j k entry names) = loads_slot j k entry names.items
 turn_of (event.TakeSlot j k i names) = takes_slot j k i names.items
 turn_of e = plain e
 
-abbrev pub named : Line → Turn
-named (line.Event e) = turn_of e
-named (line.Enter j k names) = enters j k names.items
+abbrev pub turn_named : Line → Turn
+turn_named (line.Event e) = turn_of e
+turn_named (line.Enter j k names) = enters j k names.items
 
 -- ---- fields
 
@@ -274,7 +274,7 @@ making_of fs = if (length fs == 5) && is_heap (field_at fs 0)
 -- ---- results
 
 abbrev pub GivesLine : Result Line LineFault → Option Turn → Type 0
-GivesLine r wanted = GivesReading named r wanted
+GivesLine r wanted = GivesReading turn_named r wanted
 
 abbrev pub GivesNames : Result (Vec ℕ Global) LineFault → Option (List ℕ) → Type 0
 GivesNames r wanted = GivesReading (λ names. names.items) r wanted

@@ -7,7 +7,7 @@ use Rattle.heap_schedule.specs.declared.schedule.Schedule.{Schedule}
 use Rattle.heap_schedule.specs.declared.text.TextStop.{TextStop}
 use Rattle.heap_schedule.specs.declared.text.TextStop.TheVariants as stop
 use Rattle.heap_schedule.specs.Fields.{line_fields, fields_between}
-use Rattle.heap_schedule.specs.Lines.{Turn, line_of, making_of, named}
+use Rattle.heap_schedule.specs.Lines.{Turn, line_of, making_of, turn_named}
 
 abbrev pub turn_in : List ℕ → Option Turn
 turn_in line = option_and_then line_of (line_fields line)
@@ -64,7 +64,7 @@ schedule_of text = schedule_by (fields_between 10 text)
 -- ---- results
 
 abbrev pub turns_of : Schedule → List Turn
-turns_of s = map named s.lines.items
+turns_of s = map turn_named s.lines.items
 
 abbrev pub GivesSchedule : Result Schedule TextStop → Reading → Type 0
 GivesSchedule (Ok s) wanted = wanted ≡ reads s.making (turns_of s)
@@ -72,6 +72,6 @@ GivesSchedule (Err (stop.Refused k)) wanted = wanted ≡ refuses k
 GivesSchedule (Err stop.Memory) wanted = ⊤
 
 abbrev pub GivesLines : Result (Vec Line Global) TextStop → ScheduleLines → Type 0
-GivesLines (Ok lines) wanted = wanted ≡ turns (map named lines.items)
+GivesLines (Ok lines) wanted = wanted ≡ turns (map turn_named lines.items)
 GivesLines (Err (stop.Refused k)) wanted = wanted ≡ refused k
 GivesLines (Err stop.Memory) wanted = ⊤

@@ -1,7 +1,7 @@
 // Playing the lines.
 ghost use Rattle.std.specs.Prelude.{◌≡◌, length, map, take, IfOk};
 ghost use Rattle.heap_core.specs.Events.{IsSoundCore};
-ghost use Rattle.heap_schedule.specs.Lines.{named};
+ghost use Rattle.heap_schedule.specs.Lines.{turn_named};
 ghost use Rattle.heap_schedule.specs.Play.{EndsAfter, IsEntering, IsPlayed, all_played, words_for};
 
 use crate::line::Line;
@@ -46,7 +46,7 @@ fn entering(
 
 // Plays a line, and answers the word that its event found.
 fn play_line(alloc: Global, state: &mut CoreState, line: &Line) -> Result<u64, Refusal>
-    ensures { IsPlayed state.old (named line.now) state.new result }
+    ensures { IsPlayed state.old (turn_named line.now) state.new result }
 {
     match line {
         Line::Event(event) => apply(state, event),
@@ -66,11 +66,12 @@ pub(crate) fn play_lines(
     lines: &[Line],
 ) -> Result<Vec<u64>, NoMemory>
     requires { IsSoundCore state.old }
-    ensures ends { IfOk result (λ found. EndsAfter (map named lines.now) state.old (length found.items)) }
+    ensures ends { IfOk result (λ found. EndsAfter (map turn_named lines.now) state.old
+        (length found.items)) }
     ensures after { IfOk result (λ found.
-        state.new ≡ all_played (take (length found.items) (map named lines.now)) state.old) }
+        state.new ≡ all_played (take (length found.items) (map turn_named lines.now)) state.old) }
     ensures found { IfOk result (λ found.
-        found.items ≡ words_for (take (length found.items) (map named lines.now)) state.old) }
+        found.items ≡ words_for (take (length found.items) (map turn_named lines.now)) state.old) }
     ensures sound { IfOk result (λ _. IsSoundCore state.new) }
 {
     let mut found = Vec::new(alloc);

@@ -9,7 +9,7 @@ ghost use Rattle.heap_read.specs.Readers.{Moves, view_in};
 ghost use Rattle.heap_read.specs.Reads.{Continues};
 ghost use Rattle.heap_read.specs.Sources.{ShowsSource, listed_in};
 ghost use Rattle.heap_read.specs.Written.{IsWritten};
-ghost use Rattle.heap_bytes.specs.Spellings.{IsReadable, units_of};
+ghost use Rattle.heap_bytes.specs.Spellings.{IsReadable, spelling_units};
 ghost use Rattle.heap_text.specs.Texts.{IsSpared, KeepsOwn, KeepsOwnBut, Told, UsesExactly};
 
 use crate::faults::TextFull;
@@ -85,22 +85,22 @@ pub(crate) fn copy_spelled<H: HeapRef>(
     source: &Spelling,
 ) -> Result<JsStr, TextFull>
     requires read { IsReadable source.now }
-    requires short { length (units_of source.now) ≤ MAX }
+    requires short { length (spelling_units source.now) ≤ MAX }
     ensures continues { Moves Continues reader.old reader.new }
     ensures own { KeepsOwn (view_in reader.old) (view_in reader.new) }
-    ensures units { IfOk result (λ s. Has (view_in reader.new).units s.id (units_of source.now)) }
+    ensures units { IfOk result (λ s. Has (view_in reader.new).units s.id (spelling_units source.now)) }
     ensures form { IfOk result
         (λ s. (start : ℕ)
-        × Has (view_in reader.new).forms s.id (Flat (is_wide (units_of source.now)) start false)) }
+        × Has (view_in reader.new).forms s.id (Flat (is_wide (spelling_units source.now)) start false)) }
     ensures used { IfOk result
         (λ s. UsesExactly (view_in reader.old) (view_in reader.new) 1
-        (words_over (is_wide (units_of source.now)) (length (units_of source.now)))) }
+        (words_over (is_wide (spelling_units source.now)) (length (spelling_units source.now)))) }
     ensures refused { IfErr result
         (λ f. Told (view_in reader.new) (size_of (H.reached reader.old.heap))
-        (words_over (is_wide (units_of source.now)) (length (units_of source.now))) f) }
+        (words_over (is_wide (spelling_units source.now)) (length (spelling_units source.now))) f) }
     ensures spared { IfErr result
         (λ f. IsSpared (view_in reader.old) (view_in reader.new)
-        (words_over (is_wide (units_of source.now)) (length (units_of source.now))) f) }
+        (words_over (is_wide (spelling_units source.now)) (length (spelling_units source.now))) f) }
 {
     let n = source.len();
     let wide = source.is_wide();

@@ -7,7 +7,7 @@ ghost use Rattle.heap_rule.specs.Births.{part};
 ghost use Rattle.heap_rule.specs.Maps.{Has, HasKey};
 ghost use Rattle.heap_rule.specs.Views.{IsSeenSettled};
 ghost use Rattle.heap_table.specs.Agents.{size_of, view_of};
-ghost use Rattle.heap_bytes.specs.Spellings.{IsReadable, units_of};
+ghost use Rattle.heap_bytes.specs.Spellings.{IsReadable, spelling_units};
 ghost use Rattle.heap_read.specs.Readers.{Moves, view_in};
 ghost use Rattle.heap_read.specs.Reads.{Continues, HoldsForms, OnlyLoads};
 ghost use Rattle.heap_read.specs.Sides.{KnowsSide};
@@ -60,24 +60,24 @@ impl<H: HeapRef> Text<H> {
     /// bytes are read piece by piece, so no memory is requested but the heap's.
     pub fn make_from(&mut self, source: &Spelling) -> Result<JsStr, TextFull>
         requires read { IsReadable source.now }
-        requires short { length (units_of source.now) ≤ MAX }
+        requires short { length (spelling_units source.now) ≤ MAX }
         ensures kept { KeepsText self.old self.new }
         ensures continues { Continues (view_of self.old.reader.agent) (view_of self.new.reader.agent) }
         ensures own { KeepsOwn (view_of self.old.reader.agent) (view_of self.new.reader.agent) }
         ensures units { IfOk result
-            (λ s. Has (view_of self.new.reader.agent).units s.id (units_of source.now)) }
+            (λ s. Has (view_of self.new.reader.agent).units s.id (spelling_units source.now)) }
         ensures form { IfOk result
             (λ s. (start : ℕ) × Has (view_of self.new.reader.agent).forms s.id
-            (Flat (is_wide (units_of source.now)) start false)) }
+            (Flat (is_wide (spelling_units source.now)) start false)) }
         ensures used { IfOk result
             (λ s. UsesExactly (view_of self.old.reader.agent) (view_of self.new.reader.agent) 1
-            (words_over (is_wide (units_of source.now)) (length (units_of source.now)))) }
+            (words_over (is_wide (spelling_units source.now)) (length (spelling_units source.now)))) }
         ensures refused { IfErr result
             (λ f. Told (view_of self.new.reader.agent) (size_of (H.reached self.old.reader.heap))
-            (words_over (is_wide (units_of source.now)) (length (units_of source.now))) f) }
+            (words_over (is_wide (spelling_units source.now)) (length (spelling_units source.now))) f) }
         ensures spared { IfErr result
             (λ f. IsSpared (view_of self.old.reader.agent) (view_of self.new.reader.agent)
-            (words_over (is_wide (units_of source.now)) (length (units_of source.now))) f) }
+            (words_over (is_wide (spelling_units source.now)) (length (spelling_units source.now))) f) }
     {
         copy_spelled(&mut self.reader, source)
     }

@@ -15,7 +15,7 @@ use Rattle.eval_values.specs.declared.value.Stop.TheVariants.{Store}
 use Rattle.js_item.specs.Seen.{Val}
 use Rattle.eval_values.specs.Outcome.{free, gave, each, cost}
 use Rattle.eval_values.specs.Need.{parts}
-use Rattle.eval_values.specs.Conversions.{to_string, text_units, total}
+use Rattle.eval_values.specs.Conversions.{to_string, text_units, sum_over}
 use Rattle.eval_values.specs.Seen.{all_seen, AllFine}
 use Rattle.eval_values.specs.Does.{GivesValues, GivesTexts, string_words}
 use Rattle.eval_values.proofs.Needs.{some_most}
@@ -30,35 +30,35 @@ use Rattle.js_eval.proofs.Stays.{context_bindings_still}
 use Rattle.js_eval.proofs.Flows.{bind_went, bind_halts, converting_went, converting_halts}
 
 -- the need of a line covers the settling of its strings
-string_words_most : (vs : List Val) → string_words vs ≤ total text_units vs + length vs
+string_words_most : (vs : List Val) → string_words vs ≤ sum_over text_units vs + length vs
 string_words_most [] = omega arith
 string_words_most (v ∷ vs) = omega (arith, string_words_most vs)
 
-line_need : (vs : List Val) → string_words vs ≤ parts_words (length vs) (total text_units vs)
+line_need : (vs : List Val) → string_words vs ≤ parts_words (length vs) (sum_over text_units vs)
 line_need vs = omega (arith, string_words_most vs, some_most (length vs))
 
 module _ {F : Type 0} (a b : State F) (x y : List ℕ) (bs : Bindings Val) (us : List (List ℕ)) (vs : List Val) (w : ℕ) where
   -- a line that was printed, and one that was not
   line_went : StoreStep a b None 0 w → b.history ≡ a.history → w ≤ string_words vs → y ≡ x ++ line us → FollowsFlow a b x y (Ok tt) bs
-      (on_value (gave (line us) (cost (parts (length vs) (total text_units vs)))) bs (λ l. printed l bs))
+      (on_value (gave (line us) (cost (parts (length vs) (sum_over text_units vs)))) bs (λ l. printed l bs))
   line_went s h k e =
       let need = line_need vs in
       record {
         did = record {
           is = refl;
           good = tt;
-          ran = ran_both (ran_of_step (parts_ids (length vs)) (parts_words (length vs) (total text_units vs)) s h (omega arith) (omega (arith, need, k))) (ran_free b);
+          ran = ran_both (ran_of_step (parts_ids (length vs)) (parts_words (length vs) (sum_over text_units vs)) s h (omega arith) (omega (arith, need, k))) (ran_free b);
         };
         wrote = e ∙ ap (λ q. x ++ q) (sym (append-nil (line us)));
         leaves = refl;
       }
 
   line_halts : (f : StoreFault) → StoreStep a b (full_only f) 0 w → NeverSlots (full_only f) → b.history ≡ a.history → w ≤ string_words vs →
-      y ≡ x → FollowsFlow a b x y (Err (Store f)) bs (on_value (gave (line us) (cost (parts (length vs) (total text_units vs)))) bs (λ l. printed l bs))
+      y ≡ x → FollowsFlow a b x y (Err (Store f)) bs (on_value (gave (line us) (cost (parts (length vs) (sum_over text_units vs)))) bs (λ l. printed l bs))
   line_halts f s n h k e =
       let need = line_need vs in
       record {
-        did = cut_more free (cut_of_full f (cost (parts (length vs) (total text_units vs))) s h n (omega arith) (omega (arith, need, k)));
+        did = cut_more free (cut_of_full f (cost (parts (length vs) (sum_over text_units vs))) s h n (omega arith) (omega (arith, need, k)));
         wrote = record { done = []; left = line us ∷ []; split = refl; written = e ∙ sym (append-nil x) };
         leaves = tt;
       }
@@ -74,7 +74,7 @@ module _ {F R : Type 0} (name : R → ℕ) where
         converting_went (parts (length (all_seen a name vs)) (reached_units a.limit (all_seen a name vs))) a b c x y
         (λ o (v : Vec R Global). texts_seen o name v.items) (λ o (v : Vec R Global). AllKnown o name v.items) us (Ok tt) bs bs
         (each (to_string a.limit) (all_seen a name vs)) (λ ts. gave (line ts)
-        (cost (parts (length (all_seen a name vs)) (total text_units (all_seen a name vs))))) (λ l. printed l bs) d
+        (cost (parts (length (all_seen a name vs)) (sum_over text_units (all_seen a name vs))))) (λ l. printed l bs) d
         (line_went b c x y bs (texts_seen b name us.items) (all_seen a name vs) (settle_most b name us.items) s h k e)
 
     pub values_halt : (c : State F) (y : List ℕ) (us : Vec R Global) (f : StoreFault) → GivesTexts name a b (Ok us)
@@ -85,7 +85,7 @@ module _ {F R : Type 0} (name : R → ℕ) where
         converting_went (parts (length (all_seen a name vs)) (reached_units a.limit (all_seen a name vs))) a b c x y
         (λ o (v : Vec R Global). texts_seen o name v.items) (λ o (v : Vec R Global). AllKnown o name v.items) us (Err (Store f)) bs bs
         (each (to_string a.limit) (all_seen a name vs)) (λ ts. gave (line ts)
-        (cost (parts (length (all_seen a name vs)) (total text_units (all_seen a name vs))))) (λ l. printed l bs) d
+        (cost (parts (length (all_seen a name vs)) (sum_over text_units (all_seen a name vs))))) (λ l. printed l bs) d
         (line_halts b c x y bs (texts_seen b name us.items) (all_seen a name vs) (settle_most b name us.items) f s n h k e)
 
     pub texts_halt : (n : Stop) → GivesTexts name a b (Err n) (each (to_string a.limit) (all_seen a name vs)) → FollowsFlow a b x x (Err n)
@@ -94,7 +94,7 @@ module _ {F R : Type 0} (name : R → ℕ) where
         converting_halts {V = Vec R Global} (parts (length (all_seen a name vs)) (reached_units a.limit (all_seen a name vs))) a b x
         (λ o (v : Vec R Global). texts_seen o name v.items) (λ o (v : Vec R Global). AllKnown o name v.items) n bs bs
         (each (to_string a.limit) (all_seen a name vs)) (λ ts. gave (line ts)
-        (cost (parts (length (all_seen a name vs)) (total text_units (all_seen a name vs))))) (λ l. printed l bs) refl d
+        (cost (parts (length (all_seen a name vs)) (sum_over text_units (all_seen a name vs))))) (λ l. printed l bs) refl d
 
   -- the arguments of a `print`, and then their line
   module _ (a b : State F) (x : List ℕ) (es : Exprs) (k : Context R) (g : Grows a b) (h : ContextFine a name k) where

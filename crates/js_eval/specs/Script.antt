@@ -12,7 +12,7 @@ use Rattle.js_item.specs.Seen.{Val}
 use Rattle.js_item.specs.Contents.{undefined, number}
 use Rattle.eval_values.specs.Outcome.{Out, gave, ended, threw, after_ledger, bind, converting, each, free, cost, ledger_of, interning, throwing, Ledger}
 use Rattle.eval_values.specs.Need.{reads, parts, nothing}
-use Rattle.eval_values.specs.Conversions.{to_string, to_boolean, string_units, text_units, all_units, total}
+use Rattle.eval_values.specs.Conversions.{to_string, to_boolean, string_units, text_units, all_units, sum_over}
 use Rattle.js_eval.specs.Expression.{EvalContext, read_out, operated, expr_out, exprs_out}
 
 -- what statements come to: how they end and what they need, the lines that they print, and the bindings that
@@ -65,7 +65,7 @@ reached_units limit (v ∷ vs) =
 -- the line of a `print`: all its arguments, then their strings
 abbrev pub line_out : ℕ → List Val → Out (List ℕ)
 line_out limit vs = converting (parts (length vs) (reached_units limit vs)) (each (to_string limit) vs)
-    (λ us. gave (line us) (cost (parts (length vs) (total text_units vs))))
+    (λ us. gave (line us) (cost (parts (length vs) (sum_over text_units vs))))
 
 -- the innermost block is left, whatever the end
 abbrev pub left : Flow → Flow

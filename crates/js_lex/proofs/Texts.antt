@@ -10,7 +10,7 @@ use Rattle.js_lex.specs.Elements.{is_word_part}
 use Rattle.js_lex.specs.Marks.{spelling, IsLongest}
 use Rattle.js_lex.specs.Tokens.{Element, End, Skip, TokenOf, Fault, ElementAt, ended, blank, line, block, open_block, word, string, string_fault, number}
 use Rattle.js_lex.specs.Tokens.{number_fault, mark, bad, Lexes, done, skip, token, TokensOf}
-use Rattle.js_lex.specs.Spans.{InOrder, is_word, begins_word_part, IsWordAt, IsMarkAt, IsSpelledAt, IsSpelled, IsWithin}
+use Rattle.js_lex.specs.Spans.{InOrder, is_identifier, begins_word_part, IsWordAt, IsMarkAt, IsSpelledAt, HasItsText, IsWithin}
 use Rattle.js_lex.specs.declared.token.Mark.{Mark}
 use Rattle.js_lex.specs.declared.token.Mark.TheVariants.{StrictEqual, StrictUnequal, AtMost, AtLeast, And, Or, AddAssign, Increment, Decrement, OpenBrace}
 use Rattle.js_lex.specs.declared.token.Mark.TheVariants.{CloseBrace, OpenParen, CloseParen, OpenBracket, CloseBracket, Point, Semicolon, Comma, Less, Greater}
@@ -81,8 +81,8 @@ word_spelled text at end c s u h b e =
     let ascii : list_all is_ascii (c ∷ p.w) ≡ true = rw (start_ascii c b, parts_ascii p.w p.all) refl in
     let from = subst (StandsAt text at) (ap (λ r. c ∷ r) p.splits) h in
     let bytes = span_of text at end (c ∷ p.w) (after_word s) u from e ∙ ascii_bytes (c ∷ p.w) ascii in
-    let good : is_word (c ∷ p.w) ≡ true = rw (b, p.all) refl in
-    record { word = ap is_word bytes ∙ good; rest = after_word s; ends = e; whole = p.whole }
+    let good : is_identifier (c ∷ p.w) ≡ true = rw (b, p.all) refl in
+    record { word = ap is_identifier bytes ∙ good; rest = after_word s; ends = e; whole = p.whole }
 
 mark_ascii : (m : Mark) → list_all is_ascii (spelling m) ≡ true
 mark_ascii StrictEqual = refl
@@ -145,10 +145,10 @@ all_more : {X : Type 0} (P : X → Type 0) (x : X) (xs : List X) → P x → All
 all_more P x xs p h zero d lt = p
 all_more P x xs p h (suc i) d lt = h i d (omega (arith, lt))
 
-pub all_spelled : (text : List ℕ) (at : ℕ) (ts : List Token) → IsUtf8 text → Lexes text at ts → All (IsSpelled text) ts
+pub all_spelled : (text : List ℕ) (at : ℕ) (ts : List Token) → IsUtf8 text → Lexes text at ts → All (HasItsText text) ts
 all_spelled text _ _ u (done at h) = λ i d lt. absurd (omega (arith, lt))
 all_spelled text _ _ u (skip at mid ts h t) = all_spelled text mid ts u t
-all_spelled text _ _ u (token at mid k ts h t) = all_more (IsSpelled text) (token_at k at mid) ts (spells text at (TokenOf k mid) u h) (all_spelled text mid ts u t)
+all_spelled text _ _ u (token at mid k ts h t) = all_more (HasItsText text) (token_at k at mid) ts (spells text at (TokenOf k mid) u h) (all_spelled text mid ts u t)
 
 -- what lies in order is within the text, and each span ends where the next begins or earlier
 pub all_within : (text : List ℕ) (at : ℕ) (ts : List Token) → InOrder text at ts → All (IsWithin text) ts
@@ -173,6 +173,6 @@ pub tokens_within : {A : Type 0} (view : A → List Token) (bytes : List ℕ) (r
 tokens_within view bytes (Ok v) h = all_within bytes 0 (view v) (in_order bytes 0 (view v) h.utf8 h.lexes)
 tokens_within view bytes (Err e) h = tt
 
-pub tokens_texts : {A : Type 0} (view : A → List Token) (bytes : List ℕ) (r : Result A LexFault) → IfOk r (λ v. TokensOf bytes (view v)) → IfOk r (λ v. All (IsSpelled bytes) (view v))
+pub tokens_texts : {A : Type 0} (view : A → List Token) (bytes : List ℕ) (r : Result A LexFault) → IfOk r (λ v. TokensOf bytes (view v)) → IfOk r (λ v. All (HasItsText bytes) (view v))
 tokens_texts view bytes (Ok v) h = all_spelled bytes 0 (view v) h.utf8 h.lexes
 tokens_texts view bytes (Err e) h = tt

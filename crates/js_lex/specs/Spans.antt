@@ -26,9 +26,9 @@ abbrev pub slice : List ℕ → ℕ → ℕ → List ℕ
 slice bytes from to = take (to - from) (drop from bytes)
 
 -- an identifier start and then identifier parts
-abbrev pub is_word : List ℕ → Bool
-is_word [] = false
-is_word (c ∷ w) = is_word_start c && list_all is_word_part w
+abbrev pub is_identifier : List ℕ → Bool
+is_identifier [] = false
+is_identifier (c ∷ w) = is_word_start c && list_all is_word_part w
 
 abbrev pub begins_word_part : List ℕ → Bool
 begins_word_part [] = false
@@ -36,7 +36,7 @@ begins_word_part (c ∷ s) = is_word_part c
 
 -- an identifier, which no identifier part follows
 pub record IsWordAt (bytes : List ℕ) (from to : ℕ) : Type 0 where
-  pub word : is_word (slice bytes from to) ≡ true
+  pub word : is_identifier (slice bytes from to) ≡ true
   pub rest : List ℕ
   pub ends : StandsAt bytes to rest
   pub whole : begins_word_part rest ≡ false
@@ -56,5 +56,5 @@ IsSpelledAt bytes from to (kinds.Number v) = NumberOf bytes from v to
 IsSpelledAt bytes from to (kinds.Mark m) = IsMarkAt bytes from to m
 
 -- the token's text is its slice of the bytes
-abbrev pub IsSpelled : List ℕ → Token → Type 0
-IsSpelled bytes t = IsSpelledAt bytes t.from t.to t.kind
+abbrev pub HasItsText : List ℕ → Token → Type 0
+HasItsText bytes t = IsSpelledAt bytes t.from t.to t.kind

@@ -2,7 +2,7 @@
 ghost use Rattle.std.specs.Prelude.{◌≡◌, ◌≤◌, ◌⊎◌, List, length, IfOk, IfErr, ◌++◌, ℕ, ◌+◌, ◌<◌, ◌^◌, IfSome, slice_index_or, encode_utf8_all, IsUtf8, Result, Err, Option};
 ghost use Rattle.std.specs.List.{All};
 ghost use Rattle.js_literal.specs.Place.{StandsAt};
-ghost use Rattle.js_lex.specs.Spans.{InOrder, IsSpelled, IsWithin, slice};
+ghost use Rattle.js_lex.specs.Spans.{InOrder, HasItsText, IsWithin, slice};
 ghost use Rattle.std.specs.Str.{IsCharBoundary};
 ghost use Rattle.js_lex.specs.Tokens.{TokensOf, LexFaultOf, Lexes, FailsFrom};
 ghost use Rattle.js_lex.specs.Next.{GivesToken, GoesOn};
@@ -94,7 +94,7 @@ pub fn tokens(alloc: Global, bytes: &[u8]) -> Result<Vec<Token>, LexFault>
         → IfOk result (λ v. ⊥) × IfErr result (λ e. (e ≡ f) ⊎ (e ≡ Memory)) }
     ensures spans { IfOk result (λ v. InOrder bytes.now 0 v.items) }
     ensures within { IfOk result (λ v. All (IsWithin bytes.now) v.items) }
-    ensures texts { IfOk result (λ v. All (IsSpelled bytes.now) v.items) }
+    ensures texts { IfOk result (λ v. All (HasItsText bytes.now) v.items) }
 {
     read(alloc, bytes)
 }
@@ -127,7 +127,7 @@ pub fn spans_in_order()
 /// Each token's text is its slice of the bytes: an identifier's letters, a mark's spelling where no longer
 /// mark is there, and a literal from its first byte up to the byte behind it.
 pub fn token_text()
-    ensures { (bytes : List ℕ) (ts : List Token) → TokensOf bytes ts → All (IsSpelled bytes) ts }
+    ensures { (bytes : List ℕ) (ts : List Token) → TokensOf bytes ts → All (HasItsText bytes) ts }
 {}
 
 /// The bytes between two places are the UTF-8 of the characters between them.

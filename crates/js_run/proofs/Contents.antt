@@ -11,7 +11,7 @@ use Rattle.eval_tree.specs.Tree.{Tree}
 use Rattle.run_command.specs.Words.{Asked, files, made_from}
 use Rattle.run_sources.specs.Program.{FileName, Program, in_order, outer_of}
 use Rattle.run_sources.specs.Reading as reading
-use Rattle.run_sources.specs.Reading.{AreRead, IsPreludeRead, IsRead, Read}
+use Rattle.run_sources.specs.Reading.{AreRead, IsPreludeRead, IsSourceRead, Read}
 use Rattle.run_sources.specs.Spelling as spelling
 use Rattle.run_sources.specs.Spelling.{AllSpell, FirstAmong, FirstRefused, Spell, SpellsPrelude}
 use Rattle.js_run.specs.Asked.{AreTexts, names_of}
@@ -35,11 +35,11 @@ named_text name text = record { name = name; text = text }
 module _ (held : FileName → Option (List ℕ)) where
   -- a file among those that were read
   read_at : (before after : List FileName) (name : FileName) (names : List FileName) (sources : List Named) → Read held names sources → names ≡ before ++ name ∷ after
-      → (source : Named) × IsRead held name source
+      → (source : Named) × IsSourceRead held name source
   read_at [] after name _ _ reading.Read.none split = absurd (cc split)
   read_at [] after name _ _ (reading.Read.next n names source sources is rest) split =
       let same : n ≡ name = cc split in
-      (source, subst (λ (m : FileName). IsRead held m source) same is)
+      (source, subst (λ (m : FileName). IsSourceRead held m source) same is)
   read_at (b ∷ before) after name _ _ reading.Read.none split = absurd (cc split)
   read_at (b ∷ before) after name _ _ (reading.Read.next n names source sources is rest) split =
       let same : names ≡ before ++ name ∷ after = cc split in
@@ -71,7 +71,7 @@ module _ (held : FileName → Option (List ℕ)) where
       let same : source.text ≡ bytes = subst (λ (x : Option (List ℕ)). IsToldAs x source.text) held_is is.tells in
       omega (arith, is.small, ap length same)
 
-  same_source : (name : FileName) (bytes : List ℕ) (x y : Named) → held name ≡ Some bytes → IsRead held name x → IsRead held name y → x ≡ y
+  same_source : (name : FileName) (bytes : List ℕ) (x y : Named) → held name ≡ Some bytes → IsSourceRead held name x → IsSourceRead held name y → x ≡ y
   same_source name bytes x y is p q = ap₂ named_text (p.named ∙ sym q.named) (same_text (held name) bytes x.text y.text is p.tells q.tells)
 
   -- what was read is what is told

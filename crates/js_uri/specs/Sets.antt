@@ -8,8 +8,8 @@ is_alphanumeric u =
     (nat_le 0x41 u && nat_le u 0x5A) || (nat_le 0x61 u && nat_le u 0x7A) || (nat_le 0x30 u && nat_le u 0x39)
 
 -- - _ . ! ~ * ' ( )
-abbrev pub is_mark : ℕ → Bool
-is_mark u = u == 0x2D || u == 0x5F || u == 0x2E || u == 0x21 || u == 0x7E || u == 0x2A || u == 0x27
+abbrev pub is_uri_mark : ℕ → Bool
+is_uri_mark u = u == 0x2D || u == 0x5F || u == 0x2E || u == 0x21 || u == 0x7E || u == 0x2A || u == 0x27
     || u == 0x28 || u == 0x29
 
 -- ; / ? : @ & = + $ , #
@@ -20,7 +20,7 @@ is_uri_reserved u = u == 0x3B || u == 0x2F || u == 0x3F || u == 0x3A || u == 0x4
 
 -- what encodeURIComponent and encodeURI leave as it is
 abbrev pub component_keep : ℕ → Bool
-component_keep u = is_alphanumeric u || is_mark u
+component_keep u = is_alphanumeric u || is_uri_mark u
 
 abbrev pub uri_keep : ℕ → Bool
 uri_keep u = component_keep u || is_uri_reserved u

@@ -9,7 +9,7 @@ use Rattle.heap_bytes.specs.declared.encoding.Encoding.{Encoding}
 use Rattle.heap_bytes.specs.declared.encoding.Encoding.TheVariants.{Utf8, Wtf8}
 use Rattle.heap_bytes.specs.declared.spelling.Spelling.{Spelling}
 use Rattle.heap_bytes.specs.Points.{IsSpelledUpTo, utf16}
-use Rattle.heap_bytes.specs.Spellings.{IsReadAs, units_of}
+use Rattle.heap_bytes.specs.Spellings.{IsReadAs, spelling_units}
 use Rattle.heap_agents.specs.declared.held.Held.{Held}
 use Rattle.jsstr_c.specs.declared.given.Task.{Task}
 use Rattle.jsstr_c.specs.Reports.{not_utf8}
@@ -23,7 +23,7 @@ not_all : (bytes : List ℕ) (n : ℕ) → IsSpellingUpTo SpellsUtf8 bytes n →
 not_all bytes n s u = s.longest (length bytes) s.short (utf8_decoded (take (length bytes) bytes), (subst IsUtf8 (sym (take_all (length bytes) bytes (omega arith))) u, refl))
 
 -- what bytes of UTF-8 are read as, and where they are none
-pub utf8_read : (bytes : List ℕ) (s : Spelling) → IsReadAs Utf8 bytes (Ok s) → IsUtf8 bytes × (units_of s ≡ utf8_decoded bytes)
+pub utf8_read : (bytes : List ℕ) (s : Spelling) → IsReadAs Utf8 bytes (Ok s) → IsUtf8 bytes × (spelling_units s ≡ utf8_decoded bytes)
 utf8_read bytes s read = ((spelled_units Utf8 bytes read.0).0, read.2)
 
 pub utf8_unread : (bytes : List ℕ) (n : ℕ) → IsSpelledUpTo Utf8 bytes n → ¬ (IsUtf8 bytes)
@@ -31,7 +31,7 @@ utf8_unread bytes n up = not_all bytes n (spelling_up_to Utf8 bytes n up)
 
 -- a task on the units that bytes spell does what it does with bytes in that encoding
 module _ (task : Task) (o p : Option Held) (bytes : List ℕ) (r : JsAnswer) where
-  pub spelled_does : (e : Encoding) (s : Spelling) → IsReadAs e bytes (Ok s) → Does task o p (units_of s) r → DoesSpelled e task o p bytes r
+  pub spelled_does : (e : Encoding) (s : Spelling) → IsReadAs e bytes (Ok s) → Does task o p (spelling_units s) r → DoesSpelled e task o p bytes r
   spelled_does Utf8 s read does = inr ((spelled_units Utf8 bytes read.0).0, subst (λ (us : List ℕ). Does task o p us r) read.2 does)
   spelled_does Wtf8 s read does = inr (utf16 (chars bytes), spelled_units Wtf8 bytes read.0, subst (λ (us : List ℕ). Does task o p us r) read.2 does)
 

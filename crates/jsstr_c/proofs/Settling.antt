@@ -23,7 +23,7 @@ use Rattle.heap_agents.specs.Held.{Leaves, MarksOnly, view_by}
 use Rattle.heap_agents.specs.Ready.{HandleLeaves, HandleKnows, size_in, handle_view}
 use Rattle.heap_agents.specs.Shared.{IsSameText, SharedText, size_if}
 use Rattle.jsstr_c.specs.declared.answer.JsAnswer.{JsAnswer}
-use Rattle.jsstr_c.specs.Checked.{MarksNone, MarksOne, Measures, OnlyLooks, Refuses, Settles}
+use Rattle.jsstr_c.specs.Checked.{MarksNone, MarksOne, Measures, OnlyLooks, RefusesSettling, Settles}
 use Rattle.jsstr_c.proofs.Going.{goes_trans}
 
 -- after loads that load no form
@@ -122,7 +122,7 @@ module _ (o m p : Option Held) (s : ℕ) (g : Measures o m) where
     again = λ k. reads_trans v w x r (b.again (r.known.settled s k));
   }
 
-  pub refuses_before : (a : JsAnswer) → Refuses m p s a → Refuses o p s a
+  pub refuses_before : (a : JsAnswer) → RefusesSettling m p s a → RefusesSettling o p s a
   refuses_before a b = let v = handle_view o in let w = handle_view m in let x = handle_view p in let r = g.looks.loads in let e = g.forms.0 in record {
     leaves = goes_trans o m p g.looks.leaves b.leaves;
     own = own_before v w x r e b.own;

@@ -6,7 +6,7 @@ use Rattle.heap_agents.specs.Ready.{HandleLeaves, HandleKnows, Searches, handle_
 use Rattle.std.specs.declared.cmp.Ordering.{Ordering}
 use Rattle.jsstr_c.specs.declared.answer.JsAnswer.{JsAnswer}
 use Rattle.jsstr_c.specs.declared.answer.JsOrder.{JsOrder}
-use Rattle.jsstr_c.specs.Checked.{IsPairRefused, Looked, Measures, OnlyLooks, ReadsSettled, Refuses, SeeksSettled, Settles, SettlesFirst}
+use Rattle.jsstr_c.specs.Checked.{IsPairRefused, Looked, Measures, OnlyLooks, ReadsSettled, RefusesSettling, SeeksSettled, Settles, SettlesFirst}
 use Rattle.jsstr_c.specs.Pairs.{SettlesPair}
 use Rattle.jsstr_c.specs.Reports.{bad_argument, done, order_answer, order_number}
 use Rattle.jsstr_c.proofs.Going.{goes_knows, goes_trans, goes_units}
@@ -90,8 +90,8 @@ pair_before o m p a b status g ka kb s = record {
     (
       t.1.0,
       t.1.1,
-      ⊎_elim (λ (f : Refuses m p a t.1.0). inl (refuses_before o m p a g t.1.0 f))
-          (λ (f : (n : Option Held) × Settles m n a × Refuses n p b t.1.0). inr (f.0, settles_before o m f.0 a g f.1, f.2)) t.1.2,
+      ⊎_elim (λ (f : RefusesSettling m p a t.1.0). inl (refuses_before o m p a g t.1.0 f))
+          (λ (f : (n : Option Held) × Settles m n a × RefusesSettling n p b t.1.0). inr (f.0, settles_before o m f.0 a g f.1, f.2)) t.1.2,
     ),
   );
   done = λ e. let t = s.done e in (t.0, settles_before o m t.0 a g t.1, t.2);
@@ -108,11 +108,11 @@ never o m s r is looked unknown = subst (SettlesFirst o m s) (sym is) record {
 
 -- a condition held
 pub then_settled : (o m p : Option Held) (s : ℕ) (r : JsAnswer) → Looked o m → HandleKnows o s → r.status ≢ 9 → (r.status ≡ 0 → (r ≡ done s) × Settles m p s)
-    → (r.status ≢ 0 → Refuses m p s r) → SettlesFirst o p s r
+    → (r.status ≢ 0 → RefusesSettling m p s r) → SettlesFirst o p s r
 then_settled o m p s r looked known told does fails = record {
   unknown = λ n. absurd (n known);
   bad = λ e. absurd (told e);
-  refused = λ nb nd. ⊎_elim (λ (e : m ≡ o). subst (λ (x : Option Held). Refuses x p s r) e (fails nd)) (λ (g : Measures o m). refuses_before o m p s g r (fails nd)) looked;
+  refused = λ nb nd. ⊎_elim (λ (e : m ≡ o). subst (λ (x : Option Held). RefusesSettling x p s r) e (fails nd)) (λ (g : Measures o m). refuses_before o m p s g r (fails nd)) looked;
   done = λ e. let d = does e in (d.0, ⊎_elim (λ (e : m ≡ o). subst (λ (x : Option Held). Settles x p s) e d.1) (λ (g : Measures o m). settles_before o m p s g d.1) looked);
 }
 
@@ -120,7 +120,7 @@ then_settled o m p s r looked known told does fails = record {
 pub never_both : (o m : Option Held) (a b : ℕ) → Looked o m → (¬ (HandleKnows o a × HandleKnows o b) → m ≡ o) → SettlesPair o m a b 9
 never_both o m a b looked unknown = record { unknown = unknown; bad = λ e. looked; refused = λ nb nd. absurd (nb refl); done = λ (e : 9 ≡ 0). absurd (omega (arith, e)) }
 
-pub left_refused : (o m : Option Held) (a b : ℕ) (r : JsAnswer) → HandleKnows o a → HandleKnows o b → Refuses o m a r → SettlesPair o m a b r.status
+pub left_refused : (o m : Option Held) (a b : ℕ) (r : JsAnswer) → HandleKnows o a → HandleKnows o b → RefusesSettling o m a r → SettlesPair o m a b r.status
 left_refused o m a b r ka kb f = let w = f.words in record {
   unknown = λ n. absurd (n (ka, kb));
   bad = λ e. absurd (omega (arith, e, w));
@@ -129,7 +129,7 @@ left_refused o m a b r ka kb f = let w = f.words in record {
 }
 
 pub right_ends : (o m p : Option Held) (a b : ℕ) (r : JsAnswer) → HandleKnows o a → HandleKnows o b → Settles o m a → r.status ≢ 9 → (r.status ≡ 0 → Settles m p b)
-    → (r.status ≢ 0 → Refuses m p b r) → SettlesPair o p a b r.status
+    → (r.status ≢ 0 → RefusesSettling m p b r) → SettlesPair o p a b r.status
 right_ends o m p a b r ka kb one told does fails = record {
   unknown = λ n. absurd (n (ka, kb));
   bad = λ e. absurd (told e);

@@ -13,9 +13,9 @@ use Rattle.heap_build.specs.declared.faults.BuildFault.{BuildFault}
 use Rattle.heap_build.specs.declared.faults.BuildFault.TheVariants.{NoMemory, TooLong}
 use Rattle.heap_build.specs.declared.faults.DecodeFault.{DecodeFault}
 use Rattle.heap_build.specs.declared.faults.DecodeFault.TheVariants.{Malformed, NotAdded}
-use Rattle.heap_build.specs.Built.{Adds, AddsSpelled, room_in, units_in}
+use Rattle.heap_build.specs.Built.{Adds, AddsSpelled, room_in, units_so_far}
 use Rattle.jsstr_c.specs.declared.answer.JsAnswer.{JsAnswer}
-use Rattle.jsstr_c.specs.Building.{AddsSpelledTo, AddsTo, Builds, BuildsSpelled, HasText, IsOpened, Outgrows, build_status, built, decoded_answer, room}
+use Rattle.jsstr_c.specs.Building.{AddsSpelledTo, AddsTo, Builds, BuildsSpelled, HasText, IsOpened, Outgrows, build_status, text_so_far, decoded_answer, room}
 use Rattle.jsstr_c.specs.Checked.{OnlyLooks}
 use Rattle.jsstr_c.specs.Reports.{NO_MEMORY, no_memory}
 
@@ -27,15 +27,15 @@ pub is_some : (o : Option Builder) (live n : ℕ) → HasText live n o → ¬ (l
 is_some None live n h e = absurd (e h.0)
 is_some (Some b) live n h e = (b, refl)
 
-pub opened_none : (o : Option Builder) (b : Builder) → o ≡ None → units_in b ≡ [] → IsOpened o b
+pub opened_none : (o : Option Builder) (b : Builder) → o ≡ None → units_so_far b ≡ [] → IsOpened o b
 opened_none o b e is = subst (λ (x : Option Builder). IsOpened x b) (sym e) is
 
 pub opened_some : (o : Option Builder) (b : Builder) → o ≡ Some b → IsOpened o b
 opened_some o b e = subst (λ (x : Option Builder). IsOpened x b) (sym e) refl
 
-opened_units : (o : Option Builder) (b : Builder) → IsOpened o b → units_in b ≡ built o
+opened_units : (o : Option Builder) (b : Builder) → IsOpened o b → units_so_far b ≡ text_so_far o
 opened_units None b i = i
-opened_units (Some x) b i = ap units_in (sym i)
+opened_units (Some x) b i = ap units_so_far (sym i)
 
 same_text : (b c : Builder) (us : List ℕ) (t : Result (Unit {0}) BuildFault) → Adds b c us t → AddsTo (Some b) (Some c) us t
 same_text b c us (Ok u) a = a
@@ -69,7 +69,7 @@ module _ (o p : Option Builder) (x b c : Builder) (opened : IsOpened o x) (same 
     spelled_some (Err (Malformed at)) a = (a.0 ∙ opened_units o b i, a.1)
     spelled_some (Err (NotAdded f)) a = ⊎_elim
         (λ (x : (us : List ℕ) × Spells bytes us × Adds b c us (Err f)). inl (x.0, x.1, adds_some o b c x.0 (Err f) i x.2))
-        (λ (x : (f ≡ TooLong) × (3 * MAX < length bytes) × (units_in c ≡ units_in b)). inr (inl (x.0, x.1, x.2 ∙ opened_units o b i)))
+        (λ (x : (f ≡ TooLong) × (3 * MAX < length bytes) × (units_so_far c ≡ units_so_far b)). inr (inl (x.0, x.1, x.2 ∙ opened_units o b i)))
         a
 
     -- what bytes spell was added to a text that was opened
@@ -82,13 +82,13 @@ module _ (o p : Option Builder) (none : o ≡ None) (same : p ≡ o) where
   room_same = let e : room p ≡ room o = ap room same in omega (arith, e)
 
   pub no_box : (us : List ℕ) → Builds o p us NO_MEMORY
-  no_box us = (Err NoMemory, refl, (ap built same, subst (λ (x : Option Builder). Outgrows x us) (sym none) tt), room_same)
+  no_box us = (Err NoMemory, refl, (ap text_so_far same, subst (λ (x : Option Builder). Outgrows x us) (sym none) tt), room_same)
 
   pub no_box_spelled : (Spells : List ℕ → List ℕ → Type 0) (bytes : List ℕ) (r : JsAnswer) → r ≡ no_memory → BuildsSpelled Spells o p bytes r
   no_box_spelled Spells bytes r e = (Err (NotAdded NoMemory), e, inr (inr (refl, none, same)), room_same)
 
 -- a call that is done added its units
-pub builds_done : (o p : Option Builder) (us : List ℕ) (status : ℕ) → Builds o p us status → status ≡ 0 → built p ≡ built o ++ us
+pub builds_done : (o p : Option Builder) (us : List ℕ) (status : ℕ) → Builds o p us status → status ≡ 0 → text_so_far p ≡ text_so_far o ++ us
 builds_done o p us status (Ok u, s, a, r) e = a.0
 builds_done o p us status (Err NoMemory, s, a, r) e = absurd (omega (arith, s, e))
 builds_done o p us status (Err TooLong, s, a, r) e = absurd (omega (arith, s, e))

@@ -6,7 +6,7 @@ use Rattle.heap_build.specs.declared.faults.BuildFault.{BuildFault}
 use Rattle.heap_build.specs.declared.faults.BuildFault.TheVariants.{NoMemory, TooLong}
 use Rattle.heap_build.specs.declared.faults.DecodeFault.{DecodeFault}
 use Rattle.heap_build.specs.declared.faults.DecodeFault.TheVariants.{Malformed, NotAdded}
-use Rattle.heap_build.specs.Built.{room_in, units_in}
+use Rattle.heap_build.specs.Built.{room_in, units_so_far}
 use Rattle.heap_build.specs.Spelled.{IsSpellingUpTo}
 use Rattle.jsstr_c.specs.declared.answer.JsAnswer.{JsAnswer}
 use Rattle.jsstr_c.specs.declared.builder.JsBuilder.{JsBuilder}
@@ -14,9 +14,9 @@ use Rattle.jsstr_c.specs.Decoded.{fault_answer}
 use Rattle.jsstr_c.specs.Reports.{DONE, NO_MEMORY, TOO_LONG, refusal}
 
 -- the units so far; a handle that is zero has none
-abbrev pub built : Option Builder → List ℕ
-built None = []
-built (Some b) = units_in b
+abbrev pub text_so_far : Option Builder → List ℕ
+text_so_far None = []
+text_so_far (Some b) = units_so_far b
 
 -- how many units there is room for without further memory
 abbrev pub room : Option Builder → ℕ
@@ -27,7 +27,7 @@ room (Some b) = room_in b
 -- has
 abbrev pub HasText : ℕ → ℕ → Option Builder → Type 0
 HasText live n None = (live ≡ 0) × (n ≡ 0)
-HasText live n (Some b) = (0 < live) × (n ≡ length (units_in b))
+HasText live n (Some b) = (0 < live) × (n ≡ length (units_so_far b))
 
 -- a handle is zero, or has a text
 abbrev pub IsBuilder : JsBuilder → Type 0
@@ -36,13 +36,14 @@ IsBuilder h = HasText h.live h.len h.at.value
 -- the text has no memory yet, or has no room for units that a string may have
 abbrev pub Outgrows : Option Builder → List ℕ → Type 0
 Outgrows None us = Unit {0}
-Outgrows (Some b) us = (length (units_in b) + length us ≤ MAX) × (room_in b < length (units_in b) + length us)
+Outgrows (Some b) us = (length (units_so_far b) + length us ≤ MAX)
+    × (room_in b < length (units_so_far b) + length us)
 
 -- units were added to a text; or nothing was, since memory runs out, or a string may not be so long
 abbrev pub AddsTo : Option Builder → Option Builder → List ℕ → Result (Unit {0}) BuildFault → Type 0
-AddsTo o p us (Ok u) = (built p ≡ built o ++ us) × (length (built o) + length us ≤ MAX)
-AddsTo o p us (Err NoMemory) = (built p ≡ built o) × Outgrows o us
-AddsTo o p us (Err TooLong) = (built p ≡ built o) × (MAX < length (built o) + length us)
+AddsTo o p us (Ok u) = (text_so_far p ≡ text_so_far o ++ us) × (length (text_so_far o) + length us ≤ MAX)
+AddsTo o p us (Err NoMemory) = (text_so_far p ≡ text_so_far o) × Outgrows o us
+AddsTo o p us (Err TooLong) = (text_so_far p ≡ text_so_far o) × (MAX < length (text_so_far o) + length us)
 
 -- the status of such a call
 abbrev pub build_status : Result (Unit {0}) BuildFault → ℕ
@@ -60,9 +61,10 @@ Builds o p us status = (t : Result (Unit {0}) BuildFault) × (status ≡ build_s
 abbrev pub AddsSpelledTo : (List ℕ → List ℕ → Type 0) → Option Builder → Option Builder → List ℕ
     → Result (Unit {0}) DecodeFault → Type 0
 AddsSpelledTo Spells o p bytes (Ok u) = (us : List ℕ) × Spells bytes us × AddsTo o p us (Ok u)
-AddsSpelledTo Spells o p bytes (Err (Malformed at)) = (built p ≡ built o) × IsSpellingUpTo Spells bytes at
+AddsSpelledTo Spells o p bytes (Err (Malformed at)) = (text_so_far p ≡ text_so_far o)
+    × IsSpellingUpTo Spells bytes at
 AddsSpelledTo Spells o p bytes (Err (NotAdded f)) = ((us : List ℕ) × Spells bytes us × AddsTo o p us (Err f))
-    ⊎ (((f ≡ TooLong) × (3 * MAX < length bytes) × (built p ≡ built o))
+    ⊎ (((f ≡ TooLong) × (3 * MAX < length bytes) × (text_so_far p ≡ text_so_far o))
     ⊎ ((f ≡ NoMemory) × (o ≡ None) × (p ≡ o)))
 
 -- what such a call answers
@@ -79,9 +81,9 @@ BuildsSpelled Spells o p bytes r = (t : Result (Unit {0}) DecodeFault) × (r ≡
 -- what becomes of a text whose units were to become a string: it is empty then, and keeps its memory; where
 -- the call was refused, it stays
 abbrev pub Spends : Option Builder → Option Builder → ℕ → Type 0
-Spends o p status = (status ≡ DONE → (built p ≡ []) × (room p ≡ room o)) × (status ≢ DONE → p ≡ o)
+Spends o p status = (status ≡ DONE → (text_so_far p ≡ []) × (room p ≡ room o)) × (status ≢ DONE → p ≡ o)
 
 -- the text that a handle has, or an empty one that was made for it
 abbrev pub IsOpened : Option Builder → Builder → Type 0
-IsOpened None b = units_in b ≡ []
+IsOpened None b = units_so_far b ≡ []
 IsOpened (Some x) b = x ≡ b

@@ -4,7 +4,7 @@ use Rattle.heap_export.specs.declared.faults.Unpaired.{Unpaired}
 use Rattle.heap_export.specs.declared.faults.Unpaired.TheVariants.{Replace, Refuse, Keep}
 use Rattle.heap_export.specs.declared.faults.WriteFault.{WriteFault}
 use Rattle.heap_export.specs.declared.faults.WriteFault.TheVariants.{NoRoom, Unmapped}
-use Rattle.heap_export.specs.Encoded.{IsWritten}
+use Rattle.heap_export.specs.Encoded.{IsEncodedInto}
 use Rattle.jsstr_c.specs.declared.bytes.JsBytes.{JsBytes}
 use Rattle.jsstr_c.specs.Reports.{DONE}
 
@@ -32,4 +32,5 @@ no_bytes status = record { status = status; at = 0; size = 0 }
 
 -- these bytes were written into a list, unless there is such a place, with r as the answer
 abbrev pub IsGiven : Option ℕ → List ℕ → List ℕ → List ℕ → JsBytes → Type 0
-IsGiven place bs old new r = (t : Result ℕ WriteFault) × (r ≡ bytes_answer t) × IsWritten place bs old new t
+IsGiven place bs old new r = (t : Result ℕ WriteFault) × (r ≡ bytes_answer t)
+    × IsEncodedInto place bs old new t

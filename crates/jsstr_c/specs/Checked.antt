@@ -67,7 +67,7 @@ pub record Settles (o p : Option Held) (s : ℕ) : Type 0 where
 
 -- String s, which was not seen settled, needed content words for that, and was refused them: r is the report.
 -- Nothing was marked, and what the agent owned it still owns.
-pub record Refuses (o p : Option Held) (s : ℕ) (r : JsAnswer) : Type 0 where
+pub record RefusesSettling (o p : Option Held) (s : ℕ) (r : JsAnswer) : Type 0 where
   pub leaves : HandleLeaves o p
   pub own : KeepsOwn (handle_view o) (handle_view p)
   pub marks : MarksNone o p
@@ -82,12 +82,12 @@ pub record Refuses (o p : Option Held) (s : ℕ) (r : JsAnswer) : Type 0 where
 pub record SettlesFirst (o p : Option Held) (s : ℕ) (r : JsAnswer) : Type 0 where
   pub unknown : ¬ (HandleKnows o s) → p ≡ o
   pub bad : r.status ≡ BAD_ARGUMENT → (r ≡ bad_argument) × Looked o p
-  pub refused : r.status ≢ BAD_ARGUMENT → r.status ≢ DONE → Refuses o p s r
+  pub refused : r.status ≢ BAD_ARGUMENT → r.status ≢ DONE → RefusesSettling o p s r
   pub done : r.status ≡ DONE → (r ≡ done s) × Settles o p s
 
 -- string s could not be settled, which is reported by the status alone
-abbrev pub IsRefused : Option Held → Option Held → ℕ → ℕ → Type 0
-IsRefused o p s status = (r : JsAnswer) × (status ≡ r.status) × Refuses o p s r
+abbrev pub CannotSettle : Option Held → Option Held → ℕ → ℕ → Type 0
+CannotSettle o p s status = (r : JsAnswer) × (status ≡ r.status) × RefusesSettling o p s r
 
 -- string s was settled, and then there were loads alone
 abbrev pub Settled : Option Held → Option Held → ℕ → Type 0
@@ -99,7 +99,7 @@ pub record ReadsSettled (o p : Option Held) (s status : ℕ) (nothing : Type 0)
     (answers : List ℕ → Type 0) : Type 0 where
   pub unknown : ¬ (HandleKnows o s) → p ≡ o
   pub bad : status ≡ BAD_ARGUMENT → nothing × Looked o p
-  pub refused : status ≡ NO_WORDS → nothing × IsRefused o p s status
+  pub refused : status ≡ NO_WORDS → nothing × CannotSettle o p s status
   pub done : status ≢ BAD_ARGUMENT → status ≢ NO_WORDS
       → Settled o p s × ((us : List ℕ) → Has (handle_view o).units s us → answers us)
 
@@ -110,7 +110,7 @@ SettlesBoth o p a b = (m : Option Held) × Settles o m a × Settles m p b
 -- string a could not be settled, or a was and b could not, which is reported by the status alone
 abbrev pub IsPairRefused : Option Held → Option Held → ℕ → ℕ → ℕ → Type 0
 IsPairRefused o p a b status = (r : JsAnswer) × (status ≡ r.status)
-    × (Refuses o p a r ⊎ ((m : Option Held) × Settles o m a × Refuses m p b r))
+    × (RefusesSettling o p a r ⊎ ((m : Option Held) × Settles o m a × RefusesSettling m p b r))
 
 -- strings a and b were settled, and then searched
 abbrev pub Sought : Option Held → Option Held → ℕ → ℕ → Type 0

@@ -13,7 +13,7 @@ use Rattle.heap_agents.specs.declared.held.Held.{Held}
 use Rattle.heap_agents.specs.Interned.{KeepsCalls}
 use Rattle.heap_agents.specs.Ready.{HandleLeaves, IsBeside, MarksStay, handle_limit, size_in, handle_view}
 use Rattle.jsstr_c.specs.declared.answer.JsAnswer.{JsAnswer}
-use Rattle.jsstr_c.specs.Checked.{MarksResult, MarksKey, MarksNone, Refuses, Settles}
+use Rattle.jsstr_c.specs.Checked.{MarksResult, MarksKey, MarksNone, RefusesSettling, Settles}
 use Rattle.jsstr_c.specs.Reports.{DONE, join_answer, table_answer, text_answer}
 
 -- strings a and b were joined, with r as the answer
@@ -52,7 +52,7 @@ pub record Enters (o p : Option Held) (s : ℕ) (r : JsAnswer) : Type 0 where
 -- string s could not be settled, or it was and then cut, or interned
 abbrev pub CutsSettled : Option Held → Option Held → ℕ → ℕ → ℕ → JsAnswer → Type 0
 CutsSettled o p s from to r =
-    Refuses o p s r ⊎ ((m : Option Held) × Settles o m s × Cuts m p s from to r)
+    RefusesSettling o p s r ⊎ ((m : Option Held) × Settles o m s × Cuts m p s from to r)
 
 abbrev pub EntersSettled : Option Held → Option Held → ℕ → JsAnswer → Type 0
-EntersSettled o p s r = Refuses o p s r ⊎ ((m : Option Held) × Settles o m s × Enters m p s r)
+EntersSettled o p s r = RefusesSettling o p s r ⊎ ((m : Option Held) × Settles o m s × Enters m p s r)

@@ -2,8 +2,8 @@
 ghost use Rattle.std.specs.Prelude.{◌≡◌, ◌≢◌, [], IfOk, IfErr, OnErr, None, Some};
 ghost use Rattle.heap_agents.specs.Ready.{IsReady};
 ghost use Rattle.heap_build.specs.declared.builder.Builder as builder;
-ghost use Rattle.heap_build.specs.Built.{units_in};
-ghost use Rattle.jsstr_c.specs.Building.{IsBuilder, IsOpened, Spends, build_status, built, decoded_answer};
+ghost use Rattle.heap_build.specs.Built.{units_so_far};
+ghost use Rattle.jsstr_c.specs.Building.{IsBuilder, IsOpened, Spends, build_status, text_so_far, decoded_answer};
 ghost use Rattle.jsstr_c.specs.Decoded.{fault_answer};
 ghost use Rattle.jsstr_c.specs.Handles.{IsHandle};
 ghost use Rattle.jsstr_c.specs.Reports as reports;
@@ -85,7 +85,8 @@ impl JsBuilder {
         ensures text { IsBuilder self.new }
         ensures handle { IsHandle agent.new }
         ensures told { result.status ≢ reports.BAD_ARGUMENT }
-        ensures does { Does task agent.old.at.value agent.new.at.value (built self.old.at.value) result }
+        ensures does { Does task agent.old.at.value agent.new.at.value (text_so_far self.old.at.value)
+            result }
         ensures leaves { Leaves task agent.old.at.value agent.new.at.value }
         ensures spent { Spends self.old.at.value self.new.at.value result.status }
     {
@@ -101,7 +102,7 @@ impl JsBuilder {
 
 // A box with an empty text.
 fn empty(alloc: Global) -> Result<Box<Builder>, AllocError>
-    ensures { IfOk result (λ b. units_in b.value ≡ []) }
+    ensures { IfOk result (λ b. units_so_far b.value ≡ []) }
 {
     match Box::new(alloc, Builder::new(alloc)) {
         Ok(text) => Ok(text),

@@ -3,7 +3,7 @@ ghost use Rattle.std.specs.Prelude.{◌≡◌, length, None};
 ghost use Rattle.js_number.specs.Arith.{text_of};
 ghost use Rattle.js_number.specs.declared.Num.TheVariants.{Int};
 ghost use Rattle.heap_build.specs.Spelled.{SpellsUtf8, SpellsWtf8};
-ghost use Rattle.jsstr_c.specs.Building.{Builds, BuildsSpelled, IsBuilder, built};
+ghost use Rattle.jsstr_c.specs.Building.{Builds, BuildsSpelled, IsBuilder, text_so_far};
 
 use crate::answer::{JsAnswer, NO_MEMORY, no_memory};
 use crate::builder::{JsBuilder, of_decoded, status_of};
@@ -98,7 +98,7 @@ pub extern "C" fn jsstr_build_wtf8(alloc: Global, text: &mut JsBuilder, bytes: &
 #[unsafe(no_mangle)]
 pub extern "C" fn jsstr_built_length(text: &JsBuilder) -> u32
     requires { IsBuilder text.now }
-    ensures { result ≡ length (built text.now.at.value) }
+    ensures { result ≡ length (text_so_far text.now.at.value) }
 {
     text.len
 }

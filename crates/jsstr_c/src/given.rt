@@ -5,7 +5,7 @@ ghost use Rattle.heap_rule.specs.Maps.{Has, HasKey};
 ghost use Rattle.heap_rule.specs.Views.{IsSeenSettled};
 ghost use Rattle.heap_agents.specs.Ready.{IsReady, handle_view};
 ghost use Rattle.jsstr_c.specs.Checked.{OnlyLooks};
-ghost use Rattle.heap_bytes.specs.Spellings.{IsReadable, units_of};
+ghost use Rattle.heap_bytes.specs.Spellings.{IsReadable, spelling_units};
 ghost use Rattle.jsstr_c.specs.Given.{IsFinding, IsInterning, Makes, OrNoMemory};
 ghost use Rattle.jsstr_c.specs.Handles.{IsHandle};
 ghost use Rattle.jsstr_c.specs.Reports as reports;
@@ -87,10 +87,10 @@ pub(crate) fn left(alloc: Global, agent: &mut JsAgent, refusal: JsAnswer) -> JsA
 fn make_from(alloc: Global, agent: &mut JsAgent, spelled: &Spelling) -> JsAnswer
     requires ready { IsReady agent.old.at.value }
     requires read { IsReadable spelled.now }
-    requires short { length (units_of spelled.now) ≤ MAX }
+    requires short { length (spelling_units spelled.now) ≤ MAX }
     ensures handle { IsHandle agent.new }
     ensures told { result.status ≢ reports.BAD_ARGUMENT }
-    ensures makes { Makes agent.old.at.value agent.new.at.value (units_of spelled.now) result }
+    ensures makes { Makes agent.old.at.value agent.new.at.value (spelling_units spelled.now) result }
 {
     let mut held = agent.take(alloc);
     let answer = held.make_from(spelled);
@@ -102,10 +102,10 @@ fn make_from(alloc: Global, agent: &mut JsAgent, spelled: &Spelling) -> JsAnswer
 fn intern_from(alloc: Global, agent: &mut JsAgent, spelled: &Spelling) -> JsAnswer
     requires ready { IsReady agent.old.at.value }
     requires read { IsReadable spelled.now }
-    requires short { length (units_of spelled.now) ≤ MAX }
+    requires short { length (spelling_units spelled.now) ≤ MAX }
     ensures handle { IsHandle agent.new }
     ensures told { result.status ≢ reports.BAD_ARGUMENT }
-    ensures interns { IsInterning agent.old.at.value agent.new.at.value (units_of spelled.now) result }
+    ensures interns { IsInterning agent.old.at.value agent.new.at.value (spelling_units spelled.now) result }
 {
     let mut held = agent.take(alloc);
     let answer = held.intern_from(spelled);
@@ -117,10 +117,10 @@ fn intern_from(alloc: Global, agent: &mut JsAgent, spelled: &Spelling) -> JsAnsw
 fn find_from(alloc: Global, agent: &mut JsAgent, spelled: &Spelling) -> JsAnswer
     requires ready { IsReady agent.old.at.value }
     requires read { IsReadable spelled.now }
-    requires short { length (units_of spelled.now) ≤ MAX }
+    requires short { length (spelling_units spelled.now) ≤ MAX }
     ensures handle { IsHandle agent.new }
     ensures told { result.status ≢ reports.BAD_ARGUMENT }
-    ensures finds { IsFinding agent.old.at.value agent.new.at.value (units_of spelled.now) result }
+    ensures finds { IsFinding agent.old.at.value agent.new.at.value (spelling_units spelled.now) result }
 {
     let mut held = agent.take(alloc);
     let answer = held.find_from(spelled);
@@ -132,10 +132,10 @@ fn find_from(alloc: Global, agent: &mut JsAgent, spelled: &Spelling) -> JsAnswer
 fn on_spelling(alloc: Global, agent: &mut JsAgent, task: Task, spelled: &Spelling) -> JsAnswer
     requires ready { IsReady agent.old.at.value }
     requires read { IsReadable spelled.now }
-    requires short { length (units_of spelled.now) ≤ MAX }
+    requires short { length (spelling_units spelled.now) ≤ MAX }
     ensures handle { IsHandle agent.new }
     ensures told { result.status ≢ reports.BAD_ARGUMENT }
-    ensures does { Does task agent.old.at.value agent.new.at.value (units_of spelled.now) result }
+    ensures does { Does task agent.old.at.value agent.new.at.value (spelling_units spelled.now) result }
     ensures leaves { Leaves task agent.old.at.value agent.new.at.value }
 {
     match task {

@@ -16,7 +16,7 @@ use Rattle.run_here.specs.Here.{IsHere}
 use Rattle.jsstr_web.specs.declared.answer.WebEnd.{WebEnd}
 use Rattle.jsstr_web.specs.declared.answer.WebOptions.{WebOptions}
 use Rattle.jsstr_web.specs.Statements.{count_of, shortened}
-use Rattle.jsstr_web.specs.Told.{BeginsWith, fault_told, limit_for, plain, size_for, told}
+use Rattle.jsstr_web.specs.Told.{BeginsWith, fault_told, limit_for, plain, size_given, told}
 
 -- the bytes that the first of some scripts printed
 abbrev pub lines_in : List Outcome → List ℕ
@@ -24,23 +24,23 @@ lines_in [] = []
 lines_in (o ∷ os) = o.lines
 
 -- how the first of some scripts ended
-abbrev pub end_in : List Outcome → ℕ → WebEnd
-end_in [] statements = told end.Memory statements 0
-end_in (o ∷ os) statements = told o.end statements (length o.lines)
+abbrev pub first_end : List Outcome → ℕ → WebEnd
+first_end [] statements = told end.Memory statements 0
+first_end (o ∷ os) statements = told o.end statements (length o.lines)
 
 -- A script was run with these options: the bytes begin with its lines, the end is reported, and the words are
 -- those of its heap, in which the agent that ran it has its view. Or no heap has the sizes, or memory ran out
 -- before anything was run; then nothing is written.
-pub data IsRun (o : WebOptions) (script : Tree) (before after old new : List ℕ)
+pub data IsWebRun (o : WebOptions) (script : Tree) (before after old new : List ℕ)
     (end : WebEnd) : Type 0 where
-  ran : (here : Here) → IsHere (size_for o) (limit_for o) None (shortened o.statements script) here
+  ran : (here : Here) → IsHere (size_given o) (limit_for o) None (shortened o.statements script) here
       → BeginsWith (lines_in here.ran.scripts.items) before after
-      → end ≡ end_in here.ran.scripts.items (count_of script)
-      → IsClosed (size_for o) (view_of here.ran.kept.agent) new
-      → IsRun o script before after old new end
-  no_size : ¬ (IsLawfulSize (size_for o)) → end ≡ plain 9 → after ≡ before → new ≡ old
-      → IsRun o script before after old new end
-  no_memory : end ≡ plain 10 → after ≡ before → new ≡ old → IsRun o script before after old new end
+      → end ≡ first_end here.ran.scripts.items (count_of script)
+      → IsClosed (size_given o) (view_of here.ran.kept.agent) new
+      → IsWebRun o script before after old new end
+  no_size : ¬ (IsLawfulSize (size_given o)) → end ≡ plain 9 → after ≡ before → new ≡ old
+      → IsWebRun o script before after old new end
+  no_memory : end ≡ plain 10 → after ≡ before → new ≡ old → IsWebRun o script before after old new end
 
 -- the reading of a text that ended so
 abbrev pub as_read : ParseFault → Result Script ParseFault
@@ -51,7 +51,7 @@ pub data Answers (o : WebOptions) (text : List ℕ) (before after old new : List
     (end : WebEnd) : Type 0 where
   too_long : 1048576 < length text → end ≡ plain 8 → after ≡ before → new ≡ old
       → Answers o text before after old new end
-  runs : (script : Tree) → Spells Main [] text script → IsRun o script before after old new end
+  runs : (script : Tree) → Spells Main [] text script → IsWebRun o script before after old new end
       → Answers o text before after old new end
   refused : (fault : ParseFault) → Refuses (as_read fault) (Refused Main [] text)
       → end ≡ fault_told fault → BeginsWith (fault_report fault).1 before after → new ≡ old

@@ -15,15 +15,15 @@ use Rattle.jsstr_web.specs.declared.answer.WebEnd.{WebEnd}
 use Rattle.jsstr_web.specs.declared.answer.WebOptions.{WebOptions}
 
 -- the sizes that a page gives
-abbrev pub size_for : WebOptions → HeapSize
-size_for o = record { ids = o.ids; words = o.words; slots = o.slots }
+abbrev pub size_given : WebOptions → HeapSize
+size_given o = record { ids = o.ids; words = o.words; slots = o.slots }
 
 -- the limit of a string's length: 32 is the lower one, and all else the higher
-abbrev pub limit_by : ℕ → Limit
-limit_by n = if nat_eq n 32 then Bits32 else Bits64
+abbrev pub limit_given : ℕ → Limit
+limit_given n = if nat_eq n 32 then Bits32 else Bits64
 
 abbrev pub limit_for : WebOptions → Limit
-limit_for o = limit_by o.limit
+limit_for o = limit_given o.limit
 
 -- a status alone
 abbrev pub plain : ℕ → WebEnd

@@ -1,6 +1,6 @@
 // What a page gives and what it gets.
 ghost use Rattle.std.specs.Prelude.{◌≡◌};
-ghost use Rattle.jsstr_web.specs.Told.{fault_told, fault_status, kind_number, limit_for, size_for, plain, told};
+ghost use Rattle.jsstr_web.specs.Told.{fault_told, fault_status, kind_number, limit_for, size_given, plain, told};
 
 use eval_values::Kind;
 use heap_rule::HeapSize;
@@ -44,7 +44,7 @@ pub struct WebEnd {
 }
 
 pub(crate) fn size_of(options: &WebOptions) -> HeapSize
-    ensures { result ≡ size_for options.now }
+    ensures { result ≡ size_given options.now }
 {
     HeapSize {
         ids: options.ids,

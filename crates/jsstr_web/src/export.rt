@@ -1,7 +1,7 @@
 // The call of a page.
 ghost use Rattle.std.specs.Prelude.{◌≡◌, length};
 ghost use Rattle.heap_rule.specs.Layout.{IsLawfulSize, word_count};
-ghost use Rattle.jsstr_web.specs.Told.{size_for};
+ghost use Rattle.jsstr_web.specs.Told.{size_given};
 ghost use Rattle.jsstr_web.specs.Answers.{Answers};
 
 use crate::answer::{WebEnd, WebOptions};
@@ -20,8 +20,8 @@ pub extern "C" fn jsstr_web_run(
     words: &mut [u64],
     end: &mut WebEnd,
 )
-    requires room { IsLawfulSize (size_for options.now)
-        → length words.old ≡ word_count (size_for options.now) }
+    requires room { IsLawfulSize (size_given options.now)
+        → length words.old ≡ word_count (size_given options.now) }
     ensures { Answers options.now text.now out.old out.new words.old words.new end.new }
 {
     *end = read_and_run(alloc, options, text, out, names, words);

@@ -7,8 +7,8 @@ ghost use Rattle.heap_table.specs.Closing.{IsClosed};
 ghost use Rattle.js_parse.specs.declared.fault.Role.TheVariants.{Main};
 ghost use Rattle.js_parse.specs.Spells.{Spells};
 ghost use Rattle.jsstr_web.specs.Statements.{count_of};
-ghost use Rattle.jsstr_web.specs.Told.{BeginsWith, size_for};
-ghost use Rattle.jsstr_web.specs.Answers.{Answers, IsRun, lines_in, end_in};
+ghost use Rattle.jsstr_web.specs.Told.{BeginsWith, size_given};
+ghost use Rattle.jsstr_web.specs.Answers.{Answers, IsWebRun, lines_in, first_end};
 
 use crate::answer::{
     BAD_SIZE, NO_MEMORY, TOO_LONG, WebEnd, WebOptions, limit_of, of_end, of_fault, only, size_of,
@@ -26,7 +26,7 @@ use std::alloc::Global;
 // The lines and the end of the one script that was run.
 fn tell_outcome(outcomes: &[Outcome], statements: u64, out: &mut [u8]) -> WebEnd
     ensures lines { BeginsWith (lines_in outcomes.now) out.old out.new }
-    ensures end { result ≡ end_in outcomes.now statements }
+    ensures end { result ≡ first_end outcomes.now statements }
 {
     match outcomes.first() {
         Some(outcome) => {
@@ -45,7 +45,7 @@ fn tell_outcome(outcomes: &[Outcome], statements: u64, out: &mut [u8]) -> WebEnd
 fn tell(here: Here, statements: u64, out: &mut [u8], names: &mut [u8], words: &mut [u64]) -> WebEnd
     requires room { length words.old ≡ word_count (heap_size here.ran.kept.heap) }
     ensures lines { BeginsWith (lines_in here.ran.scripts.items) out.old out.new }
-    ensures end { result ≡ end_in here.ran.scripts.items statements }
+    ensures end { result ≡ first_end here.ran.scripts.items statements }
     ensures words { IsClosed (heap_size here.ran.kept.heap) (view_of here.ran.kept.agent) words.new }
 {
     write_names(here.env.list(), names);
@@ -65,9 +65,9 @@ fn run(
     names: &mut [u8],
     words: &mut [u64],
 ) -> WebEnd
-    requires room { IsLawfulSize (size_for options.now)
-        → length words.old ≡ word_count (size_for options.now) }
-    ensures { IsRun options.now (tree_of script) out.old out.new words.old words.new result }
+    requires room { IsLawfulSize (size_given options.now)
+        → length words.old ≡ word_count (size_given options.now) }
+    ensures { IsWebRun options.now (tree_of script) out.old out.new words.old words.new result }
 {
     let size = size_of(options);
     if !size.is_lawful() {
@@ -90,8 +90,8 @@ pub(crate) fn read_and_run(
     names: &mut [u8],
     words: &mut [u64],
 ) -> WebEnd
-    requires room { IsLawfulSize (size_for options.now)
-        → length words.old ≡ word_count (size_for options.now) }
+    requires room { IsLawfulSize (size_given options.now)
+        → length words.old ≡ word_count (size_given options.now) }
     ensures { Answers options.now text.now out.old out.new words.old words.new result }
 {
     if text.len() > 1_048_576 {

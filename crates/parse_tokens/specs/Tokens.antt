@@ -81,12 +81,12 @@ word_kind (Some w) names letters = kind.Word w (place_in names letters)
 word_kind None names letters = kind.Name (place_in names letters) (word_property letters)
 
 -- what a token of this source text and kind is to the grammar, where it is a key or not
-abbrev pub kind_of : Before → List ℕ → Bool → TokenKind → GrammarKind
-kind_of before source key kinds.Word = word_kind (word_meant source) before.names source
-kind_of before source key (kinds.Text units) =
+abbrev pub grammar_kind_of : Before → List ℕ → Bool → TokenKind → GrammarKind
+grammar_kind_of before source key kinds.Word = word_kind (word_meant source) before.names source
+grammar_kind_of before source key (kinds.Text units) =
     string_kind key before.first before.texts before.keys source
-kind_of before source key (kinds.Number value) = kind.Number value
-kind_of before source key (kinds.Mark mark) = kind.Mark mark
+grammar_kind_of before source key (kinds.Number value) = kind.Number value
+grammar_kind_of before source key (kinds.Mark mark) = kind.Mark mark
 
 -- the table of names behind a token: an identifier is in it
 abbrev pub table_after : Before → List ℕ → TokenKind → List (List ℕ)
@@ -107,7 +107,7 @@ abbrev pub grammar_token : List ℕ → Before → Bool → Lexed → GrammarTok
 grammar_token bytes before key t = record {
   at = t.from;
   after_line = list_any is_line_end (chars (slice bytes before.end t.from));
-  kind = kind_of before (slice bytes t.from t.to) key t.kind;
+  kind = grammar_kind_of before (slice bytes t.from t.to) key t.kind;
 }
 
 -- what precedes the token that follows this one

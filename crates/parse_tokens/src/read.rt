@@ -180,7 +180,7 @@ fn next_kind(
     requires agrees { Agrees numbers.old script.old.names.items }
     ensures tokens { OnOk result (script.new.tokens ≡ script.old.tokens) }
     ensures kind { IfOk result (λ found. found
-        ≡ definition.kind_of (before_of script.old 0) source.now key kind) }
+        ≡ definition.grammar_kind_of (before_of script.old 0) source.now key kind) }
     ensures literals { OnOk result (script.new.literals.items
         ≡ definition.literals_after key (before_of script.old 0) source.now kind) }
     ensures keys { OnOk result (script.new.keys.items

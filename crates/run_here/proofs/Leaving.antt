@@ -24,7 +24,7 @@ use Rattle.run_program.specs.Jobs.{number, means, Runs}
 use Rattle.run_program.specs.Stages.{HaveRunFrom, IsUnused}
 use Rattle.run_program.proofs.Having.{have_alone, have_behind, have_stopped}
 use Rattle.run_program.proofs.Jobs.{ran_one}
-use Rattle.run_here.specs.Left.{HasLeft, HasLeftFrom, script_by}
+use Rattle.run_here.specs.Left.{LeavesMeant, HasLeftFrom, script_by}
 
 -- the one place with another outcome
 pub one_place : (os : List Outcome) (o : Outcome) → length os ≡ 1 → slice_set os 0 o ≡ o ∷ []
@@ -83,6 +83,6 @@ ran_stopped a b prelude trees first after os unused g ev never none = subst
     (have_stopped a b prelude first after unused g ev trees never)
 
 -- the reading of both counters changes no string
-pub left_total : (s : State SessionFrame) (m : Flow) (bounds : List (Bound (Item JsStr))) (os : List Outcome) → HasLeft s m bounds os → HasLeft (total_by s) m bounds os
+pub left_total : (s : State SessionFrame) (m : Flow) (bounds : List (Bound (Item JsStr))) (os : List Outcome) → LeavesMeant s m bounds os → LeavesMeant (total_by s) m bounds os
 left_total s m bounds [] left = tt
 left_total s m bounds (o ∷ os) left = left

@@ -8,7 +8,7 @@ use Rattle.heap_rule.specs.declared.size.HeapSize.{HeapSize}
 use Rattle.run_program.specs.declared.ran.Setup.{Setup}
 use Rattle.run_program.specs.Ran.{IsRan, state_kept}
 use Rattle.run_here.specs.declared.here.Here.{Here}
-use Rattle.run_here.specs.Left.{HasLeft, script_by}
+use Rattle.run_here.specs.Left.{LeavesMeant, script_by}
 
 -- one agent on a heap of these sizes; interned strings aren't counted
 abbrev pub one_agent : HeapSize → Limit → Setup
@@ -18,5 +18,5 @@ one_agent size limit = record { jobs = 1; size = size; limit = limit; count = fa
 pub record IsHere (size : HeapSize) (limit : Limit) (prelude : Option Tree) (script : Tree)
     (here : Here) : Type 0 where
   pub ran : IsRan (one_agent size limit) prelude (script ∷ []) here.ran
-  pub left : HasLeft (state_kept (one_agent size limit) here.ran.kept)
+  pub left : LeavesMeant (state_kept (one_agent size limit) here.ran.kept)
       (script_by (limit_units limit) prelude script) (bounds_of here.env) here.ran.scripts.items

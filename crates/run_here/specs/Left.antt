@@ -18,12 +18,13 @@ script_by limit prelude script = meaning script (left_by (prelude_meant limit pr
 
 -- Where the script was run and came to an end of its own, the bindings are those that it is meant to leave:
 -- the same names, and values whose strings have in this store the units that are meant.
-abbrev pub HasLeft : {F : Type 0} → State F → Flow → List (Bound (Item JsStr)) → List Outcome → Type 0
-HasLeft s m bounds [] = Unit {0}
-HasLeft s m bounds (outcome ∷ outcomes) =
+abbrev pub LeavesMeant : {F : Type 0} → State F → Flow → List (Bound (Item JsStr)) → List Outcome → Type 0
+LeavesMeant s m bounds [] = Unit {0}
+LeavesMeant s m bounds (outcome ∷ outcomes) =
     IsOwnEnd outcome.end → bounds_seen s number bounds ≡ m.bindings.top
 
 -- the same between two moments
 abbrev pub HasLeftFrom : {F : Type 0} → State F → State F → Option Tree → Tree → List (Bound (Item JsStr))
     → List Outcome → Type 0
-HasLeftFrom a b prelude script bounds outcomes = HasLeft b (script_by a.limit prelude script) bounds outcomes
+HasLeftFrom a b prelude script bounds outcomes = LeavesMeant b (script_by a.limit prelude script) bounds
+    outcomes

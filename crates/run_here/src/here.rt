@@ -10,7 +10,7 @@ ghost use Rattle.heap_session.specs.Sessions.{state_by, table_of};
 ghost use Rattle.run_program.specs.Ran.{tree_if};
 ghost use Rattle.run_program.specs.Stages.{IsTold};
 ghost use Rattle.run_here.specs.Here.{IsHere, one_agent};
-ghost use Rattle.run_here.specs.Left.{HasLeft, script_by};
+ghost use Rattle.run_here.specs.Left.{LeavesMeant, script_by};
 
 use crate::files::run_files;
 use eval_tree::Script;
@@ -63,7 +63,7 @@ fn run_on(
     ensures told { IsTold (one_agent (size_of heap.now) limit)
         (state_by (view_of result.1) (limit_units limit) (table_of heap.now))
         (tree_if prelude.entry) (tree_of script.now ∷ []) result.0 places.new.items None }
-    ensures left { HasLeft (state_by (view_of result.1) (limit_units limit) (table_of heap.now))
+    ensures left { LeavesMeant (state_by (view_of result.1) (limit_units limit) (table_of heap.now))
         (script_by (limit_units limit) (tree_if prelude.entry) (tree_of script.now)) (bounds_of env.new)
         places.new.items }
 {

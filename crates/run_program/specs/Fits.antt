@@ -1,5 +1,5 @@
 -- What scripts may ask of a heap by their meanings, and when its sizes are enough for all of them.
-use Rattle.eval_values.specs.Conversions.{total}
+use Rattle.eval_values.specs.Conversions.{sum_over}
 use Rattle.std.specs.Prelude.{ℕ, ◌≤◌, List, [], ◌∷◌, nat_eq, flat_map, Option, Some, None}
 use Rattle.std.specs.Cmp.Lexicographic.{pointwise}
 use Rattle.std.specs.Set.{distinct_count}
@@ -21,10 +21,10 @@ all_meant (Some prelude) scripts = prelude ∷ after_prelude prelude.out scripts
 
 -- the ids and the content words that all need together
 abbrev pub ids_needed : List Flow → ℕ
-ids_needed means = total (λ m. (flow_ledger m).ids) means
+ids_needed means = sum_over (λ m. (flow_ledger m).ids) means
 
 abbrev pub words_needed : List Flow → ℕ
-words_needed means = total (λ m. (flow_ledger m).words) means
+words_needed means = sum_over (λ m. (flow_ledger m).words) means
 
 -- the lists of units that all intern, in order
 abbrev pub lists_interned : List Flow → List (List ℕ)

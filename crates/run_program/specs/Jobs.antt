@@ -1,5 +1,5 @@
 -- What jobs leave that were run on one heap: each outcome in its job's place, and what all did together.
-use Rattle.eval_values.specs.Conversions.{total}
+use Rattle.eval_values.specs.Conversions.{sum_over}
 use Rattle.std.specs.Prelude.{◌≡◌, ℕ, ◌+◌, ◌<◌, ◌≤◌, List, [], ◌∷◌, ◌++◌, length, map, max, All, Contains, Option, Some, None, IsSome, IsTrue, flat_map}
 use Rattle.std.specs.List.{concat}
 use Rattle.js_store.specs.State.{State, NamesUnits, Grows}
@@ -106,10 +106,10 @@ pairs_of parts = flat_map (λ p. p.pairs) parts
 
 -- the ids and the content words that the parts used together
 abbrev pub ids_of : List JobUse → ℕ
-ids_of parts = total (λ p. p.ids) parts
+ids_of parts = sum_over (λ p. p.ids) parts
 
 abbrev pub words_of : List JobUse → ℕ
-words_of parts = total (λ p. p.words) parts
+words_of parts = sum_over (λ p. p.words) parts
 
 -- Between two moments these jobs were run and nothing else. Each outcome is in its job's place. What
 -- stays of the store stays: its heap, share, sizes and limit, the history at its split, and all that is

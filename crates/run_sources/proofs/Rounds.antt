@@ -2,7 +2,7 @@
 use Rattle.std.proofs.Common.{◌≡◌, ◌+◌, ◌*◌, ◌++◌, ℕ, zero, suc, List, [], ◌∷◌, refl, ap, ap₂, sym, ◌∙◌, append_assoc, codes, map, mul-add, arith}
 use Rattle.run_sources.specs.Draws.{state_after, draw, joined_up_to, list_up_to, next}
 use Rattle.run_sources.specs.Lines.{digits, generated_line, word_line}
-use Rattle.run_sources.specs.Texts.{Named, before, drawn_line, named_for, named_script, prelude, script, word, word_length}
+use Rattle.run_sources.specs.Texts.{Named, before, drawn_line, named_for, named_script, prelude, script, drawn_word, word_length}
 use Rattle.run_sources.specs.declared.texts.GeneratedText.{GeneratedText}
 use Rattle.std.specs.String.{string_bytes}
 use Rattle.std.proofs.lemmas.List.{map-append}
@@ -82,9 +82,9 @@ letters_more y state j text is at = rw (is, at) (sym (each_more (λ j. (97 + dra
 pub state_more : (x y j : ℕ) → x ≡ state_after j y → next x ≡ state_after (j + 1) y
 state_more x y j at = rw (at) (sym (after_more j y))
 
-pub words_more : (n state i : ℕ) (text letters : List ℕ) → text ≡ joined_up_to (λ k. word_line k (word (before n k))) i → state ≡ before n i → letters ≡ word state
-    → text ++ word_line i letters ≡ joined_up_to (λ k. word_line k (word (before n k))) (i + 1)
-words_more n state i text letters is at drawn = rw (is, drawn, at) (sym (each_more (λ k. word_line k (word (before n k))) i))
+pub words_more : (n state i : ℕ) (text letters : List ℕ) → text ≡ joined_up_to (λ k. word_line k (drawn_word (before n k))) i → state ≡ before n i → letters ≡ drawn_word state
+    → text ++ word_line i letters ≡ joined_up_to (λ k. word_line k (drawn_word (before n k))) (i + 1)
+words_more n state i text letters is at drawn = rw (is, drawn, at) (sym (each_more (λ k. word_line k (drawn_word (before n k))) i))
 
 pub before_after : (n state i : ℕ) → state ≡ before n i → state_after (word_length state) (next state) ≡ before n (i + 1)
 before_after n state i at = rw (at) (sym (before_more n i))

@@ -8,7 +8,7 @@ use Rattle.std.proofs.lemmas.Nat.{mod_below}
 use Rattle.std.proofs.Math.Nat.{div-le_self}
 use Rattle.run_sources.specs.Draws.{state_after, draw, joined_up_to, list_up_to, next}
 use Rattle.run_sources.specs.Lines.{all_line, generated_line, print_line, word_line}
-use Rattle.run_sources.specs.Texts.{IsSmall, before, drawn_line, generated, named_script, prelude, script, word, word_length}
+use Rattle.run_sources.specs.Texts.{IsSmall, before, drawn_line, generated, named_script, prelude, script, drawn_word, word_length}
 use Rattle.std.specs.Prelude.{◌∷◌, []}
 
 -- two texts behind one another
@@ -42,10 +42,10 @@ draw_below x most some = mod_below (next x / 65536) most some
 
 -- ---- the lines
 
-word_small : (x : ℕ) → length (word x) ≤ 25
+word_small : (x : ℕ) → length (drawn_word x) ≤ 25
 word_small x =
     let below : draw x 20 < 20 = draw_below x 20 (omega arith) in
-    let all : length (word x) ≤ 1 * word_length x = length-each (λ j. (97 + draw (state_after j (next x)) 26) ∷ []) 1 (word_length x) (λ i lt. omega arith) in
+    let all : length (drawn_word x) ≤ 1 * word_length x = length-each (λ j. (97 + draw (state_after j (next x)) 26) ∷ []) 1 (word_length x) (λ i lt. omega arith) in
     omega (arith, all, below)
 
 word_line_small : (i : ℕ) (letters : List ℕ) → i < 1000 → length letters ≤ 25 → length (word_line i letters) ≤ 42
@@ -128,10 +128,10 @@ print_small j few =
 
 prelude_small : (n : ℕ) → length (prelude n) ≤ 4096
 prelude_small n =
-    let words : length (joined_up_to (λ i. word_line i (word (before n i))) 16) ≤ 42 * 16 =
-    length-each (λ i. word_line i (word (before n i))) 42 16 (λ i lt. word_line_small i (word (before n i)) (omega (arith, lt)) (word_small (before n i))) in
+    let words : length (joined_up_to (λ i. word_line i (drawn_word (before n i))) 16) ≤ 42 * 16 =
+    length-each (λ i. word_line i (drawn_word (before n i))) 42 16 (λ i lt. word_line_small i (drawn_word (before n i)) (omega (arith, lt)) (word_small (before n i))) in
     let last : length all_line ≤ 185 = omega arith in
-    let all : length (prelude n) ≤ 857 = joined 672 185 (joined_up_to (λ i. word_line i (word (before n i))) 16) all_line (omega (arith, words)) last in
+    let all : length (prelude n) ≤ 857 = joined 672 185 (joined_up_to (λ i. word_line i (drawn_word (before n i))) 16) all_line (omega (arith, words)) last in
     omega (arith, all)
 
 script_small : (j x : ℕ) → j < 1000 → length (script j x) ≤ 4096

@@ -12,7 +12,7 @@ use Rattle.run_sources.specs.declared.stop.ScriptsFault.{ScriptsFault}
 use Rattle.run_sources.specs.declared.stop.ScriptsFault.TheVariants as stop
 use Rattle.run_sources.specs.Program.{FileName, Program, outer_of, program_from}
 use Rattle.run_sources.specs.Reading as reading
-use Rattle.run_sources.specs.Reading.{AreRead, IsLarge, IsPreludeRead, IsQuiet, IsRead, IsUnread, KeepsFiles, Read, ReadUpTo}
+use Rattle.run_sources.specs.Reading.{AreRead, IsLarge, IsPreludeRead, IsQuiet, IsSourceRead, IsUnread, KeepsFiles, Read, ReadUpTo}
 use Rattle.run_sources.specs.Spelling as spelling
 use Rattle.run_sources.specs.Spelling.{AllSpell, FirstAmong, FirstRefused, SpellsPrelude}
 use Rattle.run_sources.specs.Answers.{AreShort, IsPreludeShort, IsShort, RefusesAmong, RefusesFile, RefusesPrelude, RefusesPreludeText, RefusesRead, RefusesScript, RefusesText}
@@ -37,7 +37,7 @@ pub quiet_trans : (a b c : FilesState) → IsQuiet a b → IsQuiet b c → IsQui
 quiet_trans a b c p q = record { calm = q.calm ∙ p.calm; not_large = q.not_large ∙ p.not_large; unblamed = q.unblamed ∙ p.unblamed }
 
 -- what was read later was read of the files as they were before
-is_read_of : (a b : FilesState) (name : FileName) (source : Named) → KeepsFiles a b → IsRead b.held name source → IsRead a.held name source
+is_read_of : (a b : FilesState) (name : FileName) (source : Named) → KeepsFiles a b → IsSourceRead b.held name source → IsSourceRead a.held name source
 is_read_of a b name source keeps is = record { named = is.named; tells = subst (λ (o : _). IsToldAs o source.text) (keeps.held name) is.tells; small = is.small }
 
 pub read_of : (a b : FilesState) (names : List FileName) (sources : List Named) → KeepsFiles a b → Read b.held names sources → Read a.held names sources
@@ -46,7 +46,7 @@ read_of a b _ _ keeps (reading.Read.next name names source sources is rest) =
     reading.Read.next name names source sources (is_read_of a b name source keeps is) (read_of a b names sources keeps rest)
 
 -- one more file was read
-pub read_turn : (a b : FilesState) (names : List FileName) (sources : List Named) (name : FileName) (source : Named) → KeepsFiles a b → Read a.held names sources → IsRead b.held name source
+pub read_turn : (a b : FilesState) (names : List FileName) (sources : List Named) (name : FileName) (source : Named) → KeepsFiles a b → Read a.held names sources → IsSourceRead b.held name source
     → Read a.held (names ++ name ∷ []) (sources ++ source ∷ [])
 read_turn a b names sources name source keeps read is = read_more a.held names sources name source read (is_read_of a b name source keeps is)
 

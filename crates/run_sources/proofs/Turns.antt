@@ -11,7 +11,7 @@ use Rattle.js_parse.specs.Spells as script
 use Rattle.eval_tree.specs.Tree.{Tree}
 use Rattle.run_sources.specs.Program.{FileName, Program, program_from}
 use Rattle.run_sources.specs.Reading as reading
-use Rattle.run_sources.specs.Reading.{IsRead, Read}
+use Rattle.run_sources.specs.Reading.{IsSourceRead, Read}
 use Rattle.run_sources.specs.Spelling as spelling
 use Rattle.run_sources.specs.Spelling.{AllSpell, FirstAmong}
 
@@ -59,7 +59,7 @@ begun (x ∷ xs) t prelude scripts some is first rest =
     let made : Named → List Named → Program Named = λ p ps. record { prelude = Some p; scripts = ps } in
     sym (ap₂ made (first ∙ ap named_for is) (rest ∙ ap (λ n. map named_for (take n xs)) left ∙ ap (map named_for) (take_whole xs)))
 
-pub read_more : (held : FileName → Option (List ℕ)) (names : List FileName) (sources : List Named) (name : FileName) (source : Named) → Read held names sources → IsRead held name source
+pub read_more : (held : FileName → Option (List ℕ)) (names : List FileName) (sources : List Named) (name : FileName) (source : Named) → Read held names sources → IsSourceRead held name source
     → Read held (names ++ name ∷ []) (sources ++ source ∷ [])
 read_more held _ _ name source reading.Read.none is = reading.Read.next name [] source [] is reading.Read.none
 read_more held _ _ name source (reading.Read.next n ns s ss one rest) is = reading.Read.next n (ns ++ name ∷ []) s (ss ++ source ∷ []) one (read_more held ns ss name source rest is)

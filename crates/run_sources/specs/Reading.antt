@@ -21,7 +21,7 @@ pub record IsQuiet (old new : FilesState) : Type 0 where
 
 -- the file of this name has these bytes, as far as files are reported. It is not too large: this is what
 -- keeps a reported file that is too large from passing for one that was read.
-pub record IsRead (held : FileName → Option (List ℕ)) (name : FileName) (source : Named) : Type 0 where
+pub record IsSourceRead (held : FileName → Option (List ℕ)) (name : FileName) (source : Named) : Type 0 where
   pub named : source.name ≡ name
   pub tells : IsToldAs (held name) source.text
   pub small : length source.text ≤ FILE_MAX
@@ -30,14 +30,14 @@ pub record IsRead (held : FileName → Option (List ℕ)) (name : FileName) (sou
 pub data Read (held : FileName → Option (List ℕ)) : List FileName → List Named → Type 0 where
   none : Read held [] []
   next : (name : FileName) (names : List FileName) (source : Named) (sources : List Named)
-      → IsRead held name source → Read held names sources → Read held (name ∷ names) (source ∷ sources)
+      → IsSourceRead held name source → Read held names sources → Read held (name ∷ names) (source ∷ sources)
 
 -- the prelude's file, if there is one
 abbrev pub IsPreludeRead : (FileName → Option (List ℕ)) → Option FileName → Option Named → Type 0
 IsPreludeRead held None None = ⊤
 IsPreludeRead held None (Some source) = ⊥
 IsPreludeRead held (Some name) None = ⊥
-IsPreludeRead held (Some name) (Some source) = IsRead held name source
+IsPreludeRead held (Some name) (Some source) = IsSourceRead held name source
 
 -- all files
 pub record AreRead (held : FileName → Option (List ℕ)) (names : Program FileName)

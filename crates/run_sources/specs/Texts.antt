@@ -11,8 +11,8 @@ abbrev pub word_length : ℕ → ℕ
 word_length x = 6 + draw x 20
 
 -- the string that is drawn from state x on: first its length, and then its letters
-abbrev pub word : ℕ → List ℕ
-word x = joined_up_to (λ j. (97 + draw (state_after j (next x)) 26) ∷ []) (word_length x)
+abbrev pub drawn_word : ℕ → List ℕ
+drawn_word x = joined_up_to (λ j. (97 + draw (state_after j (next x)) 26) ∷ []) (word_length x)
 
 -- the state before string i
 unfoldable pub before : ℕ → ℕ → ℕ
@@ -21,7 +21,7 @@ before n (suc i) = state_after (word_length (before n i)) (next (before n i))
 
 -- the prelude that is generated from the number n: 16 strings, and all of them with commas between them
 abbrev pub prelude : ℕ → List ℕ
-prelude n = joined_up_to (λ i. word_line i (word (before n i))) 16 ++ all_line
+prelude n = joined_up_to (λ i. word_line i (drawn_word (before n i))) 16 ++ all_line
 
 -- a line of a script, drawn from state x on: its kind and three numbers, all of which are drawn for every
 -- line

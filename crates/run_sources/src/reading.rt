@@ -2,7 +2,7 @@
 ghost use Rattle.std.specs.Prelude.{◌≡◌, map, option_map, IfOk, IfErr};
 ghost use Rattle.std.specs.List.{All};
 ghost use Rattle.run_sources.specs.Program.{in_order};
-ghost use Rattle.run_sources.specs.Reading.{KeepsFiles, IsQuiet, IsRead, IsPreludeRead, Read, AreRead};
+ghost use Rattle.run_sources.specs.Reading.{KeepsFiles, IsQuiet, IsSourceRead, IsPreludeRead, Read, AreRead};
 ghost use Rattle.run_sources.specs.Answers.{names_for, source_for, sources_for, AreShort, RefusesFile, RefusesPrelude, RefusesRead};
 
 use crate::sources::{SourceText, Sources};
@@ -18,7 +18,8 @@ fn read_file<'a, F: Files>(
 ) -> Result<SourceText<'a>, ScriptsFault<'a>>
     ensures keeps { KeepsFiles (F.state files.old) (F.state files.new) }
     ensures quiet { IfOk result (λ _. IsQuiet (F.state files.old) (F.state files.new)) }
-    ensures read { IfOk result (λ source. IsRead (F.state files.old).held name.now (source_for source)) }
+    ensures read { IfOk result (λ source. IsSourceRead (F.state files.old).held name.now
+        (source_for source)) }
     ensures refused { IfErr result (RefusesRead (F.state files.old) (F.state files.new) name.now) }
 {
     match files.read(alloc, name) {

@@ -3,7 +3,7 @@ ghost use Rattle.std.specs.Prelude.{◌≡◌, IfOk, OnOk, map};
 ghost use Rattle.std.specs.List.{All};
 ghost use Rattle.std.specs.String.{string_bytes};
 ghost use Rattle.run_sources.specs.Draws.{state_after, next};
-ghost use Rattle.run_sources.specs.Texts.{IsSmall, before, drawn_line, generated, named_for, prelude, script, word, word_length};
+ghost use Rattle.run_sources.specs.Texts.{IsSmall, before, drawn_line, generated, named_for, prelude, script, drawn_word, word_length};
 
 use crate::draws::Draws;
 use crate::lines::{ALL_LINE, line, print_line, script_name, word_line};
@@ -25,7 +25,7 @@ pub struct GeneratedText {
 
 // A string.
 fn word(alloc: Global, draws: &mut Draws) -> Result<String, AllocError>
-    ensures word { IfOk result (λ text. string_bytes text ≡ word draws.old.state) }
+    ensures word { IfOk result (λ text. string_bytes text ≡ drawn_word draws.old.state) }
     ensures state { OnOk result
         (draws.new.state ≡ state_after (word_length draws.old.state) (next draws.old.state)) }
 {

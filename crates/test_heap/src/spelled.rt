@@ -1,7 +1,7 @@
 // Strings made, interned and found straight from bytes, with ample memory.
 ghost use Rattle.std.specs.Prelude.{◌≤◌, length};
 ghost use Rattle.heap_rule.specs.Layout.{MAX};
-ghost use Rattle.heap_bytes.specs.Spellings.{IsReadable, units_of};
+ghost use Rattle.heap_bytes.specs.Spellings.{IsReadable, spelling_units};
 
 use heap_build::Builder;
 use heap_bytes::{Encoding, Spelling};
@@ -14,7 +14,7 @@ use std::alloc::{AllocError, Global};
 // The units of a string that is made from bytes, read from the heap; none where anything was refused.
 fn made(alloc: Global, text: &mut Text<&Heap>, source: &Spelling) -> Option<Builder>
     requires read { IsReadable source.now }
-    requires short { length (units_of source.now) ≤ MAX }
+    requires short { length (spelling_units source.now) ≤ MAX }
 {
     let s = text.make_from(source).ok()?;
     text.settle(s).ok()?;
@@ -26,7 +26,7 @@ fn made(alloc: Global, text: &mut Text<&Heap>, source: &Spelling) -> Option<Buil
 // Whether bytes are made, interned and found as these units are.
 fn is_like(alloc: Global, units: &Builder, source: &Spelling) -> bool
     requires read { IsReadable source.now }
-    requires short { length (units_of source.now) ≤ MAX }
+    requires short { length (spelling_units source.now) ≤ MAX }
 {
     let size = HeapSize {
         ids: 3,

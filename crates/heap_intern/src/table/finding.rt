@@ -5,7 +5,7 @@ ghost use Rattle.heap_rule.specs.Layout.{MAX};
 ghost use Rattle.heap_rule.specs.Maps.{Has};
 ghost use Rattle.heap_table.specs.Agents.{size_of};
 ghost use Rattle.heap_intern.specs.Answers.{Finds, StandsInSlot};
-ghost use Rattle.heap_bytes.specs.Spellings.{IsReadable, units_of};
+ghost use Rattle.heap_bytes.specs.Spellings.{IsReadable, spelling_units};
 ghost use Rattle.heap_intern.specs.Given.{FindsGiven};
 ghost use Rattle.heap_intern.specs.SlotLoads.{LoadsSlots, loads_at};
 ghost use Rattle.heap_intern.specs.Visits.{Looked, LoadsOne, entries_seen};
@@ -141,9 +141,9 @@ fn find_from_by<L: Ledger, H: HeapRef>(
     requires parts { blank.parts ≡ L.parts }
     requires some { 0 < blank.parts }
     requires read { IsReadable source.now }
-    requires short { length (units_of source.now) ≤ MAX }
+    requires short { length (spelling_units source.now) ≤ MAX }
     ensures heap { reader.new.heap ≡ reader.old.heap }
-    ensures finds { FindsGiven (view_in reader.old) (view_in reader.new) (units_of source.now) result }
+    ensures finds { FindsGiven (view_in reader.old) (view_in reader.new) (spelling_units source.now) result }
 {
     let mut steps = Steps::<L>::start(blank);
     let hash = source.hash();
@@ -154,9 +154,9 @@ fn find_from_by<L: Ledger, H: HeapRef>(
 /// answers it. The bytes are read piece by piece.
 pub fn find_from<H: HeapRef>(reader: &mut Reader<H>, source: &Spelling) -> Option<u32>
     requires read { IsReadable source.now }
-    requires short { length (units_of source.now) ≤ MAX }
+    requires short { length (spelling_units source.now) ≤ MAX }
     ensures heap { reader.new.heap ≡ reader.old.heap }
-    ensures finds { FindsGiven (view_in reader.old) (view_in reader.new) (units_of source.now) result }
+    ensures finds { FindsGiven (view_in reader.old) (view_in reader.new) (spelling_units source.now) result }
 {
     find_from_by::<Brand, _>(reader, source, Blank::new(1))
 }

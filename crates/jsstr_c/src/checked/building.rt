@@ -1,7 +1,7 @@
 // Texts that are built up outside any heap: strings are added to them, and they become strings.
 ghost use Rattle.std.specs.Prelude.{◌≡◌, ◌↔◌};
 ghost use Rattle.heap_agents.specs.Ready.{HandleKnows, IsReady};
-ghost use Rattle.jsstr_c.specs.Building.{Builds, IsBuilder, Spends, built};
+ghost use Rattle.jsstr_c.specs.Building.{Builds, IsBuilder, Spends, text_so_far};
 ghost use Rattle.jsstr_c.specs.Checked.{ReadsSettled};
 ghost use Rattle.jsstr_c.specs.Given.{IsInterning, Makes, Tests};
 ghost use Rattle.jsstr_c.specs.Handles.{IsHandle};
@@ -47,7 +47,7 @@ pub extern "C" fn jsstr_built(alloc: Global, text: &mut JsBuilder, agent: &mut J
     requires handle { IsHandle agent.old }
     ensures handle { IsBuilder text.new × IsHandle agent.new }
     ensures bad { result.status ≡ reports.BAD_ARGUMENT ↔ ¬ (IsReady agent.old.at.value) }
-    ensures makes { Tests Makes agent.old.at.value agent.new.at.value (built text.old.at.value) result }
+    ensures makes { Tests Makes agent.old.at.value agent.new.at.value (text_so_far text.old.at.value) result }
     ensures spent { Spends text.old.at.value text.new.at.value result.status }
 {
     if agent.is_empty() {
@@ -67,7 +67,7 @@ pub extern "C" fn jsstr_built_interned(
     requires handle { IsHandle agent.old }
     ensures handle { IsBuilder text.new × IsHandle agent.new }
     ensures bad { result.status ≡ reports.BAD_ARGUMENT ↔ ¬ (IsReady agent.old.at.value) }
-    ensures interns { Tests IsInterning agent.old.at.value agent.new.at.value (built text.old.at.value)
+    ensures interns { Tests IsInterning agent.old.at.value agent.new.at.value (text_so_far text.old.at.value)
         result }
     ensures spent { Spends text.old.at.value text.new.at.value result.status }
 {

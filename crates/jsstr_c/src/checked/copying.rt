@@ -2,7 +2,7 @@
 ghost use Rattle.std.specs.Prelude.{◌≡◌, ◌≢◌, ◌↔◌, ◌⊎◌, ℕ, List};
 ghost use Rattle.heap_rule.specs.Maps.{Has};
 ghost use Rattle.heap_agents.specs.Ready.{HandleLeaves, HandleKnows, IsReady, handle_view};
-ghost use Rattle.jsstr_c.specs.Checked.{Refuses, Settled};
+ghost use Rattle.jsstr_c.specs.Checked.{RefusesSettling, Settled};
 ghost use Rattle.jsstr_c.specs.Given.{IsInterning, Makes, OrNoMemory};
 ghost use Rattle.jsstr_c.specs.Handles.{IsHandle};
 ghost use Rattle.jsstr_c.specs.Reports as reports;
@@ -31,7 +31,7 @@ pub extern "C" fn jsstr_copy_into(
         × (from.new.at.value ≡ from.old.at.value) × (to.new.at.value ≡ to.old.at.value) }
     ensures leaves { result.status ≢ reports.BAD_ARGUMENT → HandleLeaves to.old.at.value to.new.at.value }
     ensures does { result.status ≢ reports.BAD_ARGUMENT
-        → (Refuses from.old.at.value from.new.at.value s result × (to.new.at.value ≡ to.old.at.value))
+        → (RefusesSettling from.old.at.value from.new.at.value s result × (to.new.at.value ≡ to.old.at.value))
         ⊎ (Settled from.old.at.value from.new.at.value s × ((us : List ℕ)
         → Has (handle_view from.old.at.value).units s us
         → OrNoMemory Makes to.old.at.value to.new.at.value us result)) }
@@ -63,7 +63,7 @@ pub extern "C" fn jsstr_intern_into(
     ensures unchanged { result.status ≡ reports.BAD_ARGUMENT → (result ≡ reports.bad_argument)
         × (from.new.at.value ≡ from.old.at.value) × (to.new.at.value ≡ to.old.at.value) }
     ensures does { result.status ≢ reports.BAD_ARGUMENT
-        → (Refuses from.old.at.value from.new.at.value s result × (to.new.at.value ≡ to.old.at.value))
+        → (RefusesSettling from.old.at.value from.new.at.value s result × (to.new.at.value ≡ to.old.at.value))
         ⊎ (Settled from.old.at.value from.new.at.value s × ((us : List ℕ)
         → Has (handle_view from.old.at.value).units s us
         → OrNoMemory IsInterning to.old.at.value to.new.at.value us result)) }

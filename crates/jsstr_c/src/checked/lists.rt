@@ -1,7 +1,7 @@
 // Strings compared with units, and with bytes. The string is settled first.
 ghost use Rattle.std.specs.Prelude.{◌≡◌, ◌≢◌, ◌↔◌, ◌≤◌, length};
 ghost use Rattle.heap_rule.specs.Layout.{MAX};
-ghost use Rattle.heap_bytes.specs.Spellings.{IsReadable, units_of};
+ghost use Rattle.heap_bytes.specs.Spellings.{IsReadable, spelling_units};
 ghost use Rattle.heap_agents.specs.Ready.{HandleKnows};
 ghost use Rattle.jsstr_c.specs.Handles.{IsHandle};
 ghost use Rattle.jsstr_c.specs.Lists.{ComparesUnits, OnSpelled, OrdersUnits};
@@ -49,7 +49,8 @@ fn equals_spelled(alloc: Global, agent: &mut JsAgent, s: u32, source: &Spelling)
     ensures handle { IsHandle agent.new }
     ensures bad { result.status ≡ reports.BAD_ARGUMENT ↔ ¬ (HandleKnows agent.old.at.value s) }
     ensures memory { result.status ≢ reports.NO_MEMORY }
-    ensures compares { ComparesUnits agent.old.at.value agent.new.at.value s (units_of source.now) result }
+    ensures compares { ComparesUnits agent.old.at.value agent.new.at.value s (spelling_units source.now)
+        result }
 {
     let settled = settle_known(alloc, agent, s);
     if settled.status != DONE {
@@ -141,7 +142,8 @@ fn order_spelled(alloc: Global, agent: &mut JsAgent, s: u32, source: &Spelling) 
     ensures handle { IsHandle agent.new }
     ensures bad { result.status ≡ reports.BAD_ARGUMENT ↔ ¬ (HandleKnows agent.old.at.value s) }
     ensures memory { result.status ≢ reports.NO_MEMORY }
-    ensures compares { OrdersUnits agent.old.at.value agent.new.at.value s (units_of source.now) result }
+    ensures compares { OrdersUnits agent.old.at.value agent.new.at.value s (spelling_units source.now)
+        result }
 {
     let settled = settle_known(alloc, agent, s);
     if settled.status != DONE {

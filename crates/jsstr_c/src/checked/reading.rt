@@ -9,7 +9,7 @@ ghost use Rattle.jsstr_c.specs.Handles.{IsHandle};
 ghost use Rattle.jsstr_c.specs.Reports.{no_words, shown_by, no_number, no_truth, number_answer};
 ghost use Rattle.js_units.specs.Lanes.{hash_of};
 ghost use Rattle.heap_rule.specs.Forms.{IsCons};
-ghost use Rattle.heap_export.specs.Index.{IsIndex};
+ghost use Rattle.heap_export.specs.Index.{IsArrayIndex};
 ghost use Rattle.heap_export.specs.Encoded.{bytes_of, past_latin1, refused};
 ghost use Rattle.jsstr_c.specs.Bytes.{IsGiven, no_bytes, unpaired_by};
 ghost use Rattle.jsstr_c.specs.Reports as reports;
@@ -157,7 +157,7 @@ pub extern "C" fn jsstr_array_index(alloc: Global, agent: &mut JsAgent, s: u32) 
     ensures bad { result.status ≡ reports.BAD_ARGUMENT ↔ ¬ (HandleKnows agent.old.at.value s) }
     ensures reads { ReadsSettled agent.old.at.value agent.new.at.value s result.status
         (result ≡ no_number result.status)
-        (λ us. (n : Option ℕ) × (result ≡ number_answer n) × IsIndex us n) }
+        (λ us. (n : Option ℕ) × (result ≡ number_answer n) × IsArrayIndex us n) }
 {
     let settled = settle_known(alloc, agent, s);
     if settled.status != DONE {

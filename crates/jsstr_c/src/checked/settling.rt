@@ -2,7 +2,7 @@
 ghost use Rattle.std.specs.Prelude.{◌≡◌, ◌↔◌, ℕ, ◌+◌, ◌≤◌, List, IsTrue, length};
 ghost use Rattle.heap_rule.specs.Maps.{Has, HasKey};
 ghost use Rattle.heap_agents.specs.Ready.{IsReady, HandleKnows, handle_view};
-ghost use Rattle.heap_agents.specs.Searched.{IsReadable};
+ghost use Rattle.heap_agents.specs.Searched.{IsSearchable};
 ghost use Rattle.jsstr_c.specs.Checked.{Looked, Measures, Reaches, SettlesFirst};
 ghost use Rattle.jsstr_c.specs.Handles.{IsHandle};
 ghost use Rattle.jsstr_c.specs.Pairs.{SettlesPair};
@@ -43,7 +43,7 @@ pub(crate) fn settle_known(alloc: Global, agent: &mut JsAgent, s: u32) -> JsAnsw
     ensures bad { result.status ≡ reports.BAD_ARGUMENT ↔ ¬ (HandleKnows agent.old.at.value s) }
     ensures settles { SettlesFirst agent.old.at.value agent.new.at.value s result }
     ensures ready { result.status ≡ reports.DONE → IsReady agent.new.at.value }
-    ensures readable { result.status ≡ reports.DONE → IsReadable (handle_view agent.new.at.value) s }
+    ensures readable { result.status ≡ reports.DONE → IsSearchable (handle_view agent.new.at.value) s }
 {
     if !agent.knows(alloc, s) {
         return bad_argument();
@@ -64,7 +64,7 @@ pub(crate) fn settle_reaching(
     ensures bad { result.status ≡ reports.BAD_ARGUMENT ↔ ¬ (Reaches agent.old.at.value s (from + room)) }
     ensures settles { SettlesFirst agent.old.at.value agent.new.at.value s result }
     ensures ready { result.status ≡ reports.DONE → IsReady agent.new.at.value }
-    ensures readable { result.status ≡ reports.DONE → IsReadable (handle_view agent.new.at.value) s }
+    ensures readable { result.status ≡ reports.DONE → IsSearchable (handle_view agent.new.at.value) s }
     ensures long { result.status ≡ reports.DONE → (us : List ℕ)
         → Has (handle_view agent.new.at.value).units s us → from + room ≤ length us }
 {
@@ -82,8 +82,8 @@ pub(crate) fn settle_both(alloc: Global, agent: &mut JsAgent, a: u32, b: u32) ->
         ↔ ¬ (HandleKnows agent.old.at.value a × HandleKnows agent.old.at.value b) }
     ensures settles { SettlesPair agent.old.at.value agent.new.at.value a b result }
     ensures ready { result ≡ reports.DONE → IsReady agent.new.at.value }
-    ensures left { result ≡ reports.DONE → IsReadable (handle_view agent.new.at.value) a }
-    ensures right { result ≡ reports.DONE → IsReadable (handle_view agent.new.at.value) b }
+    ensures left { result ≡ reports.DONE → IsSearchable (handle_view agent.new.at.value) a }
+    ensures right { result ≡ reports.DONE → IsSearchable (handle_view agent.new.at.value) b }
 {
     if !agent.knows(alloc, a) || !agent.knows(alloc, b) {
         return BAD_ARGUMENT;
@@ -109,8 +109,8 @@ pub(crate) fn settle_both_reaching(
         ↔ ¬ (Reaches agent.old.at.value a from × HandleKnows agent.old.at.value b) }
     ensures settles { SettlesPair agent.old.at.value agent.new.at.value a b result }
     ensures ready { result ≡ reports.DONE → IsReady agent.new.at.value }
-    ensures left { result ≡ reports.DONE → IsReadable (handle_view agent.new.at.value) a }
-    ensures right { result ≡ reports.DONE → IsReadable (handle_view agent.new.at.value) b }
+    ensures left { result ≡ reports.DONE → IsSearchable (handle_view agent.new.at.value) a }
+    ensures right { result ≡ reports.DONE → IsSearchable (handle_view agent.new.at.value) b }
     ensures long { result ≡ reports.DONE → (us : List ℕ) → Has (handle_view agent.new.at.value).units a us
         → from ≤ length us }
 {

@@ -3,7 +3,7 @@ ghost use Rattle.std.specs.Prelude.{◌≢◌, ℕ, List};
 ghost use Rattle.heap_rule.specs.Maps.{Has, HasKey};
 ghost use Rattle.heap_rule.specs.Views.{IsSeenSettled};
 ghost use Rattle.heap_agents.specs.Ready.{IsReady, handle_view};
-ghost use Rattle.jsstr_c.specs.Building.{Builds, IsBuilder, Spends, built};
+ghost use Rattle.jsstr_c.specs.Building.{Builds, IsBuilder, Spends, text_so_far};
 ghost use Rattle.jsstr_c.specs.Checked.{OnlyLooks};
 ghost use Rattle.jsstr_c.specs.Given.{IsInterning, Makes};
 ghost use Rattle.jsstr_c.specs.Handles.{IsHandle};
@@ -63,7 +63,7 @@ pub extern "C" fn jsstr_built_unchecked(
     requires ready { IsReady agent.old.at.value }
     ensures handle { IsBuilder text.new × IsHandle agent.new }
     ensures told { result.status ≢ reports.BAD_ARGUMENT }
-    ensures makes { Makes agent.old.at.value agent.new.at.value (built text.old.at.value) result }
+    ensures makes { Makes agent.old.at.value agent.new.at.value (text_so_far text.old.at.value) result }
     ensures spent { Spends text.old.at.value text.new.at.value result.status }
 {
     text.spend(alloc, agent, Task::Make)
@@ -80,7 +80,8 @@ pub extern "C" fn jsstr_built_interned_unchecked(
     requires ready { IsReady agent.old.at.value }
     ensures handle { IsBuilder text.new × IsHandle agent.new }
     ensures told { result.status ≢ reports.BAD_ARGUMENT }
-    ensures interns { IsInterning agent.old.at.value agent.new.at.value (built text.old.at.value) result }
+    ensures interns { IsInterning agent.old.at.value agent.new.at.value (text_so_far text.old.at.value)
+        result }
     ensures spent { Spends text.old.at.value text.new.at.value result.status }
 {
     text.spend(alloc, agent, Task::Intern)

@@ -4,7 +4,7 @@ ghost use Rattle.js_search.specs.Order.{units_cmp};
 ghost use Rattle.heap_rule.specs.Layout.{MAX};
 ghost use Rattle.heap_rule.specs.Maps.{Has, HasKey};
 ghost use Rattle.heap_rule.specs.Views.{IsSeenSettled};
-ghost use Rattle.heap_bytes.specs.Spellings.{IsReadable, units_of};
+ghost use Rattle.heap_bytes.specs.Spellings.{IsReadable, spelling_units};
 ghost use Rattle.heap_agents.specs.Ready.{IsReady, handle_view};
 ghost use Rattle.jsstr_c.specs.Checked.{OnlyLooks};
 ghost use Rattle.jsstr_c.specs.Handles.{IsHandle};
@@ -73,7 +73,7 @@ pub(crate) fn has_spelled(alloc: Global, agent: &mut JsAgent, s: u32, source: &S
     ensures handle { IsHandle agent.new }
     ensures looks { OnlyLooks agent.old.at.value agent.new.at.value }
     ensures same { (us : List ℕ) → Has (handle_view agent.old.at.value).units s us
-        → IsTrue result ↔ (us ≡ units_of source.now) }
+        → IsTrue result ↔ (us ≡ spelling_units source.now) }
 {
     let mut held = agent.take(alloc);
     let answer = held.has_spelled(JsStr { id: s }, source);
@@ -90,7 +90,7 @@ pub(crate) fn compare_spelled(alloc: Global, agent: &mut JsAgent, s: u32, source
     ensures handle { IsHandle agent.new }
     ensures looks { OnlyLooks agent.old.at.value agent.new.at.value }
     ensures order { (us : List ℕ) → Has (handle_view agent.old.at.value).units s us
-        → result ≡ order_number (units_cmp us (units_of source.now)) }
+        → result ≡ order_number (units_cmp us (spelling_units source.now)) }
 {
     let mut held = agent.take(alloc);
     let answer = held.compare_spelled(JsStr { id: s }, source);

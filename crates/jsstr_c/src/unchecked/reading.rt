@@ -4,12 +4,12 @@ ghost use Rattle.heap_rule.specs.Maps.{Has, HasKey};
 ghost use Rattle.heap_rule.specs.Views.{IsSeenSettled};
 ghost use Rattle.heap_agents.specs.Ready.{IsReady, handle_view};
 ghost use Rattle.heap_agents.specs.Words.{AreShown, AreThere};
-ghost use Rattle.jsstr_c.specs.Checked.{Measures, OnlyLooks, Refuses, Settles};
+ghost use Rattle.jsstr_c.specs.Checked.{Measures, OnlyLooks, RefusesSettling, Settles};
 ghost use Rattle.jsstr_c.specs.Handles.{IsHandle};
 ghost use Rattle.jsstr_c.specs.Reports.{shown_by, number_answer};
 ghost use Rattle.js_units.specs.Lanes.{hash_of};
 ghost use Rattle.heap_rule.specs.Forms.{IsCons};
-ghost use Rattle.heap_export.specs.Index.{IsIndex};
+ghost use Rattle.heap_export.specs.Index.{IsArrayIndex};
 ghost use Rattle.heap_export.specs.Encoded.{bytes_of, past_latin1, refused};
 ghost use Rattle.jsstr_c.specs.Bytes.{IsGiven, unpaired_by};
 ghost use Rattle.jsstr_c.specs.Reports as reports;
@@ -47,7 +47,7 @@ pub extern "C" fn jsstr_settle_unchecked(alloc: Global, agent: &mut JsAgent, s: 
     ensures settled { result.status ≡ reports.DONE
         → (result ≡ reports.done s) × Settles agent.old.at.value agent.new.at.value s }
     ensures refused { result.status ≢ reports.DONE
-        → Refuses agent.old.at.value agent.new.at.value s result }
+        → RefusesSettling agent.old.at.value agent.new.at.value s result }
 {
     let mut held = agent.take(alloc);
     let answer = held.settle(JsStr { id: s });
@@ -161,7 +161,7 @@ pub extern "C" fn jsstr_array_index_unchecked(
     ensures told { result.status ≢ reports.BAD_ARGUMENT }
     ensures words { result.status ≢ reports.NO_WORDS }
     ensures index { (us : List ℕ) → Has (handle_view agent.old.at.value).units s us
-        → (n : Option ℕ) × (result ≡ number_answer n) × IsIndex us n }
+        → (n : Option ℕ) × (result ≡ number_answer n) × IsArrayIndex us n }
 {
     let mut held = agent.take(alloc);
     let answer = held.array_index(JsStr { id: s });

@@ -5,7 +5,7 @@ ghost use Rattle.heap_rule.specs.Maps.{Has};
 ghost use Rattle.js_search.specs.Order.{units_cmp};
 ghost use Rattle.js_search.specs.Places.{IsFirst, IsLast, Stands, first, last, stands};
 ghost use Rattle.heap_agents.specs.Ready.{IsReady, Searches, handle_view};
-ghost use Rattle.heap_agents.specs.Searched.{IsOrder, IsReadable};
+ghost use Rattle.heap_agents.specs.Searched.{IsOrder, IsSearchable};
 ghost use Rattle.jsstr_c.specs.Handles.{IsHandle};
 ghost use Rattle.jsstr_c.specs.Reports.{order_number, place_answer};
 ghost use Rattle.jsstr_c.specs.Reports as reports;
@@ -20,8 +20,8 @@ use std::alloc::Global;
 #[unsafe(no_mangle)]
 pub extern "C" fn jsstr_compare_unchecked(alloc: Global, agent: &mut JsAgent, a: u32, b: u32) -> i32
     requires ready { IsReady agent.old.at.value }
-    requires left { IsReadable (handle_view agent.old.at.value) a }
-    requires right { IsReadable (handle_view agent.old.at.value) b }
+    requires left { IsSearchable (handle_view agent.old.at.value) a }
+    requires right { IsSearchable (handle_view agent.old.at.value) b }
     ensures handle { IsHandle agent.new }
     ensures searches { Searches agent.old.at.value agent.new.at.value }
     ensures order { (us vs : List ℕ) → Has (handle_view agent.old.at.value).units a us
@@ -41,8 +41,8 @@ pub extern "C" fn jsstr_compare_unchecked(alloc: Global, agent: &mut JsAgent, a:
 #[unsafe(no_mangle)]
 pub extern "C" fn jsstr_equal_unchecked(alloc: Global, agent: &mut JsAgent, a: u32, b: u32) -> bool
     requires ready { IsReady agent.old.at.value }
-    requires left { IsReadable (handle_view agent.old.at.value) a }
-    requires right { IsReadable (handle_view agent.old.at.value) b }
+    requires left { IsSearchable (handle_view agent.old.at.value) a }
+    requires right { IsSearchable (handle_view agent.old.at.value) b }
     ensures handle { IsHandle agent.new }
     ensures searches { Searches agent.old.at.value agent.new.at.value }
     ensures value { (us vs : List ℕ) → Has (handle_view agent.old.at.value).units a us
@@ -66,8 +66,8 @@ pub extern "C" fn jsstr_starts_with_unchecked(
     at: u32,
 ) -> bool
     requires ready { IsReady agent.old.at.value }
-    requires left { IsReadable (handle_view agent.old.at.value) hay }
-    requires right { IsReadable (handle_view agent.old.at.value) needle }
+    requires left { IsSearchable (handle_view agent.old.at.value) hay }
+    requires right { IsSearchable (handle_view agent.old.at.value) needle }
     ensures handle { IsHandle agent.new }
     ensures searches { Searches agent.old.at.value agent.new.at.value }
     ensures stands { (us vs : List ℕ) → Has (handle_view agent.old.at.value).units hay us
@@ -94,8 +94,8 @@ pub extern "C" fn jsstr_index_of_unchecked(
     from: u32,
 ) -> JsPlace
     requires ready { IsReady agent.old.at.value }
-    requires left { IsReadable (handle_view agent.old.at.value) hay }
-    requires right { IsReadable (handle_view agent.old.at.value) needle }
+    requires left { IsSearchable (handle_view agent.old.at.value) hay }
+    requires right { IsSearchable (handle_view agent.old.at.value) needle }
     requires within { (us : List ℕ) × Has (handle_view agent.old.at.value).units hay us × (from ≤ length us) }
     ensures handle { IsHandle agent.new }
     ensures searches { Searches agent.old.at.value agent.new.at.value }
@@ -125,8 +125,8 @@ pub extern "C" fn jsstr_last_index_of_unchecked(
     limit: u32,
 ) -> JsPlace
     requires ready { IsReady agent.old.at.value }
-    requires left { IsReadable (handle_view agent.old.at.value) hay }
-    requires right { IsReadable (handle_view agent.old.at.value) needle }
+    requires left { IsSearchable (handle_view agent.old.at.value) hay }
+    requires right { IsSearchable (handle_view agent.old.at.value) needle }
     ensures handle { IsHandle agent.new }
     ensures searches { Searches agent.old.at.value agent.new.at.value }
     ensures told { result.status ≢ reports.BAD_ARGUMENT }

@@ -10,7 +10,7 @@ use Rattle.heap_read.specs.Written.{AreWords}
 use Rattle.heap_read.proofs.Going.{continues_trans, continues_words, run_below, run_kept, run_keys}
 use Rattle.heap_read.proofs.Storing.{continues_writes}
 use Rattle.heap_read.proofs.WindowLemmas.{forms_trans}
-use Rattle.heap_bytes.specs.Spellings.{units_of}
+use Rattle.heap_bytes.specs.Spellings.{spelling_units}
 use Rattle.heap_bytes.proofs.Runs.{no_words, run_zero}
 use Rattle.heap_bytes.proofs.writing.write_spelled.Goals as goal
 
@@ -36,7 +36,7 @@ returns-clause-own_words g c q h = let v : View = c.args.reader.now.agent.seat.m
 pub returns-clause-ok : goal.returns-clause-ok
 returns-clause-ok g c = let v : View = c.args.reader.now.agent.seat.me.0 in let x : View = c.spell_at.new.reader.agent.seat.me.0 in
     let start = c.in_ok-start.start in let want = c.words_for-want.result in let e = c.in_ok-start.ensures in let f = c.spell_at.ensures in
-    let us : List ℕ = units_of c.args.source.now in let wide = c.args.wide in
+    let us : List ℕ = spelling_units c.args.source.now in let wide = c.args.wide in
     let words : want ≡ words_over wide (length us) = c.words_for-want.ensures ∙ ap (words_over wide) (sym c.requires.count) in
     let some : 0 < words_over wide (length us) = omega (arith, words, c.if-want-eq0.false) in
     let own : HasKey x.own_words (start + 0) = f.writes.view.own_words (start + 0)

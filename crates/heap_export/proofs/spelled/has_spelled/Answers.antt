@@ -3,7 +3,7 @@ use Rattle.js_search.proofs.Lexical.{is_same}
 use Rattle.heap_rule.proofs.MapLemmas.{has_key}
 use Rattle.heap_table.specs.Agents.{view_of}
 use Rattle.heap_read.proofs.Loaded.{reads_trans}
-use Rattle.heap_bytes.specs.Spellings.{units_of}
+use Rattle.heap_bytes.specs.Spellings.{spelling_units}
 use Rattle.heap_export.proofs.UnitByUnit.{told_equal}
 use Rattle.heap_export.proofs.Windows.{few_on}
 use Rattle.heap_export.proofs.spelled.has_spelled.Goals as goal
@@ -16,7 +16,7 @@ returns-clause-reads g c = reads_trans _ _ _ c.window-window.ensures.reads c.com
 
 pub returns-clause-same : goal.returns-clause-same
 returns-clause-same g c us h = let o = c.compare_window.ensures.order us (c.window-window.ensures.shows us h).0 in
-    let t = is_same us (units_of c.args.source.now) c.compare_window.result o in let q = told_equal c.compare_window.result in
+    let t = is_same us (spelling_units c.args.source.now) c.compare_window.result o in let q = told_equal c.compare_window.result in
     (λ r. t.0 (q.0 (sym c.eq.ensures ∙ r)), λ r. c.eq.ensures ∙ q.1 (t.1 r))
 
 pub returns-clause-few : goal.returns-clause-few

@@ -1,6 +1,6 @@
 use Rattle.std.proofs.Common.{sym, subst, ℕ, Option}
 use Rattle.heap_table.specs.Agents.{view_of}
-use Rattle.heap_export.specs.Encoded.{IsWritten, bytes_of}
+use Rattle.heap_export.specs.Encoded.{IsEncodedInto, bytes_of}
 use Rattle.heap_export.proofs.Windows.{loads_on, still_shown}
 use Rattle.heap_export.proofs.utf8.write.Goals as goal
 
@@ -14,5 +14,5 @@ returns-in-Ok-clause-loads g c = loads_on (view_of c.args.text.now.reader.agent)
 
 pub returns-in-Ok-clause-written : goal.returns-in-Ok-clause-written
 returns-in-Ok-clause-written g c us h =
-    subst (λ (o : Option ℕ). IsWritten o (bytes_of c.args.unpaired us) c.args.out.now c.write_all.new.out c.write_all.result) (sym (c.in-Ok.ensures.whole us h))
+    subst (λ (o : Option ℕ). IsEncodedInto o (bytes_of c.args.unpaired us) c.args.out.now c.write_all.new.out c.write_all.result) (sym (c.in-Ok.ensures.whole us h))
     (c.write_all.ensures.written us (still_shown (view_of c.args.text.now.reader.agent) (view_of c.size_of.new.text.reader.agent) c.args.w us c.size_of.ensures.loads h) (c.in-Ok.ensures.size us h))

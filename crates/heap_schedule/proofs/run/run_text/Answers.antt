@@ -3,7 +3,7 @@ use Rattle.std.specs.Prelude.{IfOk}
 use Rattle.std.proofs.lemmas.List.{length-map}
 use Rattle.heap_schedule.specs.declared.run.Shown.{Shown}
 use Rattle.heap_schedule.specs.Outcome.{IsShown}
-use Rattle.heap_schedule.specs.Lines.{named}
+use Rattle.heap_schedule.specs.Lines.{turn_named}
 use Rattle.heap_schedule.specs.Text.{GivesSchedule, schedule_of, turns_of}
 use Rattle.heap_schedule.proofs.Told.{text_memory, text_played, text_refused}
 use Rattle.heap_schedule.proofs.run.run_text.Goals as goal
@@ -16,7 +16,7 @@ returns-in-Ok-play g c =
     subst (λ r. IfOk r (λ (x : Shown). IsShown s.making (turns_of s) x.bytes.items x.played)) c.in-Ok-play.is c.play.ensures in
     let long : c.len.result ≡ length s.lines.items = search rules in
     text_played c.args.text.now _ _ _ s.making (turns_of s) shown.played c.len.result shown.bytes.items c.in-Ok.ensures shows
-    (long ∙ sym (length-map s.lines.items named)) c.tell_play.ensures
+    (long ∙ sym (length-map s.lines.items turn_named)) c.tell_play.ensures
 
 pub returns-in-Ok : goal.returns-in-Ok
 returns-in-Ok g c = text_memory c.args.text.now _ _ _ (c.tell_memory.ensures (g.O.Sink.state c.args.out.now))

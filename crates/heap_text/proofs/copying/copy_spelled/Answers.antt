@@ -5,7 +5,7 @@ use Rattle.heap_rule.specs.declared.size.Counter.TheVariants.{Ids}
 use Rattle.heap_rule.specs.declared.size.Counters.{Counters}
 use Rattle.heap_rule.specs.Maps.{Has, HasKey}
 use Rattle.heap_rule.proofs.MapLemmas.{insert_same, key_of}
-use Rattle.heap_bytes.specs.Spellings.{units_of}
+use Rattle.heap_bytes.specs.Spellings.{spelling_units}
 use Rattle.heap_text.specs.declared.faults.TextFull.TheVariants as fault
 use Rattle.heap_text.specs.Texts.{IsSpared, UsesExactly}
 use Rattle.js_units.specs.Lanes.{is_wide, words_over}
@@ -32,7 +32,7 @@ bear_flat-requires-clause-own g c = let w : View = c.write_spelled.new.reader.ag
 
 pub bear_flat-requires-clause-written : goal.bear_flat-requires-clause-written
 bear_flat-requires-clause-written g c = let w : View = c.write_spelled.new.reader.agent.seat.me.0 in let id = c.in-Ok-claim_id.id in
-    let wide = c.is_wide-wide.result in let start = c.in-Ok.start in let us : List ℕ = units_of c.args.source.now in
+    let wide = c.is_wide-wide.result in let start = c.in-Ok.start in let us : List ℕ = spelling_units c.args.source.now in
     (us, subst (λ (a : View). IsWritten a wide start us) (sym c.in-Ok-claim_id.ensures.view) (written_claimed w id wide start us c.in-Ok.ensures.ok.0), sym c.len-n.ensures)
 
 pub returns-clause-continues : goal.returns-clause-continues
@@ -47,7 +47,7 @@ returns-clause-continues g c = let v : View = c.args.reader.now.agent.seat.me.0 
 
 pub returns-clause-units : goal.returns-clause-units
 returns-clause-units g c = let w : View = c.write_spelled.new.reader.agent.seat.me.0 in let x : View = c.claim_id.new.self.seat.me.0 in
-    let id = c.in-Ok-claim_id.id in let wide = c.is_wide-wide.result in let start = c.in-Ok.start in let us : List ℕ = units_of c.args.source.now in
+    let id = c.in-Ok-claim_id.id in let wide = c.is_wide-wide.result in let start = c.in-Ok.start in let us : List ℕ = spelling_units c.args.source.now in
     let there : IsWritten x wide start us = subst (λ (a : View). IsWritten a wide start us) (sym c.in-Ok-claim_id.ensures.view) (written_claimed w id wide start us c.in-Ok.ensures.ok.0) in
     c.bear_flat.ensures.units us there (sym c.len-n.ensures)
 
@@ -57,7 +57,7 @@ returns-clause-form g c = let id = c.in-Ok-claim_id.id in let start = c.in-Ok.st
 
 pub returns-clause-used : goal.returns-clause-used
 returns-clause-used g c = let v : View = c.args.reader.now.agent.seat.me.0 in let z : View = c.bear_flat.new.reader.agent.seat.me.0 in
-    let n = c.len-n.result in let wide = c.is_wide-wide.result in let us : List ℕ = units_of c.args.source.now in let e = c.in-Ok-claim_id.ensures.view in
+    let n = c.len-n.result in let wide = c.is_wide-wide.result in let us : List ℕ = spelling_units c.args.source.now in let e = c.in-Ok-claim_id.ensures.view in
     let long : words_over wide n ≡ words_over (is_wide us) (length us) = (λ j. words_over (c.is_wide-wide.ensures j) (c.len-n.ensures j)) in
     let ids : z.used.ids ≡ v.used.ids + 1 = ap (λ (m : Counters). m.ids) c.bear_flat.ensures.used ∙ (ap (λ (a : View). a.used.ids) e ∙ ap (λ (m : ℕ). m + 1) c.write_spelled.ensures.ids) in
     let words : z.used.words ≡ v.used.words + words_over wide n = ap (λ (m : Counters). m.words) c.bear_flat.ensures.used ∙ (ap (λ (a : View). a.used.words) e ∙ c.in-Ok.ensures.ok.1) in
@@ -66,7 +66,7 @@ returns-clause-used g c = let v : View = c.args.reader.now.agent.seat.me.0 in le
 pub returns-in-Err-clause-spared : goal.returns-in-Err-clause-spared
 returns-in-Err-clause-spared g c = let v : View = c.args.reader.now.agent.seat.me.0 in
     let w : View = c.write_spelled.new.reader.agent.seat.me.0 in let e = c.write_spelled.ensures in let f = c.in-Err.ensures.refused in
-    let wide = c.is_wide-wide.result in let n = c.len-n.result in let us : List ℕ = units_of c.args.source.now in
+    let wide = c.is_wide-wide.result in let n = c.len-n.result in let us : List ℕ = spelling_units c.args.source.now in
     let words : words_over wide n ≡ words_over (is_wide us) (length us) = (λ j. words_over (c.is_wide-wide.ensures j) (c.len-n.ensures j)) in
     subst (λ (m : ℕ). IsSpared v w m (fault.Words c.in-Err.full)) words (spared_words v v w (words_over wide n) _ c.in-Err.full (reads_refl v) f.0 e.ids f.2 e.own_ids e.own_words)
 
@@ -74,7 +74,7 @@ pub returns-in-Err-claim_id-clause-spared : goal.returns-in-Err-claim_id-clause-
 returns-in-Err-claim_id-clause-spared g c = let v : View = c.args.reader.now.agent.seat.me.0 in
     let w : View = c.write_spelled.new.reader.agent.seat.me.0 in let x : View = c.claim_id.new.self.seat.me.0 in
     let e = c.write_spelled.ensures in let f = c.in-Err-claim_id.ensures.refused in let ok = c.in-Ok.ensures.ok in let n = c.len-n.result in
-    let wide = c.is_wide-wide.result in let us : List ℕ = units_of c.args.source.now in
+    let wide = c.is_wide-wide.result in let us : List ℕ = spelling_units c.args.source.now in
     let long : length us ≡ n = sym c.len-n.ensures in let words : words_over wide n ≡ words_over (is_wide us) (length us) = (λ j. words_over (c.is_wide-wide.ensures j) (c.len-n.ensures j)) in
     let own : (q : ℕ) → q < words_over wide n → HasKey w.own_words (c.in-Ok.start + q) = λ q l. let t = ok.0.words.each q
     (subst (λ (m : ℕ). q < words_over wide m) (sym long) l) in key_of w.own_words (c.in-Ok.start + q) t.0 t.1 in

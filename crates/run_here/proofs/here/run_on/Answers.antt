@@ -11,7 +11,7 @@ use Rattle.run_program.specs.Ran.{tree_if}
 use Rattle.run_program.specs.Stages.{IsTold}
 use Rattle.run_program.proofs.Telling.{begun, kept_limit, kept_of, kept_told, same_state}
 use Rattle.run_here.specs.Here.{one_agent}
-use Rattle.run_here.specs.Left.{HasLeft, script_by}
+use Rattle.run_here.specs.Left.{LeavesMeant, script_by}
 use Rattle.run_here.proofs.Leaving.{left_total}
 use Rattle.run_here.proofs.here.run_on.Goals as goal
 
@@ -41,9 +41,9 @@ returns-clause-left c = let h = c.args.heap.now in let setup = one_agent (size_o
     let is : a ≡ begun setup (table_of h) = c.new-session.ensures.state ∙ ap (λ (v : View). state_by v (limit_units c.args.limit) (table_of h)) c.requires.view in
     let of = kept_of setup h prelude trees f.result os None a b t t is refl f.ensures.grows f.ensures.ran c.whole_has_all.ensures c.totals.ensures.state (step_refl t) refl refl in
     let limit = kept_limit setup h prelude trees f.result os None a b t t is refl f.ensures.grows f.ensures.ran c.whole_has_all.ensures c.totals.ensures.state (step_refl t) refl refl in
-    subst (λ (x : State SessionFrame). HasLeft x (script_by (limit_units c.args.limit) prelude tree) bounds os)
+    subst (λ (x : State SessionFrame). LeavesMeant x (script_by (limit_units c.args.limit) prelude tree) bounds os)
     (same_state (session_view s) (view_of c.into_agent.result) (limit_units s.limit) (limit_units c.args.limit)
     (table_of s.text.reader.heap.now) (table_of h) (sym c.into_agent.ensures.view) limit of.0)
-    (subst (λ (x : State SessionFrame). HasLeft x (script_by (limit_units c.args.limit) prelude tree) bounds os) (sym c.totals.ensures.state)
+    (subst (λ (x : State SessionFrame). LeavesMeant x (script_by (limit_units c.args.limit) prelude tree) bounds os) (sym c.totals.ensures.state)
     (left_total b (script_by (limit_units c.args.limit) prelude tree) bounds os
-    (subst (λ (l : ℕ). HasLeft b (script_by l prelude tree) bounds os) (ap (λ (x : State SessionFrame). x.limit) is) f.ensures.left)))
+    (subst (λ (l : ℕ). LeavesMeant b (script_by l prelude tree) bounds os) (ap (λ (x : State SessionFrame). x.limit) is) f.ensures.left)))

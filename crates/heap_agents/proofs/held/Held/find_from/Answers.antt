@@ -1,6 +1,6 @@
 use Rattle.std.proofs.Common.{ℕ, ◌≡◌, Some, ap, refl}
 use Rattle.std.specs.Arc.{arc_value}
-use Rattle.heap_bytes.specs.Spellings.{units_of}
+use Rattle.heap_bytes.specs.Spellings.{spelling_units}
 use Rattle.heap_intern.specs.Answers.{Finds, StandsInSlot}
 use Rattle.heap_rule.specs.declared.view.View.{View}
 use Rattle.heap_rule.specs.Maps.{Has}
@@ -16,19 +16,20 @@ use Rattle.heap_agents.proofs.held.Held.find_from.Goals as goal
 
 pub mark_interned-requires-clause-held : goal.mark_interned-requires-clause-held
 mark_interned-requires-clause-held c = let t = c.in-Some.text in let call = c.find_from-found in
-    held_found c.args.self.now t _ c.in-Some.is (ap arc_value call.ensures.heap) refl c.requires.held (units_of c.args.source.now) call.result call.ensures.finds.answer
+    held_found c.args.self.now t _ c.in-Some.is (ap arc_value call.ensures.heap) refl c.requires.held (spelling_units c.args.source.now) call.result call.ensures.finds.answer
 
 pub mark_interned-requires-clause-known : goal.mark_interned-requires-clause-known
-mark_interned-requires-clause-known c = let v : View = view_of c.in-Some.text.reader.agent in let w : View = view_of c.find_from-found.new.reader.agent in let us = (units_of c.args.source.now) in
+mark_interned-requires-clause-known c = let v : View = view_of c.in-Some.text.reader.agent in
+  let w : View = view_of c.find_from-found.new.reader.agent in let us = (spelling_units c.args.source.now) in
     key_of w.units c.in-Some-found.id us (entered_found v w us (Some c.in-Some-found.id) c.in-Some-found.ensures.finds.answer).units
 
 pub mark_interned-requires-clause-call : goal.mark_interned-requires-clause-call
-mark_interned-requires-clause-call c = let v : View = view_of c.in-Some.text.reader.agent in let w : View = view_of c.find_from-found.new.reader.agent in let us = (units_of c.args.source.now) in
+mark_interned-requires-clause-call c = let v : View = view_of c.in-Some.text.reader.agent in let w : View = view_of c.find_from-found.new.reader.agent in let us = (spelling_units c.args.source.now) in
     (us, (entered_found v w us (Some c.in-Some-found.id) c.in-Some-found.ensures.finds.answer).call)
 
 pub returns-in-Some-found : goal.returns-in-Some-found
 returns-in-Some-found c = let x = c.args.self.now in let t = c.in-Some.text in let call = c.find_from-found in
-    let us = (units_of c.args.source.now) in let id = c.in-Some-found.id in let mark = c.mark_interned in
+    let us = (spelling_units c.args.source.now) in let id = c.in-Some-found.id in let mark = c.mark_interned in
     let u : SharedText = record t { reader = call.new.reader; within = _ } in let v : View = view_of t.reader.agent in
     let w : View = view_of u.reader.agent in let i = c.in-Some-found.ensures.finds.answer in
     found_marked x mark.new.self (Some u) mark.ensures.text us id mark.ensures.held mark.ensures.marks mark.ensures.marked (same_text x t u c.in-Some.is (ap arc_value call.ensures.heap) refl)
@@ -39,4 +40,4 @@ returns-in-Some-found c = let x = c.args.self.now in let t = c.in-Some.text in l
 pub returns-in-None-found : goal.returns-in-None-found
 returns-in-None-found c = let call = c.find_from-found in
     missing_units c.args.self.now c.in-Some.text _ c.in-Some.is (ap arc_value call.ensures.heap) refl c.requires.held
-    (units_of c.args.source.now) c.in-None-found.ensures.finds.answer c.in-None-found.ensures.finds.again
+    (spelling_units c.args.source.now) c.in-None-found.ensures.finds.answer c.in-None-found.ensures.finds.again

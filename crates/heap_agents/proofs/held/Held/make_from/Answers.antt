@@ -1,7 +1,7 @@
 use Rattle.std.proofs.Common.{Option, false, subst, sym}
 use Rattle.js_header.specs.declared.form.Form.TheVariants.{Flat}
 use Rattle.js_units.specs.Lanes.{is_wide}
-use Rattle.heap_bytes.specs.Spellings.{units_of}
+use Rattle.heap_bytes.specs.Spellings.{spelling_units}
 use Rattle.heap_rule.specs.Views.{IsSeenSettled}
 use Rattle.heap_agents.specs.Shared.{SharedText, view_if}
 use Rattle.heap_agents.proofs.Marks.{leaves_on}
@@ -9,7 +9,7 @@ use Rattle.heap_agents.proofs.held.Held.make_from.Goals as goal
 
 pub returns-clause-settled : goal.returns-clause-settled
 returns-clause-settled c = let form = c.in_ok-s.ensures.form in
-    subst (λ (t : Option SharedText). IsSeenSettled (view_if t) c.in_ok-s.s.id) (sym c.mark.ensures.text) (Flat (is_wide (units_of c.args.source.now)) form.0 false, form.1, λ n. n)
+    subst (λ (t : Option SharedText). IsSeenSettled (view_if t) c.in_ok-s.s.id) (sym c.mark.ensures.text) (Flat (is_wide (spelling_units c.args.source.now)) form.0 false, form.1, λ n. n)
 
 pub returns-in_err-s-clause-leaves : goal.returns-in_err-s-clause-leaves
 returns-in_err-s-clause-leaves c = let call = c.make_from-made in leaves_on c.args.self.now c.in-Some.text call.new.self c.in-Some.is c.requires.held call.ensures.kept call.ensures.continues

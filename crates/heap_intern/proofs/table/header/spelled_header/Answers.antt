@@ -5,7 +5,7 @@ use Rattle.heap_rule.specs.Maps.{HasKey}
 use Rattle.heap_rule.specs.declared.size.HeapSize.{HeapSize}
 use Rattle.heap_rule.specs.declared.view.View.{View}
 use Rattle.heap_table.specs.Full.{IsFull}
-use Rattle.heap_bytes.specs.Spellings.{units_of}
+use Rattle.heap_bytes.specs.Spellings.{spelling_units}
 use Rattle.heap_read.proofs.Showing.{forms_held}
 use Rattle.heap_intern.specs.Answers.{copy_plan, words_of_copy}
 use Rattle.heap_intern.proofs.Copies.{copied_over, spared_as}
@@ -27,7 +27,7 @@ pub returns-in-Err-clause-loads : goal.returns-in-Err-clause-loads
 returns-in-Err-clause-loads g c = c.write_spelled.ensures.continues.view.slot_loads
 
 pub returns-in-Err-clause-err : goal.returns-in-Err-clause-err
-returns-in-Err-clause-err g c = let w : View = c.write_spelled.new.reader.agent.seat.me.0 in let us : List ℕ = units_of c.args.source.now in
+returns-in-Err-clause-err g c = let w : View = c.write_spelled.new.reader.agent.seat.me.0 in let us : List ℕ = spelling_units c.args.source.now in
     let f = c.in-Err.ensures.refused in let wide = c.is_wide-wide.result in let n = c.len-n.result in
     let words : words_over wide n ≡ words_of_copy us = (λ j. words_over (c.is_wide-wide.ensures j) (c.len-n.ensures j)) in (
       subst (λ (m : ℕ). IsFull c.in-Err.full m w.sizes.words) words (subst
@@ -39,7 +39,7 @@ returns-in-Err-clause-err g c = let w : View = c.write_spelled.new.reader.agent.
     )
 
 pub bear-requires : goal.bear-requires
-bear-requires g c = let w : View = c.write_spelled.new.reader.agent.seat.me.0 in let us : List ℕ = units_of c.args.source.now in
+bear-requires g c = let w : View = c.write_spelled.new.reader.agent.seat.me.0 in let us : List ℕ = spelling_units c.args.source.now in
     let n = c.len-n.result in let short : n ≤ MAX = omega (arith, c.len-n.ensures, c.requires.short) in
     record { over = (us, copied_over w c.is_wide-wide.result c.in-Ok.start n us c.in-Ok.ensures.ok.0 c.len-n.ensures short) }
 
@@ -77,7 +77,7 @@ returns-in-Err-bear-clause-loads g c = c.bear.ensures.loads ∙ c.write_spelled.
 
 pub returns-in-Ok-bear-clause-ok : goal.returns-in-Ok-bear-clause-ok
 returns-in-Ok-bear-clause-ok g c = let v : View = c.args.reader.now.agent.seat.me.0 in
-    let w : View = c.write_spelled.new.reader.agent.seat.me.0 in let us : List ℕ = units_of c.args.source.now in let n = c.len-n.result in
+    let w : View = c.write_spelled.new.reader.agent.seat.me.0 in let us : List ℕ = spelling_units c.args.source.now in let n = c.len-n.result in
     let wide = c.is_wide-wide.result in
     let short : n ≤ MAX = omega (arith, c.len-n.ensures, c.requires.short) in let words : words_over wide n ≡ words_of_copy us = (λ j. words_over (c.is_wide-wide.ensures j) (c.len-n.ensures j)) in (
       header_of c.bear.new.reader.agent.seat.me.0 (copy_plan us) wide c.in-Ok.start us c.in-Ok-bear.id
@@ -91,7 +91,7 @@ returns-in-Ok-bear-clause-used g c = c.in-Ok-bear.ensures.used ∙ ap (λ (n : �
 pub returns-in-Err-bear-clause-err : goal.returns-in-Err-bear-clause-err
 returns-in-Err-bear-clause-err g c = let v : View = c.args.reader.now.agent.seat.me.0 in
     let w : View = c.write_spelled.new.reader.agent.seat.me.0 in let x : View = c.bear.new.reader.agent.seat.me.0 in
-    let us : List ℕ = units_of c.args.source.now in
+    let us : List ℕ = spelling_units c.args.source.now in
     let n = c.len-n.result in let wide = c.is_wide-wide.result in
     let words : words_over wide n ≡ words_of_copy us = (λ j. words_over (c.is_wide-wide.ensures j) (c.len-n.ensures j)) in
     let f = c.in-Err-bear.ensures.err in (

@@ -1,5 +1,5 @@
 use Rattle.std.proofs.Common.{◌≡◌, ℕ, ◌+◌, ◌<◌, ◌≤◌, drop, get_or, length}
-use Rattle.heap_bytes.specs.Spellings.{IsReadable, units_of}
+use Rattle.heap_bytes.specs.Spellings.{IsReadable, spelling_units}
 use Rattle.heap_read.specs.Frozen.{HasLane, IsLearned}
 use Rattle.heap_read.specs.Readers.{view_in}
 use Rattle.heap_read.specs.Reads.{KeepsForms, OnlyLoads}
@@ -12,11 +12,11 @@ invariant-loop-count g l = record {
   reads : OnlyLoads (view_in l.fn.reader) (view_in l.reader);
   forms : KeepsForms (view_in l.fn.reader) (view_in l.reader);
   learned : IsLearned (view_in l.reader);
-  within : l.done ≤ length (units_of l.source);
+  within : l.done ≤ length (spelling_units l.source);
   read : IsReadable l.rest;
-  left : units_of l.rest ≡ drop l.done (units_of l.source);
-  same : (k : ℕ) → k < l.done → HasLane (view_in l.reader) l.w.wide l.w.start (l.w.offset + k) (get_or (units_of l.source) k 0);
+  left : spelling_units l.rest ≡ drop l.done (spelling_units l.source);
+  same : (k : ℕ) → k < l.done → HasLane (view_in l.reader) l.w.wide l.w.start (l.w.offset + k) (get_or (spelling_units l.source) k 0);
 }
 
 abbrev pub decreases-loop-count : goal.decreases-loop-count
-decreases-loop-count g l = length (units_of l.rest)
+decreases-loop-count g l = length (spelling_units l.rest)

@@ -10,8 +10,8 @@ use Rattle.heap_read.specs.Written.{AreWords, IsWritten}
 use Rattle.heap_read.proofs.Going.{continues_reads, continues_trans}
 use Rattle.heap_read.proofs.Storing.{continues_writes}
 use Rattle.heap_text.specs.Texts.{KeepsOwnBut}
-use Rattle.heap_reserve.specs.Making.{words_of}
-use Rattle.heap_reserve.specs.Reserves.{HasEnough, IsTaken}
+use Rattle.heap_reserve.specs.Making.{words_holding}
+use Rattle.heap_reserve.specs.Reserves.{HasEnough, IsTakenFrom}
 use Rattle.heap_reserve.proofs.Kept.{all_written, copy_taken, reserve_taken, zero_taken}
 use Rattle.heap_reserve.proofs.reserve.Reserve.copy.Goals as goal
 
@@ -43,7 +43,7 @@ returns-clause-reserve g c = let v : View = c.args.reader.now.agent.seat.me.0 in
     let p : View = c.write_at.new.self.agent.seat.me.0 in let z : View = c.bear_flat.new.reader.agent.seat.me.0 in
     let r = c.args.self.now in let s = c.take-id.new.self in let id = c.take-id.result.0 in let start = c.take-id.result.1 in
     let words = c.words_for-words.result in let e = c.take-id.ensures in let long = c.words_for-words.ensures in
-    let taken : IsTaken v z r s id words = copy_taken v u p z r s id start words c.has_wide-wide.ensures.reads.view c.write_at.ensures.writes.view
+    let taken : IsTakenFrom v z r s id words = copy_taken v u p z r s id start words c.has_wide-wide.ensures.reads.view c.write_at.ensures.writes.view
     (subst (λ (m : ℕ). KeepsBeside start m u p) (sym long) c.write_at.ensures.others) c.bear_flat.ensures.used
     (subst (KeepsOwnBut p z id start) (sym long) c.bear_flat.ensures.own) e.ids e.words e.first in
     reserve_taken v z r s id words c.requires.reserve taken (e.ordered c.requires.reserve.ordered)
@@ -55,10 +55,10 @@ returns-clause-made g c = let v : View = c.args.reader.now.agent.seat.me.0 in le
     let words = c.words_for-words.result in let e = c.take-id.ensures in let long = c.words_for-words.ensures in
     let wide = c.has_wide-wide.result in let n = c.args.n in
     let us : List ℕ = source_units v c.args.source.now in
-    let taken : IsTaken v z r s id words = copy_taken v u p z r s id start words c.has_wide-wide.ensures.reads.view c.write_at.ensures.writes.view
+    let taken : IsTakenFrom v z r s id words = copy_taken v u p z r s id start words c.has_wide-wide.ensures.reads.view c.write_at.ensures.writes.view
     (subst (λ (m : ℕ). KeepsBeside start m u p) (sym long) c.write_at.ensures.others) c.bear_flat.ensures.used
     (subst (KeepsOwnBut p z id start) (sym long) c.bear_flat.ensures.own) e.ids e.words e.first in
-    let all : words ≡ words_of us = long ∙ (λ j. words_over (c.has_wide-wide.ensures.wide j) (sym c.requires.count j)) in
+    let all : words ≡ words_holding us = long ∙ (λ j. words_over (c.has_wide-wide.ensures.wide j) (sym c.requires.count j)) in
     let here : AreWords p wide start us (words_over wide n) = subst (λ (xs : List ℕ). AreWords p wide start xs (words_over wide n)) c.has_wide-wide.ensures.listed c.write_at.ensures.written in
     let there : IsWritten p wide start us = all_written p c.write_at.new.self.belongs.5 wide start words n us long c.requires.count here e.none in record {
       made = λ _. (
@@ -67,7 +67,7 @@ returns-clause-made g c = let v : View = c.args.reader.now.agent.seat.me.0 in le
         record {
           units = c.bear_flat.ensures.units us there c.requires.count;
           form = (start, subst (λ (b : Bool). Has z.forms id (Flat b start false)) c.has_wide-wide.ensures.wide c.bear_flat.ensures.form);
-          taken = subst (IsTaken v z r s id) all taken;
+          taken = subst (IsTakenFrom v z r s id) all taken;
         },
       );
       left = λ none. absurd (none (subst (HasEnough r) all (c.if-not-has.ensures.0 refl)));

@@ -4,11 +4,11 @@ use Rattle.js_units.specs.Lanes.{is_wide, words_over}
 use Rattle.heap_rule.specs.declared.size.HeapSize.{HeapSize}
 use Rattle.heap_rule.specs.declared.view.View.{View}
 use Rattle.heap_table.specs.Agents.{size_of}
-use Rattle.heap_bytes.specs.Spellings.{units_of}
+use Rattle.heap_bytes.specs.Spellings.{spelling_units}
 use Rattle.heap_text.specs.Texts.{Told}
 use Rattle.heap_text.proofs.Owned.{own_reads, own_trans}
 use Rattle.heap_text.proofs.Pieces.{copy_answer}
-use Rattle.heap_reserve.specs.Making.{words_of}
+use Rattle.heap_reserve.specs.Making.{words_holding}
 use Rattle.heap_reserve.specs.Reserves.{HasEnough}
 use Rattle.heap_reserve.proofs.Kept.{reserve_kept}
 use Rattle.heap_reserve.proofs.reserve.Reserve.make_from.Goals as goal
@@ -19,8 +19,8 @@ returns-in-None-clause-reserve g c = reserve_kept c.spell.new.reader.agent.seat.
 pub returns-in-None-clause-made : goal.returns-in-None-clause-made
 returns-in-None-clause-made g c = let v : View = c.args.text.now.reader.agent.seat.me.0 in
     let u : View = c.spell.new.reader.agent.seat.me.0 in let w : View = c.make_from.new.self.reader.agent.seat.me.0 in
-    let r = c.args.self.now in let us : List ℕ = units_of c.args.source.now in let m = c.spell.ensures.made in let e = c.make_from.ensures in let answer = c.make_from.result in
-    let none : HasEnough r (words_of us) → ⊥ = (λ enough. let t = m.made enough in let o : None ≡ Some t.0 = sym c.in-None.is ∙ t.1 in absurd (cc)) in
+    let r = c.args.self.now in let us : List ℕ = spelling_units c.args.source.now in let m = c.spell.ensures.made in let e = c.make_from.ensures in let answer = c.make_from.result in
+    let none : HasEnough r (words_holding us) → ⊥ = (λ enough. let t = m.made enough in let o : None ≡ Some t.0 = sym c.in-None.is ∙ t.1 in absurd (cc)) in
     let left = m.left none in let n : ℕ = length us in
     let same : size_of (g.H.HeapRef.reached c.spell.new.reader.heap) ≡ size_of (g.H.HeapRef.reached c.args.text.now.reader.heap) = ap
     (λ y. size_of (g.H.HeapRef.reached y)) c.spell.ensures.continues.heap in record {

@@ -8,10 +8,10 @@ use Rattle.heap_read.specs.Written.{IsWritten}
 use Rattle.heap_read.proofs.Going.{continues_trans}
 use Rattle.heap_read.proofs.Loaded.{reads_refl}
 use Rattle.heap_read.proofs.Storing.{continues_writes}
-use Rattle.heap_bytes.specs.Spellings.{units_of}
+use Rattle.heap_bytes.specs.Spellings.{spelling_units}
 use Rattle.heap_text.specs.Texts.{KeepsOwnBut}
-use Rattle.heap_reserve.specs.Making.{words_of}
-use Rattle.heap_reserve.specs.Reserves.{HasEnough, IsTaken}
+use Rattle.heap_reserve.specs.Making.{words_holding}
+use Rattle.heap_reserve.specs.Reserves.{HasEnough, IsTakenFrom}
 use Rattle.heap_reserve.proofs.Kept.{all_written, copy_taken, reserve_taken, zero_taken}
 use Rattle.heap_reserve.proofs.reserve.Reserve.spell.Goals as goal
 
@@ -20,7 +20,7 @@ spell_at-requires-clause-own g c q l = let v : View = c.args.reader.now.agent.se
     zero_taken v v c.args.self.now c.take-id.result.1 c.words_for-words.result (reads_refl v) c.requires.reserve enough.1 c.take-id.ensures.first q (omega (arith, l, c.words_for-words.ensures))
 
 pub bear_flat-requires-clause-written : goal.bear_flat-requires-clause-written
-bear_flat-requires-clause-written g c = let p : View = c.spell_at.new.reader.agent.seat.me.0 in let us : List ℕ = units_of c.args.source.now in (
+bear_flat-requires-clause-written g c = let p : View = c.spell_at.new.reader.agent.seat.me.0 in let us : List ℕ = spelling_units c.args.source.now in (
   us,
   all_written p c.spell_at.new.reader.belongs.5 c.is_wide-wide.result c.take-id.result.1 c.words_for-words.result c.len-n.result us
       c.words_for-words.ensures (sym c.len-n.ensures) c.spell_at.ensures.written c.take-id.ensures.none,
@@ -38,7 +38,7 @@ pub returns-clause-reserve : goal.returns-clause-reserve
 returns-clause-reserve g c = let v : View = c.args.reader.now.agent.seat.me.0 in let p : View = c.spell_at.new.reader.agent.seat.me.0 in let z : View = c.bear_flat.new.reader.agent.seat.me.0 in
     let r = c.args.self.now in let s = c.take-id.new.self in let id = c.take-id.result.0 in let start = c.take-id.result.1 in
     let words = c.words_for-words.result in let e = c.take-id.ensures in let long = c.words_for-words.ensures in
-    let taken : IsTaken v z r s id words = copy_taken v v p z r s id start words (reads_refl v) c.spell_at.ensures.writes.view
+    let taken : IsTakenFrom v z r s id words = copy_taken v v p z r s id start words (reads_refl v) c.spell_at.ensures.writes.view
     (subst (λ (m : ℕ). KeepsBeside start m v p) (sym long) c.spell_at.ensures.others) c.bear_flat.ensures.used
     (subst (KeepsOwnBut p z id start) (sym long) c.bear_flat.ensures.own) e.ids e.words e.first in
     reserve_taken v z r s id words c.requires.reserve taken (e.ordered c.requires.reserve.ordered)
@@ -48,11 +48,11 @@ returns-clause-made g c = let v : View = c.args.reader.now.agent.seat.me.0 in le
     let r = c.args.self.now in let s = c.take-id.new.self in let id = c.take-id.result.0 in let start = c.take-id.result.1 in
     let words = c.words_for-words.result in let e = c.take-id.ensures in let long = c.words_for-words.ensures in
     let wide = c.is_wide-wide.result in let n = c.len-n.result in
-    let us : List ℕ = units_of c.args.source.now in
-    let taken : IsTaken v z r s id words = copy_taken v v p z r s id start words (reads_refl v) c.spell_at.ensures.writes.view
+    let us : List ℕ = spelling_units c.args.source.now in
+    let taken : IsTakenFrom v z r s id words = copy_taken v v p z r s id start words (reads_refl v) c.spell_at.ensures.writes.view
     (subst (λ (m : ℕ). KeepsBeside start m v p) (sym long) c.spell_at.ensures.others) c.bear_flat.ensures.used
     (subst (KeepsOwnBut p z id start) (sym long) c.bear_flat.ensures.own) e.ids e.words e.first in
-    let all : words ≡ words_of us = long ∙ (λ j. words_over (c.is_wide-wide.ensures j) (c.len-n.ensures j)) in
+    let all : words ≡ words_holding us = long ∙ (λ j. words_over (c.is_wide-wide.ensures j) (c.len-n.ensures j)) in
     let there : IsWritten p wide start us = all_written p c.spell_at.new.reader.belongs.5 wide start words n us long (sym c.len-n.ensures) c.spell_at.ensures.written e.none in record {
       made = λ _. (
         record { id = id },
@@ -60,7 +60,7 @@ returns-clause-made g c = let v : View = c.args.reader.now.agent.seat.me.0 in le
         record {
           units = c.bear_flat.ensures.units us there (sym c.len-n.ensures);
           form = (start, subst (λ (b : Bool). Has z.forms id (Flat b start false)) c.is_wide-wide.ensures c.bear_flat.ensures.form);
-          taken = subst (IsTaken v z r s id) all taken;
+          taken = subst (IsTakenFrom v z r s id) all taken;
         },
       );
       left = λ none. absurd (none (subst (HasEnough r) all (c.if-not-has.ensures.0 refl)));

@@ -2,7 +2,7 @@ use Rattle.std.proofs.Common.{◌≡◌, ◌∙◌, Option, subst, sym, arith}
 use Rattle.heap_rule.specs.Maps.{HasKey}
 use Rattle.heap_agents.specs.declared.held.Held.{Held}
 use Rattle.heap_agents.specs.Ready.{HandleKnows, handle_view}
-use Rattle.jsstr_c.specs.Checked.{Refuses, Settles}
+use Rattle.jsstr_c.specs.Checked.{RefusesSettling, Settles}
 use Rattle.jsstr_c.proofs.Going.{goes_continues, goes_key}
 use Rattle.jsstr_c.proofs.Stages.{left_refused, right_ends}
 use Rattle.jsstr_c.proofs.checked.settling.settle_both.Goals as goal
@@ -11,7 +11,7 @@ pub returns-then-left-ne-DONE-clause-settles : goal.returns-then-left-ne-DONE-cl
 returns-then-left-ne-DONE-clause-settles c = let left = c.jsstr_settle_unchecked-left in let second = c.knows-else-not-knows in let m = left.new.agent.at.value in
     let kb = subst (λ (x : Option Held). HandleKnows x c.args.b) c.knows.ensures.same (second.ensures.known.0 c.if-not-knows-2.false) in
     left_refused c.args.agent.now.at.value m c.args.a c.args.b left.result (c.knows.ensures.known.0 c.if-not-knows.false) kb
-    (subst (λ (x : Option Held). Refuses x m c.args.a left.result) (second.ensures.same ∙ c.knows.ensures.same) (left.ensures.refused c.if-left-ne-DONE.true))
+    (subst (λ (x : Option Held). RefusesSettling x m c.args.a left.result) (second.ensures.same ∙ c.knows.ensures.same) (left.ensures.refused c.if-left-ne-DONE.true))
 
 pub returns-clause-settles : goal.returns-clause-settles
 returns-clause-settles c = let left = c.jsstr_settle_unchecked-left in let right = c.jsstr_settle_unchecked in let second = c.knows-else-not-knows in let m = left.new.agent.at.value in
