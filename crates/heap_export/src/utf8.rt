@@ -145,7 +145,7 @@ fn written(unpaired: Unpaired, c: u32) -> u32
 }
 
 fn is_surrogate(c: u32) -> bool
-    ensures { result ≡ Encoded.is_surrogate c }
+    ensures { result ≡ Encoded.is_unpaired c }
 {
     (0xD800..0xE000).contains(&c)
 }

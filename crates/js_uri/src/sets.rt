@@ -15,7 +15,7 @@ fn is_reserved(point: u32) -> bool
 
 // Whether a code point is one of - _ . ! ~ * ' ( )
 fn is_mark(point: u32) -> bool
-    ensures { result ≡ Sets.is_mark point }
+    ensures { result ≡ Sets.is_uri_mark point }
 {
     match point {
         0x2D | 0x5F | 0x2E | 0x21 | 0x7E | 0x2A | 0x27 | 0x28 | 0x29 => true,
