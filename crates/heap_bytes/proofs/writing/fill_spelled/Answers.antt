@@ -53,7 +53,7 @@ loop-count-preserved g c = let v : View = c.args.reader.now.agent.seat.me.0 in l
     let us : List ℕ = spelling_units c.args.source.now in let p = c.in-Some.ensures in let i = c.loop-count.invariant in
     let e = c.copy_lanes.ensures in let done = c.loop-count.done in let count = c.in-Some.count in
     let room = c.split_front.new.room in let vs : List ℕ = spelling_units c.loop-count.rest in
-      let ws : List ℕ = spelling_units c.in-Some.after in let wide = c.args.to.wide in let start = c.args.to.start in
+    let ws : List ℕ = spelling_units c.in-Some.after in let wide = c.args.to.wide in let start = c.args.to.start in
     let next : IsFilled wide start (own_word u.own_words) (own_word w.own_words) (0 + done) count (λ k. get_or us (done + k) 0) = filled_as
     wide start (own_word u.own_words) (own_word w.own_words) done count (λ k. get_or (take count room) k 0) (λ k. get_or us (done + k) 0)
     (piece_unit us room vs ws done count i.left p.most p.split) e.filled in record {

@@ -20,7 +20,7 @@ mark_interned-requires-clause-held c = let t = c.in-Some.text in let call = c.fi
 
 pub mark_interned-requires-clause-known : goal.mark_interned-requires-clause-known
 mark_interned-requires-clause-known c = let v : View = view_of c.in-Some.text.reader.agent in
-  let w : View = view_of c.find_from-found.new.reader.agent in let us = (spelling_units c.args.source.now) in
+    let w : View = view_of c.find_from-found.new.reader.agent in let us = (spelling_units c.args.source.now) in
     key_of w.units c.in-Some-found.id us (entered_found v w us (Some c.in-Some-found.id) c.in-Some-found.ensures.finds.answer).units
 
 pub mark_interned-requires-clause-call : goal.mark_interned-requires-clause-call

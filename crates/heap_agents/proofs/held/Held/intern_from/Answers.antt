@@ -21,17 +21,17 @@ mark_interned-requires-clause-held c = let t = c.in-Some.text in let call = c.in
 
 pub mark_interned-requires-clause-known : goal.mark_interned-requires-clause-known
 mark_interned-requires-clause-known c = let v : View = view_of c.in-Some.text.reader.agent in
-  let w : View = view_of c.intern_from-answer.new.reader.agent in let us = (spelling_units c.args.source.now) in
+    let w : View = view_of c.intern_from-answer.new.reader.agent in let us = (spelling_units c.args.source.now) in
     key_of w.units c.in_ok-id.id us (entered_from v w us (copy_plan us) (Ok c.in_ok-id.id) c.in_ok-id.ensures.interns.answer).units
 
 pub mark_interned-requires-clause-call : goal.mark_interned-requires-clause-call
 mark_interned-requires-clause-call c = let v : View = view_of c.in-Some.text.reader.agent in
-  let w : View = view_of c.intern_from-answer.new.reader.agent in let us = (spelling_units c.args.source.now) in
+    let w : View = view_of c.intern_from-answer.new.reader.agent in let us = (spelling_units c.args.source.now) in
     (us, (entered_from v w us (copy_plan us) (Ok c.in_ok-id.id) c.in_ok-id.ensures.interns.answer).call)
 
 pub returns : goal.returns
 returns c = let x = c.args.self.now in let t = c.in-Some.text in let call = c.intern_from-answer in
-  let us = (spelling_units c.args.source.now) in let id = c.in_ok-id.id in let mark = c.mark_interned in
+    let us = (spelling_units c.args.source.now) in let id = c.in_ok-id.id in let mark = c.mark_interned in
     let u : SharedText = record t { reader = call.new.reader; within = _ } in let v : View = view_of t.reader.agent in
     let w : View = view_of u.reader.agent in let i = c.in_ok-id.ensures.interns.answer in let r : Result ℕ TableFull = Ok id in
     interned_marked x mark.new.self (Some u) mark.ensures.text us id mark.ensures.held mark.ensures.marks mark.ensures.marked (same_text x t u c.in-Some.is (ap arc_value call.ensures.heap) refl)
