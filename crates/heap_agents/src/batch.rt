@@ -8,6 +8,7 @@ use heap_intern::TableFull;
 use heap_rule::MAX;
 
 /// How many lists were interned, and why the one behind them was not, if there is one.
+#[derive(Clone, Copy)]
 pub struct Batch {
     pub done: u32,
     pub full: Option<TableFull>,
