@@ -15,9 +15,10 @@ abbrev pub AreEnds : ℕ → ℕ → List ℕ → Type 0
 AreEnds from n [] = Unit {0}
 AreEnds from n (e ∷ es) = (from ≤ e) × (e ≤ n) × (e ≤ from + MAX) × AreEnds e n es
 
--- These lists were interned in turn, up to the first one that was refused, for which t is the cause; `done` of
--- them were. The ids were `old` before: the first `done` of them are now the answers, and the others stayed.
-abbrev pub InternedInTurn : Held → Held → List (List ℕ) → List ℕ → List ℕ → ℕ → Option TableFull → Type 0
+-- These lists were interned in turn, up to the first one that was refused, if there is one, with t as the
+-- cause; `done` of them were. The ids were `old`: the first `done` are now the answers, the others stayed.
+abbrev pub InternedInTurn : Held → Held → List (List ℕ) → List ℕ → List ℕ → ℕ → Option TableFull
+    → Type 0
 InternedInTurn x y [] old new done t = (y ≡ x) × (new ≡ old) × (done ≡ 0) × (t ≡ None)
 InternedInTurn x y (us ∷ lists) old new done t =
     ((f : TableFull) × InternedUnits x y us (Err f) × (new ≡ old) × (done ≡ 0) × (t ≡ Some f))
@@ -25,7 +26,8 @@ InternedInTurn x y (us ∷ lists) old new done t =
     × (done ≡ suc n) × InternedInTurn z y lists (drop 1 old) rest n t)
 
 -- the same of what lies behind a handle, where something does
-abbrev pub InternsInTurn : Option Held → Option Held → List (List ℕ) → List ℕ → List ℕ → ℕ → Option TableFull → Type 0
+abbrev pub InternsInTurn : Option Held → Option Held → List (List ℕ) → List ℕ → List ℕ → ℕ
+    → Option TableFull → Type 0
 InternsInTurn None _ lists old new done t = ⊥
 InternsInTurn (Some x) None lists old new done t = ⊥
 InternsInTurn (Some x) (Some y) lists old new done t = InternedInTurn x y lists old new done t

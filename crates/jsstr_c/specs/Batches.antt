@@ -6,7 +6,7 @@ use Rattle.heap_agents.specs.Batch.{AreEnds, InternsInTurn, lists_from}
 use Rattle.jsstr_c.specs.declared.answer.JsAnswer.{JsAnswer}
 use Rattle.jsstr_c.specs.Reports.{done, table_report}
 
--- the ends are those of lists within n units, there is room for the ids, and how many there are is a number of C
+-- the ends are those of lists within n units, there is room for the ids, and how many they are fits an answer
 abbrev pub AreLists : ℕ → List ℕ → ℕ → Type 0
 AreLists n ends room = AreEnds 0 n ends × (length ends ≤ room) × (length ends < 2 ^ 32)
 
@@ -15,7 +15,8 @@ abbrev pub batch_answer : ℕ → Option TableFull → JsAnswer
 batch_answer n None = done n
 batch_answer n (Some f) = record (table_report f) { id = n }
 
--- the lists of us up to these ends were interned in turn, with r as the answer, and the ids `old` became `new`
-abbrev pub InternsMany : Option Held → Option Held → List ℕ → List ℕ → List ℕ → List ℕ → JsAnswer → Type 0
+-- the lists of us up to these ends were interned in turn, with r as the answer; the ids `old` became `new`
+abbrev pub InternsMany : Option Held → Option Held → List ℕ → List ℕ → List ℕ → List ℕ → JsAnswer
+    → Type 0
 InternsMany o p us ends old new r = (n : ℕ) × (t : Option TableFull) × (r ≡ batch_answer n t)
     × InternsInTurn o p (lists_from 0 us ends) old new n t

@@ -23,7 +23,8 @@ pub extern "C" fn jsstr_intern_many_unchecked(
     requires lists { AreLists (length units.now) ends.now (length ids.old) }
     ensures handle { IsHandle agent.new }
     ensures told { result.status ≢ reports.BAD_ARGUMENT }
-    ensures interns { InternsMany agent.old.at.value agent.new.at.value units.now ends.now ids.old ids.new result }
+    ensures interns { InternsMany agent.old.at.value agent.new.at.value units.now ends.now ids.old ids.new
+        result }
 {
     let mut held = agent.take(alloc);
     let batch = held.intern_many(units, ends, ids);
