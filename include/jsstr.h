@@ -15,8 +15,8 @@
    - One call at a time on a handle. It goes to another thread by what orders memory: the start or the join
      of a thread, a lock, a sequentially consistent atomic. No call from a signal handler, or from the child
      of a process that was forked while it had threads.
-   - A pointer to a handle, units or bytes is valid, aligned and not null, even where there are no units. Two
-     handles of one call are distinct.
+   - A pointer to a handle, units, bytes, ends or ids is valid, aligned and not null, even where there are none.
+     Two handles of one call are distinct, and what a call writes overlaps nothing else that it receives.
 
    Each call writes its handle, reads too: keep handles of different threads in different cache lines.
 
