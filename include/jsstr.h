@@ -15,8 +15,8 @@
    - One call at a time on a handle. It goes to another thread by what orders memory: the start or the join
      of a thread, a lock, a sequentially consistent atomic. No call from a signal handler, or from the child
      of a process that was forked while it had threads.
-   - A pointer to a handle, units or bytes is valid, aligned and not null, even where there are no units. Two
-     handles of one call are distinct.
+   - A pointer to a handle, units, bytes, ends or ids is valid, aligned and not null, even where there are none.
+     Two handles of one call are distinct, and what a call writes overlaps nothing else that it receives.
 
    Each call writes its handle, reads too: keep handles of different threads in different cache lines.
 
@@ -258,6 +258,14 @@ jsstr_answer jsstr_intern_latin1(jsstr_agent *agent, const uint8_t *bytes, size_
 jsstr_answer jsstr_intern_utf8(jsstr_agent *agent, const uint8_t *bytes, size_t len);
 jsstr_answer jsstr_intern_wtf8(jsstr_agent *agent, const uint8_t *bytes, size_t len);
 
+/* The same of many lists of units, in turn, which lie one behind another: number k ends before units[ends[k]], and
+   ids[k] becomes its string. `id` of the answer is how many were interned: all of them, or those before the first
+   that is refused, whose ids are written and stay so, and no others; the report is that one's. Condition: the ends
+   never descend, the last one is at most len, no list has more than JSSTR_MAX_LENGTH units, count is at most room
+   and below 2^32. */
+jsstr_answer jsstr_intern_many(jsstr_agent *agent, const uint16_t *units, size_t len, const uint32_t *ends,
+                               size_t count, jsstr_id *ids, size_t room);
+
 /* The one string of the string table with these units, or NONE. It is known, settled and interned. Nothing is used,
    ever. While another thread interns these units, either may be the answer. */
 jsstr_answer jsstr_find_units(jsstr_agent *agent, const uint16_t *units, size_t len);
@@ -363,6 +371,8 @@ jsstr_answer jsstr_intern_units_unchecked(jsstr_agent *, const uint16_t *, size_
 jsstr_answer jsstr_intern_latin1_unchecked(jsstr_agent *, const uint8_t *, size_t);
 jsstr_answer jsstr_intern_utf8_unchecked(jsstr_agent *, const uint8_t *, size_t);
 jsstr_answer jsstr_intern_wtf8_unchecked(jsstr_agent *, const uint8_t *, size_t);
+jsstr_answer jsstr_intern_many_unchecked(jsstr_agent *, const uint16_t *, size_t, const uint32_t *, size_t, jsstr_id *,
+                                         size_t);
 jsstr_answer jsstr_find_units_unchecked(jsstr_agent *, const uint16_t *, size_t);
 jsstr_answer jsstr_find_latin1_unchecked(jsstr_agent *, const uint8_t *, size_t);
 jsstr_answer jsstr_find_utf8_unchecked(jsstr_agent *, const uint8_t *, size_t);

@@ -28,6 +28,7 @@
 #include <type_traits>
 #include <utility>
 #include <variant>
+#include <vector>
 
 namespace jsstr {
 
@@ -314,6 +315,16 @@ public:
   }
   answer<key> intern_wtf8(std::string_view bytes) {
     return given(made<key>(jsstr_intern_wtf8(handle(), data(bytes), bytes.size())));
+  }
+
+  /// The keys of many lists of units in one call. They lie one behind another, and number k ends before
+  /// units[ends[k]]. A refusal is that of the first list that is refused; those before it are interned.
+  answer<std::vector<key>> intern_many(std::u16string_view units, const std::vector<std::uint32_t> &ends) {
+    std::vector<jsstr_id> ids(ends.size() + 1);
+    const std::uint32_t empty = 0;
+    const jsstr_answer all = jsstr_intern_many(handle(), data(units), units.size(), ends.empty() ? &empty : ends.data(), ends.size(), ids.data(), ids.size());
+    using keys = std::vector<key>;
+    return given(all.status == JSSTR_DONE ? result<keys>(keys(ids.begin(), ids.end() - 1)) : result<keys>(made<key>(all).error()));
   }
 
   /// The one string of the string table with these units, if it has one. Nothing is used.

@@ -276,21 +276,21 @@ template <const Calls &call> double hit_units(const std::vector<Text> &keys, uin
 }
 
 #ifdef HAS_INTERN_MANY
-// As many keys a call.
+// As many keys a call, whose units are put one behind another first.
 constexpr uint32_t BATCH = 64;
 double hit_many() {
   Heap heap(IDS, WORDS, SLOTS);
   Ids there = all_interned(heap.agent(), keys());
+  Text all;
   return timed(STRINGS / BATCH, [&](uint32_t i) {
-    const uint16_t *units[BATCH];
-    size_t lengths[BATCH];
+    uint32_t ends[BATCH];
     jsstr_id ids[BATCH];
+    all.clear();
     for (uint32_t k = 0; k < BATCH; k++) {
-      const Text &it = keys()[scrambled(i * BATCH + k, KEYS)];
-      units[k] = units_of(it);
-      lengths[k] = it.size();
+      all += keys()[scrambled(i * BATCH + k, KEYS)];
+      ends[k] = uint32_t(all.size());
     }
-    want(is_done(jsstr_intern_many_unchecked(heap.agent(), units, lengths, BATCH, ids)));
+    want(is_done(jsstr_intern_many_unchecked(heap.agent(), units_of(all), all.size(), ends, BATCH, ids, BATCH)));
     for (uint32_t k = 0; k < BATCH; k++) want(ids[k] == there[scrambled(i * BATCH + k, KEYS)]);
   }) / BATCH;
 }

@@ -355,6 +355,29 @@ static void key(agent *a) {
   else interned(a, one, g.units, g.len);
 }
 
+/* A few lists in one call, with ends that sometimes descend: each answer is the table's, in turn. */
+static void many(agent *a) {
+  given g;
+  uint32_t ends[4], count = chance(5), from = 0, wrong = 0;
+  jsstr_id ids[4] = {UINT32_MAX, UINT32_MAX, UINT32_MAX, UINT32_MAX};
+  give(&g, UNITS);
+  for (uint32_t i = 0; i < count; i++) {
+    ends[i] = i + 1 == count && chance(9) ? g.len : chance(20) ? from + chance(g.len - from + 1) : chance(g.len + 9);
+    if (ends[i] < from || ends[i] > g.len) wrong = 1, ends[i] = from > 0 ? from - 1 : g.len + 1;
+    else from = ends[i];
+  }
+  jsstr_answer all = jsstr_intern_many(&a->handle, g.units, g.len, ends, count, ids, count);
+  if (!a->handle.live || wrong) { CHECK(all.status == JSSTR_BAD_ARGUMENT && !all.id && ids[0] == UINT32_MAX); return; }
+  lawful++;
+  CHECK(all.id <= count && (all.status == JSSTR_DONE) == (all.id == count));
+  for (uint32_t i = 0, at = 0; i < all.id; at = ends[i++]) interned(a, (jsstr_answer){JSSTR_DONE, ids[i], 0, 0, 0}, g.units + at, ends[i] - at);
+  for (uint32_t i = all.id; i < count; i++) CHECK(ids[i] == UINT32_MAX);
+  if (all.id < count) {
+    uint32_t at = all.id ? ends[all.id - 1] : 0;
+    CHECK(refused_for_room(all.status) && !is_used(slot_for(g.units + at, ends[all.id] - at)));
+  }
+}
+
 /* A string of the table, mostly. */
 static jsstr_id some_key(const agent *a) {
   for (int i = 0; i < 20 && chance(99); i++) {
@@ -525,7 +548,7 @@ int main(int count_of, char **told) {
   for (call = 0; call < calls; call++) {
     agent *a = &agents[chance(AGENTS)], *b = &agents[chance(AGENTS)];
     if (!a->handle.live && chance(3)) a = &agents[0];
-    switch (chance(25)) {
+    switch (chance(26)) {
     case 0: case 1: make(a); break;
     case 2: case 3: concat(a); break;
     case 4: case 5: slice(a); break;
@@ -543,6 +566,7 @@ int main(int count_of, char **told) {
     case 20: case 21: build(a); break;
     case 22: adopt(a); break;
     case 23: gauge(a); break;
+    case 24: many(a); break;
     default: join(a, b);
     }
     if (full > 300) begin();

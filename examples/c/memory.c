@@ -21,7 +21,7 @@ enum takes { NOTHING, MEMORY, MEMORY_SETTLED, NOTED, BYTES = NOTHING };
 typedef struct world {
   jsstr_agent one, other, far, out;
   jsstr_builder text, empty;
-  jsstr_id plain, rope, key;
+  jsstr_id plain, rope, key, ids[3];
   uint16_t units[64];
   uint8_t bytes[128];
   uint64_t words[16];
@@ -29,6 +29,7 @@ typedef struct world {
 
 static const jsstr_size size = {64, 64, 13};
 static const uint16_t units[] = {'u', 'n', 'i', 't', 's', 0xE9}, key_units[] = {'k', 'e', 'y'};
+static const uint32_t ends[] = {1, 3, 6};
 static const uint8_t latin1[] = "Latin-1 \xE9", utf8[] = "UTF-8 \xC3\xA9 \xF0\x9F\x98\x80", wtf8[] = "WTF-8 \xED\xA0\x80", key[] = "key";
 #define UNITS units, 6
 #define LATIN1 latin1, 9
@@ -119,6 +120,7 @@ static const uint8_t latin1[] = "Latin-1 \xE9", utf8[] = "UTF-8 \xC3\xA9 \xF0\x9
   ROW(intern, NOTED, jsstr_intern(&w->one, w->rope)) \
   ROW(intern_again, NOTED, (jsstr_intern(&w->one, w->plain), jsstr_intern(&w->one, w->plain))) \
   ROW(intern_units, NOTHING, jsstr_intern_units(&w->one, UNITS)) \
+  ROW(intern_many, NOTHING, jsstr_intern_many(&w->one, UNITS, ends, 3, w->ids, 3)) \
   ROW(find_units, NOTHING, jsstr_find_units(&w->one, key_units, 3)) \
   ROW(slot_of, NOTHING, number(jsstr_slot_of(&w->one, w->key))) \
   ROW(adopt, NOTHING, jsstr_adopt(&w->other, jsstr_slot_of(&w->one, w->key).value)) \

@@ -115,10 +115,27 @@ struct alignas(64) Worker {
     CHECK(jsstr_built_length(&built) == 0);
   }
 
+  // A few keys in one call, one of them twice.
+  void many() {
+    constexpr uint32_t COUNT = 8;
+    Text all;
+    uint32_t numbers[COUNT], ends[COUNT];
+    jsstr_id one[COUNT];
+    for (uint32_t i = 0; i < COUNT; i++) {
+      numbers[i] = i + 1 == COUNT ? numbers[chance(i)] : chance(KEYS);
+      all += key(numbers[i]);
+      ends[i] = uint32_t(all.size());
+    }
+    jsstr_answer s = jsstr_intern_many(&agent, reinterpret_cast<const uint16_t *>(all.data()), all.size(), ends, COUNT, one, COUNT);
+    CHECK(s.id <= COUNT && (s.status == JSSTR_DONE) == (s.id == COUNT));
+    for (uint32_t i = 0; i < s.id; i++) CHECK(is_key(numbers[i], {JSSTR_DONE, one[i], 0, 0, 0}));
+    if (s.id < COUNT) is_key(numbers[s.id], s);
+  }
+
   void step() {
     jsstr_id a = ids[chance(uint32_t(ids.size()))], b = ids[chance(uint32_t(ids.size()))];
     const Text left = texts[a], right = texts[b];
-    switch (chance(9)) {
+    switch (chance(10)) {
     case 0: {
       jsstr_answer s = jsstr_concat(&agent, a, b);
       if (left.size() + right.size() > 2000) { CHECK(s.status == JSSTR_TOO_LONG); break; }
@@ -167,6 +184,9 @@ struct alignas(64) Worker {
       break;
     case 7:
       build(chance(KEYS));
+      break;
+    case 8:
+      many();
       break;
     default:
       CHECK(jsstr_length(&agent, UINT32_MAX - chance(9)).status == JSSTR_BAD_ARGUMENT);

@@ -97,6 +97,15 @@ static void builds(jsstr::agent &agent) {
   CHECK(moved.length() == 0 && agent.units(text.string(agent).value()).value() == u"again");
 }
 
+// Many keys in one call, up to the first that is refused.
+static void interns_many() {
+  jsstr::agent agent = jsstr::agent::make({3, 9, 7}).value();
+  std::vector<jsstr::key> keys = agent.intern_many(u"onetwoone", {3, 6, 9, 9}).value();
+  CHECK(keys.size() == 4 && keys[0] == keys[2] && keys[1] == agent.intern(u"two"_js).value() && agent.units(keys[3]).value().empty());
+  CHECK(agent.intern_many({}, {}).value().empty() && agent.intern_many(u"one", {2, 1}).error().why == status::bad_argument);
+  CHECK(agent.intern_many(u"one", {4}).error().why == status::bad_argument && agent.intern_many(u"onenew", {3, 6}).error().why == status::no_ids);
+}
+
 // What one agent interned the other adopts by its slot; each sees how full the heap is.
 static void adopts() {
   jsstr::agent one = jsstr::agent::make({16, 32, 7}, 2).value(), other = one.split().value();
@@ -186,6 +195,7 @@ int main() {
   reads_out(agent);
   reads_wtf8(agent);
   builds(agent);
+  interns_many();
   adopts();
   carries(agent);
   interns(agent);

@@ -6,3 +6,4 @@ pub mod Searched
 pub mod Marks
 pub mod Answered
 pub mod Boarded
+pub mod Batched

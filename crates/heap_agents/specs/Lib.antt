@@ -6,6 +6,7 @@ pub mod Words
 pub mod Looking
 pub mod Held
 pub mod Keys
+pub mod Batch
 pub mod Ready
 pub mod Board
 pub mod Room

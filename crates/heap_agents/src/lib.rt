@@ -5,6 +5,7 @@
 //! `heap_text`, the string table of `heap_intern` and `js_search`, and mark each string that they answer.
 #![tactic(auto)]
 
+mod batch;
 mod board;
 mod building;
 mod counts;
@@ -23,6 +24,7 @@ mod streams;
 mod table;
 mod words;
 
+pub use batch::{Batch, are_ends};
 pub use heap_export::{Unpaired, WriteFault};
 pub use heap_table::MakeFault;
 pub use held::Held;

@@ -2,6 +2,7 @@ pub mod Owned
 pub mod OwnedText
 pub mod Handles
 pub mod Reports
+pub mod Batches
 pub mod Checked
 pub mod Pairs
 pub mod Made

@@ -1,9 +1,10 @@
 // What a call answers.
 ghost use Rattle.std.specs.Prelude.{◌≡◌, ◌≢◌};
+ghost use Rattle.jsstr_c.specs.Batches.{batch_answer};
 ghost use Rattle.jsstr_c.specs.Reports as reports;
 ghost use Rattle.jsstr_c.specs.Reports.{found_answer, join_answer, no_number, no_order, no_place, no_totals, no_truth, no_words, number_answer, order_number, place_answer, table_answer, text_answer, words_answer};
 
-use heap_agents::Shown;
+use heap_agents::{Batch, Shown};
 use heap_intern::TableFull;
 use heap_text::{JoinFault, JsStr, TextFull};
 use std::cmp::Ordering;
@@ -45,7 +46,7 @@ pub struct JsUse {
     pub words: u32,
 }
 
-/// A status, and at 0 the string. Where a counter was full, `at`, `want` and `end` are its report;
+/// A status, and at 0 the string; of many lists, how many were interned. Where a counter was full, `at`, `want` and `end` are its report;
 /// where two strings would be too long, `at` and `want` are their lengths; where bytes are no UTF-8,
 /// `at` is how many of them are.
 #[repr(C)]
@@ -178,6 +179,26 @@ pub(crate) fn of_table(answer: Result<u32, TableFull>) -> JsAnswer
         Err(TableFull::Ids(full)) => refusal(NO_IDS, full.at, full.want, full.end),
         Err(TableFull::Words(full)) => refusal(NO_WORDS, full.at, full.want, full.end),
         Err(TableFull::Slots { slots }) => refusal(NO_SLOTS, 0, 0, slots),
+    }
+}
+
+// How many lists were interned, and the report of the one behind them.
+pub(crate) fn of_batch(batch: Batch) -> JsAnswer
+    ensures value { result ≡ batch_answer batch.done batch.full }
+    ensures told { result.status ≢ reports.BAD_ARGUMENT }
+{
+    match batch.full {
+        Some(full) => {
+            let report = of_table(Err(full));
+            JsAnswer {
+                status: report.status,
+                id: batch.done,
+                at: report.at,
+                want: report.want,
+                end: report.end,
+            }
+        }
+        None => done(JsStr { id: batch.done }),
     }
 }
 

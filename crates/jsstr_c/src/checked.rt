@@ -1,5 +1,6 @@
 // The calls that test their condition first, and answer `JSSTR_BAD_ARGUMENT` where it fails. A caller owes
 // them a handle that the library wrote, and nothing else.
+pub(crate) mod batch;
 pub(crate) mod board;
 pub(crate) mod building;
 pub(crate) mod copying;

@@ -1,4 +1,5 @@
 // The calls whose conditions are the caller's to keep: none of them tests anything.
+pub(crate) mod batch;
 pub(crate) mod board;
 pub(crate) mod building;
 pub(crate) mod copying;
