@@ -1,5 +1,38 @@
 -- Interning many lists: what is left to do completes what was done.
-use Rattle.std.proofs.Common.{◌≡◌, ◌∙◌, ℕ, suc, ◌+◌, ◌-◌, ◌<◌, ◌≤◌, List, [], ◌∷◌, ◌++◌, length, length-take-le, get_or, set, take, drop, slice_range, append_assoc, inl, inr, refl, sym, subst, ap, arith, Option, None, Some, Ok, Err}
+use Rattle.std.proofs.Common.{
+  ◌≡◌,
+  ◌∙◌,
+  ℕ,
+  suc,
+  ◌+◌,
+  ◌-◌,
+  ◌<◌,
+  ◌≤◌,
+  List,
+  [],
+  ◌∷◌,
+  ◌++◌,
+  length,
+  length-take-le,
+  get_or,
+  set,
+  take,
+  drop,
+  slice_range,
+  append_assoc,
+  inl,
+  inr,
+  refl,
+  sym,
+  subst,
+  ap,
+  arith,
+  Option,
+  None,
+  Some,
+  Ok,
+  Err,
+}
 use Rattle.std.proofs.lemmas.List.{drop_all, drop_more, drop-drop, length-drop, drop-set-lt, take_more_set, take-append-drop}
 use Rattle.heap_rule.specs.Layout.{MAX}
 use Rattle.heap_intern.specs.declared.table.faults.TableFull.{TableFull}
