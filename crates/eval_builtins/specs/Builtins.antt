@@ -2,7 +2,10 @@
 -- of the Symbol Constructor", "JSON.stringify", "Object.keys", "URI Handling Functions").
 use Rattle.std.specs.Prelude.{ℕ, List}
 use Rattle.eval_tree.specs.declared.tree.Builtin.{Builtin}
-use Rattle.eval_tree.specs.declared.tree.Builtin.TheVariants.{String, FromCharCode, FromCodePoint, SymbolFor, KeyFor, Stringify, EncodeUri, EncodeUriComponent, DecodeUri, DecodeUriComponent, Keys}
+use Rattle.eval_tree.specs.declared.tree.Builtin.TheVariants.{String, FromCharCode, FromCodePoint}
+use Rattle.eval_tree.specs.declared.tree.Builtin.TheVariants.{SymbolFor, KeyFor, Stringify, EncodeUri}
+use Rattle.eval_tree.specs.declared.tree.Builtin.TheVariants.{EncodeUriComponent, DecodeUri}
+use Rattle.eval_tree.specs.declared.tree.Builtin.TheVariants.{DecodeUriComponent, Keys}
 use Rattle.js_uri.specs.Encoding.{encoded}
 use Rattle.js_uri.specs.Decoding.{decoded}
 use Rattle.js_uri.specs.Sets.{component_keep, uri_keep, no_hold, uri_hold}

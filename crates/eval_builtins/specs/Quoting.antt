@@ -5,7 +5,8 @@ use Rattle.js_number.specs.declared.Num.TheVariants.{Int}
 use Rattle.js_json.specs.Quoting.{quoted, list_text}
 use Rattle.js_object.specs.Json.{json_of}
 use Rattle.js_item.specs.Seen.{Val}
-use Rattle.js_item.specs.Contents.{Fields, no_fields, field, undefined, null, bool, number, text, list, object}
+use Rattle.js_item.specs.Contents.{Fields, no_fields, field, undefined, null, bool, number, text, list}
+use Rattle.js_item.specs.Contents.{object}
 use Rattle.eval_values.specs.Outcome.{Out, bind, needing}
 use Rattle.eval_values.specs.Need.{nothing, reads, parts}
 use Rattle.eval_values.specs.Conversions.{to_string, list_units}

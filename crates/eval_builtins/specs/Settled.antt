@@ -7,7 +7,9 @@ use Rattle.js_item.specs.declared.item.Item.TheVariants as item
 use Rattle.js_item.specs.Views.{content_of}
 use Rattle.js_object.specs.Settled.{SettledIn}
 use Rattle.eval_tree.specs.declared.tree.Builtin.{Builtin}
-use Rattle.eval_tree.specs.declared.tree.Builtin.TheVariants.{String, SymbolFor, Stringify, EncodeUri, EncodeUriComponent, DecodeUri, DecodeUriComponent}
+use Rattle.eval_tree.specs.declared.tree.Builtin.TheVariants.{String, SymbolFor, Stringify, EncodeUri}
+use Rattle.eval_tree.specs.declared.tree.Builtin.TheVariants.{EncodeUriComponent, DecodeUri}
+use Rattle.eval_tree.specs.declared.tree.Builtin.TheVariants.{DecodeUriComponent}
 use Rattle.eval_values.specs.Settled.{StringsSettled, OfFirst}
 
 -- the strings of the first argument, at every level

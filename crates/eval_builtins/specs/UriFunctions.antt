@@ -11,7 +11,8 @@ use Rattle.eval_values.specs.declared.value.Kind.TheVariants as kind
 use Rattle.eval_values.specs.declared.value.Stop.{Stop}
 use Rattle.eval_values.specs.declared.value.Stop.TheVariants.{Threw, Store}
 use Rattle.eval_builtins.specs.declared.uris.UriFunction.{UriFunction}
-use Rattle.eval_builtins.specs.declared.uris.UriFunction.TheVariants.{Encode, EncodeComponent, Decode, DecodeComponent}
+use Rattle.eval_builtins.specs.declared.uris.UriFunction.TheVariants.{Encode, EncodeComponent, Decode}
+use Rattle.eval_builtins.specs.declared.uris.UriFunction.TheVariants.{DecodeComponent}
 
 -- what a function makes of units
 abbrev pub outcome_of : UriFunction → List ℕ → UriOutcome

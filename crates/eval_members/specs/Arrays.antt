@@ -1,7 +1,8 @@
 -- Elements of values, and methods that read arrays or give them.
 use Rattle.eval_members.specs.Operands.{text_or}
 use Rattle.std.specs.Option.{option_map_or}
-use Rattle.std.specs.Prelude.{ℕ, ◌+◌, List, [], ◌∷◌, length, Option, Some, None, if◌then◌else◌, slice_get, pos}
+use Rattle.std.specs.Prelude.{ℕ, ◌+◌, List, [], ◌∷◌, length, Option, Some, None, if◌then◌else◌, slice_get}
+use Rattle.std.specs.Prelude.{pos}
 use Rattle.js_number.specs.declared.Num.{Num}
 use Rattle.js_number.specs.declared.Num.TheVariants.{Int}
 use Rattle.js_number.specs.Arith.{modulo}
@@ -9,7 +10,8 @@ use Rattle.js_methods.specs.Places.{at_of}
 use Rattle.js_texts.specs.Joined.{joined as joined_list}
 use Rattle.js_replace.specs.Parts.{parts as parts_of}
 use Rattle.eval_tree.specs.declared.tree.Method.{Method}
-use Rattle.eval_tree.specs.declared.tree.Method.TheVariants.{At, Concat, Includes, IndexOf, Join, LastIndexOf, Slice}
+use Rattle.eval_tree.specs.declared.tree.Method.TheVariants.{At, Concat, Includes, IndexOf, Join}
+use Rattle.eval_tree.specs.declared.tree.Method.TheVariants.{LastIndexOf, Slice}
 use Rattle.eval_values.specs.declared.value.Kind.TheVariants.{TypeError}
 use Rattle.js_item.specs.Seen.{Val}
 use Rattle.js_item.specs.Contents.{undefined, null, number, text, list, object}

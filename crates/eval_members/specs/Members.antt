@@ -11,7 +11,12 @@ use Rattle.js_replace.specs.Matches.{matches}
 use Rattle.js_replace.specs.Replaced.{replaced_first, replaced_all}
 use Rattle.js_methods.specs.WellFormed.{all_paired}
 use Rattle.eval_tree.specs.declared.tree.Method.{Method}
-use Rattle.eval_tree.specs.declared.tree.Method.TheVariants.{At, CharAt, CharCodeAt, CodePointAt, Concat, EndsWith, Includes, IndexOf, IsWellFormed, Join, LastIndexOf, PadEnd, PadStart, Repeat, Replace, ReplaceAll, Slice, Split, StartsWith, Substr, Substring, ToWellFormed, Trim, TrimEnd, TrimStart}
+use Rattle.eval_tree.specs.declared.tree.Method.TheVariants.{At, CharAt, CharCodeAt, CodePointAt, Concat}
+use Rattle.eval_tree.specs.declared.tree.Method.TheVariants.{EndsWith, Includes, IndexOf, IsWellFormed}
+use Rattle.eval_tree.specs.declared.tree.Method.TheVariants.{Join, LastIndexOf, PadEnd, PadStart, Repeat}
+use Rattle.eval_tree.specs.declared.tree.Method.TheVariants.{Replace, ReplaceAll, Slice, Split, StartsWith}
+use Rattle.eval_tree.specs.declared.tree.Method.TheVariants.{Substr, Substring, ToWellFormed, Trim, TrimEnd}
+use Rattle.eval_tree.specs.declared.tree.Method.TheVariants.{TrimStart}
 use Rattle.eval_members.specs.declared.cutting.Cut.{Cut}
 use Rattle.eval_members.specs.declared.cutting.Cut.TheVariants as cut
 use Rattle.eval_members.specs.declared.cutting.Trim.{Trim as Trims}

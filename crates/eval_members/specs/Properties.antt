@@ -1,5 +1,6 @@
 -- Properties of objects, by their keys (ECMA-262, "OrdinaryGet").
-use Rattle.std.specs.Prelude.{ℕ, ◌*◌, List, length, nat_le, if◌then◌else◌, Option, Some, None, unwrap_or, Bool, ◌||◌, bytes_eq, codes}
+use Rattle.std.specs.Prelude.{ℕ, ◌*◌, List, length, nat_le, if◌then◌else◌, Option, Some, None, unwrap_or}
+use Rattle.std.specs.Prelude.{Bool, ◌||◌, bytes_eq, codes}
 use Rattle.js_item.specs.Contents.{Fields, undefined, null, symbol, object}
 use Rattle.js_item.specs.Seen.{Val}
 use Rattle.js_item.specs.Puts.{value_by}

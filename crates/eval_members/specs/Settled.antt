@@ -11,7 +11,10 @@ use Rattle.js_item.specs.declared.item.Item.{Item}
 use Rattle.js_item.specs.declared.item.Item.TheVariants as item
 use Rattle.js_item.specs.Seen.{Val}
 use Rattle.eval_tree.specs.declared.tree.Method.{Method}
-use Rattle.eval_tree.specs.declared.tree.Method.TheVariants.{At, CharAt, CharCodeAt, CodePointAt, Concat, EndsWith, Includes, IndexOf, Join, LastIndexOf, PadEnd, PadStart, Repeat, Replace, ReplaceAll, Split, StartsWith}
+use Rattle.eval_tree.specs.declared.tree.Method.TheVariants.{At, CharAt, CharCodeAt, CodePointAt, Concat}
+use Rattle.eval_tree.specs.declared.tree.Method.TheVariants.{EndsWith, Includes, IndexOf, Join, LastIndexOf}
+use Rattle.eval_tree.specs.declared.tree.Method.TheVariants.{PadEnd, PadStart, Repeat, Replace, ReplaceAll}
+use Rattle.eval_tree.specs.declared.tree.Method.TheVariants.{Split, StartsWith}
 use Rattle.eval_values.specs.Outcome.{Converted, into, fails}
 use Rattle.eval_values.specs.Conversions.{to_number}
 use Rattle.eval_values.specs.Arguments.{first_of, is_undefined, second_units}

@@ -1,5 +1,6 @@
 -- Conversions of values.
-use Rattle.std.specs.Prelude.{ℕ, ◌+◌, List, [], ◌∷◌, length, nat_eq, nat_le, if◌then◌else◌, pos, Bool, true, false, not, codes, is_some, bytes_eq}
+use Rattle.std.specs.Prelude.{ℕ, ◌+◌, List, [], ◌∷◌, length, nat_eq, nat_le, if◌then◌else◌, pos, Bool, true}
+use Rattle.std.specs.Prelude.{false, not, codes, is_some, bytes_eq}
 use Rattle.js_number.specs.declared.Num.{Num}
 use Rattle.js_number.specs.declared.Num.TheVariants.{Int, NaN}
 use Rattle.js_number.specs.Arith.{text_of}
@@ -8,7 +9,8 @@ use Rattle.eval_values.specs.declared.value.Kind.TheVariants.{RangeError, TypeEr
 use Rattle.js_item.specs.Seen.{Val}
 use Rattle.js_item.specs.Contents.{Fields, undefined, null, bool, number, text, symbol, list, object}
 use Rattle.js_item.specs.Puts.{value_by}
-use Rattle.eval_values.specs.Outcome.{Converted, into, fails, Out, gave, ended, threw, unsupported, free, cost, throwing}
+use Rattle.eval_values.specs.Outcome.{Converted, into, fails, Out, gave, ended, threw, unsupported, free}
+use Rattle.eval_values.specs.Outcome.{cost, throwing}
 use Rattle.eval_values.specs.Need.{reads, parts}
 
 -- a new string of these units

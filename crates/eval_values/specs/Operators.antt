@@ -1,11 +1,13 @@
 -- Operators on values.
-use Rattle.std.specs.Prelude.{ℕ, ◌+◌, List, ◌++◌, length, Option, Some, None, nat_le, if◌then◌else◌, Bool, true, false, not, ◌||◌}
+use Rattle.std.specs.Prelude.{ℕ, ◌+◌, List, ◌++◌, length, Option, Some, None, nat_le, if◌then◌else◌, Bool}
+use Rattle.std.specs.Prelude.{true, false, not, ◌||◌}
 use Rattle.js_number.specs.declared.Num.{Num}
 use Rattle.js_number.specs.Arith.{sum, difference, negative}
 use Rattle.eval_values.specs.declared.value.Kind.TheVariants.{RangeError}
 use Rattle.js_item.specs.Seen.{Val}
 use Rattle.js_item.specs.Contents.{bool, number, text, list, object}
-use Rattle.eval_values.specs.Outcome.{Converted, into, fails, threw, Out, gave, free, bind, needing, throwing, refuses, converts}
+use Rattle.eval_values.specs.Outcome.{Converted, into, fails, threw, Out, gave, free, bind, needing}
+use Rattle.eval_values.specs.Outcome.{throwing, refuses, converts}
 use Rattle.eval_values.specs.Need.{nothing, joins}
 use Rattle.eval_values.specs.Conversions.{to_string, to_number, to_boolean, is_text}
 

@@ -1,5 +1,6 @@
 -- What an evaluation leaves in a store, and when a result of the code is the outcome that is meant.
-use Rattle.std.specs.Prelude.{◌≡◌, ℕ, ◌+◌, ◌≤◌, List, [], ◌∷◌, ◌++◌, map, Some, Result, Ok, Err, IsTrue, Contains}
+use Rattle.std.specs.Prelude.{◌≡◌, ℕ, ◌+◌, ◌≤◌, List, [], ◌∷◌, ◌++◌, map, Some, Result, Ok, Err, IsTrue}
+use Rattle.std.specs.Prelude.{Contains}
 use Rattle.js_store.specs.State.{State, NamesUnits, Grows}
 use Rattle.js_store.specs.Faults.{Honest, ids_wanted, words_wanted}
 use Rattle.js_store.specs.declared.faults.FullReport.TheVariants.{Slots}

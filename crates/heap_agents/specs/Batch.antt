@@ -1,5 +1,6 @@
 -- Interning the units of many lists in one call: how the lists are given, and what is left and answered.
-use Rattle.std.specs.Prelude.{◌≡◌, ℕ, suc, ◌+◌, ◌≤◌, ◌⊎◌, List, [], ◌∷◌, drop, slice_range, Option, None, Some, Ok, Err}
+use Rattle.std.specs.Prelude.{◌≡◌, ℕ, suc, ◌+◌, ◌≤◌, ◌⊎◌, List, [], ◌∷◌, drop, slice_range, Option, None}
+use Rattle.std.specs.Prelude.{Some, Ok, Err}
 use Rattle.heap_rule.specs.Layout.{MAX}
 use Rattle.heap_intern.specs.declared.table.faults.TableFull.{TableFull}
 use Rattle.heap_agents.specs.declared.held.Held.{Held}

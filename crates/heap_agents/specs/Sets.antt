@@ -1,5 +1,6 @@
 -- What is in a set: number i where bit i % 64 of word i / 64 is 1.
-use Rattle.std.specs.Prelude.{◌≡◌, ℕ, ◌+◌, ◌*◌, ◌/◌, ◌%◌, ◌≤◌, List, count_ones, length, slice_index, sum_by, take}
+use Rattle.std.specs.Prelude.{◌≡◌, ℕ, ◌+◌, ◌*◌, ◌/◌, ◌%◌, ◌≤◌, List, count_ones, length, slice_index}
+use Rattle.std.specs.Prelude.{sum_by, take}
 use Rattle.std.specs.Int.{bit_at}
 use Rattle.heap_agents.specs.declared.ids.IdSet.{IdSet}
 

@@ -1,5 +1,6 @@
 -- What a text that is built up has, and what adding to it answers and leaves.
-use Rattle.std.specs.Prelude.{◌≡◌, ◌⊎◌, ℕ, ◌+◌, ◌*◌, ◌<◌, ◌≤◌, List, ◌++◌, length, vec_capacity, Result, Ok, Err}
+use Rattle.std.specs.Prelude.{◌≡◌, ◌⊎◌, ℕ, ◌+◌, ◌*◌, ◌<◌, ◌≤◌, List, ◌++◌, length, vec_capacity, Result, Ok}
+use Rattle.std.specs.Prelude.{Err}
 use Rattle.heap_rule.specs.Layout.{MAX}
 use Rattle.heap_build.specs.declared.builder.Builder.{Builder}
 use Rattle.heap_build.specs.declared.faults.BuildFault.{BuildFault}

@@ -1,5 +1,6 @@
 -- The code points that bytes spell, which of them may follow one another, and the units that they have.
-use Rattle.std.specs.Prelude.{◌≡◌, ℕ, ◌<◌, Bool, true, false, not, ◌&&◌, nat_lt, List, [], ◌∷◌, ◌++◌, length, take, encode_utf8, encode_utf8_all, Result, Ok, Err}
+use Rattle.std.specs.Prelude.{◌≡◌, ℕ, ◌<◌, Bool, true, false, not, ◌&&◌, nat_lt, List, [], ◌∷◌, ◌++◌}
+use Rattle.std.specs.Prelude.{length, take, encode_utf8, encode_utf8_all, Result, Ok, Err}
 use lib.Utf8.{scalar}
 use Rattle.std.specs.Str.{chars}
 use Rattle.js_units.specs.Text.{is_lead, is_trail, utf16_of}

@@ -1,6 +1,8 @@
 -- The machine: where each event may come, and what it does. An event is one atomic step of one agent on one
 -- word, but for the making of the heap.
-use Rattle.std.specs.Prelude.{◌≡◌, ◌≢◌, ℕ, ◌+◌, ◌<◌, ◌≤◌, ◌⊎◌, ◌==◌, Bool, true, false, if◌then◌else◌, List, [], ◌∷◌, ◌++◌, slice_index, slice_index_or, slice_set, replicate, Option, Result, Ok, Err}
+use Rattle.std.specs.Prelude.{◌≡◌, ◌≢◌, ℕ, ◌+◌, ◌<◌, ◌≤◌, ◌⊎◌, ◌==◌, Bool, true, false, if◌then◌else◌, List}
+use Rattle.std.specs.Prelude.{[], ◌∷◌, ◌++◌, slice_index, slice_index_or, slice_set, replicate, Option}
+use Rattle.std.specs.Prelude.{Result, Ok, Err}
 use Rattle.js_units.specs.declared.units.NoMemory.{NoMemory}
 use Rattle.js_header.specs.Form.{word_of}
 use Rattle.js_header.specs.declared.form.Form as form
@@ -10,8 +12,11 @@ use Rattle.heap_rule.specs.declared.size.HeapSize.{HeapSize}
 use Rattle.heap_core.specs.declared.event.Refusal.{Refusal}
 use Rattle.heap_core.specs.declared.event.Refusal.TheVariants.{NotEnabled, Memory}
 use Rattle.heap_core.specs.declared.event.Event.{Event}
-use Rattle.heap_core.specs.declared.event.Event.TheVariants.{Make, Split, Join, LoadCounter, Claim, StoreWord, StoreLength, Birth, LoadHeader, LoadWord, Flatten, Thin, LoadSlot, TakeSlot}
-use Rattle.heap_rule.specs.Layout.{IsLawfulSize, counter_at, slot_at, form_at, length_at, content_at, word_count, IsBorn}
+use Rattle.heap_core.specs.declared.event.Event.TheVariants.{Make, Split, Join, LoadCounter, Claim}
+use Rattle.heap_core.specs.declared.event.Event.TheVariants.{StoreWord, StoreLength, Birth, LoadHeader}
+use Rattle.heap_core.specs.declared.event.Event.TheVariants.{LoadWord, Flatten, Thin, LoadSlot, TakeSlot}
+use Rattle.heap_rule.specs.Layout.{IsLawfulSize, counter_at, slot_at, form_at, length_at, content_at}
+use Rattle.heap_rule.specs.Layout.{word_count, IsBorn}
 use Rattle.heap_rule.specs.Contents.{units_of}
 use Rattle.heap_rule.specs.Maps.{Has, HasKey}
 use Rattle.heap_rule.specs.HeaderMoves.{MayFlatten, flattened, MayThin, thinned}
@@ -23,7 +28,8 @@ use Rattle.heap_rule.specs.Views.{MayUse}
 use Rattle.heap_rule.specs.Learning.{learned, MayLearn}
 use Rattle.heap_rule.specs.Loads.{loaded_form, loaded_length, MayLoadWord, loaded_word}
 use Rattle.heap_rule.specs.Slots.{MayEnter, loaded_slot, MayTakeSlot, took_slot}
-use Rattle.heap_rule.specs.Agents.{first_view, spent, left_after_split, right_after_split, MayJoin, joined_view}
+use Rattle.heap_rule.specs.Agents.{first_view, spent, left_after_split, right_after_split, MayJoin}
+use Rattle.heap_rule.specs.Agents.{joined_view}
 
 -- the rule holds of the machine
 abbrev pub IsSoundCore : Core → Type 0

@@ -1,11 +1,16 @@
 -- Which kind of step on a word each event is: an event does to the machine what its kind does to the word and
 -- to the agent's view.
-use Rattle.std.specs.Prelude.{◌≡◌, ℕ, true, false, if◌then◌else◌, List, [], slice_index, slice_set, Option, Some, None, IfSome}
+use Rattle.std.specs.Prelude.{◌≡◌, ℕ, true, false, if◌then◌else◌, List, [], slice_index, slice_set, Option}
+use Rattle.std.specs.Prelude.{Some, None, IfSome}
 use Rattle.heap_rule.specs.declared.view.View.{View}
 use Rattle.heap_rule.specs.Learning.{learned}
-use Rattle.heap_rule.specs.Kinds.{StepKind, load_counter, claim, store_word, store_length, birth, load_form, load_length, load_word, flatten, thin, load_slot, take_slot, MayCome, place_of, access_of, word_left, view_after, learns}
+use Rattle.heap_rule.specs.Kinds.{StepKind, load_counter, claim, store_word, store_length, birth, load_form}
+use Rattle.heap_rule.specs.Kinds.{load_length, load_word, flatten, thin, load_slot, take_slot, MayCome}
+use Rattle.heap_rule.specs.Kinds.{place_of, access_of, word_left, view_after, learns}
 use Rattle.heap_core.specs.declared.event.Event.{Event}
-use Rattle.heap_core.specs.declared.event.Event.TheVariants.{Make, Split, Join, LoadCounter, Claim, StoreWord, StoreLength, Birth, LoadHeader, LoadWord, Flatten, Thin, LoadSlot, TakeSlot}
+use Rattle.heap_core.specs.declared.event.Event.TheVariants.{Make, Split, Join, LoadCounter, Claim}
+use Rattle.heap_core.specs.declared.event.Event.TheVariants.{StoreWord, StoreLength, Birth, LoadHeader}
+use Rattle.heap_core.specs.declared.event.Event.TheVariants.{LoadWord, Flatten, Thin, LoadSlot, TakeSlot}
 use Rattle.heap_core.specs.Core.{Core, core}
 use Rattle.heap_core.specs.Events.{LiveAt, Enabled, after}
 

@@ -1,5 +1,6 @@
 -- The bytes of a string's units, as UTF-8, WTF-8 and Latin-1 have them.
-use Rattle.std.specs.Prelude.{◌≡◌, ℕ, ◌+◌, ◌<◌, ◌≤◌, Bool, ◌&&◌, ◌||◌, nat_lt, if◌then◌else◌, List, [], ◌∷◌, ◌++◌, length, drop, Option, Some, None, Result, Ok, Err, encode_utf8_all}
+use Rattle.std.specs.Prelude.{◌≡◌, ℕ, ◌+◌, ◌<◌, ◌≤◌, Bool, ◌&&◌, ◌||◌, nat_lt, if◌then◌else◌, List, [], ◌∷◌}
+use Rattle.std.specs.Prelude.{◌++◌, length, drop, Option, Some, None, Result, Ok, Err, encode_utf8_all}
 use Rattle.js_units.specs.Text.{is_lead, is_trail, points, utf8}
 use Rattle.heap_export.specs.declared.faults.Unpaired.{Unpaired}
 use Rattle.heap_export.specs.declared.faults.Unpaired.TheVariants.{Refuse, Keep}

@@ -1,6 +1,7 @@
 -- Helpers: no public contract reaches these definitions.
 -- The code point at a place of a string (ECMA-262, "CodePointAt"), and what walking over a window leaves.
-use Rattle.std.specs.Prelude.{◌≡◌, ℕ, ◌+◌, ◌*◌, ◌<◌, ◌≤◌, Bool, false, if◌then◌else◌, List, ◌∷◌, length, drop, Some}
+use Rattle.std.specs.Prelude.{◌≡◌, ℕ, ◌+◌, ◌*◌, ◌<◌, ◌≤◌, Bool, false, if◌then◌else◌, List, ◌∷◌, length}
+use Rattle.std.specs.Prelude.{drop, Some}
 use Rattle.std.specs.Char.{len_utf8}
 use Rattle.js_units.specs.Text.{alone, points}
 use Rattle.heap_rule.specs.declared.view.View.{View}

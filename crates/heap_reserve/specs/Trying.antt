@@ -6,7 +6,8 @@ use Rattle.heap_rule.specs.Births.{part}
 use Rattle.heap_read.specs.declared.string.JsStr.{JsStr}
 use Rattle.heap_read.specs.Reads.{OnlyLoads}
 use Rattle.heap_reserve.specs.declared.reserve.Reserve.{Reserve}
-use Rattle.heap_reserve.specs.Making.{IsFlatTaken, IsLongCut, IsLongJoin, IsPartTaken, IsRopeTaken, IsShortCut, IsShortJoin, words_holding}
+use Rattle.heap_reserve.specs.Making.{IsFlatTaken, IsLongCut, IsLongJoin, IsPartTaken, IsRopeTaken}
+use Rattle.heap_reserve.specs.Making.{IsShortCut, IsShortJoin, words_holding}
 use Rattle.heap_reserve.specs.Reserves.{HasAbove, HasEnough}
 
 module _ (v w : View) (r s : Reserve) where

@@ -1,6 +1,8 @@
 -- How a string comes to be: own content words and an own length are stored, and then its form word is, which
 -- is its birth.
-use Rattle.std.specs.Prelude.{◌≡◌, ℕ, ◌+◌, ◌-◌, ◌*◌, ◌^◌, ◌<◌, ◌≤◌, ◌⊎◌, ◌==◌, nat_le, ◌&&◌, Bool, if◌then◌else◌, List, [], ◌++◌, take, drop, length, unwrap_or, Option, Some, None}
+use Rattle.std.specs.Prelude.{◌≡◌, ℕ, ◌+◌, ◌-◌, ◌*◌, ◌^◌, ◌<◌, ◌≤◌, ◌⊎◌, ◌==◌, nat_le, ◌&&◌, Bool}
+use Rattle.std.specs.Prelude.{if◌then◌else◌, List, [], ◌++◌, take, drop, length, unwrap_or, Option, Some}
+use Rattle.std.specs.Prelude.{None}
 use Rattle.std.specs.FinMap.{get, insert, remove, keys}
 use Rattle.js_units.specs.Lanes.{words_over, lane_count}
 use Rattle.js_header.specs.declared.form.Form.{Form}

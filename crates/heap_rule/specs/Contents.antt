@@ -1,5 +1,6 @@
 -- The code units of each string of a heap, by its words alone (ECMA-262, "The String Type").
-use Rattle.std.specs.Prelude.{ℕ, zero, suc, ◌+◌, ◌/◌, ◌%◌, Bool, true, ◌&&◌, nat_lt, if◌then◌else◌, List, [], ◌∷◌, ◌++◌, take, drop, Option, Some, None}
+use Rattle.std.specs.Prelude.{ℕ, zero, suc, ◌+◌, ◌/◌, ◌%◌, Bool, true, ◌&&◌, nat_lt, if◌then◌else◌, List}
+use Rattle.std.specs.Prelude.{[], ◌∷◌, ◌++◌, take, drop, Option, Some, None}
 use Rattle.js_units.specs.Lanes.{lane_count, lane_of}
 use Rattle.js_header.specs.Form.{form_of}
 use Rattle.js_header.specs.declared.form.Form.{Form}

@@ -1,14 +1,16 @@
 -- The kinds of step that an agent makes on one word of the heap: where each may come, which word it is on,
 -- what that word becomes, and what the agent's view becomes. Here x is the word found. (Making, splitting and
 -- joining are no steps on a word: their conditions and views are in `Agents`.)
-use Rattle.std.specs.Prelude.{◌≡◌, ℕ, ◌+◌, ◌<◌, ◌≤◌, ◌==◌, Bool, true, false, if◌then◌else◌, List, [], ◌∷◌, ◌++◌, slice_index, slice_set, replicate, Option}
+use Rattle.std.specs.Prelude.{◌≡◌, ℕ, ◌+◌, ◌<◌, ◌≤◌, ◌==◌, Bool, true, false, if◌then◌else◌, List, [], ◌∷◌}
+use Rattle.std.specs.Prelude.{◌++◌, slice_index, slice_set, replicate, Option}
 use Rattle.js_header.specs.Form.{word_of}
 use Rattle.js_header.specs.declared.form.Form.{Form}
 use Rattle.js_header.specs.declared.form.Form.TheVariants.{Thin}
 use Rattle.heap_rule.specs.declared.view.View.{View}
 use Rattle.heap_rule.specs.declared.size.HeapSize.{HeapSize}
 use Rattle.heap_rule.specs.declared.size.Counter.{Counter}
-use Rattle.heap_rule.specs.Layout.{IsLawfulSize, counter_at, slot_at, form_at, length_at, content_at, word_count, IsBorn}
+use Rattle.heap_rule.specs.Layout.{IsLawfulSize, counter_at, slot_at, form_at, length_at, content_at}
+use Rattle.heap_rule.specs.Layout.{word_count, IsBorn}
 use Rattle.heap_rule.specs.Contents.{units_of}
 use Rattle.heap_rule.specs.Maps.{HasKey}
 use Rattle.heap_rule.specs.Views.{MayUse}
@@ -18,7 +20,8 @@ use Rattle.heap_rule.specs.Learning.{learned, learned_all}
 use Rattle.heap_rule.specs.Loads.{loaded_form, loaded_length, MayLoadWord, loaded_word}
 use Rattle.heap_rule.specs.HeaderMoves.{MayFlatten, flattened, MayThin, thinned}
 use Rattle.heap_rule.specs.Slots.{MayEnter, loaded_slot, MayTakeSlot, took_slot}
-use Rattle.heap_rule.specs.Agents.{first_view, spent, left_after_split, right_after_split, MayJoin, joined_view}
+use Rattle.heap_rule.specs.Agents.{first_view, spent, left_after_split, right_after_split, MayJoin}
+use Rattle.heap_rule.specs.Agents.{joined_view}
 use Rattle.heap_rule.specs.Sound.{At, IsSound, AreLegal}
 
 -- a step on one word, with what it is called with: the counter, id, content word or slot, and what is stored,

@@ -1,5 +1,6 @@
 -- Learning: which units of which strings follow from what a view has. It costs nothing when the heap runs.
-use Rattle.std.specs.Prelude.{ℕ, zero, suc, ◌==◌, ◌&&◌, ◌||◌, Bool, true, false, if◌then◌else◌, List, [], ◌∷◌, ◌++◌, All, take, drop, unwrap_or, Option, Some, None, is_some, IsSome}
+use Rattle.std.specs.Prelude.{ℕ, zero, suc, ◌==◌, ◌&&◌, ◌||◌, Bool, true, false, if◌then◌else◌, List, []}
+use Rattle.std.specs.Prelude.{◌∷◌, ◌++◌, All, take, drop, unwrap_or, Option, Some, None, is_some, IsSome}
 use Rattle.std.specs.Ordering.{nat_cmp}
 use Rattle.std.specs.FinMap.{FinMap, get, insert, contains_key, entries, keys}
 use Rattle.js_units.specs.Lanes.{words_over}

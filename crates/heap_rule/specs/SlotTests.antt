@@ -1,6 +1,7 @@
 -- What a view knows of the string in a slot, as tests: that its units are others than those that are looked
 -- for.
-use Rattle.std.specs.Prelude.{ℕ, zero, suc, ◌+◌, ◌/◌, ◌==◌, nat_eq, ◌&&◌, ◌||◌, not, Bool, true, false, List, slice_index, length, Option, Some, None}
+use Rattle.std.specs.Prelude.{ℕ, zero, suc, ◌+◌, ◌/◌, ◌==◌, nat_eq, ◌&&◌, ◌||◌, not, Bool, true, false}
+use Rattle.std.specs.Prelude.{List, slice_index, length, Option, Some, None}
 use Rattle.std.specs.Cmp.Lexicographic.{pointwise}
 use Rattle.std.specs.FinMap.{get}
 use Rattle.js_units.specs.Lanes.{lane_count}

@@ -1,6 +1,7 @@
 -- Loading a slot of the string table and claiming one. The word of a slot is 0 where it is free, else an id
 -- plus 1.
-use Rattle.std.specs.Prelude.{◌≢◌, ℕ, zero, suc, ◌+◌, ◌/◌, ◌<◌, ◌⊎◌, Bool, true, List, [], ◌∷◌, ◌++◌, slice_index, length, unwrap_or, Option, Some, None}
+use Rattle.std.specs.Prelude.{◌≢◌, ℕ, zero, suc, ◌+◌, ◌/◌, ◌<◌, ◌⊎◌, Bool, true, List, [], ◌∷◌, ◌++◌}
+use Rattle.std.specs.Prelude.{slice_index, length, unwrap_or, Option, Some, None}
 use Rattle.std.specs.FinMap.{get, insert}
 use Rattle.js_units.specs.Lanes.{lane_count}
 use Rattle.js_header.specs.declared.form.Form.TheVariants.{Flat}

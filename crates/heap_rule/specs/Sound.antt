@@ -1,6 +1,7 @@
 -- The rule that every atomic step keeps, for the words of a heap and the views of its agents. A spent view,
 -- of an agent that was joined, is excepted.
-use Rattle.std.specs.Prelude.{◌≡◌, ◌≢◌, ℕ, ◌+◌, ◌*◌, ◌<◌, ◌≤◌, ◌⊎◌, Bool, true, if◌then◌else◌, List, ◌++◌, Contains, take, drop, length, sum_by, Some}
+use Rattle.std.specs.Prelude.{◌≡◌, ◌≢◌, ℕ, ◌+◌, ◌*◌, ◌<◌, ◌≤◌, ◌⊎◌, Bool, true, if◌then◌else◌, List, ◌++◌}
+use Rattle.std.specs.Prelude.{Contains, take, drop, length, sum_by, Some}
 use mathlib.Core.Option.{some}
 use lib.ListN.{get_elem?}
 use Rattle.std.specs.Ordering.{nat_cmp}
@@ -12,7 +13,8 @@ use Rattle.js_header.specs.declared.form.Form.TheVariants.{Unborn, Flat, Cons, S
 use Rattle.heap_rule.specs.declared.view.View.{View}
 use Rattle.heap_rule.specs.declared.size.HeapSize.{HeapSize}
 use Rattle.heap_rule.specs.declared.size.Counters.{Counters}
-use Rattle.heap_rule.specs.Layout.{MAX, IsLawfulSize, word_count, next_id, next_word, slot, form, length_word, content, IsBorn}
+use Rattle.heap_rule.specs.Layout.{MAX, IsLawfulSize, word_count, next_id, next_word, slot, form}
+use Rattle.heap_rule.specs.Layout.{length_word, content, IsBorn}
 use Rattle.heap_rule.specs.Contents.{span, lane_in, units_of}
 use Rattle.heap_rule.specs.Maps.{Has, HasKey}
 use Rattle.heap_rule.specs.Forms.{IsSolidForm, IsLater, IsNarrow}

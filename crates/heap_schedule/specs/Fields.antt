@@ -1,5 +1,6 @@
 -- The fields of a line: words and numbers, with one space between two of them.
-use Rattle.std.specs.Prelude.{◌≡◌, ⊤, ℕ, ◌^◌, Bool, not, ◌&&◌, ◌==◌, nat_lt, if◌then◌else◌, List, [], ◌∷◌, Option, None, Some, Result, Ok, Err, codes, decimal, option_map, bytes_eq}
+use Rattle.std.specs.Prelude.{◌≡◌, ⊤, ℕ, ◌^◌, Bool, not, ◌&&◌, ◌==◌, nat_lt, if◌then◌else◌, List, [], ◌∷◌}
+use Rattle.std.specs.Prelude.{Option, None, Some, Result, Ok, Err, codes, decimal, option_map, bytes_eq}
 use Rattle.std.proofs.Common.{Vec, Global}
 use Rattle.std.specs.Str.Parse.{digits_value}
 use Rattle.heap_schedule.specs.declared.field.Keyword.{Keyword}

@@ -1,5 +1,6 @@
 -- Playing: where the event of a line may come, what it does to the machine, and which word it finds.
-use Rattle.std.specs.Prelude.{◌≡◌, ⊤, None, Result, Ok, Err, ℕ, ◌≤◌, List, [], ◌∷◌, drop, length, replicate, slice_index, take, Option, IsSome, option_and_then}
+use Rattle.std.specs.Prelude.{◌≡◌, ⊤, None, Result, Ok, Err, ℕ, ◌≤◌, List, [], ◌∷◌, drop, length, replicate}
+use Rattle.std.specs.Prelude.{slice_index, take, Option, IsSome, option_and_then}
 use Rattle.std.specs.FinMap.{get}
 use Rattle.heap_rule.specs.Agents.{first_view}
 use Rattle.heap_rule.specs.Layout.{content_at, form_at, slot_at, word_count}
@@ -7,9 +8,13 @@ use Rattle.heap_core.specs.declared.event.Event.{Event}
 use Rattle.heap_core.specs.declared.event.Refusal.{Refusal}
 use Rattle.heap_core.specs.declared.event.Refusal.TheVariants.{NotEnabled, Memory}
 use Rattle.heap_core.specs.Core.{Core}
-use Rattle.heap_core.specs.Events.{IsSoundCore, CanFlatten, CanLoadHeader, CanLoadSlot, CanLoadWord, CanTakeSlot, CanThinTo, Enabled, after, after_flatten, after_load_header, after_load_slot, after_load_word, after_take_slot, after_thin, found, header_at, view_at}
+use Rattle.heap_core.specs.Events.{IsSoundCore, CanFlatten, CanLoadHeader, CanLoadSlot, CanLoadWord}
+use Rattle.heap_core.specs.Events.{CanTakeSlot, CanThinTo, Enabled, after, after_flatten, after_load_header}
+use Rattle.heap_core.specs.Events.{after_load_slot, after_load_word, after_take_slot, after_thin, found}
+use Rattle.heap_core.specs.Events.{header_at, view_at}
 use Rattle.heap_schedule.specs.declared.line.Making.{Making}
-use Rattle.heap_schedule.specs.Lines.{Turn, plain, loads_header, loads_word, flattens, thins, loads_slot, takes_slot, enters, turn_of}
+use Rattle.heap_schedule.specs.Lines.{Turn, plain, loads_header, loads_word, flattens, thins, loads_slot}
+use Rattle.heap_schedule.specs.Lines.{takes_slot, enters, turn_of}
 
 -- the units that the view has of the string that it saw in the slot
 abbrev pub slot_units : Core → ℕ → ℕ → Option (List ℕ)

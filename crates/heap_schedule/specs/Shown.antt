@@ -1,5 +1,6 @@
 -- What is shown of a play: a line for each word that was found, and then a line for each string.
-use Rattle.std.specs.Prelude.{ℕ, zero, suc, ◌+◌, ◌/◌, ◌%◌, ◌==◌, nat_lt, if◌then◌else◌, List, [], ◌∷◌, ◌++◌, codes, decimal, length, slice_index}
+use Rattle.std.specs.Prelude.{ℕ, zero, suc, ◌+◌, ◌/◌, ◌%◌, ◌==◌, nat_lt, if◌then◌else◌, List, [], ◌∷◌, ◌++◌}
+use Rattle.std.specs.Prelude.{codes, decimal, length, slice_index}
 use Rattle.heap_rule.specs.Layout.{form}
 use Rattle.heap_rule.specs.Contents.{units_of}
 use Rattle.heap_core.specs.Core.{Core}

@@ -1,5 +1,6 @@
 -- The text of a schedule: lines that each end with LF. The first makes the heap.
-use Rattle.std.specs.Prelude.{◌≡◌, ⊤, ℕ, suc, List, [], ◌∷◌, Option, None, Some, Result, Ok, Err, map, option_and_then}
+use Rattle.std.specs.Prelude.{◌≡◌, ⊤, ℕ, suc, List, [], ◌∷◌, Option, None, Some, Result, Ok, Err, map}
+use Rattle.std.specs.Prelude.{option_and_then}
 use Rattle.std.proofs.Common.{Vec, Global}
 use Rattle.heap_schedule.specs.declared.line.Line.{Line}
 use Rattle.heap_schedule.specs.declared.line.Making.{Making}

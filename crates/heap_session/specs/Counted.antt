@@ -6,7 +6,8 @@ use Rattle.js_store.specs.declared.faults.StoreFault.TheVariants.{Full}
 use Rattle.heap_rule.specs.declared.view.View.{View}
 use Rattle.heap_rule.specs.Views.{IsSeenSettled}
 use Rattle.heap_intern.specs.declared.table.faults.TableFull.{TableFull}
-use Rattle.heap_intern.specs.Answers.{HasLeft, IsFoundAgain, IsOpen, IsPlan, IsInternRefused, HeaderPlan, StandsInSlot}
+use Rattle.heap_intern.specs.Answers.{HasLeft, IsFoundAgain, IsOpen, IsPlan, IsInternRefused, HeaderPlan}
+use Rattle.heap_intern.specs.Answers.{StandsInSlot}
 use Rattle.heap_session.specs.Faults.{fault_in_table, fault_in_text}
 use Rattle.heap_read.specs.declared.string.JsStr.{JsStr}
 use Rattle.heap_text.specs.declared.faults.TextFull.{TextFull}

@@ -1,5 +1,6 @@
 -- Each unit of a string of a heap is below 65536, since no lane is wider than 16 bits.
-use Rattle.std.specs.Prelude.{ℕ, zero, suc, ◌+◌, ◌/◌, ◌%◌, ◌^◌, ◌<◌, Bool, true, false, ◌&&◌, nat_lt, if◌then◌else◌, List, [], drop, All, Option, Some, None}
+use Rattle.std.specs.Prelude.{ℕ, zero, suc, ◌+◌, ◌/◌, ◌%◌, ◌^◌, ◌<◌, Bool, true, false, ◌&&◌, nat_lt}
+use Rattle.std.specs.Prelude.{if◌then◌else◌, List, [], drop, All, Option, Some, None}
 use Rattle.std.proofs.Common.{arith, subst}
 use Rattle.std.proofs.Math.Logic.{∥∥₁_elim}
 use Rattle.std.proofs.Props.{props}
@@ -10,7 +11,8 @@ use Rattle.js_header.specs.declared.form.Form.{Form}
 use Rattle.js_header.specs.declared.form.Form.TheVariants.{Unborn, Flat, Cons, Sliced, Thin}
 use Rattle.heap_rule.specs.declared.size.HeapSize.{HeapSize}
 use Rattle.heap_rule.specs.declared.view.View.{View}
-use Rattle.heap_rule.specs.Contents.{Shape, blank, whole, joins, span, lane_in, flat_by, solid_by, solid, shape_by, shape, units_by, units_within, units_in, units_of}
+use Rattle.heap_rule.specs.Contents.{Shape, blank, whole, joins, span, lane_in, flat_by, solid_by, solid}
+use Rattle.heap_rule.specs.Contents.{shape_by, shape, units_by, units_within, units_in, units_of}
 use Rattle.heap_rule.specs.Layout.{form, length_word, content}
 use Rattle.heap_rule.specs.Maps.{Has}
 use Rattle.heap_rule.specs.Sound.{IsPossible, StandsIn}

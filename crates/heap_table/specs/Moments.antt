@@ -3,7 +3,8 @@ use Rattle.std.specs.Prelude.{◌≡◌, ℕ}
 use mathlib.Core.Option.{none}
 use Rattle.atomic_table.specs.Table.{State, Step, step}
 use Rattle.heap_rule.specs.declared.view.View.{View}
-use Rattle.heap_rule.specs.Kinds.{StepKind, Access, loads, stores, exchanges, place_of, access_of, view_on_heap}
+use Rattle.heap_rule.specs.Kinds.{StepKind, Access, loads, stores, exchanges, place_of, access_of}
+use Rattle.heap_rule.specs.Kinds.{view_on_heap}
 use Rattle.heap_rule.specs.Sound.{IsSound, AreLegal}
 use Rattle.heap_table.specs.declared.rule.HeapKey.{HeapKey}
 use Rattle.heap_table.specs.Plays.{Sat}

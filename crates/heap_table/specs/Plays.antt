@@ -9,7 +9,8 @@ use Rattle.js_header.specs.declared.form.Form.TheVariants.{Unborn, Sliced, Thin}
 use Rattle.heap_rule.specs.declared.view.View.{View}
 use Rattle.heap_rule.specs.declared.size.Counter.{Counter}
 use Rattle.heap_rule.specs.declared.size.Counter.TheVariants.{Ids, Words}
-use Rattle.heap_rule.specs.Layout.{counter_at, end_of, content_at, form_at, length_at, slot_at, MAX, counter_value}
+use Rattle.heap_rule.specs.Layout.{counter_at, end_of, content_at, form_at, length_at, slot_at, MAX}
+use Rattle.heap_rule.specs.Layout.{counter_value}
 use Rattle.heap_rule.specs.Maps.{Has, HasKey}
 use Rattle.heap_rule.specs.Forms.{IsLater, IsSolidForm}
 use Rattle.heap_rule.specs.Views.{MayUse, IsSeenSettled, shown_word}

@@ -2,7 +2,8 @@
 -- The view that the table gives to an agent that takes over another's. It is the joined view where that
 -- has all that both have, by a test; else its share is 0, which no sound state allows. So whoever learns
 -- that it is in a sound state learns that the two agree.
-use Rattle.std.specs.Prelude.{ℕ, ◌+◌, Bool, true, false, ◌&&◌, ◌==◌, not, if◌then◌else◌, Option, Some, None, bytes_eq}
+use Rattle.std.specs.Prelude.{ℕ, ◌+◌, Bool, true, false, ◌&&◌, ◌==◌, not, if◌then◌else◌, Option, Some, None}
+use Rattle.std.specs.Prelude.{bytes_eq}
 use Rattle.std.specs.Bool.{beq}
 use Rattle.std.specs.List.{list_all}
 use Rattle.std.specs.Ordering.{nat_cmp}

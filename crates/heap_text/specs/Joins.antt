@@ -1,5 +1,6 @@
 -- What joining two strings and cutting one answer.
-use Rattle.std.specs.Prelude.{◌≡◌, ℕ, ◌+◌, ◌-◌, ◌<◌, ◌≤◌, ◌++◌, ◌||◌, ◌⊎◌, Bool, false, true, List, length, Result, Ok, Err}
+use Rattle.std.specs.Prelude.{◌≡◌, ℕ, ◌+◌, ◌-◌, ◌<◌, ◌≤◌, ◌++◌, ◌||◌, ◌⊎◌, Bool, false, true, List, length}
+use Rattle.std.specs.Prelude.{Result, Ok, Err}
 use Rattle.js_units.specs.Lanes.{is_wide, words_over}
 use Rattle.js_header.specs.declared.form.Form.{Form}
 use Rattle.js_header.specs.declared.form.Form.TheVariants.{Flat, Cons, Sliced, Thin}

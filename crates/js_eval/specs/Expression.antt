@@ -1,16 +1,22 @@
 -- What an expression means in a scope, by recursion over its tree.
-use Rattle.std.specs.Prelude.{ℕ, List, [], ◌∷◌, slice_get, Bool, false, not, if◌then◌else◌, Option, Some, None}
+use Rattle.std.specs.Prelude.{ℕ, List, [], ◌∷◌, slice_get, Bool, false, not, if◌then◌else◌, Option, Some}
+use Rattle.std.specs.Prelude.{None}
 use Rattle.js_number.specs.declared.Num.TheVariants.{NaN, PosInf}
 use Rattle.eval_tree.specs.declared.tree.Op.{Op}
-use Rattle.eval_tree.specs.declared.tree.Op.TheVariants.{Or, And, Same, NotSame, Less, Greater, LessEq, GreaterEq, Plus, Minus}
+use Rattle.eval_tree.specs.declared.tree.Op.TheVariants.{Or, And, Same, NotSame, Less, Greater, LessEq}
+use Rattle.eval_tree.specs.declared.tree.Op.TheVariants.{GreaterEq, Plus, Minus}
 use Rattle.eval_tree.specs.declared.tree.Method.{Method}
 use Rattle.eval_tree.specs.Tree as tree
-use Rattle.eval_tree.specs.Tree.{ExprTree, Links, no_links, link, StepList, no_steps, length_step, description_step, call_step, index_step, property_step, Exprs, no_exprs, expr, Entries, no_entries, entry, LinkTree, StepTree, of_length, of_description, of_call, of_index, of_property}
+use Rattle.eval_tree.specs.Tree.{ExprTree, Links, no_links, link, StepList, no_steps, length_step}
+use Rattle.eval_tree.specs.Tree.{description_step, call_step, index_step, property_step, Exprs, no_exprs}
+use Rattle.eval_tree.specs.Tree.{expr, Entries, no_entries, entry, LinkTree, StepTree, of_length}
+use Rattle.eval_tree.specs.Tree.{of_description, of_call, of_index, of_property}
 use Rattle.eval_scopes.specs.Bindings.{Bound, Bindings, meant}
 use Rattle.eval_values.specs.declared.value.Kind.TheVariants.{ReferenceError}
 use Rattle.js_item.specs.Seen.{Val}
 use Rattle.js_item.specs.Contents.{Fields, no_fields, undefined, null, bool, number}
-use Rattle.eval_values.specs.Outcome.{Out, gave, after_ledger, bind, mapped, free, number_of, needing, throwing}
+use Rattle.eval_values.specs.Outcome.{Out, gave, after_ledger, bind, mapped, free, number_of, needing}
+use Rattle.eval_values.specs.Outcome.{throwing}
 use Rattle.eval_values.specs.Need.{nothing}
 use Rattle.eval_values.specs.Conversions.{to_boolean}
 use Rattle.eval_values.specs.Operators.{plus, difference_in, unary_out}

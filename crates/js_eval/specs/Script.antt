@@ -1,18 +1,23 @@
 -- What statements and a script mean: how they end, the lines that they print, and the bindings that they
 -- leave.
 use Rattle.std.specs.Option.{option_map_or}
-use Rattle.std.specs.Prelude.{ℕ, zero, suc, ◌+◌, Bool, true, false, List, [], ◌∷◌, ◌++◌, length, nat_le, if◌then◌else◌, Option, Some, None, pos}
+use Rattle.std.specs.Prelude.{ℕ, zero, suc, ◌+◌, Bool, true, false, List, [], ◌∷◌, ◌++◌, length, nat_le}
+use Rattle.std.specs.Prelude.{if◌then◌else◌, Option, Some, None, pos}
 use Rattle.js_number.specs.declared.Num.TheVariants.{Int}
 use Rattle.js_json.specs.Printing.{line}
 use Rattle.eval_tree.specs.declared.tree.Op.TheVariants.{Plus}
-use Rattle.eval_tree.specs.Tree.{StmtTree, block, let_line, const_line, assign, append, print, if_line, for_line, Stmts, no_stmts, stmt, BlockTree, block_of, Arms, no_arms, arm, Tree}
+use Rattle.eval_tree.specs.Tree.{StmtTree, block, let_line, const_line, assign, append, print, if_line}
+use Rattle.eval_tree.specs.Tree.{for_line, Stmts, no_stmts, stmt, BlockTree, block_of, Arms, no_arms, arm}
+use Rattle.eval_tree.specs.Tree.{Tree}
 use Rattle.eval_scopes.specs.Bindings.{Bound, Bindings, meant, written, declared, entered, turned, outer}
 use Rattle.eval_values.specs.declared.value.Kind.TheVariants.{RangeError, TypeError, ReferenceError}
 use Rattle.js_item.specs.Seen.{Val}
 use Rattle.js_item.specs.Contents.{undefined, number}
-use Rattle.eval_values.specs.Outcome.{Out, gave, ended, threw, after_ledger, bind, converting, each, free, cost, ledger_of, interning, throwing, Ledger}
+use Rattle.eval_values.specs.Outcome.{Out, gave, ended, threw, after_ledger, bind, converting, each, free}
+use Rattle.eval_values.specs.Outcome.{cost, ledger_of, interning, throwing, Ledger}
 use Rattle.eval_values.specs.Need.{reads, parts, nothing}
-use Rattle.eval_values.specs.Conversions.{to_string, to_boolean, string_units, text_units, all_units, sum_over}
+use Rattle.eval_values.specs.Conversions.{to_string, to_boolean, string_units, text_units, all_units}
+use Rattle.eval_values.specs.Conversions.{sum_over}
 use Rattle.js_eval.specs.Expression.{EvalContext, read_out, operated, expr_out, exprs_out}
 
 -- what statements come to: how they end and what they need, the lines that they print, and the bindings that

@@ -5,7 +5,8 @@ use Rattle.std.specs.Coded.{Coded, coded_bool, coded_ℤ, coded_list}
 use base.Stored.{Gv, gnil, gnum, gcons, num}
 use Rattle.js_number.specs.declared.Num.{Num}
 use Rattle.js_number.specs.declared.Num.TheVariants.{Int, NaN, PosInf, NegInf}
-use Rattle.js_item.specs.Contents.{Content, undefined, null, bool, number, text, symbol, list, object, Fields, no_fields, field}
+use Rattle.js_item.specs.Contents.{Content, undefined, null, bool, number, text, symbol, list, object}
+use Rattle.js_item.specs.Contents.{Fields, no_fields, field}
 
 abbrev head : Gv → Gv
 head gnil = gnil

@@ -1,9 +1,11 @@
 -- When items may be used in a store.
-use Rattle.std.specs.Prelude.{◌≡◌, ℕ, ◌≤◌, suc, max, List, Bool, Option, IsSome, IsTrue, Contains, unwrap_or, []}
+use Rattle.std.specs.Prelude.{◌≡◌, ℕ, ◌≤◌, suc, max, List, Bool, Option, IsSome, IsTrue, Contains}
+use Rattle.std.specs.Prelude.{unwrap_or, []}
 use Rattle.js_number.specs.Places.{IsLawful}
 use Rattle.js_store.specs.State.{State}
 use Rattle.js_texts.specs.Texts.{Every}
-use Rattle.js_item.specs.Contents.{Content, undefined, null, bool, number, text, symbol, list, object, Fields, no_fields, field, count}
+use Rattle.js_item.specs.Contents.{Content, undefined, null, bool, number, text, symbol, list, object}
+use Rattle.js_item.specs.Contents.{Fields, no_fields, field, count}
 use Rattle.js_item.specs.declared.item.Item.{Item}
 use Rattle.js_item.specs.Views.{content_of}
 

@@ -1,7 +1,8 @@
 -- What items denote in a store: contents whose strings are lists of units.
 use Rattle.std.specs.Prelude.{ℕ, List, map}
 use Rattle.js_store.specs.State.{State, text as text_of}
-use Rattle.js_item.specs.Contents.{Content, undefined, null, bool, number, text, symbol, list, object, Fields, no_fields, field}
+use Rattle.js_item.specs.Contents.{Content, undefined, null, bool, number, text, symbol, list, object}
+use Rattle.js_item.specs.Contents.{Fields, no_fields, field}
 use Rattle.js_item.specs.declared.item.Item.{Item}
 use Rattle.js_item.specs.Views.{content_of}
 

@@ -1,6 +1,7 @@
 -- What an item and the members of an object hold.
 use Rattle.std.specs.Prelude.{List, [], ◌∷◌}
-use Rattle.js_item.specs.Contents.{Content, undefined, null, bool, number, text, symbol, list, object, Fields, no_fields, field}
+use Rattle.js_item.specs.Contents.{Content, undefined, null, bool, number, text, symbol, list, object}
+use Rattle.js_item.specs.Contents.{Fields, no_fields, field}
 use Rattle.js_item.specs.declared.item.Item.{Item}
 use Rattle.js_item.specs.declared.item.Item.TheVariants as item
 use Rattle.js_item.specs.declared.item.Member.{Member}

@@ -1,9 +1,14 @@
 -- Helpers: no public contract reaches these definitions.
 -- How the code finds the longest mark, for the contracts of private functions.
-use Rattle.std.specs.Prelude.{ℕ, List, [], ◌∷◌, Option, Some, None, ◌==◌, Bool, ◌&&◌, ◌||◌, if◌then◌else◌, option_map}
+use Rattle.std.specs.Prelude.{ℕ, List, [], ◌∷◌, Option, Some, None, ◌==◌, Bool, ◌&&◌, ◌||◌, if◌then◌else◌}
+use Rattle.std.specs.Prelude.{option_map}
 use Rattle.std.specs.Str.{chars}
 use Rattle.js_lex.specs.declared.token.Mark.{Mark}
-use Rattle.js_lex.specs.declared.token.Mark.TheVariants.{StrictEqual, StrictUnequal, AtMost, AtLeast, And, Or, AddAssign, Increment, Decrement, OpenBrace, CloseBrace, OpenParen, CloseParen, OpenBracket, CloseBracket, Point, Semicolon, Comma, Less, Greater, Plus, Minus, Not, Question, Colon, Assign}
+use Rattle.js_lex.specs.declared.token.Mark.TheVariants.{StrictEqual, StrictUnequal, AtMost, AtLeast, And}
+use Rattle.js_lex.specs.declared.token.Mark.TheVariants.{Or, AddAssign, Increment, Decrement, OpenBrace}
+use Rattle.js_lex.specs.declared.token.Mark.TheVariants.{CloseBrace, OpenParen, CloseParen, OpenBracket}
+use Rattle.js_lex.specs.declared.token.Mark.TheVariants.{CloseBracket, Point, Semicolon, Comma, Less}
+use Rattle.js_lex.specs.declared.token.Mark.TheVariants.{Greater, Plus, Minus, Not, Question, Colon, Assign}
 
 abbrev pub one_mark : ℕ → Option Mark
 one_mark a =

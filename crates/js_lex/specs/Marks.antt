@@ -2,7 +2,11 @@
 -- token.
 use Rattle.std.specs.Prelude.{◌≡◌, ℕ, ◌≤◌, List, ◌++◌, codes, length}
 use Rattle.js_lex.specs.declared.token.Mark.{Mark}
-use Rattle.js_lex.specs.declared.token.Mark.TheVariants.{StrictEqual, StrictUnequal, AtMost, AtLeast, And, Or, AddAssign, Increment, Decrement, OpenBrace, CloseBrace, OpenParen, CloseParen, OpenBracket, CloseBracket, Point, Semicolon, Comma, Less, Greater, Plus, Minus, Not, Question, Colon, Assign}
+use Rattle.js_lex.specs.declared.token.Mark.TheVariants.{StrictEqual, StrictUnequal, AtMost, AtLeast, And}
+use Rattle.js_lex.specs.declared.token.Mark.TheVariants.{Or, AddAssign, Increment, Decrement, OpenBrace}
+use Rattle.js_lex.specs.declared.token.Mark.TheVariants.{CloseBrace, OpenParen, CloseParen, OpenBracket}
+use Rattle.js_lex.specs.declared.token.Mark.TheVariants.{CloseBracket, Point, Semicolon, Comma, Less}
+use Rattle.js_lex.specs.declared.token.Mark.TheVariants.{Greater, Plus, Minus, Not, Question, Colon, Assign}
 
 -- the characters of a mark
 abbrev pub spelling : Mark → List ℕ

@@ -1,5 +1,6 @@
 -- What comes next from a place on: the first token, the end, or a fault.
-use Rattle.std.specs.Prelude.{◌≡◌, ◌⊎◌, ℕ, ◌<◌, ◌≤◌, List, [], ◌∷◌, length, Result, Ok, Err, Option, Some, None}
+use Rattle.std.specs.Prelude.{◌≡◌, ◌⊎◌, ℕ, ◌<◌, ◌≤◌, List, [], ◌∷◌, length, Result, Ok, Err, Option, Some}
+use Rattle.std.specs.Prelude.{None}
 use Rattle.std.specs.Str.{IsCharBoundary}
 use Rattle.js_lex.specs.Tokens.{Skip, TokenOf, Fault, ElementAt, Lexes, FailsFrom}
 use Rattle.js_lex.specs.declared.token.Token.{Token}

@@ -1,5 +1,6 @@
 -- What a token's span holds: spans lie in order, and each token's text is its slice of the source.
-use Rattle.std.specs.Prelude.{◌≡◌, ℕ, ◌-◌, ◌<◌, ◌≤◌, List, [], ◌∷◌, ◌++◌, Bool, true, false, ◌&&◌, length, take, drop}
+use Rattle.std.specs.Prelude.{◌≡◌, ℕ, ◌-◌, ◌<◌, ◌≤◌, List, [], ◌∷◌, ◌++◌, Bool, true, false, ◌&&◌, length}
+use Rattle.std.specs.Prelude.{take, drop}
 use Rattle.std.specs.List.{list_all}
 use Rattle.js_literal.specs.Place.{StandsAt}
 use Rattle.js_literal.specs.Literal.{LiteralOf}

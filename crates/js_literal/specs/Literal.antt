@@ -1,6 +1,8 @@
 -- String literals in strict code, on characters (ECMA-262, "String Literals"): what may be between two
 -- quotes, what it denotes, and what is refused where.
-use Rattle.std.specs.Prelude.{◌≡◌, ℕ, ◌+◌, ◌-◌, ◌*◌, ◌<◌, ◌≤◌, List, [], ◌∷◌, ◌++◌, Bool, true, false, Option, Some, None, nat_le, ◌==◌, ◌&&◌, ◌||◌, if◌then◌else◌, option_and_then, length, slice_index}
+use Rattle.std.specs.Prelude.{◌≡◌, ℕ, ◌+◌, ◌-◌, ◌*◌, ◌<◌, ◌≤◌, List, [], ◌∷◌, ◌++◌, Bool, true, false}
+use Rattle.std.specs.Prelude.{Option, Some, None, nat_le, ◌==◌, ◌&&◌, ◌||◌, if◌then◌else◌, option_and_then}
+use Rattle.std.specs.Prelude.{length, slice_index}
 use Rattle.js_units.specs.Text.{utf16_of}
 use Rattle.js_literal.specs.Place.{StandsAt}
 use Rattle.js_literal.specs.declared.fault.LiteralFault.{LiteralFault}

@@ -1,7 +1,8 @@
 -- Number literals, on characters: decimal integers without a leading zero, up to 2^53 - 1 (ECMA-262, "Numeric
 -- Literals", "DecimalIntegerLiteral"). Every other form of the standard is refused, by the first rule that
 -- applies.
-use Rattle.std.specs.Prelude.{◌≡◌, ℕ, ◌+◌, ◌-◌, ◌*◌, ◌<◌, List, [], ◌∷◌, Bool, true, false, nat_lt, nat_le, ◌==◌, ◌&&◌, ◌||◌, if◌then◌else◌, length, slice_index, Result, Ok, Err}
+use Rattle.std.specs.Prelude.{◌≡◌, ℕ, ◌+◌, ◌-◌, ◌*◌, ◌<◌, List, [], ◌∷◌, Bool, true, false, nat_lt, nat_le}
+use Rattle.std.specs.Prelude.{◌==◌, ◌&&◌, ◌||◌, if◌then◌else◌, length, slice_index, Result, Ok, Err}
 use Rattle.js_literal.specs.Place.{StandsAt}
 use Rattle.js_literal.specs.Literal.{is_digit, begins_with}
 use Rattle.js_literal.specs.declared.fault.NumberFault.{NumberFault}

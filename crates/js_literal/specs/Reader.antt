@@ -1,9 +1,11 @@
 -- Helpers: no public contract reaches these definitions.
 -- What the code reads at the front of a string literal's inside, for the contracts of private functions.
-use Rattle.std.specs.Prelude.{ℕ, ◌+◌, ◌*◌, List, [], ◌∷◌, Option, Some, None, Bool, nat_le, ◌==◌, not, ◌&&◌, ◌||◌, if◌then◌else◌}
+use Rattle.std.specs.Prelude.{ℕ, ◌+◌, ◌*◌, List, [], ◌∷◌, Option, Some, None, Bool, nat_le, ◌==◌, not, ◌&&◌}
+use Rattle.std.specs.Prelude.{◌||◌, if◌then◌else◌}
 use Rattle.std.specs.Str.{chars}
 use Rattle.js_units.specs.Text.{utf16_of}
-use Rattle.js_literal.specs.Literal.{hex_value, letter_unit, is_digit, begins_with, StringFaultKind, Unclosed, RawLineEnd, BadEscape, CodePointTooLarge, LegacyOctal}
+use Rattle.js_literal.specs.Literal.{hex_value, letter_unit, is_digit, begins_with, StringFaultKind}
+use Rattle.js_literal.specs.Literal.{Unclosed, RawLineEnd, BadEscape, CodePointTooLarge, LegacyOctal}
 use Rattle.js_literal.specs.declared.front.LiteralFront.{LiteralFront}
 use Rattle.js_literal.specs.declared.front.LiteralFront.TheVariants as code
 use Rattle.js_literal.specs.declared.front.PieceUnits.{PieceUnits}

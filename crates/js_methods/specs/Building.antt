@@ -1,5 +1,6 @@
 -- What the methods build that find the units themselves.
-use Rattle.std.specs.Prelude.{◌≡◌, ℕ, Bool, true, false, nat_le, List, [], pos, Option, Some, None, Result, Ok, Err}
+use Rattle.std.specs.Prelude.{◌≡◌, ℕ, Bool, true, false, nat_le, List, [], pos, Option, Some, None, Result}
+use Rattle.std.specs.Prelude.{Ok, Err}
 use Rattle.std.specs.List.{flat_map, list_all}
 use Rattle.js_units.specs.Text.{utf16_of}
 use Rattle.js_number.specs.declared.Num.{Num}

@@ -1,5 +1,6 @@
 -- What the methods give that read at one place.
-use Rattle.std.specs.Prelude.{ℕ, ◌+◌, ◌-◌, ◌&&◌, List, [], length, pos, negsuc, nat_lt, if◌then◌else◌, Option, Some, None, slice_index, slice_range}
+use Rattle.std.specs.Prelude.{ℕ, ◌+◌, ◌-◌, ◌&&◌, List, [], length, pos, negsuc, nat_lt, if◌then◌else◌}
+use Rattle.std.specs.Prelude.{Option, Some, None, slice_index, slice_range}
 use Rattle.std.specs.Option.{option_map, option_map_or}
 use Rattle.js_units.specs.Text.{is_lead, is_trail, pair_value}
 use Rattle.js_number.specs.declared.Num.{Num}

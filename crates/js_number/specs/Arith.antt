@@ -1,5 +1,6 @@
 -- Conversions, sums, order and strings of numbers (ECMA-262, "Type Conversion" and "The Number Type").
-use Rattle.std.specs.Prelude.{ℕ, Bool, true, false, List, Option, Some, None, nat_le, if◌then◌else◌, ℤ, pos, ◌+ℤ◌, neg_ℤ, int_lt, unsigned_abs, codes}
+use Rattle.std.specs.Prelude.{ℕ, Bool, true, false, List, Option, Some, None, nat_le, if◌then◌else◌, ℤ, pos}
+use Rattle.std.specs.Prelude.{◌+ℤ◌, neg_ℤ, int_lt, unsigned_abs, codes}
 use Rattle.std.specs.Int.{int_rem_euclid}
 use Rattle.std.specs.Fmt.{signed_decimal}
 use Rattle.js_number.specs.declared.Num.{Num}

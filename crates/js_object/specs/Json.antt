@@ -1,11 +1,13 @@
 -- Items and objects as JSON text (ECMA-262, "SerializeJSONProperty", "SerializeJSONObject").
-use Rattle.std.specs.Prelude.{ℕ, Bool, true, false, ◌==◌, if◌then◌else◌, List, [], ◌∷◌, ◌++◌, map, Option, Some, None, codes}
+use Rattle.std.specs.Prelude.{ℕ, Bool, true, false, ◌==◌, if◌then◌else◌, List, [], ◌∷◌, ◌++◌, map, Option}
+use Rattle.std.specs.Prelude.{Some, None, codes}
 use Rattle.std.specs.Fmt.{signed_decimal}
 use Rattle.js_number.specs.declared.Num.{Num}
 use Rattle.js_number.specs.declared.Num.TheVariants.{Int, NaN, PosInf, NegInf}
 use Rattle.js_texts.specs.Delimited.{delimited}
 use Rattle.js_json.specs.Quoting.{quoted, list_text}
-use Rattle.js_item.specs.Contents.{Content, undefined, null, bool, number, text, symbol, list, object, Fields, no_fields, field}
+use Rattle.js_item.specs.Contents.{Content, undefined, null, bool, number, text, symbol, list, object}
+use Rattle.js_item.specs.Contents.{Fields, no_fields, field}
 use Rattle.js_object.specs.Keys.{index_of_key, ordered}
 
 -- the digits of a whole number, and null for each other one

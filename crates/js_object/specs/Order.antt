@@ -1,7 +1,8 @@
 -- The order of an object's keys (ECMA-262, "OrdinaryOwnPropertyKeys"): first those that are array indexes,
 -- ascending, and then the others in the order in which they come. Elements are known by their indexes:
 -- `index x` is the array index that the key of x is.
-use Rattle.std.specs.Prelude.{◌≡◌, ◌↔◌, ℕ, ◌+◌, ◌≤◌, List, [], ◌∷◌, ◌++◌, Option, Some, IsSome, Contains, filter}
+use Rattle.std.specs.Prelude.{◌≡◌, ◌↔◌, ℕ, ◌+◌, ◌≤◌, List, [], ◌∷◌, ◌++◌, Option, Some, IsSome, Contains}
+use Rattle.std.specs.Prelude.{filter}
 use Rattle.std.specs.Option.{is_none}
 
 -- each element has an index, which is `least` or more, and more than that of the element before it

@@ -2,7 +2,8 @@
 use Rattle.std.specs.Prelude.{ℕ}
 use Rattle.js_number.specs.Places.{IsLawful}
 use Rattle.js_texts.specs.Texts.{Every}
-use Rattle.js_item.specs.Contents.{Content, undefined, null, bool, number, text, symbol, list, object, Fields, no_fields, field}
+use Rattle.js_item.specs.Contents.{Content, undefined, null, bool, number, text, symbol, list, object}
+use Rattle.js_item.specs.Contents.{Fields, no_fields, field}
 use Rattle.js_item.specs.Fine.{KnownStrings, TextFine, KeyFine}
 
 -- valid numbers, known strings, and keys that are interned and settled, at every level

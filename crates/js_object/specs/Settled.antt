@@ -3,7 +3,8 @@
 use Rattle.std.specs.Prelude.{ℕ}
 use Rattle.js_store.specs.State.{State, IsSettled}
 use Rattle.js_texts.specs.Texts.{AllSettled}
-use Rattle.js_item.specs.Contents.{Content, undefined, null, bool, number, text, symbol, list, object, Fields, no_fields, field}
+use Rattle.js_item.specs.Contents.{Content, undefined, null, bool, number, text, symbol, list, object}
+use Rattle.js_item.specs.Contents.{Fields, no_fields, field}
 
 abbrev mutual
   pub SettledIn : {F R : Type 0} → State F → (R → ℕ) → Content R → Type 0

@@ -3,7 +3,8 @@ use Rattle.std.specs.Prelude.{ℕ, ◌+◌, length}
 use Rattle.js_store.specs.State.{State, text as text_of}
 use Rattle.js_store.specs.Rows.{settle_words}
 use Rattle.js_texts.specs.Texts.{settle_most}
-use Rattle.js_item.specs.Contents.{Content, undefined, null, bool, number, text, symbol, list, object, Fields, no_fields, field}
+use Rattle.js_item.specs.Contents.{Content, undefined, null, bool, number, text, symbol, list, object}
+use Rattle.js_item.specs.Contents.{Fields, no_fields, field}
 
 abbrev mutual
   pub settle_in : {F R : Type 0} → State F → (R → ℕ) → Content R → ℕ

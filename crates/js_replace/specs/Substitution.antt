@@ -1,5 +1,6 @@
 -- What a template expands to at a match (ECMA-262, "GetSubstitution", without captures).
-use Rattle.std.specs.Prelude.{ℕ, ◌+◌, ◌==◌, if◌then◌else◌, List, [], ◌∷◌, ◌++◌, length, take, drop, Option, Some, None}
+use Rattle.std.specs.Prelude.{ℕ, ◌+◌, ◌==◌, if◌then◌else◌, List, [], ◌∷◌, ◌++◌, length, take, drop, Option}
+use Rattle.std.specs.Prelude.{Some, None}
 
 -- what a dollar sign and the unit behind it expand to, where they are a reference: `$$` for a dollar sign,
 -- `$&` for the match w, which occurs in u at `at`, "$`" for the part of u before it, and `$'` for the part

@@ -1,6 +1,7 @@
 -- Each status by itself: when it comes, what was written then, and what is kept. All of it follows from the
 -- outcome.
-use Rattle.std.specs.Prelude.{◌≡◌, ◌⊎◌, ℕ, ◌-◌, ◌^◌, ◌≤◌, ◌<◌, List, [], ◌∷◌, ◌++◌, length, Option, None, Some}
+use Rattle.std.specs.Prelude.{◌≡◌, ◌⊎◌, ℕ, ◌-◌, ◌^◌, ◌≤◌, ◌<◌, List, [], ◌∷◌, ◌++◌, length, Option, None}
+use Rattle.std.specs.Prelude.{Some}
 use Rattle.run_sources.specs.Texts.{Named}
 use Rattle.js_io.specs.FilesState.{FilesState}
 use Rattle.js_io.specs.declared.files.TheConstants.{FILE_MAX}
@@ -21,7 +22,8 @@ use Rattle.run_program.specs.declared.ran.Ran.{Ran}
 use Rattle.run_program.specs.Ran.{IsRan, setup_sizes, state_kept}
 use Rattle.js_run.specs.Asked.{AreTexts, names_of, setup_of}
 use Rattle.js_run.specs.Meant.{all_flows, status_meant, out_meant, ends_meant}
-use Rattle.js_run.specs.Verdict.{WasRun, Refused, report_of, status_of, ends_of, out_of, err_of, memory_line, end_lines, Verdict, NotRead, TooLarge}
+use Rattle.js_run.specs.Verdict.{WasRun, Refused, report_of, status_of, ends_of, out_of, err_of}
+use Rattle.js_run.specs.Verdict.{memory_line, end_lines, Verdict, NotRead, TooLarge}
 use Rattle.js_run.specs.Moment.{Moment, Ended}
 use Rattle.js_run.specs.Cause.{OfTexts, names_in, HasCauseBy}
 use Rattle.js_io.specs.Report.{TakesAll, IsTold, IsCutAtOut, IsCutAtErr, IsEnd, Printed, Refusal}

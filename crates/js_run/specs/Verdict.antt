@@ -1,6 +1,7 @@
 -- What becomes of a call, and what is reported of it: the status and the bytes for each sink.
 use Rattle.std.specs.Option.{option_map_or}
-use Rattle.std.specs.Prelude.{ℕ, List, [], ◌∷◌, ◌++◌, codes, decimal, map, Option, None, Some, option_to_list, flat_map}
+use Rattle.std.specs.Prelude.{ℕ, List, [], ◌∷◌, ◌++◌, codes, decimal, map, Option, None, Some}
+use Rattle.std.specs.Prelude.{option_to_list, flat_map}
 use Rattle.js_io.specs.Report.{Report, Refusal, Printed}
 use Rattle.js_parse.specs.declared.fault.ParseFault.{ParseFault}
 use Rattle.js_store.specs.declared.faults.FullReport.{FullReport}

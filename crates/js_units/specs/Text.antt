@@ -1,6 +1,7 @@
 -- What code units are, and what a list of them encodes (ECMA-262, "The String Type", "CodePointAt",
 -- "String.prototype.toWellFormed").
-use Rattle.std.specs.Prelude.{ℕ, ◌+◌, ◌-◌, ◌*◌, ◌/◌, ◌%◌, Bool, ◌&&◌, ◌||◌, nat_le, nat_lt, ◌==◌, if◌then◌else◌, List, [], ◌∷◌, encode_utf8_all}
+use Rattle.std.specs.Prelude.{ℕ, ◌+◌, ◌-◌, ◌*◌, ◌/◌, ◌%◌, Bool, ◌&&◌, ◌||◌, nat_le, nat_lt, ◌==◌}
+use Rattle.std.specs.Prelude.{if◌then◌else◌, List, [], ◌∷◌, encode_utf8_all}
 
 -- a leading surrogate, D800 to DBFF, and a trailing one, DC00 to DFFF
 abbrev pub is_lead : ℕ → Bool

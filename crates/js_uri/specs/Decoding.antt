@@ -1,5 +1,7 @@
 -- Units with each escape as what it denotes (ECMA-262, "Decode").
-use Rattle.std.specs.Prelude.{ℕ, zero, suc, ◌+◌, ◌-◌, ◌*◌, ◌%◌, Bool, nat_lt, nat_le, not, ◌&&◌, ◌||◌, ◌==◌, if◌then◌else◌, List, [], ◌∷◌, take, drop, length, Option, Some, None, Ok, Err, encode_utf8, bytes_eq}
+use Rattle.std.specs.Prelude.{ℕ, zero, suc, ◌+◌, ◌-◌, ◌*◌, ◌%◌, Bool, nat_lt, nat_le, not, ◌&&◌, ◌||◌, ◌==◌}
+use Rattle.std.specs.Prelude.{if◌then◌else◌, List, [], ◌∷◌, take, drop, length, Option, Some, None, Ok, Err}
+use Rattle.std.specs.Prelude.{encode_utf8, bytes_eq}
 use Rattle.js_units.specs.Text.{is_lead, is_trail, utf16_of}
 use Rattle.js_uri.specs.Outcome.{UriOutcome, uri_after}
 

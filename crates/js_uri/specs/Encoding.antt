@@ -1,5 +1,6 @@
 -- Units with each code point outside a set as escapes (ECMA-262, "Encode").
-use Rattle.std.specs.Prelude.{ℕ, ◌+◌, ◌/◌, ◌%◌, Bool, nat_lt, ◌||◌, if◌then◌else◌, List, [], ◌∷◌, length, Option, Some, None, Ok, encode_utf8, flat_map}
+use Rattle.std.specs.Prelude.{ℕ, ◌+◌, ◌/◌, ◌%◌, Bool, nat_lt, ◌||◌, if◌then◌else◌, List, [], ◌∷◌, length}
+use Rattle.std.specs.Prelude.{Option, Some, None, Ok, encode_utf8, flat_map}
 use Rattle.js_units.specs.Text.{is_lead, is_trail, points, utf16_of}
 use Rattle.js_uri.specs.Outcome.{UriOutcome, after_some}
 

@@ -1,5 +1,6 @@
 -- What a text that C builds up has, and what calls on it answer and leave.
-use Rattle.std.specs.Prelude.{◌≡◌, ◌≢◌, ◌⊎◌, ℕ, ◌+◌, ◌*◌, ◌<◌, ◌≤◌, List, [], ◌++◌, length, Option, None, Some, Result, Ok, Err}
+use Rattle.std.specs.Prelude.{◌≡◌, ◌≢◌, ◌⊎◌, ℕ, ◌+◌, ◌*◌, ◌<◌, ◌≤◌, List, [], ◌++◌, length, Option, None}
+use Rattle.std.specs.Prelude.{Some, Result, Ok, Err}
 use Rattle.heap_rule.specs.Layout.{MAX}
 use Rattle.heap_build.specs.declared.builder.Builder.{Builder}
 use Rattle.heap_build.specs.declared.faults.BuildFault.{BuildFault}

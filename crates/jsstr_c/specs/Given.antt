@@ -14,7 +14,8 @@ use Rattle.heap_agents.specs.Ready.{HandleLeaves, HandleKnows, size_in, handle_v
 use Rattle.jsstr_c.specs.declared.answer.JsAnswer.{JsAnswer}
 use Rattle.heap_build.specs.Spelled.{SpellsWtf8, utf8_decoded}
 use Rattle.jsstr_c.specs.Decoded.{IsNoUtf8, IsNoWtf8}
-use Rattle.jsstr_c.specs.Reports.{BAD_ARGUMENT, DONE, NO_MEMORY, bad_argument, done, found_answer, no_memory, table_answer, text_report}
+use Rattle.jsstr_c.specs.Reports.{BAD_ARGUMENT, DONE, NO_MEMORY, bad_argument, done, found_answer}
+use Rattle.jsstr_c.specs.Reports.{no_memory, table_answer, text_report}
 
 -- the units us were made into a new string, with r as the answer
 pub record Makes (o p : Option Held) (us : List ℕ) (r : JsAnswer) : Type 0 where

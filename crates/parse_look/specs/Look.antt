@@ -8,7 +8,8 @@ use Rattle.parse_syntax.specs.declared.token.Word.TheVariants as word
 use Rattle.eval_tree.specs.declared.tree.Op.{Op}
 use Rattle.eval_tree.specs.declared.tree.Builtin.{Builtin}
 use Rattle.eval_tree.specs.declared.tree.Builtin.TheVariants as builtin
-use Rattle.parse_syntax.specs.Terminals.{Identifier, from_word, symbol_function, stringify_word, keys_word, directive, increment, nought}
+use Rattle.parse_syntax.specs.Terminals.{Identifier, from_word, symbol_function, stringify_word, keys_word}
+use Rattle.parse_syntax.specs.Terminals.{directive, increment, nought}
 use Rattle.parse_syntax.specs.Grammar.{pair_of}
 use Rattle.parse_look.specs.declared.look.Level.{Level}
 use Rattle.parse_look.specs.declared.look.Level.TheVariants as level
@@ -16,7 +17,12 @@ use Rattle.parse_look.specs.declared.look.Opener.{Opener}
 use Rattle.parse_look.specs.declared.look.Opener.TheVariants as opener
 use Rattle.parse_look.specs.declared.look.Fixed.{Fixed}
 use Rattle.parse_look.specs.declared.look.Fixed.TheVariants as fixed
-use Rattle.parse_syntax.specs.MarksAndWords.{or_op, and_op, equal_op, compare_op, sum_op, else_word, if_word, string_word, symbol_word, json_word, object_word, uri_function, point, let_word, const_word, print_word, for_word, opening, closing, close_bracket, open_brace, close_brace, comma, semicolon, colon, question, less, assign_mark}
+use Rattle.parse_syntax.specs.MarksAndWords.{or_op, and_op, equal_op, compare_op, sum_op, else_word}
+use Rattle.parse_syntax.specs.MarksAndWords.{if_word, string_word, symbol_word, json_word, object_word}
+use Rattle.parse_syntax.specs.MarksAndWords.{uri_function, point, let_word, const_word, print_word}
+use Rattle.parse_syntax.specs.MarksAndWords.{for_word, opening, closing, close_bracket, open_brace}
+use Rattle.parse_syntax.specs.MarksAndWords.{close_brace, comma, semicolon, colon, question, less}
+use Rattle.parse_syntax.specs.MarksAndWords.{assign_mark}
 
 -- an identifier or mark that is nothing but itself
 abbrev pub terminal : Fixed → GrammarToken → Option (Unit {0})

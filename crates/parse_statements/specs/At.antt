@@ -1,7 +1,8 @@
 -- Helpers: no public contract reaches these definitions.
 -- The readers with room for so many that are open, as the parser's functions give them.
 use Rattle.std.specs.Prelude.{ℕ, zero, suc, Bool, true, false, List, Option, None}
-use Rattle.parse_syntax.specs.Reader.{TokenReader, ◌>>=◌, Got, wrong, and_then, map_by, one_of, choose, all_of, opens, heads, heads_two, succeed, keep_second}
+use Rattle.parse_syntax.specs.Reader.{TokenReader, ◌>>=◌, Got, wrong, and_then, map_by, one_of, choose}
+use Rattle.parse_syntax.specs.Reader.{all_of, opens, heads, heads_two, succeed, keep_second}
 use Rattle.parse_syntax.specs.declared.token.GrammarToken.{GrammarToken}
 use Rattle.parse_syntax.specs.Tables.{TokenTables}
 use Rattle.eval_tree.specs.declared.tree.Builtin.{Builtin}
@@ -9,10 +10,17 @@ use Rattle.eval_tree.specs.declared.tree.Builtin.TheVariants as builtin
 use Rattle.eval_tree.specs.Tree.{ExprTree, StepTree, StmtTree, BlockTree, ArmTree}
 use Rattle.parse_syntax.specs.Grammar.{cond_of}
 use Rattle.parse_syntax.specs.Reading.{single_of, Which, Whole, Operand}
-use Rattle.parse_syntax.specs.Reading.{read_within, read_parens, read_args, read_string, read_symbol, read_json, read_uri, read_object_call, read_entry, read_members, read_literal, read_primary, read_word, read_branches, read_step, read_post, read_unary, read_sum, read_comparison, read_equality, read_conjunction, read_disjunction, read_conditional, goes_on, read_block, read_init, read_let, read_const, read_assign, read_print, read_arm, read_rest, read_if, read_for, read_statement, read_at}
+use Rattle.parse_syntax.specs.Reading.{read_within, read_parens, read_args, read_string, read_symbol}
+use Rattle.parse_syntax.specs.Reading.{read_json, read_uri, read_object_call, read_entry, read_members}
+use Rattle.parse_syntax.specs.Reading.{read_literal, read_primary, read_word, read_branches, read_step}
+use Rattle.parse_syntax.specs.Reading.{read_post, read_unary, read_sum, read_comparison, read_equality}
+use Rattle.parse_syntax.specs.Reading.{read_conjunction, read_disjunction, read_conditional, goes_on}
+use Rattle.parse_syntax.specs.Reading.{read_block, read_init, read_let, read_const, read_assign, read_print}
+use Rattle.parse_syntax.specs.Reading.{read_arm, read_rest, read_if, read_for, read_statement, read_at}
 use Rattle.parse_look.specs.declared.look.Level.{Level}
 use Rattle.parse_look.specs.declared.look.Level.TheVariants as level
-use Rattle.parse_syntax.specs.MarksAndWords.{else_word, if_word, string_word, symbol_word, json_word, uri_function, question}
+use Rattle.parse_syntax.specs.MarksAndWords.{else_word, if_word, string_word, symbol_word, json_word}
+use Rattle.parse_syntax.specs.MarksAndWords.{uri_function, question}
 
 abbrev pub has_room : ℕ → Bool
 has_room zero = false

@@ -1,20 +1,33 @@
 -- The grammar of scripts, one line a production.
-use Rattle.std.specs.Prelude.{ℕ, zero, suc, Bool, true, false, List, [], ◌∷◌, ◌++◌, Option, Some, None, get_or}
-use Rattle.parse_syntax.specs.Lang.{Lang, One, Then, Bind, Mapped, Nothing, Either, Many, Never, if_room, ◌▸◌, ◌◂◌}
+use Rattle.std.specs.Prelude.{ℕ, zero, suc, Bool, true, false, List, [], ◌∷◌, ◌++◌, Option, Some, None}
+use Rattle.std.specs.Prelude.{get_or}
+use Rattle.parse_syntax.specs.Lang.{Lang, One, Then, Bind, Mapped, Nothing, Either, Many, Never, if_room}
+use Rattle.parse_syntax.specs.Lang.{◌▸◌, ◌◂◌}
 use Rattle.js_lex.specs.declared.token.Mark.{Mark}
-use Rattle.js_lex.specs.declared.token.Mark.TheVariants.{StrictEqual, StrictUnequal, AtMost, AtLeast, And, Or, OpenBrace, CloseBrace, OpenParen, CloseParen, OpenBracket, CloseBracket, Point, Semicolon, Comma, Less, Greater, Plus, Minus, Not, Question, Colon, Assign}
+use Rattle.js_lex.specs.declared.token.Mark.TheVariants.{StrictEqual, StrictUnequal, AtMost, AtLeast, And}
+use Rattle.js_lex.specs.declared.token.Mark.TheVariants.{Or, OpenBrace, CloseBrace, OpenParen, CloseParen}
+use Rattle.js_lex.specs.declared.token.Mark.TheVariants.{OpenBracket, CloseBracket, Point, Semicolon, Comma}
+use Rattle.js_lex.specs.declared.token.Mark.TheVariants.{Less, Greater, Plus, Minus, Not, Question, Colon}
+use Rattle.js_lex.specs.declared.token.Mark.TheVariants.{Assign}
 use Rattle.parse_syntax.specs.declared.token.GrammarToken.{GrammarToken}
 use Rattle.parse_syntax.specs.declared.token.Word.{Word}
-use Rattle.parse_syntax.specs.declared.token.Word.TheVariants.{Let, Const, Print, If, Else, For, String, Symbol, Json, Object, EncodeUri, EncodeUriComponent, DecodeUri, DecodeUriComponent}
+use Rattle.parse_syntax.specs.declared.token.Word.TheVariants.{Let, Const, Print, If, Else, For, String}
+use Rattle.parse_syntax.specs.declared.token.Word.TheVariants.{Symbol, Json, Object, EncodeUri}
+use Rattle.parse_syntax.specs.declared.token.Word.TheVariants.{EncodeUriComponent, DecodeUri}
+use Rattle.parse_syntax.specs.declared.token.Word.TheVariants.{DecodeUriComponent}
 use Rattle.eval_tree.specs.declared.tree.Op.{Op}
 use Rattle.eval_tree.specs.declared.tree.Op.TheVariants as op
 use Rattle.eval_tree.specs.declared.tree.Method.{Method}
 use Rattle.eval_tree.specs.declared.tree.Builtin.{Builtin}
 use Rattle.eval_tree.specs.declared.tree.Builtin.TheVariants as builtin
-use Rattle.parse_syntax.specs.Terminals.{Identifier, is_mark, mark, at_mark, is_word, word, at_word, among, directive, name, the_name, member_word, property_word, method, key, from_word, symbol_function, stringify_word, keys_word, assign_op, increment, nought, bound_number, simple}
+use Rattle.parse_syntax.specs.Terminals.{Identifier, is_mark, mark, at_mark, is_word, word, at_word, among}
+use Rattle.parse_syntax.specs.Terminals.{directive, name, the_name, member_word, property_word, method, key}
+use Rattle.parse_syntax.specs.Terminals.{from_word, symbol_function, stringify_word, keys_word, assign_op}
+use Rattle.parse_syntax.specs.Terminals.{increment, nought, bound_number, simple}
 use Rattle.parse_syntax.specs.Tables.{TokenTables}
 use Rattle.eval_tree.specs.Tree as tree
-use Rattle.eval_tree.specs.Tree.{ExprTree, LinkTree, StepTree, links, steps, exprs, StmtTree, BlockTree, block_of, ArmTree, arms, stmts}
+use Rattle.eval_tree.specs.Tree.{ExprTree, LinkTree, StepTree, links, steps, exprs, StmtTree, BlockTree}
+use Rattle.eval_tree.specs.Tree.{block_of, ArmTree, arms, stmts}
 
 -- the trees of expressions
 

@@ -1,8 +1,15 @@
 -- Names for the marks and identifiers of the grammar, as the parser's functions look for them.
 use Rattle.std.specs.Prelude.{ℕ, Bool, true, false, [], ◌∷◌, Option}
-use Rattle.js_lex.specs.declared.token.Mark.TheVariants.{StrictEqual, StrictUnequal, AtMost, AtLeast, And, Or, OpenBrace, CloseBrace, OpenParen, CloseParen, OpenBracket, CloseBracket, Point, Semicolon, Comma, Less, Greater, Plus, Minus, Not, Question, Colon, Assign}
+use Rattle.js_lex.specs.declared.token.Mark.TheVariants.{StrictEqual, StrictUnequal, AtMost, AtLeast, And}
+use Rattle.js_lex.specs.declared.token.Mark.TheVariants.{Or, OpenBrace, CloseBrace, OpenParen, CloseParen}
+use Rattle.js_lex.specs.declared.token.Mark.TheVariants.{OpenBracket, CloseBracket, Point, Semicolon, Comma}
+use Rattle.js_lex.specs.declared.token.Mark.TheVariants.{Less, Greater, Plus, Minus, Not, Question, Colon}
+use Rattle.js_lex.specs.declared.token.Mark.TheVariants.{Assign}
 use Rattle.parse_syntax.specs.declared.token.GrammarToken.{GrammarToken}
-use Rattle.parse_syntax.specs.declared.token.Word.TheVariants.{Let, Const, Print, If, Else, For, String, Symbol, Json, Object, EncodeUri, EncodeUriComponent, DecodeUri, DecodeUriComponent}
+use Rattle.parse_syntax.specs.declared.token.Word.TheVariants.{Let, Const, Print, If, Else, For, String}
+use Rattle.parse_syntax.specs.declared.token.Word.TheVariants.{Symbol, Json, Object, EncodeUri}
+use Rattle.parse_syntax.specs.declared.token.Word.TheVariants.{EncodeUriComponent, DecodeUri}
+use Rattle.parse_syntax.specs.declared.token.Word.TheVariants.{DecodeUriComponent}
 use Rattle.eval_tree.specs.declared.tree.Op.{Op}
 use Rattle.eval_tree.specs.declared.tree.Op.TheVariants as op
 use Rattle.eval_tree.specs.declared.tree.Builtin.{Builtin}

@@ -1,5 +1,6 @@
 -- Readers: what reading from the front gives.
-use Rattle.std.specs.Prelude.{ℕ, zero, suc, List, [], ◌∷◌, ◌++◌, length, Bool, true, false, cond, Option, Some, None, is_some}
+use Rattle.std.specs.Prelude.{ℕ, zero, suc, List, [], ◌∷◌, ◌++◌, length, Bool, true, false, cond, Option}
+use Rattle.std.specs.Prelude.{Some, None, is_some}
 
 -- what is wrong at a token: it isn't allowed there, or would be but for the limit on nesting
 pub data SyntaxFaultKind : Type 0 where

@@ -1,19 +1,31 @@
 -- Reading scripts from the front. No public contract cites these: they are what the parser's functions give.
-use Rattle.std.specs.Prelude.{ℕ, zero, suc, Bool, true, false, cond, List, [], ◌∷◌, Option, Some, None, is_some}
+use Rattle.std.specs.Prelude.{ℕ, zero, suc, Bool, true, false, cond, List, [], ◌∷◌, Option, Some, None}
+use Rattle.std.specs.Prelude.{is_some}
 use Rattle.js_lex.specs.declared.token.Mark.TheVariants as mark
 use Rattle.parse_syntax.specs.Lang.{Lang, One, Then, Bind, Mapped, Nothing, Either, if_room, ◌▸◌, ◌◂◌}
-use Rattle.parse_syntax.specs.Reader.{TokenReader, wrong, map_by, and_then, and_bind, one_of, choose, all_of, succeed, opens, heads, heads_two, allowed, keep_first, keep_second}
+use Rattle.parse_syntax.specs.Reader.{TokenReader, wrong, map_by, and_then, and_bind, one_of, choose}
+use Rattle.parse_syntax.specs.Reader.{all_of, succeed, opens, heads, heads_two, allowed, keep_first}
+use Rattle.parse_syntax.specs.Reader.{keep_second}
 use Rattle.parse_syntax.specs.declared.token.GrammarToken.{GrammarToken}
 use Rattle.parse_syntax.specs.declared.token.GrammarKind.TheVariants as kind
 use Rattle.eval_tree.specs.declared.tree.Op.{Op}
 use Rattle.eval_tree.specs.declared.tree.Builtin.{Builtin}
 use Rattle.eval_tree.specs.declared.tree.Builtin.TheVariants as builtin
 use Rattle.eval_tree.specs.Tree as tree
-use Rattle.eval_tree.specs.Tree.{ExprTree, LinkTree, StepTree, StmtTree, BlockTree, block_of, ArmTree, arms, exprs, stmts, block}
+use Rattle.eval_tree.specs.Tree.{ExprTree, LinkTree, StepTree, StmtTree, BlockTree, block_of, ArmTree, arms}
+use Rattle.eval_tree.specs.Tree.{exprs, stmts, block}
 use Rattle.parse_syntax.specs.Tables.{TokenTables}
-use Rattle.parse_syntax.specs.Terminals.{Identifier, directive, name, the_name, member_word, property_word, method, key, from_word, symbol_function, stringify_word, keys_word, assign_op, increment, nought, bound_number, simple}
-use Rattle.parse_syntax.specs.Grammar.{pair_of, method_step, builtin_of, post_of, chain_of, cond_of, own_names, letters, assign_of, args, loop_head, Expression, Unary}
-use Rattle.parse_syntax.specs.MarksAndWords.{let_word, const_word, print_word, if_word, else_word, for_word, string_word, symbol_word, json_word, object_word, uri_function, opening, closing, open_bracket, close_bracket, open_brace, open_literal, close_brace, comma, point, semicolon, question, colon, less, assign_mark, sign, or_op, and_op, equal_op, compare_op, sum_op}
+use Rattle.parse_syntax.specs.Terminals.{Identifier, directive, name, the_name, member_word, property_word}
+use Rattle.parse_syntax.specs.Terminals.{method, key, from_word, symbol_function, stringify_word, keys_word}
+use Rattle.parse_syntax.specs.Terminals.{assign_op, increment, nought, bound_number, simple}
+use Rattle.parse_syntax.specs.Grammar.{pair_of, method_step, builtin_of, post_of, chain_of, cond_of}
+use Rattle.parse_syntax.specs.Grammar.{own_names, letters, assign_of, args, loop_head, Expression, Unary}
+use Rattle.parse_syntax.specs.MarksAndWords.{let_word, const_word, print_word, if_word, else_word, for_word}
+use Rattle.parse_syntax.specs.MarksAndWords.{string_word, symbol_word, json_word, object_word, uri_function}
+use Rattle.parse_syntax.specs.MarksAndWords.{opening, closing, open_bracket, close_bracket, open_brace}
+use Rattle.parse_syntax.specs.MarksAndWords.{open_literal, close_brace, comma, point, semicolon, question}
+use Rattle.parse_syntax.specs.MarksAndWords.{colon, less, assign_mark, sign, or_op, and_op, equal_op}
+use Rattle.parse_syntax.specs.MarksAndWords.{compare_op, sum_op}
 
 -- names for what the grammar makes of values
 

@@ -1,6 +1,7 @@
 -- What each token is to the grammar. A terminal is a function from a token to an optional value; so one
 -- identifier may be a name at one place and a property at another.
-use Rattle.std.specs.Prelude.{ℕ, Bool, true, false, not, nat_eq, nat_lt, ◌&&◌, if◌then◌else◌, codes, decimal, List, [], ◌∷◌, Option, Some, None, get_or}
+use Rattle.std.specs.Prelude.{ℕ, Bool, true, false, not, nat_eq, nat_lt, ◌&&◌, if◌then◌else◌, codes}
+use Rattle.std.specs.Prelude.{decimal, List, [], ◌∷◌, Option, Some, None, get_or}
 use Rattle.std.specs.Bool.{then_some}
 use Rattle.std.specs.Str.{bytes_eq}
 use Rattle.js_lex.specs.declared.token.Mark.{Mark}

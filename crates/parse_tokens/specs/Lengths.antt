@@ -1,6 +1,7 @@
 -- Helpers: no public contract reaches these definitions.
 -- The identifiers that can't be names, by their length, for the contracts of private functions.
-use Rattle.std.specs.Prelude.{ℕ, Bool, true, false, List, [], ◌∷◌, ◌++◌, length, nat_eq, filter, if◌then◌else◌}
+use Rattle.std.specs.Prelude.{ℕ, Bool, true, false, List, [], ◌∷◌, ◌++◌, length, nat_eq, filter}
+use Rattle.std.specs.Prelude.{if◌then◌else◌}
 use Rattle.parse_tokens.specs.Words.{reserved_words, kept_words}
 
 -- those of n letters, in the order of the two lists

@@ -1,5 +1,6 @@
 -- Each plain store is sound.
-use Rattle.std.specs.Prelude.{◌≡◌, ℕ, zero, suc, ◌<◌, ◌≤◌, List, [], ◌∷◌, length, All, Some, slice_get, slice_index, unwrap_or, Contains}
+use Rattle.std.specs.Prelude.{◌≡◌, ℕ, zero, suc, ◌<◌, ◌≤◌, List, [], ◌∷◌, length, All, Some, slice_get}
+use Rattle.std.specs.Prelude.{slice_index, unwrap_or, Contains}
 use Rattle.std.proofs.Common.{arith, ap, sym, subst, ◌∙◌, get_or}
 use Rattle.std.proofs.lemmas.List.{get_or-map, length-map}
 use Rattle.std.specs.Ordering.{nat_cmp}

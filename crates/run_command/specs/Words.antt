@@ -1,5 +1,7 @@
 -- What the arguments of the command line ask for.
-use Rattle.std.specs.Prelude.{◌≡◌, ◌==◌, ◌&&◌, ◌||◌, not, is_some, ◌+◌, ◌^◌, ◌<◌, ◌≤◌, ⊤, ℕ, Bool, false, List, [], ◌∷◌, Option, None, Some, codes, if◌then◌else◌, length, map, nat_le, pos, option_and_then, option_map, unwrap_or}
+use Rattle.std.specs.Prelude.{◌≡◌, ◌==◌, ◌&&◌, ◌||◌, not, is_some, ◌+◌, ◌^◌, ◌<◌, ◌≤◌, ⊤, ℕ, Bool, false}
+use Rattle.std.specs.Prelude.{List, [], ◌∷◌, Option, None, Some, codes, if◌then◌else◌, length, map, nat_le}
+use Rattle.std.specs.Prelude.{pos, option_and_then, option_map, unwrap_or}
 use Rattle.std.specs.Option.{option_map_or}
 use Rattle.std.specs.Str.{bytes_eq}
 use Rattle.std.specs.Str.Parse.{digits_value, without_leading_sign}

@@ -1,6 +1,7 @@
 -- What jobs leave that were run on one heap: each outcome in its job's place, and what all did together.
 use Rattle.eval_values.specs.Conversions.{sum_over}
-use Rattle.std.specs.Prelude.{◌≡◌, ℕ, ◌+◌, ◌<◌, ◌≤◌, List, [], ◌∷◌, ◌++◌, length, map, max, All, Contains, Option, Some, None, IsSome, IsTrue, flat_map}
+use Rattle.std.specs.Prelude.{◌≡◌, ℕ, ◌+◌, ◌<◌, ◌≤◌, List, [], ◌∷◌, ◌++◌, length, map, max, All, Contains}
+use Rattle.std.specs.Prelude.{Option, Some, None, IsSome, IsTrue, flat_map}
 use Rattle.std.specs.List.{concat}
 use Rattle.js_store.specs.State.{State, NamesUnits, Grows}
 use Rattle.js_store.specs.Faults.{ids_wanted, words_wanted}

@@ -1,5 +1,6 @@
 -- What came of a prelude and scripts that were run on a heap of their own.
-use Rattle.std.specs.Prelude.{◌≡◌, ℕ, ◌+◌, List, [], ◌∷◌, map, Option, Some, None, option_to_list, ◌++◌, if◌then◌else◌, is_some}
+use Rattle.std.specs.Prelude.{◌≡◌, ℕ, ◌+◌, List, [], ◌∷◌, map, Option, Some, None, option_to_list, ◌++◌}
+use Rattle.std.specs.Prelude.{if◌then◌else◌, is_some}
 use Rattle.std.specs.Borrow.{Bor}
 use Rattle.js_store.specs.Limits.{limit_units}
 use Rattle.js_store.specs.State.{State, StoreSizes}

@@ -1,6 +1,7 @@
 -- Helpers: no public contract reaches these definitions.
 -- What the stages of a run leave.
-use Rattle.std.specs.Prelude.{◌≡◌, ℕ, ◌+◌, ◌≤◌, List, [], ◌∷◌, map, Option, option_to_list, ◌++◌, if◌then◌else◌, Some, None, is_some}
+use Rattle.std.specs.Prelude.{◌≡◌, ℕ, ◌+◌, ◌≤◌, List, [], ◌∷◌, map, Option, option_to_list, ◌++◌}
+use Rattle.std.specs.Prelude.{if◌then◌else◌, Some, None, is_some}
 use Rattle.js_store.specs.State.{State, StoreSizes}
 use Rattle.eval_tree.specs.Tree.{Tree, tree_of}
 use Rattle.js_eval.specs.Script.{Flow}
