@@ -32,7 +32,7 @@ use Rattle.js_object.proofs.Seen.{own_keys_known}
 use Rattle.eval_values.specs.Need.{reads}
 use Rattle.eval_values.specs.Conversions.{list_units}
 use Rattle.eval_values.specs.Outcome.{needing, ledger_of}
-use Rattle.eval_values.specs.Ran.{MeetsLedger, Cut}
+use Rattle.eval_values.specs.Ran.{MeetsLedger, EndsInPart}
 use Rattle.eval_values.specs.Does.{GivesValue}
 use Rattle.eval_values.proofs.Compose.{cut_of_memory}
 use Rattle.eval_values.proofs.Needs.{made_most, some_most, settle_few}
@@ -160,6 +160,6 @@ module _ {F R : Type 0} (name : R → ℕ) where
         let same : known_texts b name v.items ≡ unit_keys (fields_mapped (says a name) fs) = texts_still name a b v.items s.grows known ∙ u in
         subst (λ (q : List (List ℕ)). GivesValue name a b (Ok (item.List v)) (needing (reads (list_units q)) (list q))) same (record { is = refl; good = k; ran = ran_keys v.items k })
 
-    pub no_keys : (f : StoreFault) → f ≡ Memory → Cut a b f (ledger_of (keys_out (fields_mapped (says a name) fs)))
-    no_keys f e = subst (λ (g : StoreFault). Cut a b g (ledger_of (keys_out (fields_mapped (says a name) fs)))) (sym e)
+    pub no_keys : (f : StoreFault) → f ≡ Memory → EndsInPart a b f (ledger_of (keys_out (fields_mapped (says a name) fs)))
+    no_keys f e = subst (λ (g : StoreFault). EndsInPart a b g (ledger_of (keys_out (fields_mapped (says a name) fs)))) (sym e)
         (cut_of_memory (ledger_of (keys_out (fields_mapped (says a name) fs))) s h (omega arith) (omega arith))

@@ -24,7 +24,7 @@ use Rattle.eval_values.specs.declared.value.Kind.TheVariants.{RangeError}
 use Rattle.eval_values.specs.Need.{reads, ids_in, words_in}
 use Rattle.eval_values.specs.Conversions.{to_string, text_units, string_units}
 use Rattle.eval_values.specs.Limited.{limited}
-use Rattle.eval_values.specs.Ran.{Cut}
+use Rattle.eval_values.specs.Ran.{EndsInPart}
 use Rattle.js_item.specs.Seen.{seen}
 use Rattle.eval_values.specs.Does.{GivesValue, GivesText}
 use Rattle.eval_values.proofs.Compose.{cut_of_full, ran_of_step}
@@ -47,10 +47,11 @@ made_most limit us = go (nat_lt limit (length us))
 module _ {F : Type 0} {a b : State F} (limit t : ℕ) where
   -- the store refused before the list was there
   uri_cut : (us : List ℕ) (f : StoreFault) {k : ℕ} → StoreStep a b (full_only f) 1 k → b.history ≡ a.history → NeverSlots (full_only f) → k
-      ≤ wide_words t + made_words limit us → Cut a b f (ledger_of (limited limit t us))
+      ≤ wide_words t + made_words limit us → EndsInPart a b f (ledger_of (limited limit t us))
   uri_cut us f {k = k} s h n q = go (nat_le (length us) limit) refl
     where
-      go : (v : Bool) → nat_le (length us) limit ≡ v → Cut a b f (ledger_of (if v then gives (text_value us) row_ids (row_words (t + length us)) else throws RangeError row_ids (row_words (t + 0))))
+      go : (v : Bool) → nat_le (length us) limit ≡ v
+        → EndsInPart a b f (ledger_of (if v then gives (text_value us) row_ids (row_words (t + length us)) else throws RangeError row_ids (row_words (t + 0))))
       go true e = cut_of_full f _ s h n (omega arith) (omega (arith, q, made_most limit us))
       go false e = cut_of_full f _ s h n (omega arith) (let l : limit < length us = grind (arith, e) in omega (arith, q, made_none limit us l))
 

@@ -4,7 +4,7 @@ ghost use Rattle.js_store.specs.State.{Grows, IsKnown, IsSettled, text};
 ghost use Rattle.js_store.specs.Rows.{wide_words};
 ghost use Rattle.js_store.specs.Faults.{Uses};
 ghost use Rattle.js_texts.specs.Use.{settling};
-ghost use Rattle.js_uri.specs.Answers.{HasUriOutcome, Throws, uri_full_of, outcome_words};
+ghost use Rattle.js_uri.specs.Answers.{HasUriOutcome, ThrowsUriError, uri_full_of, outcome_words};
 ghost use Rattle.eval_values.specs.Arguments.{first_of};
 ghost use Rattle.js_item.specs.Seen.{seen};
 ghost use Rattle.js_item.specs.Fine.{IsFine};
@@ -110,7 +110,7 @@ fn answer<S: Strings>(
         (λ r. HasUriOutcome (S.state store.new) (S.number r)
         (outcome_of which (text (S.state store.old) (S.number s)))) }
     ensures settled { OnOk result (IsSettled (S.state store.new) (S.number s)) }
-    ensures throws { Throws result (S.state store.old).limit
+    ensures throws { ThrowsUriError result (S.state store.old).limit
         (outcome_of which (text (S.state store.old) (S.number s))) }
     ensures uses { Uses (S.state store.old) (S.state store.new) (uri_full_of result) 1
         (settling (S.state store.old) (S.number s) + outcome_words (S.state store.old).limit

@@ -15,17 +15,17 @@ use Rattle.js_texts.specs.declared.faults.MethodFault.{MethodFault}
 use Rattle.js_texts.specs.declared.faults.MethodFault.TheVariants as method
 use Rattle.eval_members.specs.Building.{joined_text}
 use Rattle.std.specs.Prelude.{nat_le, if◌then◌else◌, true, false, length}
-use Rattle.eval_values.specs.Ran.{Cut}
+use Rattle.eval_values.specs.Ran.{EndsInPart}
 use Rattle.eval_values.specs.Does.{GivesText}
 use Rattle.eval_values.proofs.Compose.{cut_of_step, ran_of_step}
 
 -- two strings that were not joined
 joined_cut : {F : Type 0} {a b : State F} {f : StoreFault} (limit : ℕ) (u w : List ℕ) → StoreStep a b (Some f)
-    (join_ids (length u) (length w)) (join_words (length u) (length w)) → b.history ≡ a.history → NeverSlots (Some f) → Cut a b f
+    (join_ids (length u) (length w)) (join_words (length u) (length w)) → b.history ≡ a.history → NeverSlots (Some f) → EndsInPart a b f
     (ledger_of (joined_text limit u w))
 joined_cut {a = a} {b = b} {f = f} limit u w s0 h n =
     let s = joined_within (length u) (length w) s0 in
-    elim (nat_le (length u + length w) limit) as (λ v. Cut a b f (ledger_of (if v then gave (u ++ w) (cost joins) else ended (threw RangeError) (cost joins)))) [
+    elim (nat_le (length u + length w) limit) as (λ v. EndsInPart a b f (ledger_of (if v then gave (u ++ w) (cost joins) else ended (threw RangeError) (cost joins)))) [
       | true ↦ cut_of_step _ s h n (omega arith) (omega arith)
       | false ↦ cut_of_step _ s h n (omega arith) (omega arith)
     ]

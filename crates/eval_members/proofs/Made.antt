@@ -16,7 +16,7 @@ use Rattle.eval_values.specs.declared.value.Stop.TheVariants.{Threw}
 use Rattle.eval_values.specs.Outcome.{ledger_of}
 use Rattle.eval_values.specs.Stops.{stop_of}
 use Rattle.js_item.specs.Contents.{text as text_value}
-use Rattle.eval_values.specs.Ran.{Cut}
+use Rattle.eval_values.specs.Ran.{EndsInPart}
 use Rattle.eval_values.specs.Does.{GivesValue}
 use Rattle.eval_values.proofs.Limited.{within_given, within_thrown}
 use Rattle.eval_values.proofs.Needs.{some_part, made_most, made_none, cut_of_part}
@@ -24,7 +24,7 @@ use Rattle.eval_values.proofs.Needs.{some_part, made_most, made_none, cut_of_par
 -- the string r of an operation of p parts, whose operands have t units, where all but the string takes i ids and k words
 module _ {F : Type 0} {a b : State F} (limit t p i k : ℕ) (r : List ℕ) (h : b.history ≡ a.history) (o : i ≤ 8) (q : k ≤ parts_words p t) where
   cut_by : (v : Bool) → nat_le (length r) limit ≡ v → (f : StoreFault) → StoreStep a b (full_part (MethodStore f)) i
-      (k + made_words limit r) → NeverSlots (full_part (MethodStore f)) → Cut a b f
+      (k + made_words limit r) → NeverSlots (full_part (MethodStore f)) → EndsInPart a b f
       (ledger_of (if v then gives (text_value r) (parts_ids p) (parts_words p (t + length r)) else throws RangeError (parts_ids p) (parts_words p (t + 0))))
   cut_by true e f s n = cut_of_part f _ s h n (omega (arith, o, some_part p)) (omega (arith, q, some_part p, made_most limit r))
   cut_by false e f s n =
@@ -32,7 +32,7 @@ module _ {F : Type 0} {a b : State F} (limit t p i k : ℕ) (r : List ℕ) (h : 
       cut_of_part f _ s h n (omega (arith, o, some_part p)) (omega (arith, q, some_part p, made_none limit r l))
 
   pub parts_cut : (f : StoreFault) → StoreStep a b (full_part (MethodStore f)) i (k + made_words limit r) → NeverSlots
-      (full_part (MethodStore f)) → Cut a b f (ledger_of (within limit (parts_ids p) (λ n. parts_words p (t + n)) r))
+      (full_part (MethodStore f)) → EndsInPart a b f (ledger_of (within limit (parts_ids p) (λ n. parts_words p (t + n)) r))
   parts_cut f s n = cut_by (nat_le (length r) limit) refl f s n
 
   pub parts_given : {R : Type 0} (name : R → ℕ) (e : R) → NamesUnits b (name e) r → length r ≤ limit → StoreStep a b None i

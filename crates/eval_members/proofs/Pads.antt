@@ -27,7 +27,7 @@ use Rattle.eval_values.specs.Need.{pads}
 use Rattle.eval_members.specs.Padding.{repeated, padded}
 use Rattle.js_item.specs.Fine.{IsFine}
 use Rattle.eval_values.specs.Seen.{all_seen, AllFine}
-use Rattle.eval_values.specs.Ran.{Cut}
+use Rattle.eval_values.specs.Ran.{EndsInPart}
 use Rattle.eval_values.specs.Does.{GivesValue, GivesText}
 use Rattle.eval_values.proofs.Compose.{cut_of_step, ran_of_step, did_before}
 use Rattle.eval_values.proofs.Limited.{within_cut, within_thrown}
@@ -35,7 +35,7 @@ use Rattle.eval_values.proofs.TextArguments.{text_converts, text_fails}
 
 -- how `repeat` stops
 module _ {F : Type 0} {a b : State F} {i k : ℕ} (limit : ℕ) (u : List ℕ) (n : Num) (h : b.history ≡ a.history) (p : i ≤ repeat_ids) (q : k ≤ repeat_words (length u)) where
-  repeat_cut : (counts : Bool) (f : StoreFault) → StoreStep a b (Some f) i k → NeverSlots (Some f) → Cut a b f (ledger_of (repeated counts limit u n))
+  repeat_cut : (counts : Bool) (f : StoreFault) → StoreStep a b (Some f) i k → NeverSlots (Some f) → EndsInPart a b f (ledger_of (repeated counts limit u n))
   repeat_cut true f s m = within_cut limit repeat_ids (λ r. repeat_words (length u)) (repeat_of u n) s h m p q q
   repeat_cut false f s m = cut_of_step _ s h m p q
 

@@ -26,7 +26,7 @@ use Rattle.eval_values.specs.Need.{reads, some_parts}
 use Rattle.eval_values.specs.Conversions.{list_units, to_string, all_units, first_text_units}
 use Rattle.eval_values.specs.Arguments.{first_of, is_undefined}
 use Rattle.eval_members.specs.Arrays.{split_into, split_most}
-use Rattle.eval_values.specs.Ran.{MeetsLedger, Cut}
+use Rattle.eval_values.specs.Ran.{MeetsLedger, EndsInPart}
 use Rattle.eval_values.specs.Does.{GivesValue, GivesText}
 use Rattle.eval_values.proofs.Compose.{cut_of_full, full_same}
 use Rattle.eval_values.proofs.TextArguments.{text_converts}
@@ -89,7 +89,7 @@ split_given name t u sep most i k g p q v e h s = record {
 
 pub split_cut : {F : Type 0} {a b : State F} (t : ℕ) (u : List ℕ) (sep : Option (List ℕ)) (most i k : ℕ) → b.history ≡ a.history → i ≤
     length (parts u sep most) → 4 * k ≤ t + 46 + list_units (parts u sep most) + 12 * length (parts u sep most) → (f : StoreFault) → StoreStep
-    a b (full_part (MethodStore f)) i k → NeverSlots (full_part (MethodStore f)) → Cut a b f (ledger_of (split_into t u most sep))
+    a b (full_part (MethodStore f)) i k → NeverSlots (full_part (MethodStore f)) → EndsInPart a b f (ledger_of (split_into t u most sep))
 split_cut t u sep most i k g p q f s n =
     let s' = rw (full_same f) at s in
     let n' = rw (full_same f) at n in

@@ -99,11 +99,11 @@ InBlock [] k i = ⊥
 InBlock (f ∷ fs) zero i = i < length f.bound
 InBlock (f ∷ fs) (suc k) i = InBlock fs k i
 
-abbrev pub Within : {T : Type 0} → Scope T → Place → Type 0
-Within s (Top i) = i < length s.top
-Within s (Block k i) = InBlock s.blocks.frames k i
+abbrev pub IsPlaceIn : {T : Type 0} → Scope T → Place → Type 0
+IsPlaceIn s (Top i) = i < length s.top
+IsPlaceIn s (Block k i) = InBlock s.blocks.frames k i
 
 pub record IsPlace {T : Type 0} (s : Scope T) (x : List ℕ) (p : Place) : Type 0 where
-  pub within : Within s p
+  pub within : IsPlaceIn s p
   pub reads : meant (bindings_of s) x ≡ bound_at s p
   pub writes : (v : T) → written (bindings_of s) x v ≡ put_at s p v

@@ -1,7 +1,7 @@
 // The blocks that were entered, over the top.
 ghost use Rattle.std.specs.Prelude.{◌≡◌, Some, None, MatchOption, OnOk, OnErr};
 ghost use Rattle.eval_scopes.specs.Bindings.{is_among, meant, declared, entered, turned, outer};
-ghost use Rattle.eval_scopes.specs.Seen.{bound_of, frame_names, bindings_of, bound_at, put_at, Within, IsPlace};
+ghost use Rattle.eval_scopes.specs.Seen.{bound_of, frame_names, bindings_of, bound_at, put_at, IsPlaceIn, IsPlace};
 
 use crate::binding_list::{Binding, BindingList};
 use crate::blocks::Blocks;
@@ -49,7 +49,7 @@ impl<'a, T: Drop> Scope<'a, T> {
 
     /// The binding at a place.
     pub fn at(&self, place: Place) -> &Binding<T>
-        requires { Within self.now place }
+        requires { IsPlaceIn self.now place }
         ensures { Some (bound_of result.now) ≡ bound_at self.now place }
     {
         match place {
@@ -60,7 +60,7 @@ impl<'a, T: Drop> Scope<'a, T> {
 
     /// Another value for the binding at a place, whether it is constant or not.
     pub fn set(&mut self, place: Place, value: T)
-        requires { Within self.old place }
+        requires { IsPlaceIn self.old place }
         ensures { bindings_of self.new ≡ put_at self.old place value }
     {
         match place {

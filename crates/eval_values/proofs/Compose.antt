@@ -15,9 +15,9 @@ use Rattle.eval_values.specs.Outcome.{Ledger, both, free, cost, Out, gave, ended
 use Rattle.js_texts.specs.Answers.{full_part}
 use Rattle.js_texts.specs.declared.faults.MethodFault.TheVariants.{Store as MethodStore}
 use Rattle.js_texts.specs.Texts.{full_only}
-use Rattle.eval_values.specs.Ran.{Interns, MeetsLedger, NextShut, Cut, ComesTo}
+use Rattle.eval_values.specs.Ran.{InternsLists, MeetsLedger, NextShut, EndsInPart, ComesTo}
 
-pub interns_both : {x y z : List (List ℕ × ℕ)} {us vs : List (List ℕ)} → Interns x y us → Interns y z vs → Interns x z (us ++ vs)
+pub interns_both : {x y z : List (List ℕ × ℕ)} {us vs : List (List ℕ)} → InternsLists x y us → InternsLists y z vs → InternsLists x z (us ++ vs)
 interns_both {x} i j = record {
   pairs = i.pairs ++ j.pairs;
   grown = j.grown ∙ ap (λ l. l ++ j.pairs) i.grown ∙ append_assoc x i.pairs j.pairs;
@@ -55,7 +55,7 @@ next_more b (Full (Ids x y z)) us vs h = tt
 next_more b (Full (Words x y z)) us vs h = tt
 next_more b Memory us vs h = tt
 
-pub cut_more : {F : Type 0} {a b : State F} {f : StoreFault} {l : Ledger} (m : Ledger) → Cut a b f l → Cut a b f (both l m)
+pub cut_more : {F : Type 0} {a b : State F} {f : StoreFault} {l : Ledger} (m : Ledger) → EndsInPart a b f l → EndsInPart a b f (both l m)
 cut_more {b = b} {f = f} m r = record {
   grows = r.grows;
   honest = r.honest;
@@ -70,7 +70,7 @@ cut_more {b = b} {f = f} m r = record {
   within_words = omega arith;
 }
 
-pub ran_cut : {F : Type 0} {a b c : State F} {f : StoreFault} {l m : Ledger} → MeetsLedger a b l → Cut b c f m → Cut a c f (both l m)
+pub ran_cut : {F : Type 0} {a b c : State F} {f : StoreFault} {l m : Ledger} → MeetsLedger a b l → EndsInPart b c f m → EndsInPart a c f (both l m)
 ran_cut {l = l} r s = record {
   grows = grows_trans r.grows s.grows;
   honest = s.honest;
@@ -94,7 +94,7 @@ ran_before s h r = record {
   within_words = let e = s.within_words in omega arith;
 }
 
-cut_before : {F : Type 0} {a b c : State F} {f : StoreFault} {l : Ledger} → StoreStep a b None 0 0 → b.history ≡ a.history → Cut b c f l → Cut a c f l
+cut_before : {F : Type 0} {a b c : State F} {f : StoreFault} {l : Ledger} → StoreStep a b None 0 0 → b.history ≡ a.history → EndsInPart b c f l → EndsInPart a c f l
 cut_before s h r = record {
   grows = grows_trans s.grows r.grows;
   honest = r.honest;
@@ -144,7 +144,7 @@ did_bind a b c see fine see' fine' v r (gave x l) go d e =
     did_after a b c see' fine' l r (go x) d.ran (subst (λ y. ComesTo b c see' fine' r (go y)) d.is e)
 did_bind a b c see fine see' fine' v r (ended n l) go d e = absurd d
 
-pub cut_after : {F A : Type 0} {a b : State F} {f : StoreFault} (l : Ledger) (o : Out A) → Cut a b f l → Cut a b f (ledger_of (after_ledger l o))
+pub cut_after : {F A : Type 0} {a b : State F} {f : StoreFault} (l : Ledger) (o : Out A) → EndsInPart a b f l → EndsInPart a b f (ledger_of (after_ledger l o))
 cut_after l (gave x m) c = cut_more m c
 cut_after l (ended e m) c = cut_more m c
 
@@ -172,7 +172,7 @@ never_next b Memory us h = tt
 
 -- a chain of calls that was refused
 pub cut_of_step : {F : Type 0} {a b : State F} {f : StoreFault} {i w : ℕ} (l : Ledger) → StoreStep a b (Some f) i w → b.history ≡ a.history
-    → NeverSlots (Some f) → i ≤ l.ids → w ≤ l.words → Cut a b f l
+    → NeverSlots (Some f) → i ≤ l.ids → w ≤ l.words → EndsInPart a b f l
 cut_of_step {a = a} {b = b} {f = f} l s h n p q = record {
   grows = s.grows;
   honest = honest_full b f s.honest;
@@ -188,7 +188,7 @@ cut_of_step {a = a} {b = b} {f = f} l s h n p q = record {
 }
 
 -- out of memory of the evaluator's own
-pub cut_of_memory : {F : Type 0} {a b : State F} {i w : ℕ} (l : Ledger) → StoreStep a b None i w → b.history ≡ a.history → i ≤ l.ids → w ≤ l.words → Cut a b Memory l
+pub cut_of_memory : {F : Type 0} {a b : State F} {i w : ℕ} (l : Ledger) → StoreStep a b None i w → b.history ≡ a.history → i ≤ l.ids → w ≤ l.words → EndsInPart a b Memory l
 cut_of_memory {a = a} l s h p q = record {
   grows = s.grows;
   honest = tt;
@@ -205,7 +205,7 @@ cut_of_memory {a = a} l s h p q = record {
 
 -- a chain of calls of which the last may have found no memory itself
 pub cut_of_full : {F : Type 0} {a b : State F} {i w : ℕ} (f : StoreFault) (l : Ledger) → StoreStep a b (full_only f) i w → b.history ≡
-    a.history → NeverSlots (full_only f) → i ≤ l.ids → w ≤ l.words → Cut a b f l
+    a.history → NeverSlots (full_only f) → i ≤ l.ids → w ≤ l.words → EndsInPart a b f l
 cut_of_full (Full r) l s h n p q = cut_of_step l s h n p q
 cut_of_full Memory l s h n p q = cut_of_memory l s h p q
 

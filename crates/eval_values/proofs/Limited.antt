@@ -17,26 +17,26 @@ use Rattle.js_texts.specs.declared.faults.MethodFault.TheVariants.{Store as Meth
 use Rattle.js_texts.specs.declared.faults.MethodFault.TheVariants as method
 use Rattle.js_item.specs.declared.item.Item.TheVariants.{Text}
 use Rattle.std.specs.Prelude.{nat_le, if◌then◌else◌, true, false, length}
-use Rattle.eval_values.specs.Ran.{Cut}
+use Rattle.eval_values.specs.Ran.{EndsInPart}
 use Rattle.eval_values.specs.Does.{GivesValue}
 use Rattle.eval_values.proofs.Compose.{cut_of_step, cut_of_full, full_same, ran_of_step, ran_of_text}
 
 -- a method that was refused, of which the result may be too long
 pub within_cut : {F : Type 0} {a b : State F} {f : StoreFault} {i k : ℕ} (limit ids : ℕ) (words : ℕ → ℕ) (w : List ℕ) → StoreStep a b
-    (Some f) i k → b.history ≡ a.history → NeverSlots (Some f) → i ≤ ids → k ≤ words (length w) → k ≤ words 0 → Cut a b f (ledger_of (within limit ids words w))
+    (Some f) i k → b.history ≡ a.history → NeverSlots (Some f) → i ≤ ids → k ≤ words (length w) → k ≤ words 0 → EndsInPart a b f (ledger_of (within limit ids words w))
 within_cut {a = a} {b = b} {f = f} limit ids words w s h n p q r =
-    elim (nat_le (length w) limit) as (λ v. Cut a b f (ledger_of (if v then gives (text w) ids (words (length w)) else throws RangeError ids (words 0)))) [
+    elim (nat_le (length w) limit) as (λ v. EndsInPart a b f (ledger_of (if v then gives (text w) ids (words (length w)) else throws RangeError ids (words 0)))) [
       | true ↦ cut_of_step _ s h n p q
       | false ↦ cut_of_step _ s h n p r
     ]
 
 pub within_full : {F : Type 0} {a b : State F} {f : StoreFault} {i k : ℕ} (limit ids : ℕ) (words : ℕ → ℕ) (w : List ℕ) → StoreStep a b
     (full_part (MethodStore f)) i k → b.history ≡ a.history → NeverSlots (full_part (MethodStore f)) → i ≤ ids → k ≤ words (length w) → k ≤
-    words 0 → Cut a b f (ledger_of (within limit ids words w))
+    words 0 → EndsInPart a b f (ledger_of (within limit ids words w))
 within_full {a = a} {b = b} {f = f} limit ids words w s h n p q r =
     let s' = rw (full_same f) at s in
     let n' = rw (full_same f) at n in
-    elim (nat_le (length w) limit) as (λ v. Cut a b f (ledger_of (if v then gives (text w) ids (words (length w)) else throws RangeError ids (words 0)))) [
+    elim (nat_le (length w) limit) as (λ v. EndsInPart a b f (ledger_of (if v then gives (text w) ids (words (length w)) else throws RangeError ids (words 0)))) [
       | true ↦ cut_of_full f _ s' h n' p q
       | false ↦ cut_of_full f _ s' h n' p r
     ]

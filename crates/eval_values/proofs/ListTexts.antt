@@ -15,7 +15,7 @@ use Rattle.eval_values.specs.declared.value.Stop.TheVariants.{Threw}
 use Rattle.eval_values.specs.Outcome.{gave, ended, threw, ledger_of}
 use Rattle.eval_values.specs.Stops.{stop_of}
 use Rattle.eval_values.specs.Conversions.{list_units, comma_joined, list_string}
-use Rattle.eval_values.specs.Ran.{Cut}
+use Rattle.eval_values.specs.Ran.{EndsInPart}
 use Rattle.eval_values.specs.Does.{GivesText}
 use Rattle.eval_values.proofs.Compose.{ran_of_step}
 use Rattle.eval_values.proofs.Needs.{made_most, made_none, cut_of_part}
@@ -34,7 +34,7 @@ module _ (limit k : ℕ) (us : List (List ℕ)) (q : 4 * k ≤ list_units us + 3
 
 module _ {F : Type 0} {a b : State F} (limit k : ℕ) (us : List (List ℕ)) (h : b.history ≡ a.history) (q : 4 * k ≤ list_units us + 3 * length us) where
   cut_by : (v : Bool) → nat_le (length (comma_joined us)) limit ≡ v → (f : StoreFault) → StoreStep a b (full_part (MethodStore f)) 2
-      (k + made_words limit (comma_joined us) + 1) → NeverSlots (full_part (MethodStore f)) → Cut a b f (ledger_of (if v
+      (k + made_words limit (comma_joined us) + 1) → NeverSlots (full_part (MethodStore f)) → EndsInPart a b f (ledger_of (if v
       then gave (comma_joined us) (record { interned = []; texts = []; ids = parts_ids (length us); words = parts_words (length us) (list_units us + length (comma_joined us)) })
       else ended (threw RangeError) (record { interned = []; texts = []; ids = parts_ids (length us); words = parts_words (length us) (list_units us) })))
   cut_by true e f s n = cut_of_part f _ s h n (ids_fit limit k us q) (words_fit limit k us q)
@@ -43,7 +43,7 @@ module _ {F : Type 0} {a b : State F} (limit k : ℕ) (us : List (List ℕ)) (h 
       cut_of_part f _ s h n (ids_fit limit k us q) (words_fit_long limit k us q l)
 
   list_cut : (f : StoreFault) → StoreStep a b (full_part (MethodStore f)) 2 (k + made_words limit (comma_joined us) + 1) → NeverSlots
-      (full_part (MethodStore f)) → Cut a b f (ledger_of (list_string limit us))
+      (full_part (MethodStore f)) → EndsInPart a b f (ledger_of (list_string limit us))
   list_cut f s n = cut_by (nat_le (length (comma_joined us)) limit) refl f s n
 
   pub list_given : {R : Type 0} (name : R → ℕ) (r : R) → NamesUnits b (name r) (comma_joined us) → length (comma_joined us) ≤ limit →

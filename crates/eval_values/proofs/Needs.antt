@@ -11,7 +11,7 @@ use Rattle.js_store.proofs.Laws.{flat_words_most}
 use Rattle.js_texts.specs.Use.{made_words}
 use Rattle.eval_values.specs.Outcome.{Ledger}
 use Rattle.eval_values.specs.Need.{some_parts}
-use Rattle.eval_values.specs.Ran.{Cut}
+use Rattle.eval_values.specs.Ran.{EndsInPart}
 use Rattle.eval_values.proofs.Compose.{cut_of_step, cut_of_memory}
 use Rattle.std.proofs.Common.{◌*◌, [], ◌∷◌}
 use Rattle.js_store.specs.State.{text}
@@ -36,7 +36,7 @@ made_none limit r l =
 
 -- a method that was refused, or found no memory itself
 pub cut_of_part : {F : Type 0} {a b : State F} {i w : ℕ} (f : StoreFault) (l : Ledger) → StoreStep a b (full_part (MethodStore f)) i w →
-    b.history ≡ a.history → NeverSlots (full_part (MethodStore f)) → i ≤ l.ids → w ≤ l.words → Cut a b f l
+    b.history ≡ a.history → NeverSlots (full_part (MethodStore f)) → i ≤ l.ids → w ≤ l.words → EndsInPart a b f l
 cut_of_part (Full r) l s h n p q = cut_of_step l s h n p q
 cut_of_part Memory l s h n p q = cut_of_memory l s h p q
 

@@ -4,7 +4,7 @@ use Rattle.heap_rule.specs.Maps.{Has}
 use Rattle.heap_rule.specs.declared.view.View.{View}
 use Rattle.heap_table.specs.Known.{KeepsKnown}
 use Rattle.heap_intern.specs.declared.table.faults.TableFull.{TableFull}
-use Rattle.heap_intern.specs.Answers.{Finds, IsInternAnswer, IsFoundAgain, StandsInSlot, copy_plan}
+use Rattle.heap_intern.specs.Answers.{FindsString, IsInternAnswer, IsFoundAgain, StandsInSlot, copy_plan}
 use Rattle.heap_agents.specs.declared.held.Held.{Held}
 use Rattle.heap_agents.specs.Held.{IsHeld, KeepsMarks, MarksOnlyKey, view_by}
 use Rattle.heap_agents.specs.Interned.{HasEntered, KeepsCalls}
@@ -42,7 +42,7 @@ module _ (x y : Held) (m : Option SharedText) (is : y.text ≡ m) (us : List ℕ
     again = there (λ (n : Option SharedText). IsFoundAgain (view_by x) (view_if n) us answer) again;
   }
 
-  pub found_marked : Finds (view_by x) (view_if m) us (Some i) → ((j : ℕ) → Has (view_by x).units j us → StandsInSlot (view_by x) us j → Some i ≡ Some j) → FoundUnits x y us (Some i)
+  pub found_marked : FindsString (view_by x) (view_if m) us (Some i) → ((j : ℕ) → Has (view_by x).units j us → StandsInSlot (view_by x) us j → Some i ≡ Some j) → FoundUnits x y us (Some i)
   found_marked finds again = record {
     held = held;
     same = there (λ (n : Option SharedText). IsSameText x.text n) same;
@@ -51,7 +51,7 @@ module _ (x y : Held) (m : Option SharedText) (is : y.text ≡ m) (us : List ℕ
     known = there (λ (n : Option SharedText). KeepsKnown (view_by x) (view_if n)) known;
     calls = there (λ (n : Option SharedText). KeepsCalls (view_by x) (view_if n)) calls;
     entered = there (λ (n : Option SharedText). HasEntered (view_if n) us i) entered;
-    finds = there (λ (n : Option SharedText). Finds (view_by x) (view_if n) us (Some i)) finds;
+    finds = there (λ (n : Option SharedText). FindsString (view_by x) (view_if n) us (Some i)) finds;
     again = again;
   }
 
@@ -66,7 +66,7 @@ module _ (x : Held) (t u : SharedText) (own : x.text ≡ Some t) (heap : heap_of
   pub held_interned : (r : Result ℕ TableFull) → IsInternAnswer v w us (copy_plan us) r → IsHeld (record x { text = Some u })
   held_interned r i = held_on x t u own heap limit held (known_from v w us (copy_plan us) r i) (calls_from v w us (copy_plan us) r i) (agents_from v w us (copy_plan us) r i)
 
-  pub held_found : (r : Option ℕ) → Finds v w us r → IsHeld (record x { text = Some u })
+  pub held_found : (r : Option ℕ) → FindsString v w us r → IsHeld (record x { text = Some u })
   held_found r i = held_on x t u own heap limit held (known_found v w us r i) (calls_found v w us r i) (agents_found v w us r i)
 
   abbrev pub refusal : TableFull → Result ℕ TableFull
@@ -85,7 +85,7 @@ module _ (x : Held) (t u : SharedText) (own : x.text ≡ Some t) (heap : heap_of
     again = told x t u own (λ (a b : View). IsFoundAgain a b us (refusal f)) again;
   }
 
-  pub missing_units : Finds v w us None → ((j : ℕ) → Has v.units j us → StandsInSlot v us j → None ≡ Some j) → FoundUnits x (record x { text = Some u }) us None
+  pub missing_units : FindsString v w us None → ((j : ℕ) → Has v.units j us → StandsInSlot v us j → None ≡ Some j) → FoundUnits x (record x { text = Some u }) us None
   missing_units i again = record {
     held = held_found None i;
     same = same_text x t u own heap limit;
@@ -94,6 +94,6 @@ module _ (x : Held) (t u : SharedText) (own : x.text ≡ Some t) (heap : heap_of
     known = told x t u own KeepsKnown (known_found v w us None i);
     calls = told x t u own KeepsCalls (calls_found v w us None i);
     entered = tt;
-    finds = told x t u own (λ (a b : View). Finds a b us None) i;
+    finds = told x t u own (λ (a b : View). FindsString a b us None) i;
     again = told x t u own (λ (a b : View). (j : ℕ) → Has a.units j us → StandsInSlot a us j → None ≡ Some j) again;
   }

@@ -4,7 +4,7 @@ use Rattle.heap_rule.specs.Maps.{Has}
 use Rattle.heap_rule.specs.declared.view.View.{View}
 use Rattle.heap_table.specs.Agents.{view_of}
 use Rattle.heap_table.specs.Known.{KeepsKnown}
-use Rattle.heap_intern.specs.Adopted.{Adopts, LoadsHere}
+use Rattle.heap_intern.specs.Adopted.{AdoptsSlot, LoadsHere}
 use Rattle.heap_agents.specs.declared.held.Held.{Held}
 use Rattle.heap_agents.specs.Board.{AdoptedFrom}
 use Rattle.heap_agents.specs.Held.{IsHeld, KeepsMarks, MarksOnlyKey, view_by}
@@ -21,11 +21,11 @@ module _ (x : Held) (t u : SharedText) (own : x.text ≡ Some t) (heap : heap_of
   abbrev pub w : View
   w = view_of u.reader.agent
 
-  pub held_adopted : (r : Option ℕ) → Adopts v w k r → IsHeld (record x { text = Some u })
+  pub held_adopted : (r : Option ℕ) → AdoptsSlot v w k r → IsHeld (record x { text = Some u })
   held_adopted r a = held_on x t u own heap limit held (known_adopted v w k r a) (calls_adopted v w k r a) (agents_adopted v w k r a)
 
   -- the string is marked
-  pub adopted_marked : (i : ℕ) (y : Held) → y.text ≡ Some u → IsHeld y → KeepsMarks (record x { text = Some u }) y → MarksOnlyKey (record x { text = Some u }) y i → Adopts v w k (Some i)
+  pub adopted_marked : (i : ℕ) (y : Held) → y.text ≡ Some u → IsHeld y → KeepsMarks (record x { text = Some u }) y → MarksOnlyKey (record x { text = Some u }) y i → AdoptsSlot v w k (Some i)
       → ((j : ℕ) → Has v.slots k j → Some i ≡ Some j) → LoadsHere v w k 2 → AdoptedFrom x y k (Some i)
   adopted_marked i y is after keeps marked a again loads = let there : (P : Option SharedText → Type 0) → P (Some u) → P y.text = (λ P h. subst P (sym is) h) in record {
     held = after;
@@ -35,13 +35,13 @@ module _ (x : Held) (t u : SharedText) (own : x.text ≡ Some t) (heap : heap_of
     known = there (λ (n : Option SharedText). KeepsKnown (view_by x) (view_if n)) (told x t u own KeepsKnown (known_adopted v w k (Some i) a));
     calls = there (λ (n : Option SharedText). KeepsCalls (view_by x) (view_if n)) (told x t u own KeepsCalls (calls_adopted v w k (Some i) a));
     entered = there (λ (n : Option SharedText). (us : List ℕ) × HasEntered (view_if n) us i) (entered_adopted v w k (Some i) a);
-    adopts = there (λ (n : Option SharedText). Adopts (view_by x) (view_if n) k (Some i)) (told x t u own (λ (a b : View). Adopts a b k (Some i)) a);
+    adopts = there (λ (n : Option SharedText). AdoptsSlot (view_by x) (view_if n) k (Some i)) (told x t u own (λ (a b : View). AdoptsSlot a b k (Some i)) a);
     again = told x t u own (λ (a b : View). (j : ℕ) → Has a.slots k j → Some i ≡ Some j) again;
     loads = there (λ (n : Option SharedText). LoadsHere (view_by x) (view_if n) k 2) (told x t u own (λ (a b : View). LoadsHere a b k 2) loads);
   }
 
   -- the slot was free
-  pub adopted_none : Adopts v w k None → ((j : ℕ) → Has v.slots k j → None ≡ Some j) → LoadsHere v w k 1 → AdoptedFrom x (record x { text = Some u }) k None
+  pub adopted_none : AdoptsSlot v w k None → ((j : ℕ) → Has v.slots k j → None ≡ Some j) → LoadsHere v w k 1 → AdoptedFrom x (record x { text = Some u }) k None
   adopted_none a again loads = record {
     held = held_adopted None a;
     same = same_text x t u own heap limit;
@@ -50,7 +50,7 @@ module _ (x : Held) (t u : SharedText) (own : x.text ≡ Some t) (heap : heap_of
     known = told x t u own KeepsKnown (known_adopted v w k None a);
     calls = told x t u own KeepsCalls (calls_adopted v w k None a);
     entered = tt;
-    adopts = told x t u own (λ (a b : View). Adopts a b k None) a;
+    adopts = told x t u own (λ (a b : View). AdoptsSlot a b k None) a;
     again = told x t u own (λ (a b : View). (j : ℕ) → Has a.slots k j → None ≡ Some j) again;
     loads = told x t u own (λ (a b : View). LoadsHere a b k 1) loads;
   }

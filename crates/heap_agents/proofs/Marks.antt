@@ -26,7 +26,7 @@ use Rattle.heap_agents.specs.declared.ids.IdSet.{IdSet}
 use Rattle.heap_agents.specs.declared.seats.Seats.{Seats}
 use Rattle.heap_agents.specs.Sets.{Covers, IsIn}
 use Rattle.heap_agents.specs.declared.held.Held.{Held}
-use Rattle.heap_agents.specs.Held.{IsHeld, IsMarked, IsSame, KeepsMarks, Leaves, share_by, held_size, view_by}
+use Rattle.heap_agents.specs.Held.{IsHeld, IsMarked, IsSame, KeepsMarks, LeavesStrings, share_by, held_size, view_by}
 use Rattle.heap_agents.specs.Interned.{KeepsCalls}
 use Rattle.heap_agents.specs.Shared.{IsSameText, IsThere, SharedText, TextLeaves, heap_of, share_if, size_if, view_if}
 use Rattle.heap_agents.proofs.Interned.{continued}
@@ -141,7 +141,7 @@ module _ (x : Held) (t u : SharedText) (own : x.text ≡ Some t) (heap : heap_of
       (seats_still x (Some u) held tt same_text (told x t u own KeepsKnown (subst (KeepsKnown (view_of t.reader.agent)) (sym e) known)))
 
 -- a call on strings with the marks left alone
-pub moved : (x : Held) (y : Option SharedText) → IsHeld x → TextLeaves x.text y → Leaves x (record x { text = y })
+pub moved : (x : Held) (y : Option SharedText) → IsHeld x → TextLeaves x.text y → LeavesStrings x (record x { text = y })
 moved x y held l = record {
   held = still x y held l.there l.same l.continues.known.units (continued (view_by x) (view_if y) l.continues) l.continues.agents (seats_still x y held l.there l.same l.continues.known);
   same = l.same;
@@ -150,7 +150,7 @@ moved x y held l = record {
 }
 
 -- the same of a call on the text t, which became the text u
-pub leaves_on : (x : Held) (t u : SharedText) → x.text ≡ Some t → IsHeld x → KeepsText t u → Continues (view_of t.reader.agent) (view_of u.reader.agent) → Leaves x (record x { text = Some u })
+pub leaves_on : (x : Held) (t u : SharedText) → x.text ≡ Some t → IsHeld x → KeepsText t u → Continues (view_of t.reader.agent) (view_of u.reader.agent) → LeavesStrings x (record x { text = Some u })
 leaves_on x t u own held kept c = let heap = ap arc_value kept.heap in record {
   held = held_on x t u own heap kept.limit held c.known (continued (view_of t.reader.agent) (view_of u.reader.agent) c) c.agents;
   same = same_text x t u own heap kept.limit;
@@ -158,7 +158,8 @@ leaves_on x t u own held kept c = let heap = ap arc_value kept.heap in record {
   marks = kept_marks x (Some u);
 }
 
-pub leaves_reads : (x : Held) (t u : SharedText) → x.text ≡ Some t → IsHeld x → KeepsText t u → OnlyLoads (view_of t.reader.agent) (view_of u.reader.agent) → Leaves x (record x { text = Some u })
+pub leaves_reads : (x : Held) (t u : SharedText) → x.text ≡ Some t → IsHeld x → KeepsText t u
+  → OnlyLoads (view_of t.reader.agent) (view_of u.reader.agent) → LeavesStrings x (record x { text = Some u })
 leaves_reads x t u own held kept reads = leaves_on x t u own held kept (continues_reads (view_of t.reader.agent) (view_of u.reader.agent) reads)
 
 -- an id that is known has its place in a set of marks

@@ -2,8 +2,8 @@
 use Rattle.std.specs.Prelude.{◌≡◌, ℕ, ◌<◌, ◌≤◌, ◌+◌, List, Option, Some, None, IfSome}
 use Rattle.heap_rule.specs.Maps.{Has}
 use Rattle.heap_table.specs.Known.{KeepsKnown}
-use Rattle.heap_intern.specs.Adopted.{Adopts, LoadsHere, LoadsNoneBehind, adopting_loads}
-use Rattle.heap_intern.specs.Goes.{Looks}
+use Rattle.heap_intern.specs.Adopted.{AdoptsSlot, LoadsHere, LoadsNoneBehind, adopting_loads}
+use Rattle.heap_intern.specs.Goes.{LoadsAlone}
 use Rattle.heap_intern.specs.SlotLoads.{loads_at}
 use Rattle.heap_agents.specs.declared.held.Held.{Held}
 use Rattle.heap_agents.specs.Held.{IsHeld, IsSame, KeepsMarks, MarksNothing, held_size, view_by}
@@ -20,7 +20,7 @@ pub record AdoptedFrom (x y : Held) (k : ℕ) (r : Option ℕ) : Type 0 where
   pub known : KeepsKnown (view_by x) (view_by y)
   pub calls : KeepsCalls (view_by x) (view_by y)
   pub entered : IfSome r (λ i. (us : List ℕ) × HasEntered (view_by y) us i)
-  pub adopts : Adopts (view_by x) (view_by y) k r
+  pub adopts : AdoptsSlot (view_by x) (view_by y) k r
   pub again : (i : ℕ) → Has (view_by x).slots k i → r ≡ Some i
   pub loads : LoadsHere (view_by x) (view_by y) k (adopting_loads r)
 
@@ -31,7 +31,7 @@ pub record ToldSlot (x y : Held) (i k : ℕ) : Type 0 where
   pub same : IsSame x y
   pub marks : KeepsMarks x y
   pub marked : MarksNothing x y
-  pub looks : Looks (view_by x) (view_by y)
+  pub looks : LoadsAlone (view_by x) (view_by y)
   pub inside : k < (held_size x).slots
   pub stands : Has (view_by y).slots k i
   pub once : (j : ℕ) → loads_at (view_by y) j ≤ loads_at (view_by x) j + 1

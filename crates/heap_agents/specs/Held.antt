@@ -60,7 +60,7 @@ pub record KeepsMarks (x y : Held) : Type 0 where
   pub giver : y.giver ≡ x.giver
 
 -- what a call on strings leaves
-pub record Leaves (x y : Held) : Type 0 where
+pub record LeavesStrings (x y : Held) : Type 0 where
   pub held : IsHeld y
   pub same : IsSame x y
   pub continues : Continues (view_by x) (view_by y)
@@ -94,7 +94,7 @@ MarksSettled x y s (Ok t) = MarksOnly x y s
 MarksSettled x y s (Err e) = MarksNothing x y
 
 -- what a search leaves
-pub record Searched (x y : Held) : Type 0 where
+pub record LeavesSearched (x y : Held) : Type 0 where
   pub held : IsHeld y
   pub same : IsSame x y
   pub strings : KeepsStrings (view_by x) (view_by y)

@@ -3,7 +3,7 @@ use Rattle.std.specs.Prelude.{◌≡◌, ℕ, List, Option, Some, None, Result, 
 use Rattle.heap_rule.specs.Maps.{Has}
 use Rattle.heap_table.specs.Known.{KeepsKnown}
 use Rattle.heap_intern.specs.declared.table.faults.TableFull.{TableFull}
-use Rattle.heap_intern.specs.Answers.{Finds, IsInternAnswer, IsFoundAgain, StandsInSlot, copy_plan}
+use Rattle.heap_intern.specs.Answers.{FindsString, IsInternAnswer, IsFoundAgain, StandsInSlot, copy_plan}
 use Rattle.heap_agents.specs.declared.held.Held.{Held}
 use Rattle.heap_agents.specs.Held.{IsHeld, IsSame, KeepsMarks, MarksNothing, MarksOnlyKey, view_by}
 use Rattle.heap_agents.specs.Interned.{HasEntered, KeepsCalls}
@@ -41,7 +41,7 @@ pub record FoundUnits (x y : Held) (us : List ℕ) (r : Option ℕ) : Type 0 whe
   pub known : KeepsKnown (view_by x) (view_by y)
   pub calls : KeepsCalls (view_by x) (view_by y)
   pub entered : IfSome r (λ i. HasEntered (view_by y) us i)
-  pub finds : Finds (view_by x) (view_by y) us r
+  pub finds : FindsString (view_by x) (view_by y) us r
   pub again : (i : ℕ) → Has (view_by x).units i us → StandsInSlot (view_by x) us i → r ≡ Some i
 
 -- the same of what lies behind a handle, where something does

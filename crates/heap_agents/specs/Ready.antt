@@ -5,7 +5,7 @@ use Rattle.heap_rule.specs.declared.size.HeapSize.{HeapSize}
 use Rattle.heap_rule.specs.declared.view.View.{View}
 use Rattle.heap_agents.specs.Sets.{IsIn}
 use Rattle.heap_agents.specs.declared.held.Held.{Held}
-use Rattle.heap_agents.specs.Held.{IsHeld, IsSame, KeepsMarks, Leaves, Searched, limit_by, share_by}
+use Rattle.heap_agents.specs.Held.{IsHeld, IsSame, KeepsMarks, LeavesStrings, LeavesSearched, limit_by, share_by}
 use Rattle.heap_agents.specs.Held.{held_size, view_by}
 
 -- a handle that a call may be made with
@@ -51,12 +51,12 @@ MarksStay (Some x) (Some y) = KeepsMarks x y
 abbrev pub HandleLeaves : Option Held → Option Held → Type 0
 HandleLeaves None _ = ⊥
 HandleLeaves (Some x) None = ⊥
-HandleLeaves (Some x) (Some y) = Leaves x y
+HandleLeaves (Some x) (Some y) = LeavesStrings x y
 
-abbrev pub Searches : Option Held → Option Held → Type 0
-Searches None _ = ⊥
-Searches (Some x) None = ⊥
-Searches (Some x) (Some y) = Searched x y
+abbrev pub HandleSearches : Option Held → Option Held → Type 0
+HandleSearches None _ = ⊥
+HandleSearches (Some x) None = ⊥
+HandleSearches (Some x) (Some y) = LeavesSearched x y
 
 -- the agent may use this id: no other is answered by a call, nor comes from a join
 abbrev pub HandleKnows : Option Held → ℕ → Type 0

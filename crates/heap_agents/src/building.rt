@@ -3,8 +3,8 @@ ghost use Rattle.std.specs.Prelude.{◌≡◌, ◌≤◌, ℕ, List};
 ghost use Rattle.heap_rule.specs.Maps.{Has, HasKey};
 ghost use Rattle.heap_rule.specs.Views.{IsSeenSettled};
 ghost use Rattle.heap_read.specs.Reads.{OnlyLoads};
-ghost use Rattle.heap_build.specs.Built.{Adds, room_in};
-ghost use Rattle.heap_agents.specs.Held.{IsHeld, Leaves, MarksNothing, view_by};
+ghost use Rattle.heap_build.specs.Built.{AddsUnits, room_in};
+ghost use Rattle.heap_agents.specs.Held.{IsHeld, LeavesStrings, MarksNothing, view_by};
 
 use crate::held::Held;
 use heap_build::{BuildFault, Builder};
@@ -16,11 +16,11 @@ impl Held {
         requires held { IsHeld self.old }
         requires known { HasKey (view_by self.old).units s.id }
         requires settled { IsSeenSettled (view_by self.old) s.id }
-        ensures leaves { Leaves self.old self.new }
+        ensures leaves { LeavesStrings self.old self.new }
         ensures reads { OnlyLoads (view_by self.old) (view_by self.new) }
         ensures marked { MarksNothing self.old self.new }
         ensures added { (us : List ℕ) → Has (view_by self.old).units s.id us
-            → Adds out.old out.new us result }
+            → AddsUnits out.old out.new us result }
         ensures room { room_in out.old ≤ room_in out.new }
     {
         match &mut self.text {

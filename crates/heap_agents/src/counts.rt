@@ -4,7 +4,7 @@ ghost use Rattle.heap_rule.specs.declared.size.Counter.TheVariants as counter;
 ghost use Rattle.heap_rule.specs.Claims.{loaded_counter};
 ghost use Rattle.heap_rule.specs.Views.{history};
 ghost use Rattle.heap_intern.specs.Counting.{different};
-ghost use Rattle.heap_intern.specs.Goes.{Looks};
+ghost use Rattle.heap_intern.specs.Goes.{LoadsAlone};
 ghost use Rattle.heap_agents.specs.Held.{IsHeld, IsSame, KeepsMarks, share_by, view_by};
 
 use crate::held::Held;
@@ -56,7 +56,7 @@ impl Held {
         ensures held { IsHeld self.new }
         ensures same { IsSame self.old self.new }
         ensures marks { KeepsMarks self.old self.new }
-        ensures looks { Looks (view_by self.old) (view_by self.new) }
+        ensures looks { LoadsAlone (view_by self.old) (view_by self.new) }
         ensures count { result ≡ different (history (view_by self.old)) }
     {
         match &mut self.text {

@@ -6,8 +6,8 @@ ghost use Rattle.heap_rule.specs.Layout.{MAX};
 ghost use Rattle.heap_rule.specs.Maps.{Has, HasKey};
 ghost use Rattle.heap_rule.specs.Views.{IsSeenSettled};
 ghost use Rattle.heap_text.specs.Joins.{IsCut, IsJoined};
-ghost use Rattle.heap_text.specs.Texts.{IsSpared, KeepsOwn, Told, UsesExactly};
-ghost use Rattle.heap_agents.specs.Held.{IsHeld, Leaves, MarksMade, limit_by, held_size, view_by};
+ghost use Rattle.heap_text.specs.Texts.{IsSpared, KeepsOwn, LacksRoom, UsesExactly};
+ghost use Rattle.heap_agents.specs.Held.{IsHeld, LeavesStrings, MarksMade, limit_by, held_size, view_by};
 
 use crate::held::Held;
 use heap_text::{JoinFault, JsStr, TextFull};
@@ -17,7 +17,7 @@ impl Held {
     pub fn from_units(&mut self, units: &[u16]) -> Result<JsStr, TextFull>
         requires held { IsHeld self.old }
         requires short { length units.now ≤ MAX }
-        ensures leaves { Leaves self.old self.new }
+        ensures leaves { LeavesStrings self.old self.new }
         ensures own { KeepsOwn (view_by self.old) (view_by self.new) }
         ensures marked { MarksMade self.old self.new result }
         ensures units { IfOk result (λ s. Has (view_by self.new).units s.id units.now) }
@@ -26,7 +26,7 @@ impl Held {
             (λ s. UsesExactly (view_by self.old) (view_by self.new) 1
             (words_over (is_wide units.now) (length units.now))) }
         ensures refused { IfErr result
-            (λ f. Told (view_by self.new) (held_size self.old)
+            (λ f. LacksRoom (view_by self.new) (held_size self.old)
             (words_over (is_wide units.now) (length units.now)) f) }
         ensures spared { IfErr result
             (λ f. IsSpared (view_by self.old) (view_by self.new)
@@ -46,7 +46,7 @@ impl Held {
         requires held { IsHeld self.old }
         requires known { HasKey (view_by self.old).units a.id
             × HasKey (view_by self.old).units b.id }
-        ensures leaves { Leaves self.old self.new }
+        ensures leaves { LeavesStrings self.old self.new }
         ensures own { KeepsOwn (view_by self.old) (view_by self.new) }
         ensures marked { MarksMade self.old self.new result }
         ensures units { IfOk result
@@ -73,7 +73,7 @@ impl Held {
         requires settled { IsSeenSettled (view_by self.old) s.id }
         requires within { (us : List ℕ) × Has (view_by self.old).units s.id us × (from ≤ to)
             × (to ≤ length us) }
-        ensures leaves { Leaves self.old self.new }
+        ensures leaves { LeavesStrings self.old self.new }
         ensures own { KeepsOwn (view_by self.old) (view_by self.new) }
         ensures marked { MarksMade self.old self.new result }
         ensures units { IfOk result

@@ -8,7 +8,7 @@ ghost use Rattle.heap_rule.specs.Maps.{Has, HasKey};
 ghost use Rattle.heap_rule.specs.Views.{IsSeenSettled};
 ghost use Rattle.heap_read.specs.Reads.{OnlyLoads};
 ghost use Rattle.heap_export.specs.Index.{IsArrayIndex};
-ghost use Rattle.heap_agents.specs.Held.{IsHeld, Leaves, MarksNothing, view_by};
+ghost use Rattle.heap_agents.specs.Held.{IsHeld, LeavesStrings, MarksNothing, view_by};
 ghost use Rattle.heap_export.specs.Encoded.{IsEncodedInto, bytes_of, past_latin1, refused};
 ghost use Rattle.js_search.specs.Order.{units_cmp};
 
@@ -23,7 +23,7 @@ impl Held {
         requires held { IsHeld self.old }
         requires settled { IsSeenSettled (view_by self.old) s.id }
         requires within { (us : List ℕ) × Has (view_by self.old).units s.id us × (i < length us) }
-        ensures leaves { Leaves self.old self.new }
+        ensures leaves { LeavesStrings self.old self.new }
         ensures reads { OnlyLoads (view_by self.old) (view_by self.new) }
         ensures marked { MarksNothing self.old self.new }
         ensures unit { (us : List ℕ) → Has (view_by self.old).units s.id us → result ≡ slice_index us i }
@@ -39,7 +39,7 @@ impl Held {
         requires held { IsHeld self.old }
         requires known { HasKey (view_by self.old).units s.id }
         requires settled { IsSeenSettled (view_by self.old) s.id }
-        ensures leaves { Leaves self.old self.new }
+        ensures leaves { LeavesStrings self.old self.new }
         ensures reads { OnlyLoads (view_by self.old) (view_by self.new) }
         ensures marked { MarksNothing self.old self.new }
         ensures hash { (us : List ℕ) → Has (view_by self.old).units s.id us → result ≡ hash_of us }
@@ -55,7 +55,7 @@ impl Held {
         requires held { IsHeld self.old }
         requires known { HasKey (view_by self.old).units s.id }
         requires settled { IsSeenSettled (view_by self.old) s.id }
-        ensures leaves { Leaves self.old self.new }
+        ensures leaves { LeavesStrings self.old self.new }
         ensures reads { OnlyLoads (view_by self.old) (view_by self.new) }
         ensures marked { MarksNothing self.old self.new }
         ensures index { (us : List ℕ) → Has (view_by self.old).units s.id us → IsArrayIndex us result }
@@ -70,7 +70,7 @@ impl Held {
     pub fn is_settled(&mut self, s: JsStr) -> bool
         requires held { IsHeld self.old }
         requires known { HasKey (view_by self.old).units s.id }
-        ensures leaves { Leaves self.old self.new }
+        ensures leaves { LeavesStrings self.old self.new }
         ensures reads { OnlyLoads (view_by self.old) (view_by self.new) }
         ensures marked { MarksNothing self.old self.new }
         ensures seen { (f : form.Form) × Has (view_by self.new).forms s.id f × (IsTrue result ↔ ¬ IsCons f) }
@@ -93,7 +93,7 @@ impl Held {
         requires held { IsHeld self.old }
         requires known { HasKey (view_by self.old).units s.id }
         requires settled { IsSeenSettled (view_by self.old) s.id }
-        ensures leaves { Leaves self.old self.new }
+        ensures leaves { LeavesStrings self.old self.new }
         ensures reads { OnlyLoads (view_by self.old) (view_by self.new) }
         ensures marked { MarksNothing self.old self.new }
         ensures written { (us : List ℕ) → Has (view_by self.old).units s.id us
@@ -111,7 +111,7 @@ impl Held {
         requires held { IsHeld self.old }
         requires known { HasKey (view_by self.old).units s.id }
         requires settled { IsSeenSettled (view_by self.old) s.id }
-        ensures leaves { Leaves self.old self.new }
+        ensures leaves { LeavesStrings self.old self.new }
         ensures reads { OnlyLoads (view_by self.old) (view_by self.new) }
         ensures marked { MarksNothing self.old self.new }
         ensures written { (us : List ℕ) → Has (view_by self.old).units s.id us
@@ -129,7 +129,7 @@ impl Held {
         requires held { IsHeld self.old }
         requires known { HasKey (view_by self.old).units s.id }
         requires settled { IsSeenSettled (view_by self.old) s.id }
-        ensures leaves { Leaves self.old self.new }
+        ensures leaves { LeavesStrings self.old self.new }
         ensures reads { OnlyLoads (view_by self.old) (view_by self.new) }
         ensures marked { MarksNothing self.old self.new }
         ensures written { (us : List ℕ) → Has (view_by self.old).units s.id us
@@ -146,7 +146,7 @@ impl Held {
         requires held { IsHeld self.old }
         requires known { HasKey (view_by self.old).units s.id }
         requires settled { IsSeenSettled (view_by self.old) s.id }
-        ensures leaves { Leaves self.old self.new }
+        ensures leaves { LeavesStrings self.old self.new }
         ensures reads { OnlyLoads (view_by self.old) (view_by self.new) }
         ensures marked { MarksNothing self.old self.new }
         ensures order { (us : List ℕ) → Has (view_by self.old).units s.id us
@@ -163,7 +163,7 @@ impl Held {
         requires held { IsHeld self.old }
         requires known { HasKey (view_by self.old).units s.id }
         requires settled { IsSeenSettled (view_by self.old) s.id }
-        ensures leaves { Leaves self.old self.new }
+        ensures leaves { LeavesStrings self.old self.new }
         ensures reads { OnlyLoads (view_by self.old) (view_by self.new) }
         ensures marked { MarksNothing self.old self.new }
         ensures same { (us : List ℕ) → Has (view_by self.old).units s.id us

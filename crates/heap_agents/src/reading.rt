@@ -7,7 +7,7 @@ ghost use Rattle.heap_table.specs.Agents.{view_of};
 ghost use Rattle.heap_text.specs.Keeping.{KeepsText};
 ghost use Rattle.heap_text.specs.Settling.{IsBitOf, IsNoRoom, IsSettling};
 ghost use Rattle.heap_text.specs.Texts.{KeepsOwn};
-ghost use Rattle.heap_agents.specs.Held.{IsHeld, Leaves, MarksNothing, MarksSettled, held_size, view_by};
+ghost use Rattle.heap_agents.specs.Held.{IsHeld, LeavesStrings, MarksNothing, MarksSettled, held_size, view_by};
 
 use crate::held::Held;
 use heap_read::HeapRef;
@@ -32,7 +32,7 @@ impl Held {
     pub fn length(&mut self, s: JsStr) -> u32
         requires held { IsHeld self.old }
         requires known { HasKey (view_by self.old).units s.id }
-        ensures leaves { Leaves self.old self.new }
+        ensures leaves { LeavesStrings self.old self.new }
         ensures reads { OnlyLoads (view_by self.old) (view_by self.new) }
         ensures marked { MarksNothing self.old self.new }
         ensures forms { KeepsForms (view_by self.old) (view_by self.new) }
@@ -49,7 +49,7 @@ impl Held {
     pub fn settle(&mut self, s: JsStr) -> Result<(), TextFull>
         requires held { IsHeld self.old }
         requires known { HasKey (view_by self.old).units s.id }
-        ensures leaves { Leaves self.old self.new }
+        ensures leaves { LeavesStrings self.old self.new }
         ensures own { KeepsOwn (view_by self.old) (view_by self.new) }
         ensures marked { MarksSettled self.old self.new s.id result }
         ensures settled { IfOk result (λ u. IsSeenSettled (view_by self.new) s.id) }
@@ -78,7 +78,7 @@ impl Held {
         requires settled { IsSeenSettled (view_by self.old) s.id }
         requires within { (us : List ℕ) × Has (view_by self.old).units s.id us
             × (from + length out.old ≤ length us) }
-        ensures leaves { Leaves self.old self.new }
+        ensures leaves { LeavesStrings self.old self.new }
         ensures reads { OnlyLoads (view_by self.old) (view_by self.new) }
         ensures marked { MarksNothing self.old self.new }
         ensures units { (us : List ℕ) → Has (view_by self.old).units s.id us

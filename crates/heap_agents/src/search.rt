@@ -4,8 +4,8 @@ ghost use Rattle.std.specs.Prelude.{◌≡◌, Some, ◌↔◌, ℕ, ◌≤◌, 
 ghost use Rattle.heap_rule.specs.Maps.{Has};
 ghost use Rattle.heap_read.specs.Reads.{OnlyLoads};
 ghost use Rattle.js_search.specs.Order.{units_cmp};
-ghost use Rattle.js_search.specs.Places.{IsFirst, IsLast, Stands, first, last, stands};
-ghost use Rattle.heap_agents.specs.Held.{IsHeld, Searched, view_by, without_text};
+ghost use Rattle.js_search.specs.Places.{IsFirst, IsLast, IsPartAt, first, last, stands};
+ghost use Rattle.heap_agents.specs.Held.{IsHeld, LeavesSearched, view_by, without_text};
 ghost use Rattle.heap_agents.specs.Searched.{IsOrder, IsSearchable};
 
 use crate::held::Held;
@@ -35,7 +35,7 @@ impl Held {
         requires held { IsHeld self.old }
         requires left { IsSearchable (view_by self.old) a.id }
         requires right { IsSearchable (view_by self.old) b.id }
-        ensures searched { Searched self.old self.new }
+        ensures searched { LeavesSearched self.old self.new }
         ensures order { (us vs : List ℕ) → Has (view_by self.old).units a.id us
             → Has (view_by self.old).units b.id vs
             → result ≡ units_cmp us vs }
@@ -55,7 +55,7 @@ impl Held {
         requires held { IsHeld self.old }
         requires left { IsSearchable (view_by self.old) a.id }
         requires right { IsSearchable (view_by self.old) b.id }
-        ensures searched { Searched self.old self.new }
+        ensures searched { LeavesSearched self.old self.new }
         ensures value { (us vs : List ℕ) → Has (view_by self.old).units a.id us
             → Has (view_by self.old).units b.id vs
             → IsTrue result ↔ (us ≡ vs) }
@@ -72,10 +72,10 @@ impl Held {
         requires held { IsHeld self.old }
         requires left { IsSearchable (view_by self.old) hay.id }
         requires right { IsSearchable (view_by self.old) needle.id }
-        ensures searched { Searched self.old self.new }
+        ensures searched { LeavesSearched self.old self.new }
         ensures stands { (us vs : List ℕ) → Has (view_by self.old).units hay.id us
             → Has (view_by self.old).units needle.id vs
-            → IsTrue result ↔ Stands us vs at }
+            → IsTrue result ↔ IsPartAt us vs at }
         ensures test { (us vs : List ℕ) → Has (view_by self.old).units hay.id us
             → Has (view_by self.old).units needle.id vs
             → result ≡ stands us vs at }
@@ -95,7 +95,7 @@ impl Held {
         requires left { IsSearchable (view_by self.old) hay.id }
         requires right { IsSearchable (view_by self.old) needle.id }
         requires within { (us : List ℕ) × Has (view_by self.old).units hay.id us × (from ≤ length us) }
-        ensures searched { Searched self.old self.new }
+        ensures searched { LeavesSearched self.old self.new }
         ensures least { (us vs : List ℕ) → Has (view_by self.old).units hay.id us
             → Has (view_by self.old).units needle.id vs
             → IsFirst us vs from result }
@@ -117,7 +117,7 @@ impl Held {
         requires held { IsHeld self.old }
         requires left { IsSearchable (view_by self.old) hay.id }
         requires right { IsSearchable (view_by self.old) needle.id }
-        ensures searched { Searched self.old self.new }
+        ensures searched { LeavesSearched self.old self.new }
         ensures greatest { (us vs : List ℕ) → Has (view_by self.old).units hay.id us
             → Has (view_by self.old).units needle.id vs
             → IsLast us vs limit result }

@@ -8,8 +8,8 @@ ghost use Rattle.heap_rule.specs.Maps.{Has, HasKey};
 ghost use Rattle.heap_rule.specs.Views.{IsSeenSettled};
 ghost use Rattle.heap_read.specs.Reads.{OnlyLoads};
 ghost use Rattle.heap_bytes.specs.Spellings.{IsReadable, spelling_units};
-ghost use Rattle.heap_text.specs.Texts.{IsSpared, KeepsOwn, Told, UsesExactly};
-ghost use Rattle.heap_agents.specs.Held.{IsHeld, Leaves, MarksMade, MarksNothing, held_size, view_by};
+ghost use Rattle.heap_text.specs.Texts.{IsSpared, KeepsOwn, LacksRoom, UsesExactly};
+ghost use Rattle.heap_agents.specs.Held.{IsHeld, LeavesStrings, MarksMade, MarksNothing, held_size, view_by};
 ghost use Rattle.heap_agents.specs.Keys.{FoundUnits, InternedUnits};
 
 use crate::held::Held;
@@ -24,7 +24,7 @@ impl Held {
         requires held { IsHeld self.old }
         requires read { IsReadable source.now }
         requires short { length (spelling_units source.now) ≤ MAX }
-        ensures leaves { Leaves self.old self.new }
+        ensures leaves { LeavesStrings self.old self.new }
         ensures own { KeepsOwn (view_by self.old) (view_by self.new) }
         ensures marked { MarksMade self.old self.new result }
         ensures units { IfOk result (λ s. Has (view_by self.new).units s.id (spelling_units source.now)) }
@@ -33,7 +33,7 @@ impl Held {
             (λ s. UsesExactly (view_by self.old) (view_by self.new) 1
             (words_over (is_wide (spelling_units source.now)) (length (spelling_units source.now)))) }
         ensures refused { IfErr result
-            (λ f. Told (view_by self.new) (held_size self.old)
+            (λ f. LacksRoom (view_by self.new) (held_size self.old)
             (words_over (is_wide (spelling_units source.now)) (length (spelling_units source.now))) f) }
         ensures spared { IfErr result
             (λ f. IsSpared (view_by self.old) (view_by self.new)
@@ -92,7 +92,7 @@ impl Held {
         requires known { HasKey (view_by self.old).units s.id }
         requires settled { IsSeenSettled (view_by self.old) s.id }
         requires read { IsReadable source.now }
-        ensures leaves { Leaves self.old self.new }
+        ensures leaves { LeavesStrings self.old self.new }
         ensures reads { OnlyLoads (view_by self.old) (view_by self.new) }
         ensures marked { MarksNothing self.old self.new }
         ensures order { (us : List ℕ) → Has (view_by self.old).units s.id us
@@ -110,7 +110,7 @@ impl Held {
         requires known { HasKey (view_by self.old).units s.id }
         requires settled { IsSeenSettled (view_by self.old) s.id }
         requires read { IsReadable source.now }
-        ensures leaves { Leaves self.old self.new }
+        ensures leaves { LeavesStrings self.old self.new }
         ensures reads { OnlyLoads (view_by self.old) (view_by self.new) }
         ensures marked { MarksNothing self.old self.new }
         ensures same { (us : List ℕ) → Has (view_by self.old).units s.id us

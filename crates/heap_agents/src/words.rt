@@ -7,7 +7,7 @@ ghost use Rattle.heap_rule.specs.Maps.{Has, HasKey};
 ghost use Rattle.heap_rule.specs.Views.{IsSeenSettled};
 ghost use Rattle.heap_table.specs.Agents.{view_of};
 ghost use Rattle.heap_text.specs.Keeping.{KeepsText};
-ghost use Rattle.heap_agents.specs.Held.{IsHeld, Leaves, MarksNothing, view_by};
+ghost use Rattle.heap_agents.specs.Held.{IsHeld, LeavesStrings, MarksNothing, view_by};
 ghost use Rattle.heap_agents.specs.Words.{AreShown, AreThere};
 
 use crate::held::Held;
@@ -76,7 +76,7 @@ impl Held {
         requires held { IsHeld self.old }
         requires known { HasKey (view_by self.old).units s.id }
         requires settled { IsSeenSettled (view_by self.old) s.id }
-        ensures leaves { Leaves self.old self.new }
+        ensures leaves { LeavesStrings self.old self.new }
         ensures reads { OnlyLoads (view_by self.old) (view_by self.new) }
         ensures marked { MarksNothing self.old self.new }
         ensures shown { (us : List ℕ) → Has (view_by self.old).units s.id us

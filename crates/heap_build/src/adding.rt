@@ -4,7 +4,7 @@ ghost use Rattle.std.specs.Str.{chars};
 ghost use Rattle.heap_rule.specs.Layout.{MAX};
 ghost use Rattle.js_number.specs.Arith.{text_of};
 ghost use Rattle.js_number.specs.declared.Num.TheVariants.{Int};
-ghost use Rattle.heap_build.specs.Built.{Adds, AddsSpelled, room_in, units_so_far};
+ghost use Rattle.heap_build.specs.Built.{AddsUnits, AddsSpelled, room_in, units_so_far};
 ghost use Rattle.heap_bytes.specs.Points.{IsMeasured};
 ghost use Rattle.heap_build.specs.Spells.{spells};
 ghost use Rattle.heap_build.specs.Room.{HasRoom};
@@ -65,7 +65,7 @@ impl Builder {
 
     /// Adds units, all or none.
     pub fn push_units(&mut self, units: &[u16]) -> Result<(), BuildFault>
-        ensures added { Adds self.old self.new units.now result }
+        ensures added { AddsUnits self.old self.new units.now result }
         ensures room { room_in self.old ≤ room_in self.new }
     {
         if units.len() > MAX as usize - self.units.len() {
@@ -79,7 +79,7 @@ impl Builder {
 
     /// Adds a unit for each byte, all or none, as Latin-1 has it.
     pub fn push_latin1(&mut self, bytes: &[u8]) -> Result<(), BuildFault>
-        ensures added { Adds self.old self.new bytes.now result }
+        ensures added { AddsUnits self.old self.new bytes.now result }
         ensures room { room_in self.old ≤ room_in self.new }
     {
         match self.make_room(bytes.len()) {
@@ -94,7 +94,7 @@ impl Builder {
     /// Adds the decimal digits of a number, with a sign where it is negative (ECMA-262, "Number::toString", of whole
     /// numbers below 2^53).
     pub fn push_number(&mut self, number: i64) -> Result<(), BuildFault>
-        ensures added { Adds self.old self.new (text_of (Int number)) result }
+        ensures added { AddsUnits self.old self.new (text_of (Int number)) result }
         ensures room { room_in self.old ≤ room_in self.new }
     {
         let mut buffer = Buffer::new();
@@ -143,7 +143,7 @@ impl Builder {
         count: usize,
     ) -> Result<(), BuildFault>
         requires { IsMeasured encoding bytes.now (Ok count) }
-        ensures added { Adds self.old self.new (utf16 (chars bytes.now)) result }
+        ensures added { AddsUnits self.old self.new (utf16 (chars bytes.now)) result }
         ensures room { room_in self.old ≤ room_in self.new }
     {
         match self.make_room(count) {

@@ -7,7 +7,7 @@ ghost use Rattle.heap_read.specs.Reads.{KeepsForms, OnlyLoads};
 ghost use Rattle.heap_read.specs.Sides.{LoadsFewForms};
 ghost use Rattle.heap_read.specs.Windows.{IsWindow};
 ghost use Rattle.heap_text.specs.Keeping.{KeepsText};
-ghost use Rattle.heap_build.specs.Built.{Adds, room_in};
+ghost use Rattle.heap_build.specs.Built.{AddsUnits, room_in};
 
 use crate::builder::Builder;
 use crate::faults::BuildFault;
@@ -23,7 +23,7 @@ impl Builder {
         ensures reads { OnlyLoads (view_of text.old.reader.agent) (view_of text.new.reader.agent) }
         ensures few { LoadsFewForms (view_of text.old.reader.agent) (view_of text.new.reader.agent) 3 }
         ensures added { (us : List ℕ) → Has (view_of text.old.reader.agent).units s.id us
-            → Adds self.old self.new us result }
+            → AddsUnits self.old self.new us result }
         ensures room { room_in self.old ≤ room_in self.new }
     {
         let window = text.window(s);

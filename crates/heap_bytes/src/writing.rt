@@ -6,8 +6,8 @@ ghost use Rattle.heap_rule.specs.Maps.{Has, HasKey};
 ghost use Rattle.heap_table.specs.Agents.{size_of};
 ghost use Rattle.heap_table.specs.Full.{IsFull};
 ghost use Rattle.heap_read.specs.Filling.{IsFilled, own_word};
-ghost use Rattle.heap_read.specs.Readers.{Moves, view_in};
-ghost use Rattle.heap_read.specs.Reads.{Continues, KeepsBelow, KeepsBeside, KeepsForms, KeepsFrom, Writes};
+ghost use Rattle.heap_read.specs.Readers.{MovesView, view_in};
+ghost use Rattle.heap_read.specs.Reads.{Continues, KeepsBelow, KeepsBeside, KeepsForms, KeepsFrom, WritesOwnWords};
 ghost use Rattle.heap_read.specs.Sources.{FitsLanes};
 ghost use Rattle.heap_read.specs.Written.{AreWords, IsWritten};
 ghost use Rattle.heap_bytes.specs.Spellings.{IsReadable, spelling_units};
@@ -24,7 +24,7 @@ fn fill_spelled<H: HeapRef>(reader: &mut Reader<H>, source: &Spelling, to: Run)
     requires own { (o : ℕ) → o < length (spelling_units source.now)
         → HasKey (view_in reader.old).own_words (to.start + o / lane_count to.wide) }
     requires fits { FitsLanes to.wide (spelling_units source.now) }
-    ensures writes { Moves Writes reader.old reader.new }
+    ensures writes { MovesView WritesOwnWords reader.old reader.new }
     ensures below { KeepsBelow to.start (view_in reader.old) (view_in reader.new) }
     ensures above { KeepsFrom (to.start + words_over to.wide (length (spelling_units source.now)))
         (view_in reader.old) (view_in reader.new) }
@@ -55,7 +55,7 @@ pub fn write_spelled<H: HeapRef>(
     requires count { length (spelling_units source.now) ≡ n }
     requires wide { wide ≡ is_wide (spelling_units source.now) }
     requires short { n ≤ MAX }
-    ensures continues { Moves Continues reader.old reader.new }
+    ensures continues { MovesView Continues reader.old reader.new }
     ensures ids { (view_in reader.new).used.ids ≡ (view_in reader.old).used.ids }
     ensures own_ids { (view_in reader.new).own_ids ≡ (view_in reader.old).own_ids }
     ensures own_words { (c : ℕ) → HasKey (view_in reader.old).own_words c
@@ -95,7 +95,7 @@ pub fn spell_at<H: HeapRef>(
     requires wide { wide ≡ is_wide (spelling_units source.now) }
     requires short { n ≤ MAX }
     requires own { (q : ℕ) → q < words_over wide n → Has (view_in reader.old).own_words (start + q) 0 }
-    ensures writes { Moves Writes reader.old reader.new }
+    ensures writes { MovesView WritesOwnWords reader.old reader.new }
     ensures forms { KeepsForms (view_in reader.old) (view_in reader.new) }
     ensures written { AreWords (view_in reader.new) wide start (spelling_units source.now)
         (words_over wide n) }

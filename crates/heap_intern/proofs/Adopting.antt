@@ -28,7 +28,7 @@ use Rattle.heap_read.specs.Reads.{HoldsForms}
 use Rattle.heap_read.specs.Windows.{IsWindow}
 use Rattle.heap_intern.specs.Adopted.{IsAdopted, LoadsHere, LoadsNoneBehind}
 use Rattle.heap_intern.specs.Answers.{IsFixed}
-use Rattle.heap_intern.specs.Goes.{Looks}
+use Rattle.heap_intern.specs.Goes.{LoadsAlone}
 use Rattle.heap_intern.specs.SlotLoads.{counted_on, loads_at}
 use Rattle.heap_intern.proofs.Going.{forms_trans, goes_slot, goes_trans, looks_trans}
 use Rattle.heap_intern.proofs.Loading.{Walking, on_most, walking_next, walking_none}
@@ -74,7 +74,7 @@ fixed_shows v p i t us h u = let n : t.len ≡ length us = possible_length v p i
 }
 
 -- the load of its slot that enters the call
-pub adopted_by : (u v w : View) (k i x : ℕ) → IsPossible v → Looks u v → Has v.slots k i → (t : Window) → IsFixedWindow v i t → HasKey
+pub adopted_by : (u v w : View) (k i x : ℕ) → IsPossible v → LoadsAlone u v → Has v.slots k i → (t : Window) → IsFixedWindow v i t → HasKey
     v.units i → KeepsKnown v w → w ≡ learned_all (loaded_slot v k (entry_in v k) x) → IsAdopted u w k i
 adopted_by u v w k i x p l there t h known kept e = let us = has_key v.units i known in let go = goes_slot v w k x (entry_in v k) ((us.0, i) ∷ []) (entered_is v k i us.0 there us.1) kept e in record {
   units = us.0;
@@ -84,7 +84,7 @@ adopted_by u v w k i x p l there t h known kept e = let us = has_key v.units i k
   stands = kept.slots k i there;
 }
 
-pub adopted_after : (a v w : View) (k i : ℕ) → Looks a v → IsAdopted v w k i → IsAdopted a w k i
+pub adopted_after : (a v w : View) (k i : ℕ) → LoadsAlone a v → IsAdopted v w k i → IsAdopted a w k i
 adopted_after a v w k i l h = record {
   units = h.units;
   goes = goes_trans a v w [] ((h.units, i) ∷ []) l.goes h.goes;
@@ -110,12 +110,12 @@ called_slot v p u i c = ∥∥₁_elim p (λ a b. Σ_prop_path (λ k. Prim.hleve
 
 -- The walk to a string's slot, which it has not passed when it comes to the slot of rank r.
 pub record IsAhead (a v : View) (us : List ℕ) (i r : ℕ) : Type 0 where
-  pub looks : Looks a v
+  pub looks : LoadsAlone a v
   pub forms : HoldsForms a v
   pub ahead : (k : ℕ) → Has a.slots k i → r ≤ rank us a.sizes.slots k
   pub walking : Walking a v us r 0 r
 
-pub ahead_first : (a : View) (us : List ℕ) (i : ℕ) → Looks a a → HoldsForms a a → IsAhead a a us i 0
+pub ahead_first : (a : View) (us : List ℕ) (i : ℕ) → LoadsAlone a a → HoldsForms a a → IsAhead a a us i 0
 ahead_first a us i l f = record { looks = l; forms = f; ahead = λ k h. omega arith; walking = walking_none a us 0 }
 
 -- the slot of rank r, which is loaded once
@@ -134,7 +134,7 @@ module _ (a v w : View) (possible : IsPossible a) (us : List ℕ) (i r n h : ℕ
       (record { times = 1; few = omega arith; here = e.here; others = e.others; sum = refl }) (omega arith)
 
   -- it has another string, or none
-  pub ahead_next : Looks v w → HoldsForms v w → LoadsHere v w ((h % n + r) % n) 1 → (Has w.slots ((h % n + r) % n) i → ⊥) → IsAhead a w us i (r + 1)
+  pub ahead_next : LoadsAlone v w → HoldsForms v w → LoadsHere v w ((h % n + r) % n) 1 → (Has w.slots ((h % n + r) % n) i → ⊥) → IsAhead a w us i (r + 1)
   ahead_next go forms e never = record {
     looks = looks_trans a v w p.looks go;
     forms = forms_trans a v w p.forms forms;

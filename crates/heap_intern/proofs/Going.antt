@@ -17,7 +17,7 @@ use Rattle.heap_rule.specs.HeaderMoves.{seen_form}
 use Rattle.heap_rule.proofs.MapLemmas.{insert_same, key_of}
 use Rattle.heap_table.specs.Known.{KeepsKnown}
 use Rattle.heap_read.proofs.Loaded.{known_refl, known_trans}
-use Rattle.heap_intern.specs.Goes.{AddsCalls, Looks}
+use Rattle.heap_intern.specs.Goes.{AddsCalls, LoadsAlone}
 use Rattle.heap_read.specs.Reads.{Continues, HoldsForms, OnlyLoads}
 
 pub goes_self : (v : View) → AddsCalls v v []
@@ -55,10 +55,10 @@ goes_trans u v w a b g h = let p = g.ids_used in let q = h.ids_used in let m = g
       mine = h.mine ∙ (ap (λ (m : Calls). m ++ b) g.mine ∙ append_assoc u.mine a b);
     }
 
-pub looks_self : (v : View) → Looks v v
+pub looks_self : (v : View) → LoadsAlone v v
 looks_self v = record { goes = goes_self v; used = refl; words = refl }
 
-pub looks_trans : (u v w : View) → Looks u v → Looks v w → Looks u w
+pub looks_trans : (u v w : View) → LoadsAlone u v → LoadsAlone v w → LoadsAlone u w
 looks_trans u v w a b = record { goes = goes_trans u v w [] [] a.goes b.goes; used = b.used ∙ a.used; words = b.words ∙ a.words }
 
 -- a string that was seen as a Flat is found to be no part of another
@@ -100,7 +100,7 @@ goes_by v w calls k oi ow z a l s u lo se m = record {
 }
 
 -- loads alone, as a reader makes them; and any call of a reader that leaves what is its own
-pub looks_reads : (v w : View) → OnlyLoads v w → Looks v w
+pub looks_reads : (v w : View) → OnlyLoads v w → LoadsAlone v w
 looks_reads v w r = record {
   goes = goes_by v w [] r.known r.own_ids r.own_words r.sizes r.agents r.live r.share r.used r.low r.seen (r.mine ∙ sym (append-nil v.mine));
   used = ap (λ (n : Counters). n.ids) r.used;
@@ -129,12 +129,12 @@ module _ (v : View) where
   nothing = sym (append-nil v.mine)
 
   -- a header that moves
-  seen_by : (i : ℕ) (o : Option Form) → KeepsKnown v (learned_all (seen_form v i o)) → Looks v (learned_all (seen_form v i o)) × ((learned_all (seen_form v i o)).slot_loads ≡ v.slot_loads)
+  seen_by : (i : ℕ) (o : Option Form) → KeepsKnown v (learned_all (seen_form v i o)) → LoadsAlone v (learned_all (seen_form v i o)) × ((learned_all (seen_form v i o)).slot_loads ≡ v.slot_loads)
   seen_by i None k = (record { goes = goes_by v (learned_all v) [] k refl refl refl refl refl refl refl refl refl nothing; used = refl; words = refl }, refl)
   seen_by i (Some f) k = (record { goes = goes_by v (learned_all (seen_form v i (Some f))) [] k refl refl refl refl refl refl refl refl refl nothing; used = refl; words = refl }, refl)
 
-  pub looks_seen : (w : View) (i : ℕ) (o : Option Form) → KeepsKnown v w → w ≡ learned_all (seen_form v i o) → Looks v w × (w.slot_loads ≡ v.slot_loads)
-  looks_seen w i o k e = subst (λ (u : View). Looks v u × (u.slot_loads ≡ v.slot_loads)) (sym e) (seen_by i o (subst (KeepsKnown v) e k))
+  pub looks_seen : (w : View) (i : ℕ) (o : Option Form) → KeepsKnown v w → w ≡ learned_all (seen_form v i o) → LoadsAlone v w × (w.slot_loads ≡ v.slot_loads)
+  looks_seen w i o k e = subst (λ (u : View). LoadsAlone v u × (u.slot_loads ≡ v.slot_loads)) (sym e) (seen_by i o (subst (KeepsKnown v) e k))
 
   -- a load of a slot, with the call that it enters, if any
   slot_by : (k x : ℕ) (entry : Option (List ℕ)) (calls : Calls) → calls_entered v k entry ≡ v.mine ++ calls → KeepsKnown v
@@ -153,7 +153,7 @@ module _ (v : View) where
       w → w ≡ learned_all (loaded_slot v k entry x) → AddsCalls v w calls × (w.used ≡ v.used)
   goes_slot w k x entry calls m h e = subst (λ (u : View). AddsCalls v u calls × (u.used ≡ v.used)) (sym e) (slot_by k x entry calls m (subst (KeepsKnown v) e h), slot_used k x entry)
 
-  pub looks_slot : (w : View) (k x : ℕ) → KeepsKnown v w → w ≡ learned_all (loaded_slot v k None x) → Looks v w
+  pub looks_slot : (w : View) (k x : ℕ) → KeepsKnown v w → w ≡ learned_all (loaded_slot v k None x) → LoadsAlone v w
   looks_slot w k x h e = let t = goes_slot w k x None [] nothing h e in record { goes = t.0; used = ap (λ (n : Counters). n.ids) t.1; words = ap (λ (n : Counters). n.words) t.1 }
 
   -- the id that was found in a slot stands there, and is known
@@ -183,7 +183,7 @@ module _ (v : View) where
   )
 
   -- where it is lost the winner's id stands there
-  lost_by : (k i j x : ℕ) → x ≡ j + 1 → KeepsKnown v (learned_all (took_slot v k i x)) → Looks v (learned_all (took_slot v k i x)) × Has
+  lost_by : (k i j x : ℕ) → x ≡ j + 1 → KeepsKnown v (learned_all (took_slot v k i x)) → LoadsAlone v (learned_all (took_slot v k i x)) × Has
       (learned_all (took_slot v k i x)).slots k j × MayUse (learned_all (took_slot v k i x)) j
   lost_by k i j zero e h = absurd (omega arith)
   lost_by k i j (suc x) e h = let is : x ≡ j = omega arith in (
@@ -192,5 +192,5 @@ module _ (v : View) where
     inr (key_of (insert v.met x tt) j tt (ap (get (insert v.met x tt)) (sym is) ∙ insert_same v.met x tt)),
   )
 
-  pub looks_lost : (w : View) (k i j x : ℕ) → x ≡ j + 1 → KeepsKnown v w → w ≡ learned_all (took_slot v k i x) → Looks v w × Has w.slots k j × MayUse w j
-  looks_lost w k i j x is h e = subst (λ (u : View). Looks v u × Has u.slots k j × MayUse u j) (sym e) (lost_by k i j x is (subst (KeepsKnown v) e h))
+  pub looks_lost : (w : View) (k i j x : ℕ) → x ≡ j + 1 → KeepsKnown v w → w ≡ learned_all (took_slot v k i x) → LoadsAlone v w × Has w.slots k j × MayUse w j
+  looks_lost w k i j x is h e = subst (λ (u : View). LoadsAlone v u × Has u.slots k j × MayUse u j) (sym e) (lost_by k i j x is (subst (KeepsKnown v) e h))

@@ -11,12 +11,12 @@ use Rattle.heap_rule.specs.Maps.{Has}
 use Rattle.heap_rule.specs.Sound.{IsPossible}
 use Rattle.heap_table.specs.Known.{KeepsKnown}
 use Rattle.heap_intern.specs.Answers.{IsForwarded}
-use Rattle.heap_intern.specs.Goes.{Looks}
+use Rattle.heap_intern.specs.Goes.{LoadsAlone}
 use Rattle.heap_intern.proofs.Going.{looks_seen}
 use Rattle.heap_intern.proofs.Possibly.{possible_born, possible_thin_answer}
 
 -- the header moved, or another agent had moved it
-pub looks_thinned : (v w : View) (i : ℕ) (old : Form) (t x : ℕ) → KeepsKnown v w → w ≡ learned_all (thinned v i old t x) → Looks v w × (w.slot_loads ≡ v.slot_loads)
+pub looks_thinned : (v w : View) (i : ℕ) (old : Form) (t x : ℕ) → KeepsKnown v w → w ≡ learned_all (thinned v i old t x) → LoadsAlone v w × (w.slot_loads ≡ v.slot_loads)
 looks_thinned v w i old t x k e = looks_seen v w i (if x == word_of old then Some (Thin t) else form_of x) k e
 
 -- a settled string that may not come to forward is a fixed Flat, or forwards to the answer

@@ -22,7 +22,7 @@ use Rattle.heap_rule.proofs.Possible.{possible_inside}
 use Rattle.heap_table.specs.Known.{KeepsKnown}
 use Rattle.heap_table.specs.Plays.{FoundSlot}
 use Rattle.heap_intern.specs.Counting.{count_below, different}
-use Rattle.heap_intern.specs.Goes.{Looks}
+use Rattle.heap_intern.specs.Goes.{LoadsAlone}
 use Rattle.heap_intern.specs.Visits.{Counted}
 use Rattle.heap_intern.proofs.Distinct.{used_different}
 use Rattle.heap_intern.proofs.Going.{looks_self, looks_slot, looks_trans}
@@ -108,7 +108,7 @@ module _ (a v : View) (k count : ℕ) (c : Counted a v k count) where
 pub found_some : (t : ℕ) → 1 ≡ found_one (t + 1)
 found_some t = let e : suc t ≡ t + 1 = omega arith in subst (λ (n : ℕ). 1 ≡ found_one n) e refl
 
-pub history_looked : (a v : View) → Looks a v → history v ≡ history a
+pub history_looked : (a v : View) → LoadsAlone a v → history v ≡ history a
 history_looked a v l = ap (λ (h : Calls). h ++ v.mine) l.goes.seen ∙ ap (λ (h : Calls). a.seen ++ h) (l.goes.mine ∙ append-nil a.mine)
 
 pub counted_all : (a v : View) (n count : ℕ) → IsPossible v → n ≡ a.sizes.slots → Counted a v n count → count ≡ different (history a)

@@ -6,7 +6,7 @@ use Rattle.heap_rule.specs.Maps.{Has}
 use Rattle.heap_rule.specs.Paths.{rank}
 use Rattle.heap_rule.specs.Sound.{EachLive}
 use Rattle.heap_intern.specs.Answers.{IsFixed, UsesNothing}
-use Rattle.heap_intern.specs.Goes.{AddsCalls, Looks}
+use Rattle.heap_intern.specs.Goes.{AddsCalls, LoadsAlone}
 use Rattle.heap_intern.specs.SlotLoads.{counted_on, loads_at}
 
 -- The string i, which is in slot k, was adopted: its units are known, it is a fixed Flat, and the history has
@@ -19,9 +19,9 @@ pub record IsAdopted (v w : View) (k i : ℕ) : Type 0 where
   pub stands : Has w.slots k i
 
 -- The string in slot k is answered and adopted; or none, where the slot isn't known to be used afterwards.
-abbrev pub Adopts : View → View → ℕ → Option ℕ → Type 0
-Adopts v w k (Some i) = IsAdopted v w k i
-Adopts v w k None = Looks v w × (get w.slots k ≡ None)
+abbrev pub AdoptsSlot : View → View → ℕ → Option ℕ → Type 0
+AdoptsSlot v w k (Some i) = IsAdopted v w k i
+AdoptsSlot v w k None = LoadsAlone v w × (get w.slots k ≡ None)
 
 -- how often the slot is loaded: once, and once more where it has a string, whose call enters the history
 abbrev pub adopting_loads : Option ℕ → ℕ

@@ -4,7 +4,7 @@ use Rattle.heap_rule.specs.declared.view.View.{View}
 use Rattle.heap_rule.specs.Maps.{Has}
 use Rattle.heap_read.specs.Reads.{HoldsForms}
 use Rattle.heap_intern.specs.declared.table.faults.TableFull.{TableFull}
-use Rattle.heap_intern.specs.Answers.{Finds, IsFoundAgain, IsInternAnswer, StandsInSlot, copy_plan}
+use Rattle.heap_intern.specs.Answers.{FindsString, IsFoundAgain, IsInternAnswer, StandsInSlot, copy_plan}
 use Rattle.heap_intern.specs.SlotLoads.{loads_at}
 
 -- They are interned: the header of a new one lies over a copy, whoever has seen the string at its place is
@@ -17,7 +17,7 @@ pub record InternsGiven (v w : View) (us : List ℕ) (r : Result ℕ TableFull) 
 
 -- They are looked for, and whoever has seen the string at its place is answered.
 pub record FindsGiven (v w : View) (us : List ℕ) (r : Option ℕ) : Type 0 where
-  pub answer : Finds v w us r
+  pub answer : FindsString v w us r
   pub again : (i : ℕ) → Has v.units i us → StandsInSlot v us i → r ≡ Some i
   pub forms : HoldsForms v w
   pub few : (k : ℕ) → loads_at w k ≤ loads_at v k + 2

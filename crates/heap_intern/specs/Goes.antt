@@ -22,7 +22,7 @@ pub record AddsCalls (v w : View) (calls : Calls) : Type 0 where
   pub mine : w.mine ≡ v.mine ++ calls
 
 -- loads alone: nothing is used, and no call is entered
-pub record Looks (v w : View) : Type 0 where
+pub record LoadsAlone (v w : View) : Type 0 where
   pub goes : AddsCalls v w []
   pub used : w.used.ids ≡ v.used.ids
   pub words : w.used.words ≡ v.used.words

@@ -12,7 +12,7 @@ use Rattle.heap_read.specs.declared.string.Window.{Window}
 use Rattle.heap_read.specs.Frozen.{HasLane, HasOther, IsWordHeld}
 use Rattle.heap_read.specs.Reads.{HoldsForms}
 use Rattle.heap_read.specs.Windows.{IsFrozenWindow}
-use Rattle.heap_read.specs.Written.{HasAt, Holds, held_unit}
+use Rattle.heap_read.specs.Written.{HasAt, HoldsUnits, held_unit}
 use Rattle.heap_read.proofs.Freezing.{lane_key, lane_kept, word_kept}
 use Rattle.heap_read.proofs.Showing.{length_kept}
 
@@ -26,7 +26,7 @@ frozen_stays v u holds k c h = ⊎_elim
 pub frozen_window_stays : (v u : View) (w : Window) → HoldsForms v u → KeepsKnown v u → IsFrozenWindow v w → IsFrozenWindow u w
 frozen_window_stays v u w holds k f c lo hi = frozen_stays v u holds k c (f c lo hi)
 
-pub unit_held_is : (us : List ℕ) (h : HeldWord) (k : ℕ) → Holds us h → h.from ≤ k → k < h.from + h.count → held_unit h k ≡ get_or us k 0
+pub unit_held_is : (us : List ℕ) (h : HeldWord) (k : ℕ) → HoldsUnits us h → h.from ≤ k → k < h.from + h.count → held_unit h k ≡ get_or us k 0
 unit_held_is us h k r l m = let e : h.from + (k - h.from) ≡ k = omega arith in r.each (k - h.from) (omega arith) ∙ ap (λ (j : ℕ). get_or us j 0) e
 
 pub lane_held : (v : View) (w : Window) (h : HeldWord) (k : ℕ) → IsWordHeld v w h → h.from ≤ k → k < h.from + h.count → HasLane v w.wide w.start (w.offset + k) (held_unit h k)
@@ -39,7 +39,7 @@ alike g h i k l m a b e = let f : g.lane + (i + k - g.from) ≡ h.lane + (i + k 
     λ n. lane_of (b n) (a n) (f n)
 
 module _ (u y : View) (b : Window) (us : List ℕ) (left right : HeldWord)
-    (i count : ℕ) (kept : KeepsKnown u y) (hl : Holds us left) (hr : IsWordHeld y b right) (al : HasAt left i count) (ar : HasAt right i count) where
+    (i count : ℕ) (kept : KeepsKnown u y) (hl : HoldsUnits us left) (hr : IsWordHeld y b right) (al : HasAt left i count) (ar : HasAt right i count) where
   -- what was compared before, and the words
   pub compared_on : ((k : ℕ) → k < i → HasLane u b.wide b.start (b.offset + k) (get_or us k 0)) → ((k : ℕ) → k < count → held_unit left (i + k) ≡ held_unit right (i + k))
       → (k : ℕ) → k < i + count → HasLane y b.wide b.start (b.offset + k) (get_or us k 0)

@@ -10,7 +10,7 @@ use Rattle.heap_rule.specs.Views.{shown_word}
 use Rattle.heap_read.specs.declared.source.HeldWord.{HeldWord}
 use Rattle.heap_read.specs.declared.string.Window.{Window}
 use Rattle.heap_read.specs.Windows.{IsWindow}
-use Rattle.heap_read.specs.Written.{Holds, ShowsOn}
+use Rattle.heap_read.specs.Written.{HoldsUnits, ShowsOn}
 use Rattle.heap_read.proofs.Showing.{window_length, window_unit}
 
 -- a lane of the same word as lane p
@@ -30,7 +30,7 @@ lane_by f wide start o c k word e m h = λ i. lane_of wide ((h ∙ ap f (sym e))
 pub held_window : (x : View) (w : Window) (us : List ℕ) (i at k back count word : ℕ) → IsPossible x → IsWindow x w us → i < w.len
     → at ≡ (w.offset + i) / lane_count w.wide → k ≡ (w.offset + i) % lane_count w.wide → back ≤ k → back ≤ i → count ≤ lane_count w.wide - (k - back) → count ≤ w.len - (i - back)
     → HasKey x.own_words (w.start + at) ⊎ HasKey x.frozen (w.start + at) → word ≡ shown_word x (w.start + at)
-    → Holds us (record { word = word; wide = w.wide; lane = k - back; from = i - back; count = count })
+    → HoldsUnits us (record { word = word; wide = w.wide; lane = k - back; from = i - back; count = count })
 held_window x w us i at k back count word p h l a b m n r s has is = let small = lane_small w.wide (w.offset + i) in let long = window_length x w us h in record {
   lanes = omega arith;
   within = omega arith;
@@ -48,21 +48,22 @@ unfolding lane_of
 only_lane us i word zero e s m = let a : word / 1 % 65536 ≡ word = omega arith in let b : i ≡ i + 0 = omega arith in a ∙ (e ∙ ap (λ (n : ℕ). get_or us n 0) b)
 only_lane us i word (suc k) e s m = absurd (omega arith)
 
-pub holds_one : (us : List ℕ) (i word : ℕ) → word ≡ get_or us i 0 → word < 65536 → i < length us → Holds us (record { word = word; wide = true; lane = 0; from = i; count = 1 })
+pub holds_one : (us : List ℕ) (i word : ℕ) → word ≡ get_or us i 0 → word < 65536 → i < length us → HoldsUnits us (record { word = word; wide = true; lane = 0; from = i; count = 1 })
 holds_one us i word e s l = record {
   lanes = omega arith;
   within = omega arith;
   each = λ k m. only_lane us i word k e s m;
 }
 
-pub holds_front : (xs ys : List ℕ) (h : HeldWord) → Holds xs h → Holds (xs ++ ys) h
+pub holds_front : (xs ys : List ℕ) (h : HeldWord) → HoldsUnits xs h → HoldsUnits (xs ++ ys) h
 holds_front xs ys h r = let n = length-append xs ys in let s = r.within in record {
   lanes = r.lanes;
   within = omega arith;
   each = λ k l. r.each k l ∙ sym (get_or_append_left xs ys 0 (h.from + k) (omega arith));
 }
 
-pub holds_back : (xs ys : List ℕ) (n : ℕ) (h : HeldWord) → length xs ≡ n → Holds ys h → Holds (xs ++ ys) (record { word = h.word; wide = h.wide; lane = h.lane; from = n + h.from; count = h.count })
+pub holds_back : (xs ys : List ℕ) (n : ℕ) (h : HeldWord) → length xs ≡ n → HoldsUnits ys h
+  → HoldsUnits (xs ++ ys) (record { word = h.word; wide = h.wide; lane = h.lane; from = n + h.from; count = h.count })
 holds_back xs ys n h e r = let m = length-append xs ys in let s = r.within in record {
   lanes = r.lanes;
   within = omega arith;

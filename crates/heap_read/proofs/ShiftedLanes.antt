@@ -11,7 +11,7 @@ use Rattle.js_units.proofs.PackedWords.{base_some, lane_past, narrow_unit, word_
 use Rattle.heap_read.specs.declared.source.HeldWord.{HeldWord}
 use Rattle.heap_read.specs.Filling.{IsPlaced}
 use Rattle.heap_read.specs.Shifted.{HoldsLanes, lane_bits}
-use Rattle.heap_read.specs.Written.{HasAt, Holds, held_unit}
+use Rattle.heap_read.specs.Written.{HasAt, HoldsUnits, held_unit}
 use Rattle.heap_read.proofs.Comparison.{unit_held_is}
 
 pub power_is : (wide : Bool) (k : ℕ) → lane_base wide ^ k ≡ 2 ^ (lane_bits wide * k)
@@ -188,7 +188,7 @@ module _ (wide : Bool) (word part before behind upper r low count : ℕ) (room :
   }
 
 -- the word goes on over some units
-pub lanes_on : (wide : Bool) (us : List ℕ) (first done more word part r : ℕ) (h : HeldWord) (i : ℕ) → i ≡ first + done → Holds us h → HasAt h i more
+pub lanes_on : (wide : Bool) (us : List ℕ) (first done more word part r : ℕ) (h : HeldWord) (i : ℕ) → i ≡ first + done → HoldsUnits us h → HasAt h i more
     → HoldsLanes wide word done (λ k. get_or us (first + k) 0) → HoldsLanes wide part more (λ k. held_unit h (i + k))
     → r < lane_base wide ^ (done + more) → ((q : ℕ) → q < done → lane_of wide r q ≡ lane_of wide word q) → ((q : ℕ) → lane_of wide r (done + q) ≡ lane_of wide part q)
     → HoldsLanes wide r (done + more) (λ k. get_or us (first + k) 0)
@@ -223,7 +223,7 @@ wide_by us true e h = e
 wide_by us false e h = absurd (h (λ q. narrow_unit us q e))
 
 -- of a window, one word after the other
-module _ (us : List ℕ) (h : HeldWord) (i x : ℕ) (holds : Holds us h) (low : h.from ≤ i) (high : i < h.from + h.count) (lanes : HoldsLanes
+module _ (us : List ℕ) (h : HeldWord) (i x : ℕ) (holds : HoldsUnits us h) (low : h.from ≤ i) (high : i < h.from + h.count) (lanes : HoldsLanes
     true x (h.count - (i - h.from)) (λ k. held_unit h (i + k))) where
   unit_here : (k : ℕ) → k < h.count - (i - h.from) → lane_of true x k ≡ get_or us (i + k) 0
   unit_here k l = lanes.each k l ∙ unit_held_is us h (i + k) holds (omega arith) (omega arith)

@@ -12,7 +12,7 @@ use Rattle.heap_rule.specs.Maps.{Has, HasKey}
 use Rattle.heap_rule.specs.Views.{shown_word}
 use Rattle.heap_rule.proofs.MapLemmas.{has_key, insert_other, insert_same}
 use Rattle.heap_read.specs.Filling.{own_word}
-use Rattle.heap_read.specs.Reads.{Continues, KeepsBelow, KeepsForms, OnlyLoads, Writes}
+use Rattle.heap_read.specs.Reads.{Continues, KeepsBelow, KeepsForms, OnlyLoads, WritesOwnWords}
 use Rattle.heap_read.proofs.Going.{known_stored}
 use Rattle.heap_read.proofs.Loaded.{key_more, known_refl, known_trans}
 use Rattle.heap_read.proofs.Placing.{IsStored}
@@ -37,7 +37,7 @@ word_put m c x = record {
   others = λ q n. ap (λ (o : Option ℕ). unwrap_or o 0) (insert_other m c q x n);
 }
 
-pub writes_refl : (v : View) → Writes v v
+pub writes_refl : (v : View) → WritesOwnWords v v
 writes_refl v = record {
   known = known_refl v;
   sizes = refl;
@@ -54,7 +54,7 @@ writes_refl v = record {
   slot_loads = refl;
 }
 
-pub writes_trans : (u v w : View) → Writes u v → Writes v w → Writes u w
+pub writes_trans : (u v w : View) → WritesOwnWords u v → WritesOwnWords v w → WritesOwnWords u w
 writes_trans u v w a b = record {
   known = known_trans u v w a.known b.known;
   sizes = b.sizes ∙ a.sizes;
@@ -71,7 +71,7 @@ writes_trans u v w a b = record {
   slot_loads = b.slot_loads ∙ a.slot_loads;
 }
 
-pub writes_reads : (v w : View) → OnlyLoads v w → Writes v w
+pub writes_reads : (v w : View) → OnlyLoads v w → WritesOwnWords v w
 writes_reads v w r = record {
   known = r.known;
   sizes = r.sizes;
@@ -88,7 +88,7 @@ writes_reads v w r = record {
   slot_loads = r.slot_loads;
 }
 
-pub writes_stored : (v : View) (c x : ℕ) → Writes v (stored_word v c x)
+pub writes_stored : (v : View) (c x : ℕ) → WritesOwnWords v (stored_word v c x)
 writes_stored v c x = record {
   known = known_stored v c x;
   sizes = refl;
@@ -105,7 +105,7 @@ writes_stored v c x = record {
   slot_loads = refl;
 }
 
-pub continues_writes : (v w : View) → Writes v w → Continues v w
+pub continues_writes : (v w : View) → WritesOwnWords v w → Continues v w
 continues_writes v w r = record {
   known = r.known;
   sizes = r.sizes;

@@ -15,11 +15,11 @@ use Rattle.heap_read.specs.Reads.{KeepsForms, OnlyLoads}
 use Rattle.heap_read.specs.Windows.{IsFrozenWindow, IsWindow}
 use Rattle.heap_rule.specs.Sound.{IsPossible}
 use Rattle.heap_rule.proofs.Possible.{possible_short}
-use Rattle.heap_read.specs.Written.{Holds, ShowsOn}
+use Rattle.heap_read.specs.Written.{HoldsUnits, ShowsOn}
 use Rattle.heap_read.proofs.Showing.{forms_held, window_frozen, window_kept}
 
 -- the lanes of a held word from that of unit i on
-module _ (us : List ℕ) (h : HeldWord) (holds : Holds us h) (i : ℕ) (low : h.from ≤ i) where
+module _ (us : List ℕ) (h : HeldWord) (holds : HoldsUnits us h) (i : ℕ) (low : h.from ≤ i) where
   pub unit_of_lane : (k : ℕ) → k < h.count - (i - h.from) → lane_of h.wide h.word (h.lane + (i - h.from) + k) ≡ get_or us (i + k) 0
   unit_of_lane k l =
       let e : h.lane + (i - h.from + k) ≡ h.lane + (i - h.from) + k = omega arith in

@@ -11,6 +11,6 @@ module _ {H : Type 0} {g : Ghosts H} where
   view_in r = view_of r.agent
 
   -- a call: the heap stays, and the view goes on as R says
-  pub record Moves (R : View → View → Type 0) (a b : Reader H g) : Type 0 where
+  pub record MovesView (R : View → View → Type 0) (a b : Reader H g) : Type 0 where
     pub heap : b.heap ≡ a.heap
     pub view : R (view_in a) (view_in b)

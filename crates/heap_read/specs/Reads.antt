@@ -49,7 +49,7 @@ KeepsForms v w = (w.forms ≡ v.forms) × (w.form_loads ≡ v.form_loads)
 
 -- A call that loads, and stores to own content words: what is known stays known, what the agent owns and used
 -- and what it read of the counters stays, and so do its slots and history.
-pub record Writes (v w : View) : Type 0 where
+pub record WritesOwnWords (v w : View) : Type 0 where
   pub known : KeepsKnown v w
   pub sizes : w.sizes ≡ v.sizes
   pub agents : w.agents ≡ v.agents

@@ -17,7 +17,7 @@ pub record IsWritten (v : View) (wide : Bool) (start : ℕ) (us : List ℕ) : Ty
   pub empty : length us ≡ 0 → start ≡ 0
 
 -- the word that is held shows units of a list: those that it says, in its lanes
-pub record Holds (us : List ℕ) (h : HeldWord) : Type 0 where
+pub record HoldsUnits (us : List ℕ) (h : HeldWord) : Type 0 where
   pub lanes : h.lane + h.count ≤ lane_count h.wide
   pub within : h.from + h.count ≤ length us
   pub each : (k : ℕ) → k < h.count → lane_of h.wide h.word (h.lane + k) ≡ slice_index us (h.from + k)

@@ -3,7 +3,7 @@ ghost use Rattle.std.specs.Prelude.{◌≡◌, ◌≢◌, ℕ, List, ◌+◌, �
 ghost use Rattle.std.specs.Bool.{MatchBool};
 ghost use Rattle.js_units.specs.Lanes.{lane_count};
 ghost use Rattle.heap_read.specs.Frozen.{HasOther, HasUnits, IsLearned};
-ghost use Rattle.heap_read.specs.Readers.{Moves, view_in};
+ghost use Rattle.heap_read.specs.Readers.{MovesView, view_in};
 ghost use Rattle.heap_read.specs.Reads.{KeepsForms, OnlyLoads};
 ghost use Rattle.heap_read.specs.Windows.{IsFrozenWindow, IsWindow};
 ghost use Rattle.heap_read.specs.Written.{HasAt, held_unit};
@@ -22,7 +22,7 @@ impl<H: HeapRef> Reader<H> {
         requires frozen { IsFrozenWindow (view_in self.old) b }
         requires long { a.len ≡ b.len }
         requires learned { IsLearned (view_in self.old) }
-        ensures reads { Moves OnlyLoads self.old self.new }
+        ensures reads { MovesView OnlyLoads self.old self.new }
         ensures forms { KeepsForms (view_in self.old) (view_in self.new) }
         ensures learned { IsLearned (view_in self.new) }
         ensures same { (us : List ℕ) → IsWindow (view_in self.old) a us

@@ -6,8 +6,8 @@ ghost use Rattle.heap_rule.specs.Layout.{MAX};
 ghost use Rattle.heap_rule.specs.Maps.{Has, HasKey};
 ghost use Rattle.heap_table.specs.Agents.{size_of};
 ghost use Rattle.heap_table.specs.Full.{IsFull};
-ghost use Rattle.heap_read.specs.Readers.{Moves, view_in};
-ghost use Rattle.heap_read.specs.Reads.{Continues, KeepsBeside, KeepsForms, OnlyLoads, Writes};
+ghost use Rattle.heap_read.specs.Readers.{MovesView, view_in};
+ghost use Rattle.heap_read.specs.Reads.{Continues, KeepsBeside, KeepsForms, OnlyLoads, WritesOwnWords};
 ghost use Rattle.heap_read.specs.Sources.{ShowsSource, listed_in};
 ghost use Rattle.heap_read.specs.Windows.{IsWindow};
 ghost use Rattle.heap_read.specs.Written.{AreWords, IsWritten};
@@ -26,7 +26,7 @@ impl<H: HeapRef> Reader<H> {
     pub fn has_wide(&mut self, source: &UnitSource, n: u32) -> bool
         requires shows { ShowsSource (view_in self.old) source.now }
         requires count { length (listed_in self.old source.now) ≡ n }
-        ensures reads { Moves OnlyLoads self.old self.new }
+        ensures reads { MovesView OnlyLoads self.old self.new }
         ensures shows { ShowsSource (view_in self.new) source.now }
         ensures listed { listed_in self.new source.now ≡ listed_in self.old source.now }
         ensures wide { result ≡ is_wide (listed_in self.old source.now) }
@@ -43,7 +43,7 @@ impl<H: HeapRef> Reader<H> {
     // Whether a unit of a window is over 255. In one-byte lanes none is.
     fn is_wide_in(&mut self, w: Window) -> bool
         requires { (us : List ℕ) × IsWindow (view_in self.old) w us }
-        ensures reads { Moves OnlyLoads self.old self.new }
+        ensures reads { MovesView OnlyLoads self.old self.new }
         ensures forms { KeepsForms (view_in self.old) (view_in self.new) }
         ensures wide { (us : List ℕ) → IsWindow (view_in self.old) w us → result ≡ is_wide us }
     {
@@ -54,7 +54,7 @@ impl<H: HeapRef> Reader<H> {
     fn has_wide_unit(&mut self, w: Window) -> bool
         requires window { (us : List ℕ) × IsWindow (view_in self.old) w us }
         requires lanes { w.wide ≡ true }
-        ensures reads { Moves OnlyLoads self.old self.new }
+        ensures reads { MovesView OnlyLoads self.old self.new }
         ensures forms { KeepsForms (view_in self.old) (view_in self.new) }
         ensures wide { (us : List ℕ) → IsWindow (view_in self.old) w us → result ≡ is_wide us }
     {
@@ -76,7 +76,7 @@ impl<H: HeapRef> Reader<H> {
         requires count { length (listed_in self.old source.now) ≡ n }
         requires wide { wide ≡ is_wide (listed_in self.old source.now) }
         requires within { (n ≤ MAX) × (at < words_over wide n) }
-        ensures reads { Moves OnlyLoads self.old self.new }
+        ensures reads { MovesView OnlyLoads self.old self.new }
         ensures shows { ShowsSource (view_in self.new) source.now }
         ensures listed { listed_in self.new source.now ≡ listed_in self.old source.now }
         ensures word { IsWordOf wide (listed_in self.old source.now) at result }
@@ -96,7 +96,7 @@ impl<H: HeapRef> Reader<H> {
         requires count { length (listed_in self.old source.now) ≡ n }
         requires wide { wide ≡ is_wide (listed_in self.old source.now) }
         requires short { n ≤ MAX }
-        ensures continues { Moves Continues self.old self.new }
+        ensures continues { MovesView Continues self.old self.new }
         ensures ids { (view_in self.new).used.ids ≡ (view_in self.old).used.ids }
         ensures own_ids { (view_in self.new).own_ids ≡ (view_in self.old).own_ids }
         ensures own_words { (c : ℕ) → HasKey (view_in self.old).own_words c
@@ -130,7 +130,7 @@ impl<H: HeapRef> Reader<H> {
         requires wide { wide ≡ is_wide (listed_in self.old source.now) }
         requires short { n ≤ MAX }
         requires own { (q : ℕ) → q < words_over wide n → HasKey (view_in self.old).own_words (start + q) }
-        ensures writes { Moves Writes self.old self.new }
+        ensures writes { MovesView WritesOwnWords self.old self.new }
         ensures forms { KeepsForms (view_in self.old) (view_in self.new) }
         ensures written { AreWords (view_in self.new) wide start (listed_in self.old source.now)
             (words_over wide n) }

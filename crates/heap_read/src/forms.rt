@@ -8,7 +8,7 @@ ghost use Rattle.heap_rule.specs.Forms.{IsCons, IsLater, IsSolid};
 ghost use Rattle.heap_rule.specs.Loads.{added_loads};
 ghost use Rattle.heap_rule.specs.Maps.{Has, HasKey};
 ghost use Rattle.heap_rule.specs.Views.{MayUse, IsSeenSettled};
-ghost use Rattle.heap_read.specs.Readers.{Moves, view_in};
+ghost use Rattle.heap_read.specs.Readers.{MovesView, view_in};
 ghost use Rattle.heap_read.specs.Reads.{OnlyLoads};
 ghost use Rattle.heap_read.specs.Sides.{KnowsSide};
 
@@ -21,7 +21,7 @@ impl<H: HeapRef> Reader<H> {
     /// another, the units of that one are known from then on, if its own are.
     pub fn form_now(&mut self, id: u32) -> Form
         requires known { MayUse (view_in self.old) id }
-        ensures reads { Moves OnlyLoads self.old self.new }
+        ensures reads { MovesView OnlyLoads self.old self.new }
         ensures seen { Has (view_in self.new).forms id result }
         ensures others { (i : ℕ) → i ≢ id → get (view_in self.new).forms i ≡ get (view_in self.old).forms i }
         ensures side { KnowsSide (view_in self.new) result }

@@ -2,7 +2,7 @@
 ghost use Rattle.std.specs.Prelude.{◌≡◌, ℕ, List};
 ghost use Rattle.js_units.specs.Lanes.{hash_of};
 ghost use Rattle.heap_read.specs.Frozen.{AreFrozen};
-ghost use Rattle.heap_read.specs.Readers.{Moves, view_in};
+ghost use Rattle.heap_read.specs.Readers.{MovesView, view_in};
 ghost use Rattle.heap_read.specs.Reads.{KeepsForms, OnlyLoads};
 ghost use Rattle.heap_read.specs.Windows.{IsWindow};
 
@@ -16,7 +16,7 @@ impl<H: HeapRef> Reader<H> {
     /// from then on.
     pub fn hash_in(&mut self, w: Window) -> u32
         requires { (us : List ℕ) × IsWindow (view_in self.old) w us }
-        ensures reads { Moves OnlyLoads self.old self.new }
+        ensures reads { MovesView OnlyLoads self.old self.new }
         ensures forms { KeepsForms (view_in self.old) (view_in self.new) }
         ensures hash { (us : List ℕ) → IsWindow (view_in self.old) w us → result ≡ hash_of us }
         ensures frozen { AreFrozen (view_in self.new) w }

@@ -4,8 +4,8 @@ ghost use Rattle.js_units.specs.Lanes.{lane_count, words_over};
 ghost use Rattle.heap_rule.specs.Layout.{MAX};
 ghost use Rattle.heap_rule.specs.Maps.{HasKey};
 ghost use Rattle.heap_read.specs.Filling.{IsFilled, IsPlaced, own_word};
-ghost use Rattle.heap_read.specs.Readers.{Moves, view_in};
-ghost use Rattle.heap_read.specs.Reads.{KeepsBelow, KeepsForms, KeepsFrom, OnlyLoads, Writes};
+ghost use Rattle.heap_read.specs.Readers.{MovesView, view_in};
+ghost use Rattle.heap_read.specs.Reads.{KeepsBelow, KeepsForms, KeepsFrom, OnlyLoads, WritesOwnWords};
 ghost use Rattle.heap_read.specs.Sources.{FitsLanes, ShowsSource, listed_in};
 
 use crate::heap_ref::HeapRef;
@@ -39,7 +39,7 @@ impl<H: HeapRef> Reader<H> {
         requires within { patch.first + patch.count ≤ length (listed_in self.old source.now) }
         requires short { length (listed_in self.old source.now) ≤ MAX }
         requires fits { FitsLanes patch.wide (listed_in self.old source.now) }
-        ensures reads { Moves OnlyLoads self.old self.new }
+        ensures reads { MovesView OnlyLoads self.old self.new }
         ensures forms { KeepsForms (view_in self.old) (view_in self.new) }
         ensures shows { ShowsSource (view_in self.new) source.now }
         ensures listed { listed_in self.new source.now ≡ listed_in self.old source.now }
@@ -63,7 +63,7 @@ impl<H: HeapRef> Reader<H> {
             → HasKey (view_in self.old).own_words (to.start + o / lane_count to.wide) }
         requires fits { to.wide ≡ false → (k : ℕ) → k < n
             → slice_index (listed_in self.old source.now) k < 256 }
-        ensures writes { Moves Writes self.old self.new }
+        ensures writes { MovesView WritesOwnWords self.old self.new }
         ensures below { KeepsBelow to.start (view_in self.old) (view_in self.new) }
         ensures above { KeepsFrom (to.start + words_over to.wide (at + n)) (view_in self.old)
             (view_in self.new) }

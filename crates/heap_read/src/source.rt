@@ -3,12 +3,12 @@ ghost use Rattle.std.specs.Prelude.{◌≡◌, ℕ, List, ◌+◌, ◌-◌, ◌/
 ghost use Rattle.js_units.specs.Lanes.{lane_count, lane_of};
 ghost use Rattle.heap_rule.specs.Layout.{MAX};
 ghost use Rattle.heap_read.specs.Frozen.{HoldsAll, IsWordHeld, IsLearned};
-ghost use Rattle.heap_read.specs.Readers.{Moves, view_in};
+ghost use Rattle.heap_read.specs.Readers.{MovesView, view_in};
 ghost use Rattle.heap_read.specs.Reads.{KeepsForms, OnlyLoads};
 ghost use Rattle.heap_read.specs.Shifted.{HoldsLanes};
 ghost use Rattle.heap_read.specs.Sources.{FitsLanes, ShowsSource, listed_in};
 ghost use Rattle.heap_read.specs.Windows.{IsFrozenWindow, IsWindow};
-ghost use Rattle.heap_read.specs.Written.{HasAt, Holds, held_unit};
+ghost use Rattle.heap_read.specs.Written.{HasAt, HoldsUnits, held_unit};
 
 use crate::heap_ref::HeapRef;
 use crate::packing::lanes_of;
@@ -47,7 +47,7 @@ pub struct HeldWord {
 impl HeldWord {
     /// No word: it shows no unit.
     pub fn none() -> HeldWord
-        ensures { (us : List ℕ) → Holds us result }
+        ensures { (us : List ℕ) → HoldsUnits us result }
     {
         HeldWord {
             word: 0,
@@ -116,12 +116,12 @@ impl<H: HeapRef> Reader<H> {
     pub fn hold_in(&mut self, w: Window, i: u32) -> HeldWord
         requires frozen { IsFrozenWindow (view_in self.old) w }
         requires within { i < w.len }
-        ensures reads { Moves OnlyLoads self.old self.new }
+        ensures reads { MovesView OnlyLoads self.old self.new }
         ensures forms { KeepsForms (view_in self.old) (view_in self.new) }
         ensures has { (result.from ≤ i) × (i < result.from + result.count) }
         ensures held { IsWordHeld (view_in self.new) w result }
         ensures all { HoldsAll w result }
-        ensures holds { (us : List ℕ) → IsWindow (view_in self.old) w us → Holds us result }
+        ensures holds { (us : List ℕ) → IsWindow (view_in self.old) w us → HoldsUnits us result }
         ensures learned { IsLearned (view_in self.new) }
         ensures wide { result.wide ≡ w.wide }
     {
@@ -143,12 +143,12 @@ impl<H: HeapRef> Reader<H> {
     fn hold(&mut self, source: &UnitSource, i: u32) -> HeldWord
         requires shows { ShowsSource (view_in self.old) source.now }
         requires within { i < length (listed_in self.old source.now) }
-        ensures reads { Moves OnlyLoads self.old self.new }
+        ensures reads { MovesView OnlyLoads self.old self.new }
         ensures forms { KeepsForms (view_in self.old) (view_in self.new) }
         ensures shows { ShowsSource (view_in self.new) source.now }
         ensures listed { listed_in self.new source.now ≡ listed_in self.old source.now }
         ensures has { (result.from ≤ i) × (i < result.from + result.count) }
-        ensures holds { Holds (listed_in self.old source.now) result }
+        ensures holds { HoldsUnits (listed_in self.old source.now) result }
     {
         match source {
             UnitSource::Units(units) => HeldWord {
@@ -184,7 +184,7 @@ impl<H: HeapRef> Reader<H> {
         requires short { length (listed_in self.old source.now) ≤ MAX }
         requires room { count ≤ lane_count wide }
         requires fits { FitsLanes wide (listed_in self.old source.now) }
-        ensures reads { Moves OnlyLoads self.old self.new }
+        ensures reads { MovesView OnlyLoads self.old self.new }
         ensures forms { KeepsForms (view_in self.old) (view_in self.new) }
         ensures shows { ShowsSource (view_in self.new) source.now }
         ensures listed { listed_in self.new source.now ≡ listed_in self.old source.now }

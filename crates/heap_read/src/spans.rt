@@ -1,7 +1,7 @@
 // Reading and searching the units of a window, a word at a time.
 ghost use Rattle.std.specs.Prelude.{◌≡◌, ℕ, List, ◌+◌, ◌-◌, ◌*◌, ◌/◌, ◌%◌, ◌≤◌, ◌<◌, false, true, length, slice_index, slice_range};
 ghost use Rattle.js_units.specs.Lanes.{lane_count, lane_of, words_over};
-ghost use Rattle.heap_read.specs.Readers.{Moves, view_in};
+ghost use Rattle.heap_read.specs.Readers.{MovesView, view_in};
 ghost use Rattle.heap_read.specs.Reads.{KeepsForms, OnlyLoads};
 ghost use Rattle.js_units.specs.Units.{IsFirstUnit};
 ghost use Rattle.heap_read.specs.Windows.{IsFrozenWindow, IsWindow};
@@ -18,7 +18,7 @@ impl<H: HeapRef> Reader<H> {
     pub fn units_into(&mut self, w: Window, from: u32, into: &mut [u16])
         requires window { (us : List ℕ) × IsWindow (view_in self.old) w us }
         requires within { from + length into.old ≤ w.len }
-        ensures reads { Moves OnlyLoads self.old self.new }
+        ensures reads { MovesView OnlyLoads self.old self.new }
         ensures forms { KeepsForms (view_in self.old) (view_in self.new) }
         ensures units { (us : List ℕ) → IsWindow (view_in self.old) w us
             → into.new ≡ slice_range us from (from + length into.old) }
@@ -46,7 +46,7 @@ impl<H: HeapRef> Reader<H> {
         requires within { from + length into.old ≤ w.len }
         requires lowest { (w.offset + (from + done)) % lane_count w.wide ≡ 0 }
         requires room { done + lane_count w.wide ≤ length into.old }
-        ensures reads { Moves OnlyLoads self.old self.new }
+        ensures reads { MovesView OnlyLoads self.old self.new }
         ensures forms { KeepsForms (view_in self.old) (view_in self.new) }
         ensures more { (done < result) × (result ≤ length into.old) }
         ensures before { (k : ℕ) → k < done → slice_index into.new k ≡ slice_index into.old k }
@@ -74,7 +74,7 @@ impl<H: HeapRef> Reader<H> {
         requires within { from + length into.old ≤ w.len }
         requires lowest { (w.offset + (from + done)) % lane_count wide ≡ 0 }
         requires room { done + lane_count wide ≤ length into.old }
-        ensures reads { Moves OnlyLoads self.old self.new }
+        ensures reads { MovesView OnlyLoads self.old self.new }
         ensures forms { KeepsForms (view_in self.old) (view_in self.new) }
         ensures more { (done < result) × (result ≤ length into.old) }
         ensures before { (k : ℕ) → k < done → slice_index into.new k ≡ slice_index into.old k }
@@ -95,7 +95,7 @@ impl<H: HeapRef> Reader<H> {
     pub fn find_unit(&mut self, w: Window, unit: u16, from: u32) -> Option<u32>
         requires window { (us : List ℕ) × IsWindow (view_in self.old) w us }
         requires within { from ≤ w.len }
-        ensures reads { Moves OnlyLoads self.old self.new }
+        ensures reads { MovesView OnlyLoads self.old self.new }
         ensures forms { KeepsForms (view_in self.old) (view_in self.new) }
         ensures least { (us : List ℕ) → IsWindow (view_in self.old) w us → IsFirstUnit us unit from result }
     {
@@ -129,7 +129,7 @@ impl<H: HeapRef> Reader<H> {
         requires within { 0 < count
             → (0 < w.len) × (at + count ≤ words_over w.wide (w.offset % lane_count w.wide + w.len)) }
         requires room { count ≤ length into.old }
-        ensures reads { Moves OnlyLoads self.old self.new }
+        ensures reads { MovesView OnlyLoads self.old self.new }
         ensures forms { KeepsForms (view_in self.old) (view_in self.new) }
         ensures rest { (k : ℕ) → count ≤ k → slice_index into.new k ≡ slice_index into.old k }
         ensures words { (us : List ℕ) → IsWindow (view_in self.old) w us
@@ -150,7 +150,7 @@ impl<H: HeapRef> Reader<H> {
         requires some { 0 < w.len }
         requires within { j * lane_count w.wide < w.offset % lane_count w.wide + w.len }
         requires first { first ≡ w.offset / lane_count w.wide }
-        ensures reads { Moves OnlyLoads self.old self.new }
+        ensures reads { MovesView OnlyLoads self.old self.new }
         ensures forms { KeepsForms (view_in self.old) (view_in self.new) }
         ensures word { (us : List ℕ) → IsWindow (view_in self.old) w us
             → ShowsOn w us (j * lane_count w.wide - w.offset % lane_count w.wide) result }
@@ -163,7 +163,7 @@ impl<H: HeapRef> Reader<H> {
     fn word_with(&mut self, w: Window, i: u32) -> u64
         requires frozen { IsFrozenWindow (view_in self.old) w }
         requires within { i < w.len }
-        ensures reads { Moves OnlyLoads self.old self.new }
+        ensures reads { MovesView OnlyLoads self.old self.new }
         ensures forms { KeepsForms (view_in self.old) (view_in self.new) }
         ensures word { (us : List ℕ) → IsWindow (view_in self.old) w us → ShowsOn w us i result }
     {

@@ -7,7 +7,7 @@ ghost use Rattle.heap_rule.specs.Loads.{added_loads};
 ghost use Rattle.heap_rule.specs.Maps.{Has, HasKey};
 ghost use Rattle.heap_rule.specs.Views.{MayUse, IsSeenSettled};
 ghost use Rattle.heap_read.specs.Frozen.{IsFixedBy, IsFixedWindow, IsLearned};
-ghost use Rattle.heap_read.specs.Readers.{Moves, view_in};
+ghost use Rattle.heap_read.specs.Readers.{MovesView, view_in};
 ghost use Rattle.heap_read.specs.Reads.{HoldsForms, KeepsForms, OnlyLoads};
 ghost use Rattle.heap_read.specs.Sides.{KnowsSide, LoadsFewForms, LoadsForms, target_loads};
 ghost use Rattle.heap_read.specs.Windows.{IsLed, IsWindowOf, ShowsAll, StandsFor};
@@ -25,7 +25,7 @@ impl<H: HeapRef> Reader<H> {
         requires known { HasKey (view_in self.old).units of.id }
         requires met { MayUse (view_in self.old) by }
         requires led { IsLed (view_in self.old) of.id by run.wide run.start before }
-        ensures reads { Moves OnlyLoads self.old self.new }
+        ensures reads { MovesView OnlyLoads self.old self.new }
         ensures forms { KeepsForms (view_in self.old) (view_in self.new) }
         ensures shows { ShowsAll (view_in self.old) (view_in self.new) of.id result }
         ensures over { IsWindowOf (view_in self.new) of.id result }
@@ -44,7 +44,7 @@ impl<H: HeapRef> Reader<H> {
     pub fn target_run(&mut self, of: u32, target: u32) -> Run
         requires thin { Has (view_in self.old).forms of (Thin target) }
         requires met { MayUse (view_in self.old) target }
-        ensures reads { Moves OnlyLoads self.old self.new }
+        ensures reads { MovesView OnlyLoads self.old self.new }
         ensures held { HoldsForms (view_in self.old) (view_in self.new) }
         ensures flat { Has (view_in self.new).forms target (Flat result.wide result.start true) }
         ensures loads { (view_in self.new).form_loads ≡ added_loads (view_in self.old).form_loads 1 }
@@ -61,7 +61,7 @@ impl<H: HeapRef> Reader<H> {
         requires seen { Has (view_in self.old).forms id form }
         requires solid { IsSolid form }
         requires side { KnowsSide (view_in self.old) form }
-        ensures reads { Moves OnlyLoads self.old self.new }
+        ensures reads { MovesView OnlyLoads self.old self.new }
         ensures held { HoldsForms (view_in self.old) (view_in self.new) }
         ensures flat { (i : ℕ) × (fixed : Bool) × StandsFor (view_in self.new) id i
             × Has (view_in self.new).forms i (Flat result.wide result.start fixed) }
@@ -81,7 +81,7 @@ impl<H: HeapRef> Reader<H> {
         requires seen { Has (view_in self.old).forms of.id form }
         requires solid { IsSolid form }
         requires side { KnowsSide (view_in self.old) form }
-        ensures reads { Moves OnlyLoads self.old self.new }
+        ensures reads { MovesView OnlyLoads self.old self.new }
         ensures held { HoldsForms (view_in self.old) (view_in self.new) }
         ensures shows { ShowsAll (view_in self.old) (view_in self.new) of.id result }
         ensures loads { LoadsForms (view_in self.old) (view_in self.new) (target_loads form) }
@@ -108,7 +108,7 @@ impl<H: HeapRef> Reader<H> {
         requires seen { Has (view_in self.old).forms parent under }
         requires solid { IsSolid under }
         requires side { KnowsSide (view_in self.old) under }
-        ensures reads { Moves OnlyLoads self.old self.new }
+        ensures reads { MovesView OnlyLoads self.old self.new }
         ensures held { HoldsForms (view_in self.old) (view_in self.new) }
         ensures shows { ShowsAll (view_in self.old) (view_in self.new) of.id result }
         ensures loads { LoadsForms (view_in self.old) (view_in self.new) (target_loads under) }
@@ -123,7 +123,7 @@ impl<H: HeapRef> Reader<H> {
     pub fn window_on(&mut self, of: JsStr) -> Window
         requires known { HasKey (view_in self.old).units of.id }
         requires settled { IsSeenSettled (view_in self.old) of.id }
-        ensures reads { Moves OnlyLoads self.old self.new }
+        ensures reads { MovesView OnlyLoads self.old self.new }
         ensures shows { ShowsAll (view_in self.old) (view_in self.new) of.id result }
         ensures few { LoadsFewForms (view_in self.old) (view_in self.new) 3 }
     {
@@ -140,7 +140,7 @@ impl<H: HeapRef> Reader<H> {
     pub fn fixed_window(&mut self, id: u32) -> Window
         requires met { MayUse (view_in self.old) id }
         requires fixed { IsFixedBy (view_in self.old) id }
-        ensures reads { Moves OnlyLoads self.old self.new }
+        ensures reads { MovesView OnlyLoads self.old self.new }
         ensures held { HoldsForms (view_in self.old) (view_in self.new) }
         ensures fixed { IsFixedWindow (view_in self.new) id result }
         ensures learned { IsLearned (view_in self.new) }

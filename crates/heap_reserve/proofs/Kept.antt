@@ -18,7 +18,7 @@ use Rattle.heap_rule.specs.Claims.{won_claim}
 use Rattle.heap_rule.proofs.MapLemmas.{has_key, insert_other, insert_same, key_of}
 use Rattle.heap_rule.proofs.Possible.{possible_lawful}
 use Rattle.heap_rule.proofs.Steps.{possible_within}
-use Rattle.heap_read.specs.Reads.{KeepsBeside, OnlyLoads, Writes}
+use Rattle.heap_read.specs.Reads.{KeepsBeside, OnlyLoads, WritesOwnWords}
 use Rattle.heap_read.proofs.Going.{run_below}
 use Rattle.heap_bytes.proofs.Runs.{run_zero}
 use Rattle.heap_read.specs.Written.{AreWords, IsWritten}
@@ -95,7 +95,7 @@ all_written p possible wide start words n us e long h empty = record {
     there l = let t = h.each 0 l in let a = (possible_within p possible).words (start + 0) (key_of p.own_words (start + 0) t.0 t.1) in let b = (possible_lawful p possible).3 in omega (arith, a, b)
 
 -- a flat string was made of what was taken
-pub copy_taken : (v u p z : View) (r s : Reserve) (id start words : ℕ) → OnlyLoads v u → Writes u p → KeepsBeside start words u p → z.used ≡ p.used → KeepsOwnBut p z id start words
+pub copy_taken : (v u p z : View) (r s : Reserve) (id start words : ℕ) → OnlyLoads v u → WritesOwnWords u p → KeepsBeside start words u p → z.used ≡ p.used → KeepsOwnBut p z id start words
     → kept_ids r ≡ id ∷ kept_ids s → (s.start ≡ r.start + words) × (s.end ≡ r.end) → (0 < words → start ≡ r.start) → IsTakenFrom v z r s id words
 copy_taken v u p z r s id start words read write beside used but ids run first = record {
   ids = ids;

@@ -3,7 +3,7 @@ ghost use Rattle.std.specs.Prelude.{◌≡◌, ◌≢◌, ◌<◌, ◌++◌, ◌
 ghost use Rattle.std.specs.VecDeque.{deque_capacity, deque_len};
 ghost use Rattle.heap_table.specs.Agents.{size_of, view_of};
 ghost use Rattle.heap_table.specs.Full.{IsFull};
-ghost use Rattle.heap_read.specs.Readers.{Moves, view_in};
+ghost use Rattle.heap_read.specs.Readers.{MovesView, view_in};
 ghost use Rattle.heap_read.specs.Reads.{Continues};
 ghost use Rattle.heap_text.specs.Keeping.{KeepsText};
 ghost use Rattle.heap_text.specs.Texts.{KeepsOwn};
@@ -48,7 +48,7 @@ impl Reserve {
         words: u32,
     ) -> Result<(), CounterFull>
         requires reserve { IsReserve (view_in reader.old) self.old }
-        ensures continues { Moves Continues reader.old reader.new }
+        ensures continues { MovesView Continues reader.old reader.new }
         ensures own { KeepsOwn (view_in reader.old) (view_in reader.new) }
         ensures reserve { IsReserve (view_in reader.new) self.new }
         ensures ok { OnOk result
@@ -82,7 +82,7 @@ impl Reserve {
         ids: u32,
     ) -> Result<(), ReserveFault>
         requires reserve { IsReserve (view_in reader.old) self.old }
-        ensures continues { Moves Continues reader.old reader.new }
+        ensures continues { MovesView Continues reader.old reader.new }
         ensures own { KeepsOwn (view_in reader.old) (view_in reader.new) }
         ensures reserve { IsReserve (view_in reader.new) self.new }
         ensures ok { OnOk result
@@ -100,7 +100,7 @@ impl Reserve {
     // One id.
     fn claim_id<H: HeapRef>(&mut self, reader: &mut Reader<H>) -> Result<(), ReserveFault>
         requires reserve { IsReserve (view_in reader.old) self.old }
-        ensures continues { Moves Continues reader.old reader.new }
+        ensures continues { MovesView Continues reader.old reader.new }
         ensures own { KeepsOwn (view_in reader.old) (view_in reader.new) }
         ensures reserve { IsReserve (view_in reader.new) self.new }
         ensures ok { OnOk result

@@ -3,7 +3,7 @@ ghost use Rattle.std.specs.Prelude.{◌≤◌, ◌<◌, ◌+◌, ◌++◌, ◌�
 ghost use Rattle.heap_rule.specs.Layout.{MAX};
 ghost use Rattle.heap_rule.specs.Maps.{Has, HasKey};
 ghost use Rattle.heap_table.specs.Agents.{size_of, view_of};
-ghost use Rattle.heap_read.specs.Readers.{Moves, view_in};
+ghost use Rattle.heap_read.specs.Readers.{MovesView, view_in};
 ghost use Rattle.heap_read.specs.Reads.{Continues};
 ghost use Rattle.heap_text.specs.Joins.{AreJoinable, MIN_CONS};
 ghost use Rattle.heap_text.specs.Keeping.{KeepsText};
@@ -74,7 +74,7 @@ impl Reserve {
         requires reserve { IsReserve (view_in reader.old) self.old }
         requires known { AreJoinable (view_in reader.old) a b n }
         requires most { n ≤ MAX }
-        ensures continues { Moves Continues reader.old reader.new }
+        ensures continues { MovesView Continues reader.old reader.new }
         ensures reserve { IsReserve (view_in reader.new) self.new }
         ensures short { n < MIN_CONS → (us vs : List ℕ) → Has (view_in reader.old).units a.id us
             → Has (view_in reader.old).units b.id vs
@@ -100,7 +100,7 @@ impl Reserve {
         requires reserve { IsReserve (view_in reader.old) self.old }
         requires known { AreJoinable (view_in reader.old) a b n }
         requires short { n < MIN_CONS }
-        ensures continues { Moves Continues reader.old reader.new }
+        ensures continues { MovesView Continues reader.old reader.new }
         ensures reserve { IsReserve (view_in reader.new) self.new }
         ensures made { (us vs : List ℕ) → Has (view_in reader.old).units a.id us
             → Has (view_in reader.old).units b.id vs
@@ -121,7 +121,7 @@ impl Reserve {
         requires reserve { IsReserve (view_in reader.old) self.old }
         requires known { AreJoinable (view_in reader.old) a b n }
         requires long { (MIN_CONS ≤ n) × (n ≤ MAX) }
-        ensures continues { Moves Continues reader.old reader.new }
+        ensures continues { MovesView Continues reader.old reader.new }
         ensures reserve { IsReserve (view_in reader.new) self.new }
         ensures made { (us vs : List ℕ) → Has (view_in reader.old).units a.id us
             → Has (view_in reader.old).units b.id vs

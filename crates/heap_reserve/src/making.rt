@@ -3,7 +3,7 @@ ghost use Rattle.std.specs.Prelude.{◌≡◌, ◌≤◌, IfOk, length};
 ghost use Rattle.heap_rule.specs.Layout.{MAX};
 ghost use Rattle.heap_rule.specs.Maps.{Has};
 ghost use Rattle.heap_table.specs.Agents.{size_of, view_of};
-ghost use Rattle.heap_read.specs.Readers.{Moves, view_in};
+ghost use Rattle.heap_read.specs.Readers.{MovesView, view_in};
 ghost use Rattle.heap_read.specs.Reads.{Continues};
 ghost use Rattle.heap_read.specs.Sources.{ShowsSource, listed_in};
 ghost use Rattle.heap_bytes.specs.Spellings.{IsReadable, spelling_units};
@@ -70,7 +70,7 @@ impl Reserve {
         requires reserve { IsReserve (view_in reader.old) self.old }
         requires read { IsReadable source.now }
         requires short { length (spelling_units source.now) ≤ MAX }
-        ensures continues { Moves Continues reader.old reader.new }
+        ensures continues { MovesView Continues reader.old reader.new }
         ensures reserve { IsReserve (view_in reader.new) self.new }
         ensures made { MakesFlat (view_in reader.old) (view_in reader.new) self.old self.new
             (spelling_units source.now) result }
@@ -98,7 +98,7 @@ impl Reserve {
         requires shows { ShowsSource (view_in reader.old) source.now }
         requires count { length (listed_in reader.old source.now) ≡ n }
         requires short { n ≤ MAX }
-        ensures continues { Moves Continues reader.old reader.new }
+        ensures continues { MovesView Continues reader.old reader.new }
         ensures reserve { IsReserve (view_in reader.new) self.new }
         ensures made { MakesFlat (view_in reader.old) (view_in reader.new) self.old self.new
             (listed_in reader.old source.now) result }

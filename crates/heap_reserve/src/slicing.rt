@@ -4,7 +4,7 @@ ghost use Rattle.heap_rule.specs.Births.{part};
 ghost use Rattle.heap_rule.specs.Maps.{Has};
 ghost use Rattle.heap_rule.specs.Views.{IsSeenSettled};
 ghost use Rattle.heap_table.specs.Agents.{size_of, view_of};
-ghost use Rattle.heap_read.specs.Readers.{Moves, view_in};
+ghost use Rattle.heap_read.specs.Readers.{MovesView, view_in};
 ghost use Rattle.heap_read.specs.Reads.{Continues};
 ghost use Rattle.heap_text.specs.Joins.{MIN_CONS};
 ghost use Rattle.heap_text.specs.Keeping.{KeepsText};
@@ -82,7 +82,7 @@ impl Reserve {
         requires settled { IsSeenSettled (view_in reader.old) s.id }
         requires within { (us : List ℕ) × Has (view_in reader.old).units s.id us
             × (from + n ≤ length us) }
-        ensures continues { Moves Continues reader.old reader.new }
+        ensures continues { MovesView Continues reader.old reader.new }
         ensures reserve { IsReserve (view_in reader.new) self.new }
         ensures short { n < MIN_CONS → (us : List ℕ) → Has (view_in reader.old).units s.id us
             → MakesFlat (view_in reader.old) (view_in reader.new) self.old self.new (part from n us) result }
@@ -108,7 +108,7 @@ impl Reserve {
         requires settled { IsSeenSettled (view_in reader.old) s.id }
         requires within { (us : List ℕ) × Has (view_in reader.old).units s.id us
             × (from + n ≤ length us) }
-        ensures continues { Moves Continues reader.old reader.new }
+        ensures continues { MovesView Continues reader.old reader.new }
         ensures reserve { IsReserve (view_in reader.new) self.new }
         ensures made { (us : List ℕ) → Has (view_in reader.old).units s.id us
             → MakesFlat (view_in reader.old) (view_in reader.new) self.old self.new (part from n us) result }
@@ -130,7 +130,7 @@ impl Reserve {
         requires within { (us : List ℕ) × Has (view_in reader.old).units s.id us
             × (from + n ≤ length us) }
         requires long { MIN_CONS ≤ n }
-        ensures continues { Moves Continues reader.old reader.new }
+        ensures continues { MovesView Continues reader.old reader.new }
         ensures reserve { IsReserve (view_in reader.new) self.new }
         ensures made { (us : List ℕ) → Has (view_in reader.old).units s.id us
             → MakesPart (view_in reader.old) (view_in reader.new) self.old self.new s from (part from n us)

@@ -33,7 +33,7 @@ use Rattle.heap_read.specs.declared.string.JsStr.{JsStr}
 use Rattle.heap_text.specs.Joins.{IsCut, IsJoined}
 use Rattle.heap_text.specs.Settling.{IsBitOf, IsFlattened, IsNoRoom, IsSeenLater, IsSettling}
 use Rattle.heap_read.specs.Reads.{Continues, OnlyLoads}
-use Rattle.heap_text.specs.Texts.{IsSpared, Told, UsesExactly}
+use Rattle.heap_text.specs.Texts.{IsSpared, LacksRoom, UsesExactly}
 use Rattle.js_units.specs.Lanes as texts
 use Rattle.heap_session.specs.Counted.{FoundFree}
 use Rattle.heap_session.specs.Faults.{fault_in_join, fault_in_table, fault_in_text}
@@ -55,15 +55,15 @@ pub shut_text : (w : View) (l : ℕ) (t : TableId) (f : TextFull) (us : List ℕ
 shut_text w l t (text.Ids f) us = tt
 shut_text w l t (text.Words f) us = tt
 
-honest_text : (w : View) (l : ℕ) (t : TableId) (words : ℕ) (f : TextFull) → Told w w.sizes words f → Honest (state_by w l t) (Some (fault_in_text f))
+honest_text : (w : View) (l : ℕ) (t : TableId) (words : ℕ) (f : TextFull) → LacksRoom w w.sizes words f → Honest (state_by w l t) (Some (fault_in_text f))
 honest_text w l t words (text.Ids f) h = let a = h.0.0 in let b = h.0.1 in let c = h.0.2 in (record { can_fill = refl; past_end = omega arith; end_is = b; at_is = sym h.1 }, a)
 honest_text w l t words (text.Words f) h = let a = h.0.0 in let b = h.0.1 in let c = h.0.2 in record { can_fill = refl; past_end = omega arith; end_is = b; at_is = sym h.1 }
 
 -- sizes are those of the heap
-pub told_here : (w : View) (z : HeapSize) (words : ℕ) (f : TextFull) → w.sizes ≡ z → Told w z words f → Told w w.sizes words f
-told_here w z words f e h = subst (λ (y : HeapSize). Told w y words f) (sym e) h
+pub told_here : (w : View) (z : HeapSize) (words : ℕ) (f : TextFull) → w.sizes ≡ z → LacksRoom w z words f → LacksRoom w w.sizes words f
+told_here w z words f e h = subst (λ (y : HeapSize). LacksRoom w y words f) (sym e) h
 
-pub step_refused : (v w : View) (l : ℕ) (t : TableId) (words most : ℕ) (f : TextFull) → words ≤ most → IsPossible v → Continues v w → Told w
+pub step_refused : (v w : View) (l : ℕ) (t : TableId) (words most : ℕ) (f : TextFull) → words ≤ most → IsPossible v → Continues v w → LacksRoom w
     w.sizes words f → IsSpared v w words f → StoreStep (state_by v l t) (state_by w l t) (Some (fault_in_text f)) 1 most
 step_refused v w l t words most (text.Ids f) le p c h s = let a = h.0.0 in let b = s.used_ids in
     let d = s.used_words in record {
@@ -139,13 +139,13 @@ module _ (v w : View) (l : ℕ) (t : TableId) (a b : JsStr) (us vs : List ℕ) (
       (λ q. let bad : Err (join.Full full) ≡ Ok q.0 = q.1 in absurd (cc))
       (λ q. let same : Err (join.Full full) ≡ Err (join.Full q.0) = q.1 in let is : q.0 ≡ full = cc in
       subst (λ (one : ℕ). StoreStep (state_by v l t) (state_by w l t) (Some (fault_in_text full)) one (join_words m n)) (sym (join_ids_one m n x y))
-      (step_refused v w l t 0 (join_words m n) full (omega arith) p c (subst (Told w w.sizes 0) is q.2.1) (subst (IsSpared v w 0) is q.2.2)))
+      (step_refused v w l t 0 (join_words m n) full (omega arith) p c (subst (LacksRoom w w.sizes 0) is q.2.1) (subst (IsSpared v w 0) is q.2.2)))
       (j.rope le x y long))
       (λ never. let short : m + n < 13 = omega arith in ⊎_elim
       (λ q. let bad : Err (join.Full full) ≡ Ok q.0 = q.1 in absurd (cc))
       (λ q. let same : Err (join.Full full) ≡ Err (join.Full q.0) = q.1 in let is : q.0 ≡ full = cc in
       subst (λ (one : ℕ). StoreStep (state_by v l t) (state_by w l t) (Some (fault_in_text full)) one (join_words m n)) (sym (join_ids_one m n x y))
-      (step_refused v w l t copied_words (join_words m n) full (copy_most x y short) p c (subst (Told w w.sizes copied_words) is q.2.0) (subst (IsSpared v w copied_words) is q.2.1)))
+      (step_refused v w l t copied_words (join_words m n) full (copy_most x y short) p c (subst (LacksRoom w w.sizes copied_words) is q.2.0) (subst (IsSpared v w copied_words) is q.2.1)))
       (j.short le x y short))
 
   -- a fault of length tells both lengths, which are longer together
@@ -192,7 +192,7 @@ module _ (v w : View) (l : ℕ) (t : TableId) (i : ℕ) (us : List ℕ) (p : IsP
   pub settled_step : (IsSeenSettled v i → OnlyLoads v w) → IsSettling v w i us → StoreStep (state_by v l t) (state_by w l t) None 0 (settle_words (is_settled (get v.forms i)) (length us))
   settled_step again h = settled_by (is_settled (get v.forms i)) (λ e. again (test_settled v i e)) h
 
-  words_refused : (words most : ℕ) (full : CounterFull) → words ≤ most → Told w w.sizes words (text.Words full) → IsSpared v w words
+  words_refused : (words most : ℕ) (full : CounterFull) → words ≤ most → LacksRoom w w.sizes words (text.Words full) → IsSpared v w words
       (text.Words full) → StoreStep (state_by v l t) (state_by w l t) (Some (fault_in_text (text.Words full))) 0 most
   words_refused words most full le h s = let b = s.used_ids in
       let d = s.used_words in record {
@@ -207,7 +207,7 @@ module _ (v w : View) (l : ℕ) (t : TableId) (i : ℕ) (us : List ℕ) (p : IsP
   refused_by f true never h = absurd (never refl)
   refused_by f false never h = let n : ℕ = words_over h.0 (length us) in let r = h.2 in let is = r.words.1 in
       subst (λ (g : TextFull). StoreStep (state_by v l t) (state_by w l t) (Some (fault_in_text g)) 0 (wide_words (length us))) (sym is)
-      (words_refused n (wide_words (length us)) r.words.0 (words_most h.0 (length us)) (subst (Told w w.sizes n) is r.told) (subst (IsSpared v w n) is r.spared))
+      (words_refused n (wide_words (length us)) r.words.0 (words_most h.0 (length us)) (subst (LacksRoom w w.sizes n) is r.told) (subst (IsSpared v w n) is r.spared))
 
   -- refused for words, where it wasn't settled
   pub settle_refused : (f : TextFull) → (IsSeenSettled v i → ⊥) → (wide : Bool) × IsBitOf v i wide × IsNoRoom v w w.sizes us f wide →
@@ -259,11 +259,11 @@ module _ (v w : View) (l : ℕ) (t : TableId) (s : JsStr) (us : List ℕ) (from 
   whole_err : (full : TextFull) → from ≡ 0 → to ≡ length us → IsCut v w w.sizes s from to us (Err full) → ⊥
   whole_err full e f j = let q = j.whole e f in let bad : Err full ≡ Ok q.0 = q.1 in cc
 
-  refused_part : (full f : TextFull) (n : ℕ) → f ≡ full → (from ≡ 0 → to ≡ length us → ⊥) → n ≤ cut_words from to (length us) → Told w w.sizes n f → IsSpared v w n f
+  refused_part : (full f : TextFull) (n : ℕ) → f ≡ full → (from ≡ 0 → to ≡ length us → ⊥) → n ≤ cut_words from to (length us) → LacksRoom w w.sizes n f → IsSpared v w n f
       → StoreStep (state_by v l t) (state_by w l t) (Some (fault_in_text full)) (cut_ids from to (length us)) (cut_words from to (length us))
   refused_part full f n is never le told spared = subst (λ (one : ℕ). StoreStep (state_by v l t) (state_by w l t)
       (Some (fault_in_text full)) one (cut_words from to (length us))) (sym (cut_ids_one from to (length us) never))
-      (step_refused v w l t n (cut_words from to (length us)) full le p c (subst (Told w w.sizes n) is told) (subst (IsSpared v w n) is spared))
+      (step_refused v w l t n (cut_words from to (length us)) full le p c (subst (LacksRoom w w.sizes n) is told) (subst (IsSpared v w n) is spared))
 
   part_err : (full : TextFull) → (from ≡ 0 → to ≡ length us → ⊥) → IsCut v w w.sizes s from to us (Err full) → StoreStep (state_by v l t)
       (state_by w l t) (Some (fault_in_text full)) (cut_ids from to (length us)) (cut_words from to (length us))

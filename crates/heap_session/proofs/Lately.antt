@@ -4,7 +4,7 @@ use Rattle.heap_rule.specs.declared.view.View.{View}
 use Rattle.heap_rule.specs.Maps.{Has}
 use Rattle.heap_rule.proofs.MapLemmas.{has_key, key_of}
 use Rattle.heap_table.specs.Known.{KeepsKnown}
-use Rattle.heap_read.specs.Written.{Holds, held_unit}
+use Rattle.heap_read.specs.Written.{HoldsUnits, held_unit}
 use Rattle.heap_read.proofs.Comparison.{unit_held_is}
 use Rattle.heap_intern.specs.declared.table.faults.TableFull.{TableFull}
 use Rattle.heap_intern.specs.Answers.{IsInternAnswer, HeaderPlan}
@@ -15,8 +15,8 @@ same_list : (v : View) (i : ℕ) (us ws : List ℕ) → Has v.units i us → Has
 same_list v i us ws a b = let e : Some us ≡ Some ws = sym a ∙ b in cc
 
 -- what one list of its units shows
-pub kept_by_one : (v : View) (l : KeptWord) (us : List ℕ) → Has v.units l.id us → Holds us l.held → IsWordKept v l
-kept_by_one v l us h r some = (key_of v.units l.id us h, λ ws g. subst (λ (xs : List ℕ). Holds xs l.held) (same_list v l.id us ws h g) r)
+pub kept_by_one : (v : View) (l : KeptWord) (us : List ℕ) → Has v.units l.id us → HoldsUnits us l.held → IsWordKept v l
+kept_by_one v l us h r some = (key_of v.units l.id us h, λ ws g. subst (λ (xs : List ℕ). HoldsUnits xs l.held) (same_list v l.id us ws h g) r)
 
 pub kept_by : (v w : View) → KeepsKnown v w → (l : KeptWord) → IsWordKept v l → IsWordKept w l
 kept_by v w k l h some = let p = h some in let u = has_key v.units l.id p.0 in

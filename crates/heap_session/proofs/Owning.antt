@@ -18,7 +18,7 @@ use Rattle.heap_text.specs.declared.faults.TextFull.{TextFull}
 use Rattle.heap_text.specs.Joins.{IsCut, IsJoined}
 use Rattle.heap_text.specs.Texts.{IsSpared, KeepsOwn}
 use Rattle.heap_intern.specs.Goes.{AddsCalls}
-use Rattle.heap_session.specs.Owning.{Spares}
+use Rattle.heap_session.specs.Owning.{ClaimsNoId}
 
 pub own_self : (v : View) → KeepsOwn v v
 own_self v = record { ids = λ i n h. h; words = λ c x h. h }
@@ -27,17 +27,17 @@ own_self v = record { ids = λ i n h. h; words = λ c x h. h }
 pub own_goes : (v w : View) (calls : Calls) → AddsCalls v w calls → KeepsOwn v w
 own_goes v w calls g = record { ids = g.own_ids; words = g.own_words }
 
-pub spares_of : (v w : View) (words : ℕ) (f : TextFull) → IsSpared v w words f → Spares v w
+pub spares_of : (v w : View) (words : ℕ) (f : TextFull) → IsSpared v w words f → ClaimsNoId v w
 spares_of v w words f s = record { ids = s.used_ids; words = s.claimed }
 
 -- nothing was claimed
-spares_none : (v w : View) → w.used ≡ v.used → Spares v w
+spares_none : (v w : View) → w.used ≡ v.used → ClaimsNoId v w
 spares_none v w e = let n = ap (λ (c : Counters). c.words) e in record {
   ids = ap (λ (c : Counters). c.ids) e;
   words = (0, 0, omega arith, λ q l. absurd (omega arith), λ q l h. omega arith);
 }
 
-pub spares_after : (v u w : View) → OnlyLoads v u → Spares u w → Spares v w
+pub spares_after : (v u w : View) → OnlyLoads v u → ClaimsNoId u w → ClaimsNoId v w
 spares_after v u w r s = let h = s.words in record {
   ids = s.ids ∙ ap (λ (c : Counters). c.ids) r.used;
   words = (
@@ -57,7 +57,7 @@ module _ (v w : View) (z : HeapSize) (most : ℕ) (a b : JsStr) (us vs : List �
   abbrev n : ℕ
   n = length vs
 
-  within : m + n ≤ most → (i k : ℕ) → m ≡ i → n ≡ k → Spares v w
+  within : m + n ≤ most → (i k : ℕ) → m ≡ i → n ≡ k → ClaimsNoId v w
   within le zero k e g = let q = j.left_empty le e in let bad : Err f ≡ Ok q.0 = q.1 in absurd (cc)
   within le (suc i) zero e g = let q = j.right_empty le (omega arith) g in let bad : Err f ≡ Ok q.0 = q.1 in absurd (cc)
   within le (suc i) (suc k) e g = let x : 0 < m = omega arith in let y : 0 < n = omega arith in dite (dec_le 13 (m + n))
@@ -70,12 +70,12 @@ module _ (v w : View) (z : HeapSize) (most : ℕ) (a b : JsStr) (us vs : List �
       (λ q. spares_of v w (words_over (is_wide (us ++ vs)) (length (us ++ vs))) q.0 q.2.1)
       (j.short le x y (omega arith)))
 
-  pub joined_spares : Spares v w
+  pub joined_spares : ClaimsNoId v w
   joined_spares = dite (dec_le (m + n) most) (λ le. within le m n refl refl) (λ more. spares_none v w (j.long (omega arith)).1)
 
 -- a part of a string
 module _ (v w : View) (z : HeapSize) (s : JsStr) (from to : ℕ) (us : List ℕ) (f : TextFull) (below : to ≤ length us) (j : IsCut v w z s from to us (Err f)) where
-  by_part : (0 < from) ⊎ (to < length us) → Spares v w
+  by_part : (0 < from) ⊎ (to < length us) → ClaimsNoId v w
   by_part less = dite (dec_le 13 (to - from))
       (λ long. ⊎_elim
       (λ q. let bad : Err f ≡ Ok q.0 = q.1 in absurd (cc))
@@ -86,7 +86,7 @@ module _ (v w : View) (z : HeapSize) (s : JsStr) (from to : ℕ) (us : List ℕ)
       (λ q. spares_of v w (words_over (is_wide cut) (length cut)) q.0 q.2.1)
       (j.short less (omega arith)))
 
-  pub cut_spares : Spares v w
+  pub cut_spares : ClaimsNoId v w
   cut_spares = dite (ℕ_discrete from 0)
       (λ e. dite (ℕ_discrete to (length us)) (λ g. let q = j.whole e g in let bad : Err f ≡ Ok q.0 = q.1 in absurd (cc)) (λ ne. by_part (inr (omega arith))))
       (λ ne. by_part (inl (omega arith)))

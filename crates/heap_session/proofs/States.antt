@@ -25,7 +25,7 @@ use Rattle.heap_rule.proofs.MapLemmas.{has_key}
 use Rattle.heap_rule.proofs.SlotTests.{shut_exactly}
 use Rattle.heap_table.specs.Known.{KeepsKnown}
 use Rattle.heap_read.specs.Reads.{Continues, OnlyLoads}
-use Rattle.heap_intern.specs.Goes.{AddsCalls, Looks}
+use Rattle.heap_intern.specs.Goes.{AddsCalls, LoadsAlone}
 use Rattle.heap_intern.proofs.Visiting.{shut_kept}
 use Rattle.heap_session.specs.Sessions.{state_by}
 use Rattle.heap_session.specs.Settled.{is_settled}
@@ -131,10 +131,10 @@ pub step_most : (v w : View) (l : ℕ) (t : TableId) (i n : ℕ) → IsPossible 
 step_most v w l t i n p r = step_within (step_reads v w l t p r) (omega arith) (omega arith)
 
 -- loads of slots
-pub step_looks : (v w : View) (l : ℕ) (t : TableId) → IsPossible v → Looks v w → StoreStep (state_by v l t) (state_by w l t) None 0 0
+pub step_looks : (v w : View) (l : ℕ) (t : TableId) → IsPossible v → LoadsAlone v w → StoreStep (state_by v l t) (state_by w l t) None 0 0
 step_looks v w l t p k = let a = k.used in let b = k.words in record { grows = grows_goes v w [] l t p k.goes; honest = tt; within_ids = omega arith; within_words = omega arith }
 
-pub history_looks : (v w : View) → Looks v w → history w ≡ history v
+pub history_looks : (v w : View) → LoadsAlone v w → history w ≡ history v
 history_looks v w k = history_goes v w [] k.goes ∙ append-nil (history v)
 
 -- a call is entered, and nothing used

@@ -6,7 +6,7 @@ use Rattle.heap_rule.specs.Maps.{HasKey}
 
 -- No id was claimed. The content words that were claimed are the agent's own, and were not before:
 -- the n words from `start` on.
-pub record Spares (v w : View) : Type 0 where
+pub record ClaimsNoId (v w : View) : Type 0 where
   pub ids : w.used.ids ≡ v.used.ids
   pub words : (start : ℕ) × (n : ℕ) × (w.used.words ≡ v.used.words + n)
       × ((q : ℕ) → q < n → HasKey w.own_words (start + q))

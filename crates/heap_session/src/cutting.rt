@@ -4,7 +4,7 @@ ghost use Rattle.js_store.specs.Faults.{fault_of, Uses};
 ghost use Rattle.js_store.specs.Rows.{cut_ids, cut_words, flat_words};
 ghost use Rattle.js_store.specs.State.{NamesUnits, IsKnown, IsSettled, text};
 ghost use Rattle.heap_text.specs.Texts.{KeepsOwn};
-ghost use Rattle.heap_session.specs.Owning.{Spares};
+ghost use Rattle.heap_session.specs.Owning.{ClaimsNoId};
 ghost use Rattle.heap_session.specs.Sessions.{state_in, session_view};
 
 use crate::faults::text_fault;
@@ -22,7 +22,7 @@ impl<H: HeapRef> Session<H> {
         ensures uses { Uses (state_in self.old) (state_in self.new) (fault_of result)
             1 (flat_words units.now) }
         ensures own { KeepsOwn (session_view self.old) (session_view self.new) }
-        ensures spared { OnErr result (Spares (session_view self.old) (session_view self.new)) }
+        ensures spared { OnErr result (ClaimsNoId (session_view self.old) (session_view self.new)) }
     {
         match self.text.make_flat(units) {
             Ok(s) => Ok(s),
@@ -39,7 +39,7 @@ impl<H: HeapRef> Session<H> {
         ensures uses { Uses (state_in self.old) (state_in self.new) (fault_of result)
             1 (flat_words units.now) }
         ensures own { KeepsOwn (session_view self.old) (session_view self.new) }
-        ensures spared { OnErr result (Spares (session_view self.old) (session_view self.new)) }
+        ensures spared { OnErr result (ClaimsNoId (session_view self.old) (session_view self.new)) }
     {
         let unit = units[0];
         if let Some(kept) = self.singles.get(unit) {
@@ -67,7 +67,7 @@ impl<H: HeapRef> Session<H> {
             (cut_ids from to (length (text (state_in self.old) s.id)))
             (cut_words from to (length (text (state_in self.old) s.id))) }
         ensures own { KeepsOwn (session_view self.old) (session_view self.new) }
-        ensures spared { OnErr result (Spares (session_view self.old) (session_view self.new)) }
+        ensures spared { OnErr result (ClaimsNoId (session_view self.old) (session_view self.new)) }
     {
         match self.text.slice(s, from, to) {
             Ok(part) => Ok(part),
@@ -88,7 +88,7 @@ impl<H: HeapRef> Session<H> {
             (cut_ids from to (length (text (state_in self.old) s.id)))
             (cut_words from to (length (text (state_in self.old) s.id))) }
         ensures own { KeepsOwn (session_view self.old) (session_view self.new) }
-        ensures spared { OnErr result (Spares (session_view self.old) (session_view self.new)) }
+        ensures spared { OnErr result (ClaimsNoId (session_view self.old) (session_view self.new)) }
     {
         let unit = self.unit_at(s, from);
         if let Some(kept) = self.singles.get(unit) {

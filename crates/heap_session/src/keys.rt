@@ -4,7 +4,7 @@ ghost use Rattle.js_store.specs.Faults.{SlotsShut, StoreStep, fault_of};
 ghost use Rattle.js_store.specs.Rows.{flat_words};
 ghost use Rattle.js_store.specs.State.{NamesUnits, IsSettled};
 ghost use Rattle.heap_text.specs.Texts.{KeepsOwn};
-ghost use Rattle.heap_intern.specs.Answers.{Finds, IsFoundAgain, StandsInSlot, copy_plan};
+ghost use Rattle.heap_intern.specs.Answers.{FindsString, IsFoundAgain, StandsInSlot, copy_plan};
 ghost use Rattle.heap_intern.specs.SlotLoads.{loads_at};
 ghost use Rattle.heap_session.specs.Counted.{LeavesBy, string_id};
 ghost use Rattle.heap_session.specs.Sessions.{state_in, session_view};
@@ -53,7 +53,8 @@ impl<H: HeapRef> Session<H> {
             (λ r. (state_in self.new).history ≡ (state_in self.old).history ++ (units.now, r.id) ∷ []) }
         ensures kept { result ≡ None → (state_in self.new).history ≡ (state_in self.old).history }
         ensures own { KeepsOwn (session_view self.old) (session_view self.new) }
-        ensures finds { Finds (session_view self.old) (session_view self.new) units.now (string_id result) }
+        ensures finds { FindsString (session_view self.old) (session_view self.new) units.now
+            (string_id result) }
         ensures again { (i : ℕ) → NamesUnits (state_in self.old) i units.now
             → StandsInSlot (session_view self.old) units.now i → string_id result ≡ Some i }
         ensures few { (k : ℕ) → loads_at (session_view self.new) k ≤ loads_at (session_view self.old) k + 2 }

@@ -9,7 +9,7 @@ ghost use Rattle.heap_table.specs.Agents.{view_of};
 ghost use Rattle.heap_read.specs.Reads.{OnlyLoads};
 ghost use Rattle.heap_read.specs.Windows.{IsWindow};
 ghost use Rattle.heap_text.specs.Texts.{KeepsOwn};
-ghost use Rattle.heap_session.specs.Owning.{Spares};
+ghost use Rattle.heap_session.specs.Owning.{ClaimsNoId};
 ghost use Rattle.heap_session.specs.Sessions.{state_in, session_view};
 
 use crate::recent::Mark;
@@ -31,7 +31,7 @@ impl<H: HeapRef> Session<H> {
         ensures uses { Uses (state_in self.old) (state_in self.new) (fault_of result)
             1 (flat_words units.now) }
         ensures own { KeepsOwn (session_view self.old) (session_view self.new) }
-        ensures spared { OnErr result (Spares (session_view self.old) (session_view self.new)) }
+        ensures spared { OnErr result (ClaimsNoId (session_view self.old) (session_view self.new)) }
     {
         let mark = Mark::new(units);
         if let Some(kept) = self.recent_of(mark, units) {

@@ -22,7 +22,7 @@ impl<H: HeapRef> Strings for Session<H> {
     ghost use Rattle.heap_intern.specs.Answers.{IsForwarded, IsFoundAgain, copy_plan};
     ghost use Rattle.heap_intern.specs.SlotLoads.{loads_at};
     ghost use Rattle.heap_session.specs.Counted.{FoundFree, GoesByPlan, LeavesBy};
-    ghost use Rattle.heap_session.specs.Owning.{Spares};
+    ghost use Rattle.heap_session.specs.Owning.{ClaimsNoId};
     ghost use Rattle.heap_session.specs.Sessions.{SessionFrame, state_in, session_view};
     ghost use Rattle.heap_table.specs.Agents.{view_of};
     ghost use Rattle.heap_session.specs.Sessions.{table_of};
@@ -43,7 +43,7 @@ impl<H: HeapRef> Strings for Session<H> {
         ensures uses { Uses (state_in self.old) (state_in self.new) (fault_of result)
             1 (flat_words units.now) }
         ensures own { KeepsOwn (session_view self.old) (session_view self.new) }
-        ensures spared { OnErr result (Spares (session_view self.old) (session_view self.new)) }
+        ensures spared { OnErr result (ClaimsNoId (session_view self.old) (session_view self.new)) }
     {
         if units.len() == 1 {
             return self.one_of(units);
@@ -76,7 +76,7 @@ impl<H: HeapRef> Strings for Session<H> {
         ensures own { KeepsOwn (session_view self.old) (session_view self.new) }
         ensures settling { OnOk result (IsSettling (session_view self.old) (session_view self.new) s.id
             (text (state_in self.old) s.id)) }
-        ensures spared { OnErr result (Spares (session_view self.old) (session_view self.new)) }
+        ensures spared { OnErr result (ClaimsNoId (session_view self.old) (session_view self.new)) }
     {
         match self.text.settle(s) {
             Ok(()) => Ok(()),
@@ -146,7 +146,7 @@ impl<H: HeapRef> Strings for Session<H> {
             (join_ids (length (text (state_in self.old) a.id)) (length (text (state_in self.old) b.id)))
             (join_words (length (text (state_in self.old) a.id)) (length (text (state_in self.old) b.id))) }
         ensures own { KeepsOwn (session_view self.old) (session_view self.new) }
-        ensures spared { OnErr result (Spares (session_view self.old) (session_view self.new)) }
+        ensures spared { OnErr result (ClaimsNoId (session_view self.old) (session_view self.new)) }
     {
         match self.text.concat(a, b) {
             Ok(s) => Ok(s),
@@ -168,7 +168,7 @@ impl<H: HeapRef> Strings for Session<H> {
             (cut_ids from to (length (text (state_in self.old) s.id)))
             (cut_words from to (length (text (state_in self.old) s.id))) }
         ensures own { KeepsOwn (session_view self.old) (session_view self.new) }
-        ensures spared { OnErr result (Spares (session_view self.old) (session_view self.new)) }
+        ensures spared { OnErr result (ClaimsNoId (session_view self.old) (session_view self.new)) }
     {
         if to - from == 1 {
             return self.one_part(s, from, to);

@@ -52,7 +52,7 @@ use Rattle.heap_table.specs.Taken.{taken}
 use Rattle.heap_table.proofs.Agreeing.{both_agree, taken_is}
 use Rattle.heap_table.proofs.Alike.{IsAlike, alike_flattened, alike_joined, alike_now, alike_put, alike_same, alike_split, alike_thinned, alike_unborn, now_born}
 use Rattle.heap_table.proofs.Stay.{known_form, known_length, known_word, known_birth, known_flattened, known_thinned, known_slot, known_took}
-use Rattle.heap_table.specs.Plays.{Looked, Noted, Sat, FoundCounter, LoadedCounter, Claimed, StoredWord, StoredLength, GaveBirth, FlattenedForm, ThinnedForm}
+use Rattle.heap_table.specs.Plays.{Looked, Noted, AgentSeat, FoundCounter, LoadedCounter, IsClaim, StoredWord, StoredLength, GaveBirth, FlattenedForm, ThinnedForm}
 use Rattle.heap_table.specs.Plays.{LoadedForm, LoadedLength, LoadedWord, SawSlot, TookSlot, FoundForm, FoundSlot, StaysSound}
 use Rattle.heap_table.specs.Agents.{Belongs}
 use Rattle.heap_table.specs.Known.{KeepsKnown}
@@ -168,7 +168,7 @@ used_within : (z : HeapSize) (agents : ℕ) (W : List ℕ) (vs : List View) → 
 used_within z agents W vs s j v at live Ids = let a = part_of (λ u. u.used.ids) vs j v at live in let b = s.added.ids in omega arith
 used_within z agents W vs s j v at live Words = let a = part_of (λ u. u.used.words) vs j v at live in let b = s.added.words in omega arith
 
-module _ (key : HeapKey) (slots id : ℕ) (me : Sat) (live : me.0.live ≡ true) where
+module _ (key : HeapKey) (slots id : ℕ) (me : AgentSeat) (live : me.0.live ≡ true) where
   found : (k : Counter) (s : State (Unit {0}) View) → IsSound key.size key.agents s.words s.views → get_elem? s.views id ≡ some me.0 → FoundCounter me.0 k (get_or s.words (counter_at k) 0)
   found k s h at = let f = counter_found key.size key.agents s.words s.views h id me.0 at live k in record {
     grown = f.0;
@@ -278,7 +278,7 @@ module _ (key : HeapKey) (slots id : ℕ) (me : Sat) (live : me.0.live ≡ true)
       (keeps_loaded_counter key.size key.agents s.words s.views h id me.0 at live k x is))
 
   pub claims : (k : Counter) (a want : ℕ) → MayClaim me.0 k a want → Allows (KeepsHeap key) slots id me (counter_at k)
-      (λ n. either (eqb n a) (a + want) n) (Claimed (step slots (counter_at k) a (a + want) none) me)
+      (λ n. either (eqb n a) (a + want) n) (IsClaim (step slots (counter_at k) a (a + want) none) me)
   claims k a want may s (h, b) _ at _ = let x : ℕ = get_or s.words (counter_at k) 0 in let w : View = claimed me.0 k a want x in (
     w,
     keeps,

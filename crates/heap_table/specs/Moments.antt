@@ -7,7 +7,7 @@ use Rattle.heap_rule.specs.Kinds.{StepKind, Access, loads, stores, exchanges, pl
 use Rattle.heap_rule.specs.Kinds.{view_on_heap}
 use Rattle.heap_rule.specs.Sound.{IsSound, AreLegal}
 use Rattle.heap_table.specs.declared.rule.HeapKey.{HeapKey}
-use Rattle.heap_table.specs.Plays.{Sat}
+use Rattle.heap_table.specs.Plays.{AgentSeat}
 
 -- a rule of the table, by which the rule holds of the words and the views whenever no step is under way, and
 -- all histories together are legal
@@ -32,11 +32,11 @@ second_operand _ = 0
 
 -- what a play says of a step on the word of a kind, with the operands of that kind: the view becomes what
 -- the kind makes of it by the word found; the kind may go by the view
-abbrev pub IsOfKindBy : (Step (Unit {0}) → Sat → ℕ → Sat → Type 0) → (View → StepKind) → Type 0
-IsOfKindBy tells e = (slots : ℕ) (me me' : Sat) (x : ℕ)
+abbrev pub IsOfKindBy : (Step (Unit {0}) → AgentSeat → ℕ → AgentSeat → Type 0) → (View → StepKind) → Type 0
+IsOfKindBy tells e = (slots : ℕ) (me me' : AgentSeat) (x : ℕ)
     → tells (step slots (place_of me.0.sizes (e me.0)) (first_operand (access_of (e me.0)))
     (second_operand (access_of (e me.0))) none) me x me' → me'.0 ≡ view_on_heap me.0 (e me.0) x
 
 -- the same for one kind, whatever the view is
-abbrev pub IsOfKind : (Step (Unit {0}) → Sat → ℕ → Sat → Type 0) → StepKind → Type 0
+abbrev pub IsOfKind : (Step (Unit {0}) → AgentSeat → ℕ → AgentSeat → Type 0) → StepKind → Type 0
 IsOfKind tells e = IsOfKindBy tells (λ v. e)

@@ -25,8 +25,8 @@ use Rattle.heap_rule.specs.Sound.{IsPossible}
 use Rattle.heap_table.specs.Known.{KeepsKnown}
 
 -- a seat: its view, and the slots that it holds, of which there are none
-abbrev pub Sat : Type 0
-Sat = Me (Unit {0}) View
+abbrev pub AgentSeat : Type 0
+AgentSeat = Me (Unit {0}) View
 
 -- what the rule says of a counter that is found: it is no less than what was read before and than what the
 -- agent claimed, and lies within its end; an id to come is above every known one and every own one, a content
@@ -56,7 +56,7 @@ pub record FoundForm (v : View) (i x : ℕ) : Type 0 where
       → IsSolidForm (form_of x)
 
 -- what each step of one agent leaves as it is, and that the new view is in a sound state
-pub record StaysSound (me me' : Sat) : Type 0 where
+pub record StaysSound (me me' : AgentSeat) : Type 0 where
   pub slots : me'.1 ≡ me.1
   pub sizes : me'.0.sizes ≡ me.0.sizes
   pub live : me'.0.live ≡ me.0.live
@@ -64,88 +64,88 @@ pub record StaysSound (me me' : Sat) : Type 0 where
   pub possible : IsPossible me'.0
 
 -- the load of a counter
-abbrev pub LoadedCounter : Step (Unit {0}) → Sat → ℕ → Sat → Type 0
+abbrev pub LoadedCounter : Step (Unit {0}) → AgentSeat → ℕ → AgentSeat → Type 0
 LoadedCounter st me x me' = StaysSound me me'
     × ((k : Counter) → st.word ≡ counter_at k → (me'.0 ≡ loaded_counter me.0 k x) × FoundCounter me.0 k x)
 
 -- the compare-exchange of a counter, from a number to one that is greater by what is requested
-abbrev pub Claimed : Step (Unit {0}) → Sat → ℕ → Sat → Type 0
-Claimed st me x me' = StaysSound me me'
+abbrev pub IsClaim : Step (Unit {0}) → AgentSeat → ℕ → AgentSeat → Type 0
+IsClaim st me x me' = StaysSound me me'
     × ((k : Counter) (want : ℕ) → st.word ≡ counter_at k → st.second ≡ st.first + want
     → (me'.0 ≡ claimed me.0 k st.first want x) × FoundCounter me.0 k x)
 
 -- the store of an own content word
-abbrev pub StoredWord : Step (Unit {0}) → Sat → ℕ → Sat → Type 0
+abbrev pub StoredWord : Step (Unit {0}) → AgentSeat → ℕ → AgentSeat → Type 0
 StoredWord st me x me' =
     StaysSound me me' × ((c : ℕ) → st.word ≡ content_at me.0.sizes c → me'.0 ≡ stored_word me.0 c st.first)
 
 -- the store of the length of an own id
-abbrev pub StoredLength : Step (Unit {0}) → Sat → ℕ → Sat → Type 0
+abbrev pub StoredLength : Step (Unit {0}) → AgentSeat → ℕ → AgentSeat → Type 0
 StoredLength st me x me' =
     StaysSound me me' × ((i : ℕ) → st.word ≡ length_at me.0.sizes i → me'.0 ≡ stored_length me.0 i st.first)
 
 -- the store of the form word of an own id, by which it is born
-abbrev pub GaveBirth : Step (Unit {0}) → Sat → ℕ → Sat → Type 0
+abbrev pub GaveBirth : Step (Unit {0}) → AgentSeat → ℕ → AgentSeat → Type 0
 GaveBirth st me x me' = StaysSound me me' × KeepsKnown me.0 me'.0
     × ((i : ℕ) (f : Form) → st.word ≡ form_at me.0.sizes i
     → st.first ≡ word_of f → IsInRange f → me'.0 ≡ born me.0 i f)
 
 -- the load of a form word: the word that is found is that of a form, and the string is born
-abbrev pub LoadedForm : Step (Unit {0}) → Sat → ℕ → Sat → Type 0
+abbrev pub LoadedForm : Step (Unit {0}) → AgentSeat → ℕ → AgentSeat → Type 0
 LoadedForm st me x me' = StaysSound me me' × KeepsKnown me.0 me'.0
     × ((f : Form) × (form_of x ≡ Some f) × (f ≡ Unborn → ⊥))
     × ((i : ℕ) → st.word ≡ form_at me.0.sizes i
     → (me'.0 ≡ learned_all (loaded_form me.0 i x)) × FoundForm me.0 i x)
 
 -- the load of a length word: the length is at most the greatest one
-abbrev pub LoadedLength : Step (Unit {0}) → Sat → ℕ → Sat → Type 0
+abbrev pub LoadedLength : Step (Unit {0}) → AgentSeat → ℕ → AgentSeat → Type 0
 LoadedLength st me x me' = StaysSound me me' × KeepsKnown me.0 me'.0 × (x ≤ MAX) × (me'.0.forms ≡ me.0.forms)
     × ((i : ℕ) → st.word ≡ length_at me.0.sizes i → me'.0 ≡ learned_all (loaded_length me.0 i x))
 
 -- the load of a content word: the view has afterwards what was found
-abbrev pub LoadedWord : Step (Unit {0}) → Sat → ℕ → Sat → Type 0
+abbrev pub LoadedWord : Step (Unit {0}) → AgentSeat → ℕ → AgentSeat → Type 0
 LoadedWord st me x me' = StaysSound me me' × KeepsKnown me.0 me'.0 × (me'.0.forms ≡ me.0.forms)
     × ((c : ℕ) → st.word ≡ content_at me.0.sizes c
     → (me'.0 ≡ learned_all (loaded_word me.0 c x)) × (x ≡ shown_word me'.0 c))
 
 -- the compare-exchange of a form word to that of a Flat: the string is settled afterwards, whoever settled it
-abbrev pub FlattenedForm : Step (Unit {0}) → Sat → ℕ → Sat → Type 0
+abbrev pub FlattenedForm : Step (Unit {0}) → AgentSeat → ℕ → AgentSeat → Type 0
 FlattenedForm st me x me' = StaysSound me me' × KeepsKnown me.0 me'.0
     × ((i : ℕ) (old new : Form) → st.word ≡ form_at me.0.sizes i
     → st.first ≡ word_of old → st.second ≡ word_of new → IsInRange old → IsInRange new
     → (me'.0 ≡ learned_all (flattened me.0 i old new x)) × IsSeenSettled me'.0 i)
 
 -- the compare-exchange of a form word to that of a Thin: the string forwards to t afterwards, whoever did it
-abbrev pub ThinnedForm : Step (Unit {0}) → Sat → ℕ → Sat → Type 0
+abbrev pub ThinnedForm : Step (Unit {0}) → AgentSeat → ℕ → AgentSeat → Type 0
 ThinnedForm st me x me' = StaysSound me me' × KeepsKnown me.0 me'.0
     × ((i t : ℕ) (old : Form) → st.word ≡ form_at me.0.sizes i
     → st.first ≡ word_of old → st.second ≡ word_of (Thin t) → IsInRange old → t < 2 ^ 29
     → (me'.0 ≡ learned_all (thinned me.0 i old t x)) × Has me'.0.forms i (Thin t))
 
 -- a load of a slot, with the entry that the view has for the history
-abbrev pub SawSlot : (View → ℕ → Option (List ℕ)) → Step (Unit {0}) → Sat → ℕ → Sat → Type 0
+abbrev pub SawSlot : (View → ℕ → Option (List ℕ)) → Step (Unit {0}) → AgentSeat → ℕ → AgentSeat → Type 0
 SawSlot entry st me x me' = StaysSound me me' × KeepsKnown me.0 me'.0 × (me'.0.forms ≡ me.0.forms)
     × ((k : ℕ) → st.word ≡ slot_at me.0.sizes k
     → (me'.0 ≡ learned_all (loaded_slot me.0 k (entry me.0 k) x)) × FoundSlot me.0 k x)
 
 -- a load of a slot that enters no call in the history
-abbrev pub LoadedSlot : Step (Unit {0}) → Sat → ℕ → Sat → Type 0
+abbrev pub LoadedSlot : Step (Unit {0}) → AgentSeat → ℕ → AgentSeat → Type 0
 LoadedSlot = SawSlot (λ v k. None)
 
 -- a load of a slot that enters a call in the history, with the units that the view has of the string there
-abbrev pub EnteredSlot : Step (Unit {0}) → Sat → ℕ → Sat → Type 0
+abbrev pub EnteredSlot : Step (Unit {0}) → AgentSeat → ℕ → AgentSeat → Type 0
 EnteredSlot = SawSlot entry_in
 
 -- the compare-exchange of a slot from 0 to the word of an id
-abbrev pub TookSlot : Step (Unit {0}) → Sat → ℕ → Sat → Type 0
+abbrev pub TookSlot : Step (Unit {0}) → AgentSeat → ℕ → AgentSeat → Type 0
 TookSlot st me x me' = StaysSound me me' × KeepsKnown me.0 me'.0 × (me'.0.forms ≡ me.0.forms)
     × ((k i : ℕ) → st.word ≡ slot_at me.0.sizes k → st.second ≡ i + 1
     → (me'.0 ≡ learned_all (took_slot me.0 k i x)) × FoundSlot me.0 k x)
 
 -- a note of the share that a running split is about to give
-abbrev pub Noted : Step (Unit {0}) → Sat → ℕ → Sat → Type 0
+abbrev pub Noted : Step (Unit {0}) → AgentSeat → ℕ → AgentSeat → Type 0
 Noted st me x me' = StaysSound me me' × (me'.0 ≡ noted me.0 st.first)
 
 -- a step that changes nothing, and shows that the share is at most 64
-abbrev pub Looked : Step (Unit {0}) → Sat → ℕ → Sat → Type 0
+abbrev pub Looked : Step (Unit {0}) → AgentSeat → ℕ → AgentSeat → Type 0
 Looked st me x me' = StaysSound me me' × (me'.0 ≡ me.0) × (me.0.share ≤ 64)

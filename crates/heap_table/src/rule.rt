@@ -34,9 +34,9 @@ impl Play<(), View> for LoadsCounter {
 pub struct Claims;
 
 impl Play<(), View> for Claims {
-    ghost use Rattle.heap_table.specs.Plays.{Claimed};
+    ghost use Rattle.heap_table.specs.Plays.{IsClaim};
 
-    ghost then = { Claimed };
+    ghost then = { IsClaim };
 }
 
 /// A store to an own content word.

@@ -12,7 +12,7 @@ use Rattle.heap_read.specs.declared.string.JsStr.{JsStr}
 use Rattle.heap_read.specs.declared.string.Window.{Window}
 use Rattle.heap_read.specs.Sources.{ShowsPiece, piece_units}
 use Rattle.heap_text.specs.Joins.{IsCopy, IsTextRefused}
-use Rattle.heap_text.specs.Texts.{IsSpared, Told, UsesExactly}
+use Rattle.heap_text.specs.Texts.{IsSpared, LacksRoom, UsesExactly}
 use Rattle.heap_read.specs.Reads.{OnlyLoads}
 use Rattle.js_units.specs.Lanes.{is_wide, words_over}
 use Rattle.heap_text.specs.declared.faults.TextFull.{TextFull}
@@ -124,7 +124,7 @@ spared_ids v u w x start words at f r e a b c k own fresh = subst (λ (y : View)
 -- the answer of a copy, after loads
 pub copy_answer : (v w x : View) (z : HeapSize) (r : Result JsStr TextFull) (xs us : List ℕ) (n : ℕ) → xs ≡ us → words_over (is_wide xs) n ≡ words_over (is_wide us) (length us) → OnlyLoads v w
     → IfOk r (λ s. Has x.units s.id xs) → IfOk r (λ s. (start : ℕ) × Has x.forms s.id (Flat (is_wide xs) start false)) → IfOk r (λ s. UsesExactly w x 1 (words_over (is_wide xs) n))
-    → IfErr r (λ f. Told x z (words_over (is_wide xs) n) f) → IfErr r (λ f. IsSpared w x (words_over (is_wide xs) n) f)
+    → IfErr r (λ f. LacksRoom x z (words_over (is_wide xs) n) f) → IfErr r (λ f. IsSpared w x (words_over (is_wide xs) n) f)
     → ((t : JsStr) × (r ≡ Ok t) × IsCopy v x t us) ⊎ ((f : TextFull) × (r ≡ Err f) × IsTextRefused v x z us f)
 copy_answer v w x z (Ok s) xs us n all words r a b c d e = inl (
   s,
@@ -138,5 +138,5 @@ copy_answer v w x z (Ok s) xs us n all words r a b c d e = inl (
 copy_answer v w x z (Err f) xs us n all words r a b c d e = inr (
   f,
   refl,
-  (subst (λ (m : ℕ). Told x z m f) words d, spared_after v w x (words_over (is_wide xs) n) (words_over (is_wide us) (length us)) f r words e),
+  (subst (λ (m : ℕ). LacksRoom x z m f) words d, spared_after v w x (words_over (is_wide xs) n) (words_over (is_wide us) (length us)) f r words e),
 )

@@ -14,7 +14,7 @@ use Rattle.heap_text.specs.declared.faults.TextFull.{TextFull}
 use Rattle.heap_text.specs.declared.faults.TextFull.TheVariants.{Ids}
 use Rattle.heap_table.specs.declared.claims.CounterFull.{CounterFull}
 use Rattle.heap_read.specs.declared.string.JsStr.{JsStr}
-use Rattle.heap_text.specs.Texts.{IsSpared, Told, UsesExactly}
+use Rattle.heap_text.specs.Texts.{IsSpared, LacksRoom, UsesExactly}
 
 -- a new flat string with these units: one id, and the words that hold them
 abbrev pub IsCopy : View → View → JsStr → List ℕ → Type 0
@@ -24,7 +24,7 @@ IsCopy v w s us = Has w.units s.id us × ((start : ℕ) × Has w.forms s.id (Fla
 -- a call that was refused for lack of ids or words: it reported that there is no room,
 -- and no string has what it used
 abbrev pub IsTextRefused : View → View → HeapSize → List ℕ → TextFull → Type 0
-IsTextRefused v w z us f = Told w z (words_over (is_wide us) (length us)) f
+IsTextRefused v w z us f = LacksRoom w z (words_over (is_wide us) (length us)) f
     × IsSpared v w (words_over (is_wide us) (length us)) f
 
 -- the fewest units of a Cons, and of a Sliced
@@ -75,7 +75,7 @@ IsPart v w s from t us = Has w.units t.id us × HasPart w s from t.id × UsesExa
 
 -- a call that was refused for lack of an id, and used nothing
 abbrev pub IsNoId : View → View → HeapSize → TextFull → Type 0
-IsNoId v w z f = ((full : CounterFull) × (f ≡ Ids full)) × Told w z 0 f × IsSpared v w 0 f
+IsNoId v w z f = ((full : CounterFull) × (f ≡ Ids full)) × LacksRoom w z 0 f × IsSpared v w 0 f
 
 -- two strings that the view knows, neither of them empty, of n units together
 abbrev pub AreJoinable : View → JsStr → JsStr → ℕ → Type 0

@@ -11,7 +11,7 @@ use Rattle.heap_table.specs.declared.claims.CounterFull.{CounterFull}
 use Rattle.heap_text.specs.declared.faults.TextFull.{TextFull}
 use Rattle.heap_text.specs.declared.faults.TextFull.TheVariants.{Words}
 use Rattle.heap_read.specs.Reads.{OnlyLoads}
-use Rattle.heap_text.specs.Texts.{IsSpared, Told, UsesExactly}
+use Rattle.heap_text.specs.Texts.{IsSpared, LacksRoom, UsesExactly}
 
 -- Two strings that are known, neither of them empty, with smaller numbers than i,
 -- have the units us between them.
@@ -56,5 +56,5 @@ IsSettling v w i us = OnlyLoads v w ⊎ ((wide : Bool) × IsBitOf v i wide × Is
 pub record IsNoRoom (v w : View) (z : HeapSize) (us : List ℕ) (f : TextFull) (wide : Bool) : Type 0 where
   pub narrow : IsNarrow wide us
   pub words : (full : CounterFull) × (f ≡ Words full)
-  pub told : Told w z (words_over wide (length us)) f
+  pub told : LacksRoom w z (words_over wide (length us)) f
   pub spared : IsSpared v w (words_over wide (length us)) f

@@ -14,9 +14,9 @@ UsesExactly v w ids words = (w.used.ids ≡ v.used.ids + ids) × (w.used.words �
 
 -- The counter that was read last has no room for what the call requested of it: one id,
 -- or that many content words.
-abbrev pub Told : View → HeapSize → ℕ → TextFull → Type 0
-Told w z words (Ids f) = IsFull f 1 z.ids × (w.low.ids ≡ f.at)
-Told w z words (Words f) = IsFull f words z.words × (w.low.words ≡ f.at)
+abbrev pub LacksRoom : View → HeapSize → ℕ → TextFull → Type 0
+LacksRoom w z words (Ids f) = IsFull f 1 z.ids × (w.low.ids ≡ f.at)
+LacksRoom w z words (Words f) = IsFull f words z.words × (w.low.words ≡ f.at)
 
 -- the content words that a report requests
 abbrev pub text_words_wanted : TextFull → ℕ

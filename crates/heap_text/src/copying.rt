@@ -5,12 +5,12 @@ ghost use Rattle.js_header.specs.declared.form.Form.TheVariants.{Flat};
 ghost use Rattle.heap_rule.specs.Layout.{MAX};
 ghost use Rattle.heap_rule.specs.Maps.{Has, HasKey};
 ghost use Rattle.heap_table.specs.Agents.{size_of};
-ghost use Rattle.heap_read.specs.Readers.{Moves, view_in};
+ghost use Rattle.heap_read.specs.Readers.{MovesView, view_in};
 ghost use Rattle.heap_read.specs.Reads.{Continues};
 ghost use Rattle.heap_read.specs.Sources.{ShowsSource, listed_in};
 ghost use Rattle.heap_read.specs.Written.{IsWritten};
 ghost use Rattle.heap_bytes.specs.Spellings.{IsReadable, spelling_units};
-ghost use Rattle.heap_text.specs.Texts.{IsSpared, KeepsOwn, KeepsOwnBut, Told, UsesExactly};
+ghost use Rattle.heap_text.specs.Texts.{IsSpared, KeepsOwn, KeepsOwnBut, LacksRoom, UsesExactly};
 
 use crate::faults::TextFull;
 use heap_bytes::{Spelling, write_spelled};
@@ -27,7 +27,7 @@ pub(crate) fn copy<H: HeapRef>(
     requires shows { ShowsSource (view_in reader.old) source.now }
     requires count { length (listed_in reader.old source.now) ≡ n }
     requires short { n ≤ MAX }
-    ensures continues { Moves Continues reader.old reader.new }
+    ensures continues { MovesView Continues reader.old reader.new }
     ensures own { KeepsOwn (view_in reader.old) (view_in reader.new) }
     ensures units { IfOk result
         (λ s. Has (view_in reader.new).units s.id (listed_in reader.old source.now)) }
@@ -39,7 +39,7 @@ pub(crate) fn copy<H: HeapRef>(
         (λ s. UsesExactly (view_in reader.old) (view_in reader.new) 1
         (words_over (is_wide (listed_in reader.old source.now)) n)) }
     ensures refused { IfErr result
-        (λ f. Told (view_in reader.new) (size_of (H.reached reader.old.heap))
+        (λ f. LacksRoom (view_in reader.new) (size_of (H.reached reader.old.heap))
         (words_over (is_wide (listed_in reader.old source.now)) n) f) }
     ensures spared { IfErr result
         (λ f. IsSpared (view_in reader.old) (view_in reader.new)
@@ -63,7 +63,7 @@ pub fn bear_flat<H: HeapRef>(reader: &mut Reader<H>, id: u32, n: u32, wide: bool
     requires own { HasKey (view_in reader.old).own_ids id }
     requires written { (us : List ℕ) × IsWritten (view_in reader.old) wide start us × (length us ≡ n) }
     requires short { n ≤ MAX }
-    ensures continues { Moves Continues reader.old reader.new }
+    ensures continues { MovesView Continues reader.old reader.new }
     ensures used { (view_in reader.new).used ≡ (view_in reader.old).used }
     ensures own { KeepsOwnBut (view_in reader.old) (view_in reader.new) id start (words_over wide n) }
     ensures units { (us : List ℕ) → IsWritten (view_in reader.old) wide start us → length us ≡ n
@@ -86,7 +86,7 @@ pub(crate) fn copy_spelled<H: HeapRef>(
 ) -> Result<JsStr, TextFull>
     requires read { IsReadable source.now }
     requires short { length (spelling_units source.now) ≤ MAX }
-    ensures continues { Moves Continues reader.old reader.new }
+    ensures continues { MovesView Continues reader.old reader.new }
     ensures own { KeepsOwn (view_in reader.old) (view_in reader.new) }
     ensures units { IfOk result (λ s. Has (view_in reader.new).units s.id (spelling_units source.now)) }
     ensures form { IfOk result
@@ -96,7 +96,7 @@ pub(crate) fn copy_spelled<H: HeapRef>(
         (λ s. UsesExactly (view_in reader.old) (view_in reader.new) 1
         (words_over (is_wide (spelling_units source.now)) (length (spelling_units source.now)))) }
     ensures refused { IfErr result
-        (λ f. Told (view_in reader.new) (size_of (H.reached reader.old.heap))
+        (λ f. LacksRoom (view_in reader.new) (size_of (H.reached reader.old.heap))
         (words_over (is_wide (spelling_units source.now)) (length (spelling_units source.now))) f) }
     ensures spared { IfErr result
         (λ f. IsSpared (view_in reader.old) (view_in reader.new)

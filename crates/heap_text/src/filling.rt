@@ -8,8 +8,8 @@ ghost use Rattle.heap_rule.specs.Loads.{added_loads};
 ghost use Rattle.heap_rule.specs.Maps.{Has, HasKey};
 ghost use Rattle.heap_rule.specs.Views.{MayUse};
 ghost use Rattle.heap_read.specs.Filling.{IsFilled, own_word};
-ghost use Rattle.heap_read.specs.Readers.{Moves, view_in};
-ghost use Rattle.heap_read.specs.Reads.{KeepsBelow, KeepsForms, OnlyLoads, Writes};
+ghost use Rattle.heap_read.specs.Readers.{MovesView, view_in};
+ghost use Rattle.heap_read.specs.Reads.{KeepsBelow, KeepsForms, OnlyLoads, WritesOwnWords};
 ghost use Rattle.heap_read.specs.Sides.{KnowsSide, LoadsForms, target_loads};
 ghost use Rattle.heap_read.specs.Windows.{IsWindow, ShowsAll};
 ghost use Rattle.heap_text.specs.Filling.{HoldsAbove, IsBoth, units_at};
@@ -24,7 +24,7 @@ pub(crate) fn left_length<H: HeapRef>(reader: &mut Reader<H>, id: u32, left: u32
     requires cons { (wide : Bool) × Has (view_in reader.old).forms id (Cons wide left right) }
     requires known { HasKey (view_in reader.old).units id }
     requires met { MayUse (view_in reader.old) left }
-    ensures reads { Moves OnlyLoads reader.old reader.new }
+    ensures reads { MovesView OnlyLoads reader.old reader.new }
     ensures forms { KeepsForms (view_in reader.old) (view_in reader.new) }
     ensures below { (left < id) × (right < id) }
     ensures known { HasKey (view_in reader.new).units left
@@ -48,7 +48,7 @@ fn leaf_window<L: Ledger, H: HeapRef>(
     requires born { form ≢ Unborn }
     requires leaf { ¬ IsCons form }
     requires side { KnowsSide (view_in reader.old) form }
-    ensures reads { Moves OnlyLoads reader.old reader.new }
+    ensures reads { MovesView OnlyLoads reader.old reader.new }
     ensures above { HoldsAbove (view_in reader.old) (view_in reader.new) of.id }
     ensures shows { ShowsAll (view_in reader.old) (view_in reader.new) of.id result }
     ensures loads { LoadsForms (view_in reader.old) (view_in reader.new) (steps.new - steps.old) }
@@ -83,7 +83,7 @@ fn fill_leaf<H: HeapRef>(
         → HasKey (view_in reader.old).own_words (to.start + o / lane_count to.wide) }
     requires fits { to.wide ≡ false → (k : ℕ) → k < n
         → slice_index (units_at (view_in reader.old) of.id) k < 256 }
-    ensures writes { Moves Writes reader.old reader.new }
+    ensures writes { MovesView WritesOwnWords reader.old reader.new }
     ensures below { KeepsBelow to.start (view_in reader.old) (view_in reader.new) }
     ensures forms { KeepsForms (view_in reader.old) (view_in reader.new) }
     ensures filled { IsFilled to.wide to.start (own_word (view_in reader.old).own_words)
@@ -117,7 +117,7 @@ pub(crate) fn fill<L: Ledger, H: HeapRef>(
         → HasKey (view_in reader.old).own_words (to.start + o / lane_count to.wide) }
     requires fits { to.wide ≡ false → (k : ℕ) → k < n
         → slice_index (units_at (view_in reader.old) id) k < 256 }
-    ensures writes { Moves Writes reader.old reader.new }
+    ensures writes { MovesView WritesOwnWords reader.old reader.new }
     ensures below { KeepsBelow to.start (view_in reader.old) (view_in reader.new) }
     ensures above { HoldsAbove (view_in reader.old) (view_in reader.new) id }
     ensures filled { IsFilled to.wide to.start (own_word (view_in reader.old).own_words)

@@ -8,11 +8,11 @@ ghost use Rattle.heap_rule.specs.Maps.{Has, HasKey};
 ghost use Rattle.heap_rule.specs.Views.{IsSeenSettled};
 ghost use Rattle.heap_table.specs.Agents.{size_of, view_of};
 ghost use Rattle.heap_bytes.specs.Spellings.{IsReadable, spelling_units};
-ghost use Rattle.heap_read.specs.Readers.{Moves, view_in};
+ghost use Rattle.heap_read.specs.Readers.{MovesView, view_in};
 ghost use Rattle.heap_read.specs.Reads.{Continues, HoldsForms, OnlyLoads};
 ghost use Rattle.heap_read.specs.Sides.{KnowsSide};
 ghost use Rattle.heap_read.specs.Sources.{ShowsPiece, piece_units};
-ghost use Rattle.heap_text.specs.Texts.{IsSpared, KeepsOwn, KeepsOwnBut, Told, UsesExactly};
+ghost use Rattle.heap_text.specs.Texts.{IsSpared, KeepsOwn, KeepsOwnBut, LacksRoom, UsesExactly};
 ghost use Rattle.heap_text.specs.Joins.{AreJoinable, HasPart, HasRope, IsCopied, IsCut, IsJoined, IsLinked, IsPartCut, IsWideIn, MIN_CONS, wide_bit};
 ghost use Rattle.heap_text.specs.Joins as joins;
 ghost use Rattle.heap_text.specs.Keeping.{KeepsText};
@@ -43,7 +43,7 @@ impl<H: HeapRef> Text<H> {
             (λ s. UsesExactly (view_of self.old.reader.agent) (view_of self.new.reader.agent) 1
             (words_over (is_wide units.now) (length units.now))) }
         ensures refused { IfErr result
-            (λ f. Told (view_of self.new.reader.agent) (size_of (H.reached self.old.reader.heap))
+            (λ f. LacksRoom (view_of self.new.reader.agent) (size_of (H.reached self.old.reader.heap))
             (words_over (is_wide units.now) (length units.now)) f) }
         ensures spared { IfErr result
             (λ f. IsSpared (view_of self.old.reader.agent) (view_of self.new.reader.agent)
@@ -73,7 +73,7 @@ impl<H: HeapRef> Text<H> {
             (λ s. UsesExactly (view_of self.old.reader.agent) (view_of self.new.reader.agent) 1
             (words_over (is_wide (spelling_units source.now)) (length (spelling_units source.now)))) }
         ensures refused { IfErr result
-            (λ f. Told (view_of self.new.reader.agent) (size_of (H.reached self.old.reader.heap))
+            (λ f. LacksRoom (view_of self.new.reader.agent) (size_of (H.reached self.old.reader.heap))
             (words_over (is_wide (spelling_units source.now)) (length (spelling_units source.now))) f) }
         ensures spared { IfErr result
             (λ f. IsSpared (view_of self.old.reader.agent) (view_of self.new.reader.agent)
@@ -154,7 +154,7 @@ fn copy_both<H: HeapRef>(
 ) -> Result<JsStr, TextFull>
     requires known { AreJoinable (view_in reader.old) a b n }
     requires short { n < MIN_CONS }
-    ensures continues { Moves Continues reader.old reader.new }
+    ensures continues { MovesView Continues reader.old reader.new }
     ensures own { KeepsOwn (view_in reader.old) (view_in reader.new) }
     ensures copied { (us vs : List ℕ) → Has (view_in reader.old).units a.id us
         → Has (view_in reader.old).units b.id vs
@@ -169,7 +169,7 @@ fn copy_both<H: HeapRef>(
 pub fn both_pieces<H: HeapRef>(reader: &mut Reader<H>, a: JsStr, b: JsStr, n: u32) -> (Piece, Piece)
     requires known { AreJoinable (view_in reader.old) a b n }
     requires short { n < MIN_CONS }
-    ensures reads { Moves OnlyLoads reader.old reader.new }
+    ensures reads { MovesView OnlyLoads reader.old reader.new }
     ensures shows { ShowsPiece (view_in reader.new) result.0 × ShowsPiece (view_in reader.new) result.1 }
     ensures units { (us vs : List ℕ) → Has (view_in reader.old).units a.id us
         → Has (view_in reader.old).units b.id vs
@@ -196,7 +196,7 @@ pub fn both_pieces<H: HeapRef>(reader: &mut Reader<H>, a: JsStr, b: JsStr, n: u3
 fn side_forms<H: HeapRef>(reader: &mut Reader<H>, a: JsStr, b: JsStr) -> (Form, Form)
     requires known { HasKey (view_in reader.old).units a.id
         × HasKey (view_in reader.old).units b.id }
-    ensures reads { Moves OnlyLoads reader.old reader.new }
+    ensures reads { MovesView OnlyLoads reader.old reader.new }
     ensures seen { Has (view_in reader.new).forms a.id result.0
         × Has (view_in reader.new).forms b.id result.1 }
     ensures born { (result.0 ≢ Unborn) × (result.1 ≢ Unborn) }
@@ -214,7 +214,7 @@ fn side_forms<H: HeapRef>(reader: &mut Reader<H>, a: JsStr, b: JsStr) -> (Form, 
 fn is_wide_side<H: HeapRef>(reader: &mut Reader<H>, of: u32, form: Form) -> bool
     requires seen { Has (view_in reader.old).forms of form }
     requires side { KnowsSide (view_in reader.old) form }
-    ensures reads { Moves OnlyLoads reader.old reader.new }
+    ensures reads { MovesView OnlyLoads reader.old reader.new }
     ensures held { HoldsForms (view_in reader.old) (view_in reader.new) }
     ensures wide { IsWideIn (view_in reader.new) form result }
 {
@@ -228,7 +228,7 @@ fn is_wide_side<H: HeapRef>(reader: &mut Reader<H>, of: u32, form: Form) -> bool
 fn link<H: HeapRef>(reader: &mut Reader<H>, a: JsStr, b: JsStr, n: u32) -> Result<JsStr, TextFull>
     requires known { AreJoinable (view_in reader.old) a b n }
     requires long { (MIN_CONS ≤ n) × (n ≤ MAX) }
-    ensures continues { Moves Continues reader.old reader.new }
+    ensures continues { MovesView Continues reader.old reader.new }
     ensures own { KeepsOwn (view_in reader.old) (view_in reader.new) }
     ensures linked { (us vs : List ℕ) → Has (view_in reader.old).units a.id us
         → Has (view_in reader.old).units b.id vs
@@ -249,7 +249,7 @@ pub fn link_to<H: HeapRef>(reader: &mut Reader<H>, a: JsStr, b: JsStr, n: u32, i
     requires above { (a.id < id) × (b.id < id) }
     requires known { AreJoinable (view_in reader.old) a b n }
     requires long { (MIN_CONS ≤ n) × (n ≤ MAX) }
-    ensures continues { Moves Continues reader.old reader.new }
+    ensures continues { MovesView Continues reader.old reader.new }
     ensures used { (view_in reader.new).used ≡ (view_in reader.old).used }
     ensures own { KeepsOwnBut (view_in reader.old) (view_in reader.new) id 0 0 }
     ensures units { (us vs : List ℕ) → Has (view_in reader.old).units a.id us
@@ -273,7 +273,7 @@ pub fn link_to<H: HeapRef>(reader: &mut Reader<H>, a: JsStr, b: JsStr, n: u32, i
 fn join<H: HeapRef>(reader: &mut Reader<H>, a: JsStr, b: JsStr, n: u32) -> Result<JsStr, TextFull>
     requires known { AreJoinable (view_in reader.old) a b n }
     requires most { n ≤ MAX }
-    ensures continues { Moves Continues reader.old reader.new }
+    ensures continues { MovesView Continues reader.old reader.new }
     ensures own { KeepsOwn (view_in reader.old) (view_in reader.new) }
     ensures copied { n < MIN_CONS → (us vs : List ℕ) → Has (view_in reader.old).units a.id us
         → Has (view_in reader.old).units b.id vs
@@ -300,7 +300,7 @@ fn copy_part<H: HeapRef>(
     requires settled { IsSeenSettled (view_in reader.old) s.id }
     requires within { (us : List ℕ) × Has (view_in reader.old).units s.id us
         × (from + n ≤ length us) }
-    ensures continues { Moves Continues reader.old reader.new }
+    ensures continues { MovesView Continues reader.old reader.new }
     ensures own { KeepsOwn (view_in reader.old) (view_in reader.new) }
     ensures copied { (us : List ℕ) → Has (view_in reader.old).units s.id us
         → IsCopied (view_in reader.old) (view_in reader.new) (size_of (H.reached reader.old.heap))
@@ -315,7 +315,7 @@ pub fn part_piece<H: HeapRef>(reader: &mut Reader<H>, s: JsStr, from: u32, n: u3
     requires settled { IsSeenSettled (view_in reader.old) s.id }
     requires within { (us : List ℕ) × Has (view_in reader.old).units s.id us
         × (from + n ≤ length us) }
-    ensures reads { Moves OnlyLoads reader.old reader.new }
+    ensures reads { MovesView OnlyLoads reader.old reader.new }
     ensures shows { ShowsPiece (view_in reader.new) result }
     ensures units { (us : List ℕ) → Has (view_in reader.old).units s.id us
         → piece_units (view_in reader.new) result ≡ part from n us }
@@ -345,7 +345,7 @@ fn link_part<H: HeapRef>(
     requires within { (us : List ℕ) × Has (view_in reader.old).units s.id us
         × (from + n ≤ length us) }
     requires long { MIN_CONS ≤ n }
-    ensures continues { Moves Continues reader.old reader.new }
+    ensures continues { MovesView Continues reader.old reader.new }
     ensures own { KeepsOwn (view_in reader.old) (view_in reader.new) }
     ensures linked { (us : List ℕ) → Has (view_in reader.old).units s.id us
         → IsPartCut (view_in reader.old) (view_in reader.new) (size_of (H.reached reader.old.heap)) s from
@@ -368,7 +368,7 @@ pub fn link_part_to<H: HeapRef>(reader: &mut Reader<H>, s: JsStr, from: u32, n: 
     requires within { (us : List ℕ) × Has (view_in reader.old).units s.id us
         × (from + n ≤ length us) }
     requires long { MIN_CONS ≤ n }
-    ensures continues { Moves Continues reader.old reader.new }
+    ensures continues { MovesView Continues reader.old reader.new }
     ensures used { (view_in reader.new).used ≡ (view_in reader.old).used }
     ensures own { KeepsOwnBut (view_in reader.old) (view_in reader.new) id 0 0 }
     ensures units { (us : List ℕ) → Has (view_in reader.old).units s.id us
@@ -393,7 +393,7 @@ fn cut<H: HeapRef>(reader: &mut Reader<H>, s: JsStr, from: u32, n: u32) -> Resul
     requires settled { IsSeenSettled (view_in reader.old) s.id }
     requires within { (us : List ℕ) × Has (view_in reader.old).units s.id us
         × (from + n ≤ length us) }
-    ensures continues { Moves Continues reader.old reader.new }
+    ensures continues { MovesView Continues reader.old reader.new }
     ensures own { KeepsOwn (view_in reader.old) (view_in reader.new) }
     ensures copied { n < MIN_CONS → (us : List ℕ) → Has (view_in reader.old).units s.id us
         → IsCopied (view_in reader.old) (view_in reader.new) (size_of (H.reached reader.old.heap))

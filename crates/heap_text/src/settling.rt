@@ -5,7 +5,7 @@ ghost use Rattle.heap_rule.specs.Loads.{added_loads};
 ghost use Rattle.heap_rule.specs.Maps.{Has, HasKey};
 ghost use Rattle.heap_rule.specs.Views.{MayUse, IsSeenSettled};
 ghost use Rattle.heap_table.specs.Agents.{size_of, view_of};
-ghost use Rattle.heap_read.specs.Readers.{Moves, view_in};
+ghost use Rattle.heap_read.specs.Readers.{MovesView, view_in};
 ghost use Rattle.heap_read.specs.Reads.{Continues, OnlyLoads};
 ghost use Rattle.heap_read.specs.Sides.{LoadsForms};
 ghost use Rattle.heap_text.specs.Texts.{KeepsOwn};
@@ -143,7 +143,7 @@ fn flatten<L: Ledger, H: HeapRef>(
     requires known { HasKey (view_in reader.old).units s.id }
     requires seen { Has (view_in reader.old).forms s.id (Cons wide left right) }
     requires side { MayUse (view_in reader.old) left }
-    ensures continues { Moves Continues reader.old reader.new }
+    ensures continues { MovesView Continues reader.old reader.new }
     ensures own { KeepsOwn (view_in reader.old) (view_in reader.new) }
     ensures settled { IfOk result (λ u. IsSeenSettled (view_in reader.new) s.id) }
     ensures flat { IfOk result

@@ -11,7 +11,7 @@ use Rattle.eval_values.specs.declared.value.Stop.TheVariants.{Threw, Unsupported
 use Rattle.js_item.specs.Seen.{Val}
 use Rattle.eval_values.specs.Outcome.{Ledger, both, Out, gave, ended, threw, unsupported, after_ledger, bind, converting, cost, ledger_of}
 use Rattle.eval_values.specs.Need.{Row, ids_in, words_in}
-use Rattle.eval_values.specs.Ran.{MeetsLedger, Cut, ComesTo}
+use Rattle.eval_values.specs.Ran.{MeetsLedger, EndsInPart, ComesTo}
 use Rattle.eval_values.proofs.Compose.{did_after, cut_after, cut_more, ran_both, ran_free, ran_of_step}
 use Rattle.eval_scopes.specs.Bindings.{Bindings, outer}
 use Rattle.js_eval.specs.Script.{Flow, then_flow, go_on, leaves, on_value, left, turns}
@@ -135,7 +135,8 @@ module _ {F : Type 0} where
   }
   ran_before a b c x y r bs cs l (ended e m) go h w = record { did = did_after a b c (λ s v. v) (λ s v. Unit {0}) l r (ended e m) h w.did; wrote = w.wrote; leaves = w.leaves }
 
-  cut_before : {A : Type 0} {a b : State F} {f : StoreFault} (bs : Bindings Val) (l : Ledger) (o : Out A) (go : A → Flow) → Cut a b f l → Cut a b f (ledger_of (on_value (after_ledger l o) bs go).out)
+  cut_before : {A : Type 0} {a b : State F} {f : StoreFault} (bs : Bindings Val) (l : Ledger) (o : Out A) (go : A → Flow)
+    → EndsInPart a b f l → EndsInPart a b f (ledger_of (on_value (after_ledger l o) bs go).out)
   cut_before bs l (gave q m) go c = cut_after (both l m) (go q).out (cut_more m c)
   cut_before bs l (ended e m) go c = cut_more m c
 

@@ -7,7 +7,7 @@ use Rattle.eval_values.specs.declared.value.Stop.TheVariants.{Threw}
 use Rattle.js_item.specs.Seen.{Val, seen}
 use Rattle.js_item.specs.Fine.{IsFine}
 use Rattle.eval_values.specs.Does.{GivesValue}
-use Rattle.eval_values.specs.Ran.{Stopped}
+use Rattle.eval_values.specs.Ran.{StopsAs}
 use Rattle.eval_values.proofs.Compose.{ran_free}
 use Rattle.eval_scopes.specs.Bindings.{Bound, Bindings, meant}
 use Rattle.js_eval.specs.Expression.{read_out}
@@ -27,7 +27,7 @@ module _ {F R : Type 0} (s : State F) (name : R → ℕ) where
   pub meant_some : (bs : Bindings (Item R)) (x : List ℕ) (b : Bound (Item R)) → meant bs x ≡ Some b → meant (bindings_seen s name bs) x ≡ Some (bound_seen s name b)
   meant_some bs x b e = meant_by (λ v. seen s name v) bs x ∙ ap (λ (o : Option (Bound (Item R))). option_map (λ b. bound_by (λ v. seen s name v) b) o) e
 
-  pub unread : (bs : Bindings (Item R)) (x : List ℕ) → meant bs x ≡ None → Stopped {A = Val} s s (Threw ReferenceError) (read_out (meant (bindings_seen s name bs) x))
+  pub unread : (bs : Bindings (Item R)) (x : List ℕ) → meant bs x ≡ None → StopsAs {A = Val} s s (Threw ReferenceError) (read_out (meant (bindings_seen s name bs) x))
   unread bs x e = rw (meant_none bs x e) (refl, ran_free s)
 
   -- a name whose value was copied

@@ -11,7 +11,7 @@ use Rattle.eval_values.specs.declared.value.Stop.{Stop}
 use Rattle.eval_values.specs.declared.value.Stop.TheVariants.{Threw, Unsupported, Store}
 use Rattle.eval_values.specs.Need.{Row, parts, ids_in, words_in}
 use Rattle.eval_values.specs.Outcome.{Ledger, Out, gave, ended, threw, unsupported, free, both, cost, after_ledger, bind}
-use Rattle.eval_values.specs.Ran.{Interns, InternsSome, MeetsLedger, Cut, ComesTo}
+use Rattle.eval_values.specs.Ran.{InternsLists, InternsSome, MeetsLedger, EndsInPart, ComesTo}
 use Rattle.eval_values.proofs.Needs.{some_most}
 use Rattle.eval_values.proofs.Each.{bind_same}
 use Rattle.js_eval.specs.Initializers.{members_in, key_units, literal_cost, key_interned, with_property, object_out}
@@ -124,13 +124,13 @@ module _ {F : Type 0} (a b : State F) (row : Row) {i w : ℕ} {l m : Ledger} (h 
   ran_paid : MeetsLedger a b l → MeetsLedger a b (both (cost row) m)
   ran_paid r = record {
     grows = r.grows;
-    history = subst (λ us. Interns a.history b.history us) h.interned r.history;
+    history = subst (λ us. InternsLists a.history b.history us) h.interned r.history;
     texts = subst (λ us. (u : List ℕ) → Contains us u → (n : ℕ) × NamesUnits b n u) h.texts r.texts;
     within_ids = omega (arith, r.within_ids, h.ids, p);
     within_words = omega (arith, r.within_words, h.words, q);
   }
 
-  cut_paid : (f : StoreFault) → Cut a b f l → Cut a b f (both (cost row) m)
+  cut_paid : (f : StoreFault) → EndsInPart a b f l → EndsInPart a b f (both (cost row) m)
   cut_paid f r = record {
     grows = r.grows;
     honest = r.honest;

@@ -13,7 +13,7 @@ use Rattle.eval_values.specs.Outcome.{Out, gave, ended, threw, unsupported}
 use Rattle.eval_scopes.specs.Bindings.{Bound}
 use Rattle.js_texts.specs.Texts.{full_only}
 use Rattle.js_eval.specs.Script.{Flow, flow_ledger}
-use Rattle.eval_values.specs.Ran.{Interns, InternsSome}
+use Rattle.eval_values.specs.Ran.{InternsLists, InternsSome}
 use Rattle.js_eval.specs.Flows.{WroteSome}
 
 -- how a script ends by its meaning
@@ -30,7 +30,7 @@ pub record Finished {F : Type 0} (a b : State F) (x y : List ℕ) (after : List 
   pub end_is : end ≡ script_end m.out
   pub lines : y ≡ x ++ concat m.lines
   pub bindings : after ≡ m.bindings.top
-  pub interned : Interns a.history b.history (flow_ledger m).interned
+  pub interned : InternsLists a.history b.history (flow_ledger m).interned
   pub texts : (u : List ℕ) → Contains (flow_ledger m).texts u → (n : ℕ) × NamesUnits b n u
   pub within_ids : b.used_ids ≤ a.used_ids + (flow_ledger m).ids
   pub within_words : b.used_words ≤ a.used_words + (flow_ledger m).words

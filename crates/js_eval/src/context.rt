@@ -1,7 +1,7 @@
 // What expressions read and statements change.
 ghost use Rattle.std.specs.Prelude.{◌≡◌, ◌∷◌, IfOk, IfErr, IfSome, OnOk, MatchOption, Some, None, option_map, List, ℕ};
 ghost use Rattle.eval_scopes.specs.Bindings.{meant, declared, entered, turned, outer};
-ghost use Rattle.eval_scopes.specs.Seen.{Within, IsPlace};
+ghost use Rattle.eval_scopes.specs.Seen.{IsPlaceIn, IsPlace};
 ghost use Rattle.js_item.specs.Seen.{seen};
 ghost use Rattle.js_item.specs.Fine.{IsFine};
 ghost use Rattle.eval_values.specs.Does.{GivesValue};
@@ -67,7 +67,7 @@ pub fn read_at<S: Strings>(
     place: Place,
 ) -> Result<Value<S::Ref>, Stop>
     requires context { ContextFine (S.state _store.now) S.number context.now }
-    requires within { Within context.now.scope place }
+    requires within { IsPlaceIn context.now.scope place }
     ensures fine { IfOk result (λ v. IsFine (S.state _store.now) S.number v) }
     ensures did { (n : List ℕ) → IsPlace context.now.scope n place → GivesValue S.number (S.state _store.now)
         (S.state _store.now) result (read_out (meant (context_bindings
@@ -107,7 +107,7 @@ pub fn assign_at<S: Strings>(
     value: Value<S::Ref>,
 ) -> Result<(), Stop>
     requires context { ContextFine (S.state _store.now) S.number context.old }
-    requires within { Within context.old.scope place }
+    requires within { IsPlaceIn context.old.scope place }
     requires value { IsFine (S.state _store.now) S.number value }
     ensures context { ContextFine (S.state _store.now) S.number context.new }
     ensures literals { context.new.literals ≡ context.old.literals }

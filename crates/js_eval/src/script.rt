@@ -6,7 +6,7 @@ ghost use Rattle.eval_tree.specs.Tree;
 ghost use Rattle.eval_tree.specs.Tree.{expr_tree, exprs_tree, init_tree, stmt_tree, stmts_tree, block_tree, arm_tree, arms as arms_tree, tree_of};
 ghost use Rattle.std.specs.Prelude.{map};
 ghost use Rattle.eval_scopes.specs.Bindings.{Bindings};
-ghost use Rattle.eval_scopes.specs.Seen.{Within, IsPlace, bounds_of};
+ghost use Rattle.eval_scopes.specs.Seen.{IsPlaceIn, IsPlace, bounds_of};
 ghost use Rattle.js_item.specs.Seen.{Val, seen};
 ghost use Rattle.js_item.specs.Contents.{number};
 ghost use Rattle.eval_values.specs.Seen.{all_seen, AllFine};
@@ -417,7 +417,7 @@ fn append_at<'a, S: Strings>(
     value: &Expr,
 ) -> Result<(), Stop>
     requires context { ContextFine (S.state store.old) S.number context.old }
-    requires within { Within context.old.scope place }
+    requires within { IsPlaceIn context.old.scope place }
     ensures grows { Grows (S.state store.old) (S.state store.new) }
     ensures context { ContextFine (S.state store.new) S.number context.new }
     ensures literals { context.new.literals ≡ context.old.literals }
@@ -441,7 +441,7 @@ fn sum_with<S: Strings>(
     value: &Expr,
 ) -> Result<Value<S::Ref>, Stop>
     requires context { ContextFine (S.state store.old) S.number context.now }
-    requires within { Within context.now.scope place }
+    requires within { IsPlaceIn context.now.scope place }
     ensures grows { Grows (S.state store.old) (S.state store.new) }
     ensures context { ContextFine (S.state store.new) S.number context.now }
     ensures fine { IfOk result (λ v. IsFine (S.state store.new) S.number v) }

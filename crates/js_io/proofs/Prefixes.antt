@@ -3,7 +3,7 @@ use Rattle.std.proofs.Common.{ℕ, List, [], ◌∷◌, ◌++◌, None, Some, sy
 use Rattle.std.specs.declared.option.Option.{Option}
 use Rattle.std.specs.Io.KnownBytes.{Appends, Keeps}
 use Rattle.js_io.specs.Counts.{next_count}
-use Rattle.js_io.specs.SinkState.{SinkState, Takes, TakesPrefix, WritesAll}
+use Rattle.js_io.specs.SinkState.{SinkState, TakesBytes, TakesPrefix, WritesAll}
 
 pub Appends-nil : (a : Option (List ℕ)) → Appends a a []
 Appends-nil None = tt
@@ -27,13 +27,13 @@ prefix_first a b bs cs (prefix, (byte, rest, split), took) =
     (prefix, (byte, rest ++ cs, ap (λ l. l ++ cs) split ∙ append_assoc prefix (byte ∷ rest) cs), took)
 
 -- the first of two, and a prefix of the second
-pub prefix_second : (a b c : SinkState) (bs cs : List ℕ) → Takes a b bs → TakesPrefix b c cs → TakesPrefix a c (bs ++ cs)
+pub prefix_second : (a b c : SinkState) (bs cs : List ℕ) → TakesBytes a b bs → TakesPrefix b c cs → TakesPrefix a c (bs ++ cs)
 prefix_second a b c bs cs first (prefix, (byte, rest, split), took) =
     (bs ++ prefix, (byte, rest, ap (λ l. bs ++ l) split ∙ sym (append_assoc bs prefix (byte ∷ rest))), Appends-trans a.taken b.taken c.taken bs prefix first took)
 
 -- some bytes were taken, and then the write of what was left failed
 pub stopped : {E : Type 0} (r : Result Unit E) (a b c : SinkState) (bs done rest : List ℕ) → IsErr r → (length rest ≡ 0 → ⊥) → bs ≡ done ++ rest
-    → Takes a b done → b.faults ≡ a.faults → Keeps b.taken c.taken → c.faults ≡ next_count b.faults → b.faults ≤ c.faults → WritesAll r a c bs
+    → TakesBytes a b done → b.faults ≡ a.faults → Keeps b.taken c.taken → c.faults ≡ next_count b.faults → b.faults ≤ c.faults → WritesAll r a c bs
 stopped (Ok done) a b c bs front rest err some split took calm kept failed counted = cc
 stopped (Err e) a b c bs front [] err some split took calm kept failed counted = absurd (some refl)
 stopped (Err e) a b c bs front (byte ∷ rest) err some split took calm kept failed counted = record {

@@ -1,7 +1,7 @@
 -- What is reported of a call: its status, and what two sinks receive.
 use Rattle.std.specs.Prelude.{◌≡◌, ◌⊎◌, ℕ, ◌≤◌, List, []}
 use Rattle.js_io.specs.Counts.{next_count}
-use Rattle.js_io.specs.SinkState.{SinkState, Takes, TakesPrefix}
+use Rattle.js_io.specs.SinkState.{SinkState, TakesBytes, TakesPrefix}
 
 -- what both sinks have received, and how many of their writes failed
 pub record Sinks : Type 0 where
@@ -20,7 +20,7 @@ pub data Report : Type 0 where
 
 -- the sink received all of these bytes, and no write failed
 pub record TakesAll (old new : SinkState) (bytes : List ℕ) : Type 0 where
-  pub took : Takes old new bytes
+  pub took : TakesBytes old new bytes
   pub calm : new.faults ≡ old.faults
 
 -- the sink received a prefix of these bytes, and then a write failed, the last one

@@ -22,18 +22,18 @@ abbrev pub IsProperPrefix : List ℕ → List ℕ → Type 0
 IsProperPrefix prefix whole = (byte : ℕ) × (rest : List ℕ) × (whole ≡ prefix ++ byte ∷ rest)
 
 -- the sink received these bytes
-abbrev pub Takes : SinkState → SinkState → List ℕ → Type 0
-Takes old new bytes = Appends old.taken new.taken bytes
+abbrev pub TakesBytes : SinkState → SinkState → List ℕ → Type 0
+TakesBytes old new bytes = Appends old.taken new.taken bytes
 
 -- the sink received a prefix of these bytes, and not all of them
 abbrev pub TakesPrefix : SinkState → SinkState → List ℕ → Type 0
-TakesPrefix old new bytes = (prefix : List ℕ) × IsProperPrefix prefix bytes × Takes old new prefix
+TakesPrefix old new bytes = (prefix : List ℕ) × IsProperPrefix prefix bytes × TakesBytes old new prefix
 
 -- at Ok the sink received all of the bytes and no write failed; at Err it received a prefix of them, and the
 -- one write of what was left failed. The count of faults never falls.
 pub record WritesAll {E : Type 0} (result : Result Unit E) (old new : SinkState)
     (bytes : List ℕ) : Type 0 where
-  pub all : OnOk result (Takes old new bytes)
+  pub all : OnOk result (TakesBytes old new bytes)
   pub calm : OnOk result (new.faults ≡ old.faults)
   pub prefix : OnErr result (TakesPrefix old new bytes)
   pub once : OnErr result (new.faults ≡ next_count old.faults)

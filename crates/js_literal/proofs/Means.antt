@@ -5,7 +5,7 @@ use Rattle.std.specs.Prelude.{nat_le, ◌&&◌, ◌||◌}
 use Rattle.js_units.specs.Text.{utf16_of}
 use Rattle.js_literal.specs.Literal.{is_quote, hex_number, letter_unit, is_plain, is_itself, LiteralPiece, plain, letter, null, two, four, braces, both_ends}
 use Rattle.js_literal.specs.Literal.{return, line_end, itself, StringFaultKind, Unclosed, RawLineEnd, BadEscape, CodePointTooLarge, LegacyOctal}
-use Rattle.js_literal.specs.Literal.{IsCodePointTooLarge, large, Breaks, ended, ended_escape, raw_line_end, octal, octal_zero, too_large, bad}
+use Rattle.js_literal.specs.Literal.{IsCodePointTooLarge, large, BreaksLiteral, ended, ended_escape, raw_line_end, octal, octal_zero, too_large, bad}
 use Rattle.js_literal.specs.Reader.{hex_front, two_front, four_front, hex_run, run_braces, close_braces, braces_of, unicode_of, one_unit, after_return}
 use Rattle.js_literal.specs.Reader.{other_escape, chosen_escape, escape_of, reading, Reading, Take, Shut, Break, begins_digit}
 use Rattle.js_literal.proofs.Fronts.{front_some, two_some, four_some, run_some}
@@ -14,13 +14,13 @@ use Rattle.js_literal.proofs.Exact.{is, at_backslash, null_looks, x_looks, u_loo
 abbrev pub Means : ℕ → List ℕ → Reading → Type 0
 Means q s (Take us rest) = LiteralPiece q s us rest
 Means q s (Shut rest) = s ≡ q ∷ rest
-Means q s (Break k) = Breaks q s k
+Means q s (Break k) = BreaksLiteral q s k
 
 large_looks : (s : List ℕ) → IsCodePointTooLarge s → escape_of s ≡ Break CodePointTooLarge
 large_looks _ (large d ds v rest h lt) = braces_looks d ds v rest h ∙ (let e : nat_le v 0x10FFFF ≡ false = grind (arith, nat_tests) in rw e refl)
 
 -- x or u, and what follows is refused as bad
-bad_breaks : (q c : ℕ) (rest : List ℕ) → is_quote q ≡ true → (nat_eq c 120 || nat_eq c 117) ≡ true → escape_of (c ∷ rest) ≡ Break BadEscape → Breaks q (92 ∷ c ∷ rest) BadEscape
+bad_breaks : (q c : ℕ) (rest : List ℕ) → is_quote q ≡ true → (nat_eq c 120 || nat_eq c 117) ≡ true → escape_of (c ∷ rest) ≡ Break BadEscape → BreaksLiteral q (92 ∷ c ∷ rest) BadEscape
 bad_breaks q c rest hq hc h = bad c rest hc
     (λ us after p. let e = piece_looks q (92 ∷ c ∷ rest) us after hq p in let f = at_backslash q (c ∷ rest) hq in absurd cc)
     (λ l. let e = large_looks (c ∷ rest) l in absurd cc)
@@ -157,7 +157,7 @@ reading_means q (c ∷ s) hq = go (nat_eq c q) (nat_eq c 92) (nat_eq c 10 || nat
     go false false false h1 h2 h3 = plain c s (none h1 h2 h3)
 
 -- each break is seen
-pub breaks_looks : (q : ℕ) (s : List ℕ) (k : StringFaultKind) → is_quote q ≡ true → Breaks q s k → reading q s ≡ Break k
+pub breaks_looks : (q : ℕ) (s : List ℕ) (k : StringFaultKind) → is_quote q ≡ true → BreaksLiteral q s k → reading q s ≡ Break k
 unfolding reading escape_of
 breaks_looks q _ _ hq ended = refl
 breaks_looks q _ _ hq ended_escape = at_backslash q [] hq

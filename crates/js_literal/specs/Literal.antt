@@ -82,22 +82,24 @@ pub data IsCodePointTooLarge : List ℕ → Type 0 where
       → IsCodePointTooLarge (117 ∷ 123 ∷ d ∷ (ds ++ 125 ∷ rest))
 
 -- what is refused at the front of what is left
-pub data Breaks (q : ℕ) : List ℕ → StringFaultKind → Type 0 where
-  ended : Breaks q [] Unclosed
-  ended_escape : Breaks q (92 ∷ []) Unclosed
-  raw_line_end : (c : ℕ) (rest : List ℕ) → (c == 10 || c == 13) ≡ true → Breaks q (c ∷ rest) RawLineEnd
-  octal : (c : ℕ) (rest : List ℕ) → (nat_le 49 c && nat_le c 57) ≡ true → Breaks q (92 ∷ c ∷ rest) LegacyOctal
-  octal_zero : (rest : List ℕ) → begins_with is_digit rest ≡ true → Breaks q (92 ∷ 48 ∷ rest) LegacyOctal
-  too_large : (s : List ℕ) → IsCodePointTooLarge s → Breaks q (92 ∷ s) CodePointTooLarge
+pub data BreaksLiteral (q : ℕ) : List ℕ → StringFaultKind → Type 0 where
+  ended : BreaksLiteral q [] Unclosed
+  ended_escape : BreaksLiteral q (92 ∷ []) Unclosed
+  raw_line_end : (c : ℕ) (rest : List ℕ) → (c == 10 || c == 13) ≡ true → BreaksLiteral q (c ∷ rest) RawLineEnd
+  octal : (c : ℕ) (rest : List ℕ) → (nat_le 49 c && nat_le c 57) ≡ true
+    → BreaksLiteral q (92 ∷ c ∷ rest) LegacyOctal
+  octal_zero : (rest : List ℕ) → begins_with is_digit rest ≡ true
+    → BreaksLiteral q (92 ∷ 48 ∷ rest) LegacyOctal
+  too_large : (s : List ℕ) → IsCodePointTooLarge s → BreaksLiteral q (92 ∷ s) CodePointTooLarge
   -- x or u, and neither a row of the table nor too large
   bad : (c : ℕ) (rest : List ℕ) → (c == 120 || c == 117) ≡ true
       → ((us after : List ℕ) → LiteralPiece q (92 ∷ c ∷ rest) us after → ⊥)
       → (IsCodePointTooLarge (c ∷ rest) → ⊥)
-      → Breaks q (92 ∷ c ∷ rest) BadEscape
+      → BreaksLiteral q (92 ∷ c ∷ rest) BadEscape
 
 -- the first fault, and what is left where it shows
 pub data IsBroken (q : ℕ) : List ℕ → StringFaultKind → List ℕ → Type 0 where
-  here : (s : List ℕ) (f : StringFaultKind) → Breaks q s f → IsBroken q s f s
+  here : (s : List ℕ) (f : StringFaultKind) → BreaksLiteral q s f → IsBroken q s f s
   later : (s mid us left : List ℕ) (f : StringFaultKind) → LiteralPiece q s us mid → IsBroken q mid f left
       → IsBroken q s f left
 

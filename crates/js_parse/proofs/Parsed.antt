@@ -10,7 +10,7 @@ use Rattle.js_parse.specs.NameWalk.{found_of}
 use Rattle.js_parse.specs.declared.fault.Role.{Role}
 use Rattle.js_parse.specs.declared.fault.ParseFault.{ParseFault}
 use Rattle.js_parse.specs.declared.fault.ParseFault.TheVariants as fault
-use Rattle.js_parse.specs.Spells.{Spells, Refused, of_names, misnamed, IsOrMemory, Refuses}
+use Rattle.js_parse.specs.Spells.{Spells, Refused, of_names, misnamed, IsOrMemory, HoldsOfFault}
 use Rattle.js_parse.specs.Told.{IsRefusal, IsTold, ParsesWith}
 use Rattle.js_parse.proofs.Answered.{one_script, no_refused_script}
 use Rattle.js_parse.proofs.First.{tells_first}
@@ -54,7 +54,7 @@ module _ (role : Role) (outer : List (List ℕ)) (bytes : List ℕ) where
   is_found (Err (fault.Duplicate at)) h k x p = never x (fault.Duplicate at) k (λ e. cc) p
   is_found (Err (fault.LoopName at)) h k x p = never x (fault.LoopName at) k (λ e. cc) p
 
-  pub is_refused : (r : Result Script ParseFault) → IfErr r (IsTold role outer bytes) → Refuses r (λ f. Refused role outer bytes f)
+  pub is_refused : (r : Result Script ParseFault) → IfErr r (IsTold role outer bytes) → HoldsOfFault r (λ f. Refused role outer bytes f)
   is_refused (Ok s) k = tt
   is_refused (Err fault.Memory) k = tt
   is_refused (Err (fault.Lex f)) k = refused (fault.Lex f) k (λ e. cc)

@@ -90,12 +90,12 @@ IsOrMemory view (Err (fault.Duplicate at)) x = ⊥
 IsOrMemory view (Err (fault.LoopName at)) x = ⊥
 
 -- this holds of a fault other than out of memory
-abbrev pub Refuses : {X : Type 0} → Result X ParseFault → (ParseFault → Type 0) → Type 0
-Refuses (Ok x) P = Unit {0}
-Refuses (Err fault.Memory) P = Unit {0}
-Refuses (Err (fault.Lex f)) P = P (fault.Lex f)
-Refuses (Err (fault.Unexpected at)) P = P (fault.Unexpected at)
-Refuses (Err (fault.NotInProfile at)) P = P (fault.NotInProfile at)
-Refuses (Err (fault.TooDeep at)) P = P (fault.TooDeep at)
-Refuses (Err (fault.Duplicate at)) P = P (fault.Duplicate at)
-Refuses (Err (fault.LoopName at)) P = P (fault.LoopName at)
+abbrev pub HoldsOfFault : {X : Type 0} → Result X ParseFault → (ParseFault → Type 0) → Type 0
+HoldsOfFault (Ok x) P = Unit {0}
+HoldsOfFault (Err fault.Memory) P = Unit {0}
+HoldsOfFault (Err (fault.Lex f)) P = P (fault.Lex f)
+HoldsOfFault (Err (fault.Unexpected at)) P = P (fault.Unexpected at)
+HoldsOfFault (Err (fault.NotInProfile at)) P = P (fault.NotInProfile at)
+HoldsOfFault (Err (fault.TooDeep at)) P = P (fault.TooDeep at)
+HoldsOfFault (Err (fault.Duplicate at)) P = P (fault.Duplicate at)
+HoldsOfFault (Err (fault.LoopName at)) P = P (fault.LoopName at)

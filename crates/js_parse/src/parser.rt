@@ -2,7 +2,7 @@
 ghost use Rattle.std.specs.Prelude.{◌≡◌, ◌≤◌, length, IfOk, IfErr};
 ghost use Rattle.eval_tree.specs.Tree.{Tree, tree_of};
 ghost use Rattle.js_parse.specs.FirstFault.{fault_of};
-ghost use Rattle.js_parse.specs.Spells.{Spells, Refused, IsOrMemory, Refuses, misnamed};
+ghost use Rattle.js_parse.specs.Spells.{Spells, Refused, IsOrMemory, HoldsOfFault, misnamed};
 ghost use Rattle.js_parse.specs.Told.{IsTold};
 
 use crate::fault::{ParseFault, Role};
@@ -43,7 +43,7 @@ pub fn parse(alloc: Global, bytes: &[u8], role: Role, outer: &Names) -> Result<S
     requires short { length bytes.now ≤ 1_048_576 }
     ensures spells { IfOk result (λ script. Spells role outer.now bytes.now (tree_of script)) }
     ensures found { (tree : Tree) → Spells role outer.now bytes.now tree → IsOrMemory tree_of result tree }
-    ensures refused { Refuses result (λ fault. Refused role outer.now bytes.now fault) }
+    ensures refused { HoldsOfFault result (λ fault. Refused role outer.now bytes.now fault) }
 {
     read(alloc, bytes, role, outer)
 }

@@ -1,7 +1,7 @@
 -- The places of matches, one after another.
 use Rattle.std.proofs.Common.{arith, ◌≡◌, ℕ, zero, suc, ◌+◌, ◌-◌, ◌<◌, ◌≤◌, max, List, [], ◌∷◌, ◌++◌, length, refl, ap, sym, ◌∙◌, cond, Bool, true, false, append_assoc, append-nil}
 use Rattle.std.specs.Prelude.{Option, Some, None, unwrap_or}
-use Rattle.js_search.specs.Places.{stands, least, first, Stands}
+use Rattle.js_search.specs.Places.{stands, least, first, IsPartAt}
 use Rattle.js_search.proofs.Bounds.{first_is, tells}
 use Rattle.js_replace.specs.Matches.{first_matches, and_on, matches, AreMatches, InOrder}
 
@@ -18,7 +18,7 @@ least_found p a zero k e = absurd (cc)
 least_found p a (suc n) k e = by_test (p a) p a n k refl e (λ f. least_found p (suc a) n k f)
 
 -- where a match is
-pub found : (u w : List ℕ) (from k : ℕ) → first u w from ≡ Some k → (from ≤ k) × Stands u w k
+pub found : (u w : List ℕ) (from k : ℕ) → first u w from ≡ Some k → (from ≤ k) × IsPartAt u w k
 unfolding first
 found u w from k e = let f = least_found (stands u w) from (suc (length u) - from) k e in (f.0, (tells u w k).0 f.1)
 

@@ -4,7 +4,7 @@ ghost use Rattle.js_store.specs.State.{NamesUnits, IsKnown, IsSettled, text};
 ghost use Rattle.js_store.specs.Faults.{Uses};
 ghost use Rattle.js_texts.specs.Answers.{ThrowsLong, full_of};
 ghost use Rattle.js_texts.specs.Texts.{full_fault_of};
-ghost use Rattle.js_search.specs.Places.{Stands};
+ghost use Rattle.js_search.specs.Places.{IsPartAt};
 ghost use Rattle.js_replace.specs.Substitution.{substituted};
 ghost use Rattle.js_texts.specs.Use.{settling, made_words};
 
@@ -28,7 +28,7 @@ pub fn substitution<S: Strings>(
     requires template_known { IsKnown (S.state store.old) (S.number template) }
     requires known { IsKnown (S.state store.old) (S.number s) }
     requires match_known { IsKnown (S.state store.old) (S.number w) }
-    requires stands { Stands (text (S.state store.old) (S.number s))
+    requires stands { IsPartAt (text (S.state store.old) (S.number s))
         (text (S.state store.old) (S.number w)) at }
     ensures value { IfOk result
         (λ r. NamesUnits (S.state store.new) (S.number r)
@@ -62,7 +62,7 @@ fn match_len<S: Strings>(store: &mut S, template: &[u16], s: S::Ref, at: u32, w:
     requires short { length template.now ≤ 536870888 }
     requires known { IsKnown (S.state store.old) (S.number s) }
     requires match_known { IsKnown (S.state store.old) (S.number w) }
-    requires stands { Stands (text (S.state store.old) (S.number s))
+    requires stands { IsPartAt (text (S.state store.old) (S.number s))
         (text (S.state store.old) (S.number w)) at }
     ensures value { result ≡ length
         (substituted template.now (text (S.state store.old) (S.number s)) at
@@ -84,7 +84,7 @@ fn match_units<S: Strings>(
 ) -> Result<Units, StoreFault>
     requires known { IsKnown (S.state store.old) (S.number s) }
     requires match_known { IsKnown (S.state store.old) (S.number w) }
-    requires stands { Stands (text (S.state store.old) (S.number s))
+    requires stands { IsPartAt (text (S.state store.old) (S.number s))
         (text (S.state store.old) (S.number w)) at }
     ensures value { IfOk result
         (λ u. u ≡ substituted template.now (text (S.state store.old) (S.number s)) at

@@ -18,7 +18,7 @@ use Rattle.js_io.specs.Report.{TakesAll, IsTold, IsEnd, Report, Refusal, Printed
 use Rattle.js_run.specs.Outcome.{CallOutcome}
 use Rattle.js_run.specs.Rows as row
 use Rattle.js_run.specs.Rows.{NoFault, OrWant, Exactly, IsFileFault, IsToldLarge, IsNoScript, IsToldRefused, HasRefusalStatus, IsRefusalTold, IsMemory, HasRun}
-use Rattle.js_run.specs.Rows.{Prints, PrintsAll, PrintsEarly, PrintsFull, IsCutShort, IsHonest, IsDone}
+use Rattle.js_run.specs.Rows.{HasPrinted, PrintsAll, PrintsEarly, PrintsFull, IsCutShort, IsHonest, IsDone}
 use Rattle.js_run.proofs.Contents.{OneScript, NoneRefused, not_large, read_small, none_refused, same_trees, texts_read, texts_same}
 use Rattle.js_run.proofs.Ends.{IsRunStatus, status_is, done_status, done_out, done_err, early_status, full_first, complete}
 
@@ -222,15 +222,15 @@ ran_only words request ended old new NoMemory lawful why end kept is = absurd (o
 ran_only words None ended old new (WasRun names ran) lawful why end kept is = absurd why
 ran_only words (Some request) ended old new (WasRun names ran) lawful why end kept is = ran_to_end words request ended old new names ran lawful why end kept
 
-prints : (words : List (List ℕ)) (status : ℕ) (ended : Ended) (old new : Moment) → status < 7 → ended.code ≡ status → RanTo words ended old new → Prints words status ended old new
+prints : (words : List (List ℕ)) (status : ℕ) (ended : Ended) (old new : Moment) → status < 7 → ended.code ≡ status → RanTo words ended old new → HasPrinted words status ended old new
 prints words status ended old new small is r = by r.end
   where
-    by : IsEnd (report_of (WasRun r.run.names r.run.ran)) ended.code old.sinks new.sinks → Prints words status ended old new
+    by : IsEnd (report_of (WasRun r.run.names r.run.ran)) ended.code old.sinks new.sinks → HasPrinted words status ended old new
     by (inl whole) = record { run = r.run; ends = sym whole.status ∙ is; out = whole.out; err = whole.err }
     by (inr (inl cut)) = absurd (omega (arith, cut.status, is, small))
     by (inr (inr cut)) = absurd (omega (arith, cut.status, is, small))
 
-prints_all : (words : List (List ℕ)) (ended : Ended) (old new : Moment) → Prints words 0 ended old new → PrintsAll words ended old new
+prints_all : (words : List (List ℕ)) (ended : Ended) (old new : Moment) → HasPrinted words 0 ended old new → PrintsAll words ended old new
 prints_all words ended old new p = record {
   prints = p;
   meant = done_status p.run.request p.run.came.cause.trees p.run.ran p.run.came.cause.program p.ends;
@@ -238,10 +238,10 @@ prints_all words ended old new p = record {
   err = subst (λ (l : List ℕ). TakesAll old.sinks.err new.sinks.err l) (done_err p.run.request p.run.came.cause.trees p.run.ran p.run.came.cause.program p.run.names p.ends) p.err;
 }
 
-prints_early : (words : List (List ℕ)) (ended : Ended) (old new : Moment) → Prints words 1 ended old new → PrintsEarly words ended old new
+prints_early : (words : List (List ℕ)) (ended : Ended) (old new : Moment) → HasPrinted words 1 ended old new → PrintsEarly words ended old new
 prints_early words ended old new p = record { prints = p; meant = early_status p.run.request p.run.came.cause.trees p.run.ran p.run.came.cause.program p.ends }
 
-prints_full : (words : List (List ℕ)) (ended : Ended) (old new : Moment) → Prints words 5 ended old new → PrintsFull words ended old new
+prints_full : (words : List (List ℕ)) (ended : Ended) (old new : Moment) → HasPrinted words 5 ended old new → PrintsFull words ended old new
 prints_full words ended old new p = record { prints = p; full = full_first p.run.request p.run.came.cause.trees p.run.ran p.run.came.cause.program p.ends }
 
 -- memory was wanting

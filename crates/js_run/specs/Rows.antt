@@ -120,7 +120,7 @@ pub record HasRun (words : List (List ℕ)) (ended : Ended) (old new : Moment) :
 -- The program was run, the status is that of the first file that didn't end Done, and all was written: out
 -- received exactly what the scripts printed, with the line `interned N` where it is asked for, and err the
 -- lines of the files that didn't end Done.
-pub record Prints (words : List (List ℕ)) (status : ℕ) (ended : Ended) (old new : Moment) : Type 0 where
+pub record HasPrinted (words : List (List ℕ)) (status : ℕ) (ended : Ended) (old new : Moment) : Type 0 where
   pub run : HasRun words ended old new
   pub ends : status_of (ends_of run.ran) ≡ status
   pub out : TakesAll old.sinks.out new.sinks.out (out_of run.ran)
@@ -128,7 +128,7 @@ pub record Prints (words : List (List ℕ)) (status : ℕ) (ended : Ended) (old 
 
 -- the same where every file ended Done, which is status 0: all as it is meant, and err received nothing
 pub record PrintsAll (words : List (List ℕ)) (ended : Ended) (old new : Moment) : Type 0 where
-  pub prints : Prints words 0 ended old new
+  pub prints : HasPrinted words 0 ended old new
   pub meant : status_meant prints.run.request prints.run.came.cause.trees ≡ 0
   pub out : TakesAll old.sinks.out new.sinks.out
       (out_meant prints.run.request prints.run.came.cause.trees prints.run.ran.interned)
@@ -137,7 +137,7 @@ pub record PrintsAll (words : List (List ℕ)) (ended : Ended) (old new : Moment
 -- the same where the first file that didn't end Done threw or is unsupported: it is also the first that isn't
 -- meant to end Done
 pub record PrintsEarly (words : List (List ℕ)) (ended : Ended) (old new : Moment) : Type 0 where
-  pub prints : Prints words 1 ended old new
+  pub prints : HasPrinted words 1 ended old new
   pub meant : status_meant prints.run.request prints.run.came.cause.trees ≡ 1
 
 -- the first of some files that didn't end Done ended Full, where what it reports had run out
@@ -155,14 +155,14 @@ pub record FirstFull {F : Type 0} (z : StoreSizes) (s : State F) (means : List F
 -- the same where the first file that didn't end Done ended Full: the heap was full, and the stated needs
 -- didn't fit
 pub record PrintsFull (words : List (List ℕ)) (ended : Ended) (old new : Moment) : Type 0 where
-  pub prints : Prints words 5 ended old new
+  pub prints : HasPrinted words 5 ended old new
   pub full : FirstFull (setup_sizes (setup_of prints.run.request))
       (state_kept (setup_of prints.run.request) prints.run.ran.kept)
       (all_flows prints.run.request prints.run.came.cause.trees) prints.run.came.cause.program.files
 
 -- memory ran out: before a file was run, or while the first one ran that didn't end Done
 abbrev pub IsMemory : List (List ℕ) → Ended → Moment → Moment → Type 0
-IsMemory words ended old new = IsWant ended old new ⊎ Prints words 6 ended old new
+IsMemory words ended old new = IsWant ended old new ⊎ HasPrinted words 6 ended old new
 
 -- the program was run, and a write failed: one to out after a prefix of what it prints, and err received
 -- nothing; or one to err

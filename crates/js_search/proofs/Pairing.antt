@@ -6,7 +6,7 @@ use Rattle.js_search.specs.declared.blocks.Block.{Block}
 use Rattle.js_search.specs.declared.pairs.Pair.{Pair}
 use Rattle.js_search.specs.Blocks.{IsPart}
 use Rattle.js_search.specs.Pairs.{HasPair, IsPairOf}
-use Rattle.js_search.specs.Places.{IsLast, Stands}
+use Rattle.js_search.specs.Places.{IsLast, IsPartAt}
 use Rattle.js_search.proofs.Found.{occurs_of}
 
 module _ (u : List ℕ) (b : Block) (p : Pair) (part : IsPart u b) where
@@ -37,7 +37,7 @@ module _ (u : List ℕ) (b : Block) (p : Pair) (part : IsPart u b) where
       (cases_lt k left)
 
 -- where a needle stands its pair does
-pub pair_there : (u w : List ℕ) (p : Pair) (k : ℕ) → IsPairOf w p → Stands u w k → HasPair u p k
+pub pair_there : (u w : List ℕ) (p : Pair) (k : ℕ) → IsPairOf w p → IsPartAt u w k → HasPair u p k
 pair_there u w p k is s =
     let o = occurs_of u w k s in
     let inside = is.inside in
@@ -48,22 +48,22 @@ pair_there u w p k is s =
 
 -- what was searched before, and no pair behind the place that was found
 module _ (u v w : List ℕ) (p : Pair) (most end at : ℕ) (is : IsPairOf w p) (same : v ≡ u) (none : (k : ℕ) → at < k → k < end → HasPair v p k → ⊥)
-    (old : (k : ℕ) → k ≤ most → end ≤ k → Stands u w k → ⊥) where
-  pub none_behind : (k : ℕ) → k ≤ most → at < k → Stands u w k → ⊥
+    (old : (k : ℕ) → k ≤ most → end ≤ k → IsPartAt u w k → ⊥) where
+  pub none_behind : (k : ℕ) → k ≤ most → at < k → IsPartAt u w k → ⊥
   none_behind k l a s = ⊎_elim
       (λ (early : k < end). none k a early (subst (λ (x : List ℕ). HasPair x p k) (sym same) (pair_there u w p k is s)))
       (λ (late : end ≤ k). old k l late s)
       (cases_lt k end)
 
   -- and the needle doesn't stand there
-  pub none_from : (Stands u w at → ⊥) → (k : ℕ) → k ≤ most → at ≤ k → Stands u w k → ⊥
+  pub none_from : (IsPartAt u w at → ⊥) → (k : ℕ) → k ≤ most → at ≤ k → IsPartAt u w k → ⊥
   none_from not k l a s = ⊎_elim
-      (λ (early : k < at + 1). let e : k ≡ at = omega arith in not (subst (λ (j : ℕ). Stands u w j) e s))
+      (λ (early : k < at + 1). let e : k ≡ at = omega arith in not (subst (λ (j : ℕ). IsPartAt u w j) e s))
       (λ (late : at + 1 ≤ k). none_behind k l (omega arith) s)
       (cases_lt k (at + 1))
 
   -- or it does
-  pub last_there : at ≤ most → Stands u w at → IsLast u w most (Some at)
+  pub last_there : at ≤ most → IsPartAt u w at → IsLast u w most (Some at)
   last_there l s = (l, s, λ j m t. let not : at < j → ⊥ = λ b. none_behind j m b t in omega (arith, not))
 
   -- or what is left was searched otherwise

@@ -13,7 +13,7 @@ use Rattle.js_uri.specs.Encoding.{upper_hex, escape, escapes, encoded_point, enc
 use Rattle.js_uri.specs.Decoding.{DecodedPart, digit, byte_of, escaped_byte, cons_bytes, escaped_bytes, sequence_len, bits, is_scalar, spelled_by, utf8_point}
 use Rattle.js_uri.specs.Decoding.{ascii_part, point_part, escaped_part, after_part, decoded_behind, decoded}
 use Rattle.js_uri.specs.Decoding.{first_part}
-use Rattle.js_uri.specs.Laws.{Undoes}
+use Rattle.js_uri.specs.Laws.{UndoesEncoding}
 use Rattle.js_uri.proofs.Escapes.{length-escapes}
 use Rattle.js_uri.proofs.Decodings.{decoded_turn}
 
@@ -246,5 +246,5 @@ units_back (u ∷ v ∷ us) h =
     units_by (is_lead u && is_trail v) (pair_value u v) u v (points us) (points (v ∷ us)) us pair
     (units_back us (behind v us (behind u (v ∷ us) h))) (one_unit u (h zero 0 (omega arith))) (units_back (v ∷ us) (behind u (v ∷ us) h))
 
-pub undone : (keep : ℕ → Bool) → keep 0x25 ≡ false → Undoes keep
+pub undone : (keep : ℕ → Bool) → keep 0x25 ≡ false → UndoesEncoding keep
 undone keep f = λ us h s. points_back keep (points us) f s ∙ ap Ok (units_back us h)

@@ -27,9 +27,9 @@ abbrev pub IsUriWithin : ℕ → UriOutcome → Type 0
 IsUriWithin limit (Ok us) = length us ≤ limit
 IsUriWithin limit (Err at) = ⊥
 
-abbrev pub Throws : {R : Type 0} → Result R UriFault → ℕ → UriOutcome → Type 0
-Throws (Ok r) limit o = IsUriWithin limit o
-Throws (Err f) limit o = IsThrown f limit o
+abbrev pub ThrowsUriError : {R : Type 0} → Result R UriFault → ℕ → UriOutcome → Type 0
+ThrowsUriError (Ok r) limit o = IsUriWithin limit o
+ThrowsUriError (Err f) limit o = IsThrown f limit o
 
 -- the report of a call that may find no memory itself: its own lack of memory says nothing of the store
 abbrev pub uri_full_part : UriFault → Option StoreFault

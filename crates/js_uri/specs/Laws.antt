@@ -8,6 +8,6 @@ use Rattle.js_uri.specs.Encoding.{encoded}
 use Rattle.js_uri.specs.Decoding.{is_scalar, decoded}
 
 -- units that are 16 bits wide and among whose code points is no unpaired surrogate, encoded and decoded again
-abbrev pub Undoes : (ℕ → Bool) → Type 0
-Undoes keep = (us : List ℕ) → All (λ u. u < 65536) us → IsTrue (list_all is_scalar (points us))
+abbrev pub UndoesEncoding : (ℕ → Bool) → Type 0
+UndoesEncoding keep = (us : List ℕ) → All (λ u. u < 65536) us → IsTrue (list_all is_scalar (points us))
     → uri_and_then (encoded us keep) (λ vs. decoded vs no_hold) ≡ Ok us

@@ -4,7 +4,7 @@ ghost use Rattle.js_store.specs.State.{IsKnown, IsSettled, text as text_of};
 ghost use Rattle.js_store.specs.Faults.{Uses};
 ghost use Rattle.js_texts.specs.Use.{settling};
 ghost use Rattle.js_uri.specs.Outcome.{measure, units as units_of};
-ghost use Rattle.js_uri.specs.Answers.{HasUriOutcome, Throws, uri_full_of, outcome_words};
+ghost use Rattle.js_uri.specs.Answers.{HasUriOutcome, ThrowsUriError, uri_full_of, outcome_words};
 ghost use Rattle.js_uri.specs.Calls.{outcome};
 
 use crate::decoding::{decoded_len, has_no_percent, push_decoded};
@@ -60,7 +60,7 @@ impl UriCall {
     fn make_units(self, alloc: Global, units: &[u16], limit: u32) -> Result<Units, UriFault>
         requires { length units.now < 2 ^ 32 }
         ensures value { IfOk result (λ us. outcome self units.now ≡ Ok us) }
-        ensures throws { Throws result limit (outcome self units.now) }
+        ensures throws { ThrowsUriError result limit (outcome self units.now) }
         ensures silent { uri_full_of result ≡ None }
     {
         let length = match self.measure(units) {
@@ -90,7 +90,7 @@ impl UriCall {
         ensures known { IfOk result (λ r. IsKnown (S.state store.new) (S.number r)) }
         ensures settled { OnOk result (IsSettled (S.state store.new) (S.number s)) }
         ensures result_settled { IfOk result (λ r. IsSettled (S.state store.new) (S.number r)) }
-        ensures throws { Throws result (S.state store.old).limit
+        ensures throws { ThrowsUriError result (S.state store.old).limit
             (outcome self (text_of (S.state store.old) (S.number s))) }
         ensures uses { Uses (S.state store.old) (S.state store.new) (uri_full_of result) 1
             (settling (S.state store.old) (S.number s) + outcome_words (S.state store.old).limit

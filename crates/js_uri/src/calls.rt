@@ -3,7 +3,7 @@ ghost use Rattle.std.specs.Prelude.{◌+◌, IfOk, OnOk};
 ghost use Rattle.js_store.specs.State.{IsKnown, IsSettled, text};
 ghost use Rattle.js_store.specs.Faults.{Uses};
 ghost use Rattle.js_texts.specs.Use.{settling};
-ghost use Rattle.js_uri.specs.Answers.{HasUriOutcome, Throws, uri_full_of, outcome_words};
+ghost use Rattle.js_uri.specs.Answers.{HasUriOutcome, ThrowsUriError, uri_full_of, outcome_words};
 ghost use Rattle.js_uri.specs.Sets.{component_keep, uri_keep, no_hold, uri_hold};
 ghost use Rattle.js_uri.specs.Encoding.{encoded};
 ghost use Rattle.js_uri.specs.Decoding.{decoded};
@@ -25,7 +25,7 @@ pub fn encode_uri<S: Strings>(alloc: Global, store: &mut S, s: S::Ref) -> Result
     ensures known { IfOk result (λ r. IsKnown (S.state store.new) (S.number r)) }
     ensures settled { OnOk result (IsSettled (S.state store.new) (S.number s)) }
     ensures result_settled { IfOk result (λ r. IsSettled (S.state store.new) (S.number r)) }
-    ensures throws { Throws result (S.state store.old).limit
+    ensures throws { ThrowsUriError result (S.state store.old).limit
         (encoded (text (S.state store.old) (S.number s)) uri_keep) }
     ensures uses { Uses (S.state store.old) (S.state store.new) (uri_full_of result) 1
         (settling (S.state store.old) (S.number s) + outcome_words (S.state store.old).limit
@@ -48,7 +48,7 @@ pub fn encode_uri_component<S: Strings>(
     ensures known { IfOk result (λ r. IsKnown (S.state store.new) (S.number r)) }
     ensures settled { OnOk result (IsSettled (S.state store.new) (S.number s)) }
     ensures result_settled { IfOk result (λ r. IsSettled (S.state store.new) (S.number r)) }
-    ensures throws { Throws result (S.state store.old).limit
+    ensures throws { ThrowsUriError result (S.state store.old).limit
         (encoded (text (S.state store.old) (S.number s)) component_keep) }
     ensures uses { Uses (S.state store.old) (S.state store.new) (uri_full_of result) 1
         (settling (S.state store.old) (S.number s) + outcome_words (S.state store.old).limit
@@ -69,7 +69,7 @@ pub fn decode_uri<S: Strings>(alloc: Global, store: &mut S, s: S::Ref) -> Result
     ensures known { IfOk result (λ r. IsKnown (S.state store.new) (S.number r)) }
     ensures settled { OnOk result (IsSettled (S.state store.new) (S.number s)) }
     ensures result_settled { IfOk result (λ r. IsSettled (S.state store.new) (S.number r)) }
-    ensures throws { Throws result (S.state store.old).limit
+    ensures throws { ThrowsUriError result (S.state store.old).limit
         (decoded (text (S.state store.old) (S.number s)) uri_hold) }
     ensures uses { Uses (S.state store.old) (S.state store.new) (uri_full_of result) 1
         (settling (S.state store.old) (S.number s) + outcome_words (S.state store.old).limit
@@ -92,7 +92,7 @@ pub fn decode_uri_component<S: Strings>(
     ensures known { IfOk result (λ r. IsKnown (S.state store.new) (S.number r)) }
     ensures settled { OnOk result (IsSettled (S.state store.new) (S.number s)) }
     ensures result_settled { IfOk result (λ r. IsSettled (S.state store.new) (S.number r)) }
-    ensures throws { Throws result (S.state store.old).limit
+    ensures throws { ThrowsUriError result (S.state store.old).limit
         (decoded (text (S.state store.old) (S.number s)) no_hold) }
     ensures uses { Uses (S.state store.old) (S.state store.new) (uri_full_of result) 1
         (settling (S.state store.old) (S.number s) + outcome_words (S.state store.old).limit

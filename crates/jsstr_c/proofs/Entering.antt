@@ -10,7 +10,7 @@ use Rattle.heap_agents.specs.Held.{IsSame, KeepsMarks, view_by}
 use Rattle.heap_agents.specs.Interned.{KeepsCalls}
 use Rattle.heap_agents.specs.Keys.{MarksAnswer}
 use Rattle.jsstr_c.specs.declared.answer.JsAnswer.{JsAnswer}
-use Rattle.jsstr_c.specs.Made.{Enters}
+use Rattle.jsstr_c.specs.Made.{InternsString}
 use Rattle.jsstr_c.specs.Reports.{DONE, table_answer, table_report}
 
 refused : (f : TableFull) → (table_report f).status ≡ DONE → ⊥
@@ -21,7 +21,7 @@ refused (Slots n) e = omega (arith, e)
 module _ (x y : Held) (s : ℕ) (same : IsSame x y) (marks : KeepsMarks x y) (known : KeepsKnown (view_by x) (view_by y)) (calls : KeepsCalls (view_by x) (view_by y)) where
   enters_as : (t : Result ℕ TableFull) → MarksAnswer x y t → ((us : List ℕ) → Has (view_by x).units s us → (plan : HeaderPlan) × IsPlan
       (view_by x) (view_by y) s us plan × IsInternAnswer (view_by x) (view_by y) us plan t)
-      → IfOk t (λ i. IsForwarded (view_by y) s i) → Enters (Some x) (Some y) s (table_answer t)
+      → IfOk t (λ i. IsForwarded (view_by y) s i) → InternsString (Some x) (Some y) s (table_answer t)
   enters_as (Ok i) marked interns forwards = record {
     same = same;
     stays = marks;
@@ -45,6 +45,6 @@ module _ (x y : Held) (s : ℕ) (same : IsSame x y) (marks : KeepsMarks x y) (kn
 
   pub enters : (o p : Option Held) (r : JsAnswer) (t : Result ℕ TableFull) → o ≡ Some x → p ≡ Some y → r ≡ table_answer t → MarksAnswer x y t
       → ((us : List ℕ) → Has (view_by x).units s us → (plan : HeaderPlan) × IsPlan (view_by x) (view_by y) s us plan × IsInternAnswer (view_by x) (view_by y) us plan t)
-      → IfOk t (λ i. IsForwarded (view_by y) s i) → Enters o p s r
-  enters o p r t own left report marked interns forwards = subst (λ (a : Option Held). Enters a p s r) (sym own) (subst (λ (a : Option Held). Enters (Some x) a s r) (sym left)
-      (subst (λ (a : JsAnswer). Enters (Some x) (Some y) s a) (sym report) (enters_as t marked interns forwards)))
+      → IfOk t (λ i. IsForwarded (view_by y) s i) → InternsString o p s r
+  enters o p r t own left report marked interns forwards = subst (λ (a : Option Held). InternsString a p s r) (sym own) (subst (λ (a : Option Held). InternsString (Some x) a s r) (sym left)
+      (subst (λ (a : JsAnswer). InternsString (Some x) (Some y) s a) (sym report) (enters_as t marked interns forwards)))

@@ -7,21 +7,21 @@ use Rattle.heap_rule.proofs.MapLemmas.{has_key, key_of}
 use Rattle.heap_read.specs.Reads.{Continues}
 use Rattle.heap_read.proofs.Going.{continues_trans}
 use Rattle.heap_agents.specs.declared.held.Held.{Held}
-use Rattle.heap_agents.specs.Held.{KeepsMarks, Leaves, view_by}
+use Rattle.heap_agents.specs.Held.{KeepsMarks, LeavesStrings, view_by}
 use Rattle.heap_table.specs.Known.{KeepsKnown}
 use Rattle.heap_agents.specs.Interned.{KeepsCalls}
 use Rattle.heap_agents.specs.Searched.{KeepsStrings}
 use Rattle.heap_agents.proofs.Interned.{continued}
 use Rattle.heap_agents.proofs.Marks.{same_trans}
-use Rattle.heap_agents.specs.Ready.{HandleLeaves, Searches, IsReady, HandleKnows, handle_view}
+use Rattle.heap_agents.specs.Ready.{HandleLeaves, HandleSearches, IsReady, HandleKnows, handle_view}
 use Rattle.jsstr_c.specs.declared.answer.JsAnswer.{JsAnswer}
-use Rattle.jsstr_c.specs.Given.{Tests}
-use Rattle.jsstr_c.specs.Checked.{Reaches}
+use Rattle.jsstr_c.specs.Given.{TestsGiven}
+use Rattle.jsstr_c.specs.Checked.{ReachesLength}
 
 marks_trans : (x y z : Held) → KeepsMarks x y → KeepsMarks y z → KeepsMarks x z
 marks_trans x y z a b = record { known = λ i h. b.known i (a.known i h); interned = λ i h. b.interned i (a.interned i h); number = b.number ∙ a.number; giver = b.giver ∙ a.giver }
 
-leaves_trans : (x y z : Held) → Leaves x y → Leaves y z → Leaves x z
+leaves_trans : (x y z : Held) → LeavesStrings x y → LeavesStrings y z → LeavesStrings x z
 leaves_trans x y z a b = record {
   held = b.held;
   same = same_trans x.text y.text z.text a.same b.same;
@@ -62,10 +62,10 @@ ready_key (Some x) i r k = r.marked.known i k
 
 -- the length of a known string is told by one call
 module _ (o p : Option Held) (s all n : ℕ) (ready : IsReady o) (known : HandleKnows o s) (long : (us : List ℕ) → Has (handle_view o).units s us → all ≡ length us) where
-  pub reaching : n ≤ all → Reaches o s n
+  pub reaching : n ≤ all → ReachesLength o s n
   reaching le = (known, λ us h. subst (λ (m : ℕ). n ≤ m) (long us h) le)
 
-  pub reached : Reaches o s n → n ≤ all
+  pub reached : ReachesLength o s n → n ≤ all
   reached r = let u = has_key (handle_view o).units s (ready_key o s ready known) in subst (λ (m : ℕ). n ≤ m) (sym (long u.0 u.1)) (r.1 u.0 u.1)
 
   pub still_long : HandleLeaves o p → n ≤ all → (us : List ℕ) → Has (handle_view p).units s us → n ≤ length us
@@ -83,11 +83,11 @@ pub goes_calls : (o p : Option Held) → HandleLeaves o p → KeepsCalls (handle
 goes_calls o p g = continued (handle_view o) (handle_view p) (goes_continues o p g)
 
 -- what a search leaves of a handle's strings
-pub searches_strings : (o p : Option Held) → Searches o p → KeepsStrings (handle_view o) (handle_view p)
+pub searches_strings : (o p : Option Held) → HandleSearches o p → KeepsStrings (handle_view o) (handle_view p)
 searches_strings None p g = absurd g
 searches_strings (Some x) None g = absurd g
 searches_strings (Some x) (Some y) g = g.strings
 
 -- a tested call on given units that is done did what it does
-pub does_done : (does : Option Held → Option Held → List ℕ → JsAnswer → Type 0) (o p : Option Held) (us : List ℕ) (r : JsAnswer) → Tests does o p us r → r.status ≡ 0 → does o p us r
+pub does_done : (does : Option Held → Option Held → List ℕ → JsAnswer → Type 0) (o p : Option Held) (us : List ℕ) (r : JsAnswer) → TestsGiven does o p us r → r.status ≡ 0 → does o p us r
 does_done does o p us r t e = t.does (λ (x : r.status ≡ 9). absurd (omega (arith, x, e)))

@@ -19,11 +19,11 @@ use Rattle.heap_text.specs.Texts.{IsSpared, KeepsOwn, text_words_wanted}
 use Rattle.heap_agents.specs.declared.held.Held.{Held}
 use Rattle.heap_agents.specs.declared.ids.IdSet.{IdSet}
 use Rattle.heap_agents.specs.Sets.{IsIn}
-use Rattle.heap_agents.specs.Held.{Leaves, MarksOnly, view_by}
+use Rattle.heap_agents.specs.Held.{LeavesStrings, MarksOnly, view_by}
 use Rattle.heap_agents.specs.Ready.{HandleLeaves, HandleKnows, size_in, handle_view}
 use Rattle.heap_agents.specs.Shared.{IsSameText, SharedText, size_if}
 use Rattle.jsstr_c.specs.declared.answer.JsAnswer.{JsAnswer}
-use Rattle.jsstr_c.specs.Checked.{MarksNone, MarksOne, Measures, OnlyLooks, RefusesSettling, Settles}
+use Rattle.jsstr_c.specs.Checked.{MarksNone, MarksOne, ReadsLength, OnlyLooks, RefusesSettling, SettlesString}
 use Rattle.jsstr_c.proofs.Going.{goes_trans}
 
 -- after loads that load no form
@@ -97,7 +97,7 @@ looks_trans o p q a b = record {
   marks = none_trans o p q a.marks b.marks;
 }
 
-pub measures_trans : (o p q : Option Held) → Measures o p → Measures p q → Measures o q
+pub measures_trans : (o p q : Option Held) → ReadsLength o p → ReadsLength p q → ReadsLength o q
 measures_trans o p q a b = record { looks = looks_trans o p q a.looks b.looks; forms = (b.forms.0 ∙ a.forms.0, b.forms.1 ∙ a.forms.1) }
 
 same_sizes : (x y : Option SharedText) → IsSameText x y → size_if y ≡ size_if x
@@ -111,8 +111,8 @@ leaves_sizes (Some x) None a = absurd a
 leaves_sizes (Some x) (Some y) a = same_sizes x.text y.text a.same
 
 -- where a length was read before
-module _ (o m p : Option Held) (s : ℕ) (g : Measures o m) where
-  pub settles_before : Settles m p s → Settles o p s
+module _ (o m p : Option Held) (s : ℕ) (g : ReadsLength o m) where
+  pub settles_before : SettlesString m p s → SettlesString o p s
   settles_before b = let v = handle_view o in let w = handle_view m in let x = handle_view p in let r = g.looks.loads in let e = g.forms.0 in record {
     leaves = goes_trans o m p g.looks.leaves b.leaves;
     own = own_before v w x r e b.own;
@@ -140,7 +140,7 @@ module _ (o m p : Option Held) (s : ℕ) (g : Measures o m) where
   }
 
 -- the same of what lies behind a handle
-pub held_settles : (o p : Option Held) (x y : Held) (s : ℕ) → o ≡ Some x → p ≡ Some y → Leaves x y → KeepsOwn (view_by x) (view_by y) → MarksOnly x y s → IsSeenSettled (view_by y) s
-    → ((us : List ℕ) → Has (view_by x).units s us → IsSettling (view_by x) (view_by y) s us) → (IsSeenSettled (view_by x) s → OnlyLoads (view_by x) (view_by y)) → Settles o p s
-held_settles o p x y s e f leaves own marks settled used again = subst (λ (q : Option Held). Settles o q s) (sym f)
-    (subst (λ (q : Option Held). Settles q (Some y) s) (sym e) record { leaves = leaves; own = own; marks = marks; settled = settled; used = used; again = again })
+pub held_settles : (o p : Option Held) (x y : Held) (s : ℕ) → o ≡ Some x → p ≡ Some y → LeavesStrings x y → KeepsOwn (view_by x) (view_by y) → MarksOnly x y s → IsSeenSettled (view_by y) s
+    → ((us : List ℕ) → Has (view_by x).units s us → IsSettling (view_by x) (view_by y) s us) → (IsSeenSettled (view_by x) s → OnlyLoads (view_by x) (view_by y)) → SettlesString o p s
+held_settles o p x y s e f leaves own marks settled used again = subst (λ (q : Option Held). SettlesString o q s) (sym f)
+    (subst (λ (q : Option Held). SettlesString q (Some y) s) (sym e) record { leaves = leaves; own = own; marks = marks; settled = settled; used = used; again = again })

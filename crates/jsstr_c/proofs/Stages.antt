@@ -2,11 +2,11 @@
 use Rattle.std.proofs.Common.{◌≡◌, ◌≢◌, ◌∙◌, ℕ, List, Option, inl, inr, refl, subst, sym, ⊎_elim, arith}
 use Rattle.heap_rule.specs.Maps.{Has}
 use Rattle.heap_agents.specs.declared.held.Held.{Held}
-use Rattle.heap_agents.specs.Ready.{HandleLeaves, HandleKnows, Searches, handle_view}
+use Rattle.heap_agents.specs.Ready.{HandleLeaves, HandleKnows, HandleSearches, handle_view}
 use Rattle.std.specs.declared.cmp.Ordering.{Ordering}
 use Rattle.jsstr_c.specs.declared.answer.JsAnswer.{JsAnswer}
 use Rattle.jsstr_c.specs.declared.answer.JsOrder.{JsOrder}
-use Rattle.jsstr_c.specs.Checked.{IsPairRefused, Looked, Measures, OnlyLooks, ReadsSettled, RefusesSettling, SeeksSettled, Settles, SettlesFirst}
+use Rattle.jsstr_c.specs.Checked.{IsPairRefused, IsSameOrMeasured, ReadsLength, OnlyLooks, ReadsSettled, RefusesSettling, SeeksSettled, SettlesString, SettlesFirst}
 use Rattle.jsstr_c.specs.Pairs.{SettlesPair}
 use Rattle.jsstr_c.specs.Reports.{bad_argument, done, order_answer, order_number}
 use Rattle.jsstr_c.proofs.Going.{goes_knows, goes_trans, goes_units}
@@ -14,7 +14,7 @@ use Rattle.jsstr_c.proofs.Settling.{measures_trans, one_knows, refuses_before, s
 
 -- string s was settled, and what is answered is told of its units
 module _ (o m : Option Held) (s : ℕ) (r : JsAnswer) (first : SettlesFirst o m s r) where
-  pub settled_first : r.status ≡ 0 → Settles o m s
+  pub settled_first : r.status ≡ 0 → SettlesString o m s
   settled_first e = (first.done e).1
 
   pub leaves_first : r.status ≡ 0 → HandleLeaves o m
@@ -71,7 +71,7 @@ module _ (o m : Option Held) (a b r : ℕ) (pair : SettlesPair o m a b r) where
             (λ (x : Option Held). HandleKnows x b) same (one_knows s.0 m b s.2.marks),
       )
 
-  pub seeks_on : (p : Option Held) (status : ℕ) (nothing : Type 0) (tells : List ℕ → List ℕ → Type 0) → r ≡ 0 → Searches m p → status ≢ 9 → status ≢ 4
+  pub seeks_on : (p : Option Held) (status : ℕ) (nothing : Type 0) (tells : List ℕ → List ℕ → Type 0) → r ≡ 0 → HandleSearches m p → status ≢ 9 → status ≢ 4
       → ((us vs : List ℕ) → Has (handle_view m).units a us → Has (handle_view m).units b vs → tells us vs) → SeeksSettled o p a b status nothing tells
   seeks_on p status nothing tells e searches nb nw told = record {
     unknown = λ n. absurd (known_both e n);
@@ -81,24 +81,24 @@ module _ (o m : Option Held) (a b r : ℕ) (pair : SettlesPair o m a b r) where
   }
 
 -- two strings, where the length of the first was read before
-pub pair_before : (o m p : Option Held) (a b status : ℕ) → Measures o m → HandleKnows o a → HandleKnows o b → SettlesPair m p a b status → SettlesPair o p a b status
+pub pair_before : (o m p : Option Held) (a b status : ℕ) → ReadsLength o m → HandleKnows o a → HandleKnows o b → SettlesPair m p a b status → SettlesPair o p a b status
 pair_before o m p a b status g ka kb s = record {
   unknown = λ n. absurd (n (ka, kb));
-  bad = λ e. inr (⊎_elim (λ (x : p ≡ m). subst (Measures o) (sym x) g) (λ (h : Measures m p). measures_trans o m p g h) (s.bad e));
+  bad = λ e. inr (⊎_elim (λ (x : p ≡ m). subst (ReadsLength o) (sym x) g) (λ (h : ReadsLength m p). measures_trans o m p g h) (s.bad e));
   refused = λ nb nd. let t = s.refused nb nd in (
     t.0,
     (
       t.1.0,
       t.1.1,
       ⊎_elim (λ (f : RefusesSettling m p a t.1.0). inl (refuses_before o m p a g t.1.0 f))
-          (λ (f : (n : Option Held) × Settles m n a × RefusesSettling n p b t.1.0). inr (f.0, settles_before o m f.0 a g f.1, f.2)) t.1.2,
+          (λ (f : (n : Option Held) × SettlesString m n a × RefusesSettling n p b t.1.0). inr (f.0, settles_before o m f.0 a g f.1, f.2)) t.1.2,
     ),
   );
   done = λ e. let t = s.done e in (t.0, settles_before o m t.0 a g t.1, t.2);
 }
 
 -- a condition failed
-pub never : (o m : Option Held) (s : ℕ) (r : JsAnswer) → r ≡ bad_argument → Looked o m → (¬ (HandleKnows o s) → m ≡ o) → SettlesFirst o m s r
+pub never : (o m : Option Held) (s : ℕ) (r : JsAnswer) → r ≡ bad_argument → IsSameOrMeasured o m → (¬ (HandleKnows o s) → m ≡ o) → SettlesFirst o m s r
 never o m s r is looked unknown = subst (SettlesFirst o m s) (sym is) record {
   unknown = unknown;
   bad = λ e. (refl, looked);
@@ -107,17 +107,17 @@ never o m s r is looked unknown = subst (SettlesFirst o m s) (sym is) record {
 }
 
 -- a condition held
-pub then_settled : (o m p : Option Held) (s : ℕ) (r : JsAnswer) → Looked o m → HandleKnows o s → r.status ≢ 9 → (r.status ≡ 0 → (r ≡ done s) × Settles m p s)
+pub then_settled : (o m p : Option Held) (s : ℕ) (r : JsAnswer) → IsSameOrMeasured o m → HandleKnows o s → r.status ≢ 9 → (r.status ≡ 0 → (r ≡ done s) × SettlesString m p s)
     → (r.status ≢ 0 → RefusesSettling m p s r) → SettlesFirst o p s r
 then_settled o m p s r looked known told does fails = record {
   unknown = λ n. absurd (n known);
   bad = λ e. absurd (told e);
-  refused = λ nb nd. ⊎_elim (λ (e : m ≡ o). subst (λ (x : Option Held). RefusesSettling x p s r) e (fails nd)) (λ (g : Measures o m). refuses_before o m p s g r (fails nd)) looked;
-  done = λ e. let d = does e in (d.0, ⊎_elim (λ (e : m ≡ o). subst (λ (x : Option Held). Settles x p s) e d.1) (λ (g : Measures o m). settles_before o m p s g d.1) looked);
+  refused = λ nb nd. ⊎_elim (λ (e : m ≡ o). subst (λ (x : Option Held). RefusesSettling x p s r) e (fails nd)) (λ (g : ReadsLength o m). refuses_before o m p s g r (fails nd)) looked;
+  done = λ e. let d = does e in (d.0, ⊎_elim (λ (e : m ≡ o). subst (λ (x : Option Held). SettlesString x p s) e d.1) (λ (g : ReadsLength o m). settles_before o m p s g d.1) looked);
 }
 
 -- the same of two strings
-pub never_both : (o m : Option Held) (a b : ℕ) → Looked o m → (¬ (HandleKnows o a × HandleKnows o b) → m ≡ o) → SettlesPair o m a b 9
+pub never_both : (o m : Option Held) (a b : ℕ) → IsSameOrMeasured o m → (¬ (HandleKnows o a × HandleKnows o b) → m ≡ o) → SettlesPair o m a b 9
 never_both o m a b looked unknown = record { unknown = unknown; bad = λ e. looked; refused = λ nb nd. absurd (nb refl); done = λ (e : 9 ≡ 0). absurd (omega (arith, e)) }
 
 pub left_refused : (o m : Option Held) (a b : ℕ) (r : JsAnswer) → HandleKnows o a → HandleKnows o b → RefusesSettling o m a r → SettlesPair o m a b r.status
@@ -128,7 +128,7 @@ left_refused o m a b r ka kb f = let w = f.words in record {
   done = λ e. absurd (omega (arith, e, w));
 }
 
-pub right_ends : (o m p : Option Held) (a b : ℕ) (r : JsAnswer) → HandleKnows o a → HandleKnows o b → Settles o m a → r.status ≢ 9 → (r.status ≡ 0 → Settles m p b)
+pub right_ends : (o m p : Option Held) (a b : ℕ) (r : JsAnswer) → HandleKnows o a → HandleKnows o b → SettlesString o m a → r.status ≢ 9 → (r.status ≡ 0 → SettlesString m p b)
     → (r.status ≢ 0 → RefusesSettling m p b r) → SettlesPair o p a b r.status
 right_ends o m p a b r ka kb one told does fails = record {
   unknown = λ n. absurd (n (ka, kb));

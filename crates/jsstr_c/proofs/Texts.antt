@@ -13,9 +13,9 @@ use Rattle.heap_build.specs.declared.faults.BuildFault.{BuildFault}
 use Rattle.heap_build.specs.declared.faults.BuildFault.TheVariants.{NoMemory, TooLong}
 use Rattle.heap_build.specs.declared.faults.DecodeFault.{DecodeFault}
 use Rattle.heap_build.specs.declared.faults.DecodeFault.TheVariants.{Malformed, NotAdded}
-use Rattle.heap_build.specs.Built.{Adds, AddsSpelled, room_in, units_so_far}
+use Rattle.heap_build.specs.Built.{AddsUnits, AddsSpelled, room_in, units_so_far}
 use Rattle.jsstr_c.specs.declared.answer.JsAnswer.{JsAnswer}
-use Rattle.jsstr_c.specs.Building.{AddsSpelledTo, AddsTo, Builds, BuildsSpelled, HasText, IsOpened, Outgrows, build_status, text_so_far, decoded_answer, room}
+use Rattle.jsstr_c.specs.Building.{AddsSpelledTo, AddsTo, AddsToText, BuildsSpelled, HasText, IsOpened, OutgrowsRoom, build_status, text_so_far, decoded_answer, room}
 use Rattle.jsstr_c.specs.Checked.{OnlyLooks}
 use Rattle.jsstr_c.specs.Reports.{NO_MEMORY, no_memory}
 
@@ -37,12 +37,12 @@ opened_units : (o : Option Builder) (b : Builder) → IsOpened o b → units_so_
 opened_units None b i = i
 opened_units (Some x) b i = ap units_so_far (sym i)
 
-same_text : (b c : Builder) (us : List ℕ) (t : Result (Unit {0}) BuildFault) → Adds b c us t → AddsTo (Some b) (Some c) us t
+same_text : (b c : Builder) (us : List ℕ) (t : Result (Unit {0}) BuildFault) → AddsUnits b c us t → AddsTo (Some b) (Some c) us t
 same_text b c us (Ok u) a = a
 same_text b c us (Err NoMemory) a = (a.0, (a.1, a.2))
 same_text b c us (Err TooLong) a = a
 
-adds_some : (o : Option Builder) (b c : Builder) (us : List ℕ) (t : Result (Unit {0}) BuildFault) → IsOpened o b → Adds b c us t → AddsTo o (Some c) us t
+adds_some : (o : Option Builder) (b c : Builder) (us : List ℕ) (t : Result (Unit {0}) BuildFault) → IsOpened o b → AddsUnits b c us t → AddsTo o (Some c) us t
 adds_some None b c us (Ok u) i a = (a.0 ∙ ap (λ (xs : List ℕ). xs ++ us) i, omega (arith, a.1, ap length i))
 adds_some None b c us (Err NoMemory) i a = (a.0 ∙ i, tt)
 adds_some None b c us (Err TooLong) i a = (a.0 ∙ i, omega (arith, a.1, ap length i))
@@ -60,7 +60,7 @@ module _ (o p : Option Builder) (x b c : Builder) (opened : IsOpened o x) (same 
   still_room = let r = opened_room o b i in let q : room p ≡ room_in c = ap room e in omega (arith, more, r, q)
 
   -- units were added to a text that was opened
-  pub builds : (us : List ℕ) (t : Result (Unit {0}) BuildFault) (status : ℕ) → Adds b c us t → status ≡ build_status t → Builds o p us status
+  pub builds : (us : List ℕ) (t : Result (Unit {0}) BuildFault) (status : ℕ) → AddsUnits b c us t → status ≡ build_status t → AddsToText o p us status
   builds us t status a s = (t, s, subst (λ (q : Option Builder). AddsTo o q us t) (sym e) (adds_some o b c us t i a), still_room)
 
   module _ (Spells : List ℕ → List ℕ → Type 0) (bytes : List ℕ) where
@@ -68,7 +68,7 @@ module _ (o p : Option Builder) (x b c : Builder) (opened : IsOpened o x) (same 
     spelled_some (Ok u) a = (a.0, a.1, adds_some o b c a.0 (Ok u) i a.2)
     spelled_some (Err (Malformed at)) a = (a.0 ∙ opened_units o b i, a.1)
     spelled_some (Err (NotAdded f)) a = ⊎_elim
-        (λ (x : (us : List ℕ) × Spells bytes us × Adds b c us (Err f)). inl (x.0, x.1, adds_some o b c x.0 (Err f) i x.2))
+        (λ (x : (us : List ℕ) × Spells bytes us × AddsUnits b c us (Err f)). inl (x.0, x.1, adds_some o b c x.0 (Err f) i x.2))
         (λ (x : (f ≡ TooLong) × (3 * MAX < length bytes) × (units_so_far c ≡ units_so_far b)). inr (inl (x.0, x.1, x.2 ∙ opened_units o b i)))
         a
 
@@ -81,14 +81,14 @@ module _ (o p : Option Builder) (none : o ≡ None) (same : p ≡ o) where
   room_same : room o ≤ room p
   room_same = let e : room p ≡ room o = ap room same in omega (arith, e)
 
-  pub no_box : (us : List ℕ) → Builds o p us NO_MEMORY
-  no_box us = (Err NoMemory, refl, (ap text_so_far same, subst (λ (x : Option Builder). Outgrows x us) (sym none) tt), room_same)
+  pub no_box : (us : List ℕ) → AddsToText o p us NO_MEMORY
+  no_box us = (Err NoMemory, refl, (ap text_so_far same, subst (λ (x : Option Builder). OutgrowsRoom x us) (sym none) tt), room_same)
 
   pub no_box_spelled : (Spells : List ℕ → List ℕ → Type 0) (bytes : List ℕ) (r : JsAnswer) → r ≡ no_memory → BuildsSpelled Spells o p bytes r
   no_box_spelled Spells bytes r e = (Err (NotAdded NoMemory), e, inr (inr (refl, none, same)), room_same)
 
 -- a call that is done added its units
-pub builds_done : (o p : Option Builder) (us : List ℕ) (status : ℕ) → Builds o p us status → status ≡ 0 → text_so_far p ≡ text_so_far o ++ us
+pub builds_done : (o p : Option Builder) (us : List ℕ) (status : ℕ) → AddsToText o p us status → status ≡ 0 → text_so_far p ≡ text_so_far o ++ us
 builds_done o p us status (Ok u, s, a, r) e = a.0
 builds_done o p us status (Err NoMemory, s, a, r) e = absurd (omega (arith, s, e))
 builds_done o p us status (Err TooLong, s, a, r) e = absurd (omega (arith, s, e))

@@ -35,15 +35,15 @@ abbrev pub IsBuilder : JsBuilder → Type 0
 IsBuilder h = HasText h.live h.len h.at.value
 
 -- the text has no memory yet, or has no room for units that a string may have
-abbrev pub Outgrows : Option Builder → List ℕ → Type 0
-Outgrows None us = Unit {0}
-Outgrows (Some b) us = (length (units_so_far b) + length us ≤ MAX)
+abbrev pub OutgrowsRoom : Option Builder → List ℕ → Type 0
+OutgrowsRoom None us = Unit {0}
+OutgrowsRoom (Some b) us = (length (units_so_far b) + length us ≤ MAX)
     × (room_in b < length (units_so_far b) + length us)
 
 -- units were added to a text; or nothing was, since memory runs out, or a string may not be so long
 abbrev pub AddsTo : Option Builder → Option Builder → List ℕ → Result (Unit {0}) BuildFault → Type 0
 AddsTo o p us (Ok u) = (text_so_far p ≡ text_so_far o ++ us) × (length (text_so_far o) + length us ≤ MAX)
-AddsTo o p us (Err NoMemory) = (text_so_far p ≡ text_so_far o) × Outgrows o us
+AddsTo o p us (Err NoMemory) = (text_so_far p ≡ text_so_far o) × OutgrowsRoom o us
 AddsTo o p us (Err TooLong) = (text_so_far p ≡ text_so_far o) × (MAX < length (text_so_far o) + length us)
 
 -- the status of such a call
@@ -53,8 +53,8 @@ build_status (Err NoMemory) = NO_MEMORY
 build_status (Err TooLong) = TOO_LONG
 
 -- units were added, or weren't, with such a status, and room that the text had it still has
-abbrev pub Builds : Option Builder → Option Builder → List ℕ → ℕ → Type 0
-Builds o p us status = (t : Result (Unit {0}) BuildFault) × (status ≡ build_status t) × AddsTo o p us t
+abbrev pub AddsToText : Option Builder → Option Builder → List ℕ → ℕ → Type 0
+AddsToText o p us status = (t : Result (Unit {0}) BuildFault) × (status ≡ build_status t) × AddsTo o p us t
     × (room o ≤ room p)
 
 -- The units that bytes spell were added to a text; or nothing was, since they spell none, or for one of those
@@ -81,8 +81,8 @@ BuildsSpelled Spells o p bytes r = (t : Result (Unit {0}) DecodeFault) × (r ≡
 
 -- what becomes of a text whose units were to become a string: it is empty then, and keeps its memory; where
 -- the call was refused, it stays
-abbrev pub Spends : Option Builder → Option Builder → ℕ → Type 0
-Spends o p status = (status ≡ DONE → (text_so_far p ≡ []) × (room p ≡ room o)) × (status ≢ DONE → p ≡ o)
+abbrev pub EmptiesText : Option Builder → Option Builder → ℕ → Type 0
+EmptiesText o p status = (status ≡ DONE → (text_so_far p ≡ []) × (room p ≡ room o)) × (status ≢ DONE → p ≡ o)
 
 -- the text that a handle has, or an empty one that was made for it
 abbrev pub IsOpened : Option Builder → Builder → Type 0

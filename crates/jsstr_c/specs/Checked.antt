@@ -8,14 +8,14 @@ use Rattle.heap_text.specs.Settling.{IsBitOf, IsNoRoom, IsSettling}
 use Rattle.heap_text.specs.Texts.{KeepsOwn}
 use Rattle.heap_agents.specs.declared.held.Held.{Held}
 use Rattle.heap_agents.specs.Held.{MarksNothing, MarksOnly, MarksOnlyKey}
-use Rattle.heap_agents.specs.Ready.{HandleLeaves, IsReady, HandleKnows, Searches, giver_in, handle_number}
+use Rattle.heap_agents.specs.Ready.{HandleLeaves, IsReady, HandleKnows, HandleSearches, giver_in, handle_number}
 use Rattle.heap_agents.specs.Ready.{size_in, handle_view}
 use Rattle.jsstr_c.specs.declared.answer.JsAnswer.{JsAnswer}
 use Rattle.jsstr_c.specs.Reports.{BAD_ARGUMENT, DONE, NO_WORDS, bad_argument, done, text_report}
 
 -- the string is known, and has so many units or more
-abbrev pub Reaches : Option Held → ℕ → ℕ → Type 0
-Reaches o s n = HandleKnows o s × ((us : List ℕ) → Has (handle_view o).units s us → n ≤ length us)
+abbrev pub ReachesLength : Option Held → ℕ → ℕ → Type 0
+ReachesLength o s n = HandleKnows o s × ((us : List ℕ) → Has (handle_view o).units s us → n ≤ length us)
 
 -- nothing was marked
 abbrev pub MarksNone : Option Held → Option Held → Type 0
@@ -47,17 +47,17 @@ pub record OnlyLooks (o p : Option Held) : Type 0 where
   pub marks : MarksNone o p
 
 -- a length was read: the same, and no form was loaded
-pub record Measures (o p : Option Held) : Type 0 where
+pub record ReadsLength (o p : Option Held) : Type 0 where
   pub looks : OnlyLooks o p
   pub forms : KeepsForms (handle_view o) (handle_view p)
 
 -- what the handle has, or what it had before a length was read
-abbrev pub Looked : Option Held → Option Held → Type 0
-Looked o p = (p ≡ o) ⊎ Measures o p
+abbrev pub IsSameOrMeasured : Option Held → Option Held → Type 0
+IsSameOrMeasured o p = (p ≡ o) ⊎ ReadsLength o p
 
 -- String s was settled, and nothing else was done: it alone was marked, what the agent owned it still owns,
 -- and what was used is what settling uses. Where it was seen settled, there were loads alone.
-pub record Settles (o p : Option Held) (s : ℕ) : Type 0 where
+pub record SettlesString (o p : Option Held) (s : ℕ) : Type 0 where
   pub leaves : HandleLeaves o p
   pub own : KeepsOwn (handle_view o) (handle_view p)
   pub marks : MarksOne o p s
@@ -82,50 +82,51 @@ pub record RefusesSettling (o p : Option Held) (s : ℕ) (r : JsAnswer) : Type 0
 -- nothing has changed; of one that is known a condition on its length may have failed.
 pub record SettlesFirst (o p : Option Held) (s : ℕ) (r : JsAnswer) : Type 0 where
   pub unknown : ¬ (HandleKnows o s) → p ≡ o
-  pub bad : r.status ≡ BAD_ARGUMENT → (r ≡ bad_argument) × Looked o p
+  pub bad : r.status ≡ BAD_ARGUMENT → (r ≡ bad_argument) × IsSameOrMeasured o p
   pub refused : r.status ≢ BAD_ARGUMENT → r.status ≢ DONE → RefusesSettling o p s r
-  pub done : r.status ≡ DONE → (r ≡ done s) × Settles o p s
+  pub done : r.status ≡ DONE → (r ≡ done s) × SettlesString o p s
 
 -- string s could not be settled, which is reported by the status alone
 abbrev pub CannotSettle : Option Held → Option Held → ℕ → ℕ → Type 0
 CannotSettle o p s status = (r : JsAnswer) × (status ≡ r.status) × RefusesSettling o p s r
 
 -- string s was settled, and then there were loads alone
-abbrev pub Settled : Option Held → Option Held → ℕ → Type 0
-Settled o p s = (m : Option Held) × Settles o m s × OnlyLooks m p
+abbrev pub SettlesAndLooks : Option Held → Option Held → ℕ → Type 0
+SettlesAndLooks o p s = (m : Option Held) × SettlesString o m s × OnlyLooks m p
 
 -- What a call that reads the units of string s, which it settles first, leaves and answers, by its status. On
 -- a refusal `nothing` holds, and else `answers` of the units.
 pub record ReadsSettled (o p : Option Held) (s status : ℕ) (nothing : Type 0)
     (answers : List ℕ → Type 0) : Type 0 where
   pub unknown : ¬ (HandleKnows o s) → p ≡ o
-  pub bad : status ≡ BAD_ARGUMENT → nothing × Looked o p
+  pub bad : status ≡ BAD_ARGUMENT → nothing × IsSameOrMeasured o p
   pub refused : status ≡ NO_WORDS → nothing × CannotSettle o p s status
   pub done : status ≢ BAD_ARGUMENT → status ≢ NO_WORDS
-      → Settled o p s × ((us : List ℕ) → Has (handle_view o).units s us → answers us)
+      → SettlesAndLooks o p s × ((us : List ℕ) → Has (handle_view o).units s us → answers us)
 
 -- strings a and b were settled, one after the other
 abbrev pub SettlesBoth : Option Held → Option Held → ℕ → ℕ → Type 0
-SettlesBoth o p a b = (m : Option Held) × Settles o m a × Settles m p b
+SettlesBoth o p a b = (m : Option Held) × SettlesString o m a × SettlesString m p b
 
 -- string a could not be settled, or a was and b could not, which is reported by the status alone
 abbrev pub IsPairRefused : Option Held → Option Held → ℕ → ℕ → ℕ → Type 0
 IsPairRefused o p a b status = (r : JsAnswer) × (status ≡ r.status)
-    × (RefusesSettling o p a r ⊎ ((m : Option Held) × Settles o m a × RefusesSettling m p b r))
+    × (RefusesSettling o p a r ⊎ ((m : Option Held) × SettlesString o m a × RefusesSettling m p b r))
 
 -- strings a and b were settled, and then searched
-abbrev pub Sought : Option Held → Option Held → ℕ → ℕ → Type 0
-Sought o p a b = (m : Option Held) × SettlesBoth o m a b × Searches m p
+abbrev pub SettlesAndSearches : Option Held → Option Held → ℕ → ℕ → Type 0
+SettlesAndSearches o p a b = (m : Option Held) × SettlesBoth o m a b × HandleSearches m p
 
 -- What a call that searches strings a and b, which it settles first, leaves and answers, by its status. On a
 -- refusal `nothing` holds, and else `answers` of the units of both.
 pub record SeeksSettled (o p : Option Held) (a b status : ℕ) (nothing : Type 0)
     (answers : List ℕ → List ℕ → Type 0) : Type 0 where
   pub unknown : ¬ (HandleKnows o a × HandleKnows o b) → p ≡ o
-  pub bad : status ≡ BAD_ARGUMENT → nothing × Looked o p
+  pub bad : status ≡ BAD_ARGUMENT → nothing × IsSameOrMeasured o p
   pub refused : status ≡ NO_WORDS → nothing × IsPairRefused o p a b status
   pub done : status ≢ BAD_ARGUMENT → status ≢ NO_WORDS
-      → Sought o p a b × ((us vs : List ℕ) → Has (handle_view o).units a us → Has (handle_view o).units b vs
+      → SettlesAndSearches o p a b
+      × ((us vs : List ℕ) → Has (handle_view o).units a us → Has (handle_view o).units b vs
       → answers us vs)
 
 -- both are there, and by their numbers the second one was split off from the first

@@ -6,7 +6,7 @@ use Rattle.js_units.specs.Lanes.{is_wide, words_over}
 use Rattle.heap_rule.specs.Maps.{Has}
 use Rattle.heap_rule.specs.Views.{IsSeenSettled}
 use Rattle.heap_text.specs.declared.faults.TextFull.{TextFull}
-use Rattle.heap_text.specs.Texts.{Told, UsesExactly}
+use Rattle.heap_text.specs.Texts.{LacksRoom, UsesExactly}
 use Rattle.heap_intern.specs.declared.table.faults.TableFull.{TableFull}
 use Rattle.heap_agents.specs.declared.held.Held.{Held}
 use Rattle.heap_agents.specs.Keys.{FindsUnits, InternsUnits}
@@ -18,7 +18,7 @@ use Rattle.jsstr_c.specs.Reports.{BAD_ARGUMENT, DONE, NO_MEMORY, bad_argument, d
 use Rattle.jsstr_c.specs.Reports.{no_memory, table_answer, text_report}
 
 -- the units us were made into a new string, with r as the answer
-pub record Makes (o p : Option Held) (us : List ℕ) (r : JsAnswer) : Type 0 where
+pub record MakesString (o p : Option Held) (us : List ℕ) (r : JsAnswer) : Type 0 where
   pub goes : HandleLeaves o p
   pub memory : r.status ≢ NO_MEMORY
   pub whole : r.status ≡ DONE → r ≡ done r.id
@@ -28,7 +28,7 @@ pub record Makes (o p : Option Held) (us : List ℕ) (r : JsAnswer) : Type 0 whe
   pub used : r.status ≡ DONE
       → UsesExactly (handle_view o) (handle_view p) 1 (words_over (is_wide us) (length us))
   pub refused : r.status ≢ DONE → (f : TextFull) × (r ≡ text_report f)
-      × Told (handle_view p) (size_in o) (words_over (is_wide us) (length us)) f
+      × LacksRoom (handle_view p) (size_in o) (words_over (is_wide us) (length us)) f
 
 -- the units us were interned, with r as the answer
 abbrev pub IsInterning : Option Held → Option Held → List ℕ → JsAnswer → Type 0
@@ -55,7 +55,7 @@ abbrev pub OnWtf8 : (Option Held → Option Held → List ℕ → JsAnswer → T
 OnWtf8 does o p bytes r = (IsNoWtf8 bytes r × (p ≡ o)) ⊎ ((us : List ℕ) × SpellsWtf8 bytes us × does o p us r)
 
 -- a call on units or bytes that are given does this, unless its condition fails, and then nothing has changed
-pub record Tests (call : Option Held → Option Held → List ℕ → JsAnswer → Type 0) (o p : Option Held)
+pub record TestsGiven (call : Option Held → Option Held → List ℕ → JsAnswer → Type 0) (o p : Option Held)
     (given : List ℕ) (r : JsAnswer) : Type 0 where
   pub unchanged : r.status ≡ BAD_ARGUMENT → (r ≡ bad_argument) × (p ≡ o)
   pub does : r.status ≢ BAD_ARGUMENT → call o p given r

@@ -13,11 +13,11 @@ use Rattle.heap_agents.specs.declared.held.Held.{Held}
 use Rattle.heap_agents.specs.Interned.{KeepsCalls}
 use Rattle.heap_agents.specs.Ready.{HandleLeaves, IsBeside, MarksStay, handle_limit, size_in, handle_view}
 use Rattle.jsstr_c.specs.declared.answer.JsAnswer.{JsAnswer}
-use Rattle.jsstr_c.specs.Checked.{MarksResult, MarksKey, MarksNone, RefusesSettling, Settles}
+use Rattle.jsstr_c.specs.Checked.{MarksResult, MarksKey, MarksNone, RefusesSettling, SettlesString}
 use Rattle.jsstr_c.specs.Reports.{DONE, join_answer, table_answer, text_answer}
 
 -- strings a and b were joined, with r as the answer
-pub record Joins (o p : Option Held) (a b : ℕ) (r : JsAnswer) : Type 0 where
+pub record JoinsStrings (o p : Option Held) (a b : ℕ) (r : JsAnswer) : Type 0 where
   pub leaves : HandleLeaves o p
   pub own : KeepsOwn (handle_view o) (handle_view p)
   pub marks : MarksResult o p r
@@ -27,7 +27,7 @@ pub record Joins (o p : Option Held) (a b : ℕ) (r : JsAnswer) : Type 0 where
       (record { id = b }) us vs t
 
 -- the settled string s was cut, with r as the answer
-pub record Cuts (o p : Option Held) (s from to : ℕ) (r : JsAnswer) : Type 0 where
+pub record CutsString (o p : Option Held) (s from to : ℕ) (r : JsAnswer) : Type 0 where
   pub leaves : HandleLeaves o p
   pub own : KeepsOwn (handle_view o) (handle_view p)
   pub marks : MarksResult o p r
@@ -36,7 +36,7 @@ pub record Cuts (o p : Option Held) (s from to : ℕ) (r : JsAnswer) : Type 0 wh
       × IsCut (handle_view o) (handle_view p) (size_in o) (record { id = s }) from to us t
 
 -- the settled string s was interned, with r as the answer
-pub record Enters (o p : Option Held) (s : ℕ) (r : JsAnswer) : Type 0 where
+pub record InternsString (o p : Option Held) (s : ℕ) (r : JsAnswer) : Type 0 where
   pub same : IsBeside o p
   pub stays : MarksStay o p
   pub marked : r.status ≡ DONE → MarksKey o p r.id
@@ -52,7 +52,8 @@ pub record Enters (o p : Option Held) (s : ℕ) (r : JsAnswer) : Type 0 where
 -- string s could not be settled, or it was and then cut, or interned
 abbrev pub CutsSettled : Option Held → Option Held → ℕ → ℕ → ℕ → JsAnswer → Type 0
 CutsSettled o p s from to r =
-    RefusesSettling o p s r ⊎ ((m : Option Held) × Settles o m s × Cuts m p s from to r)
+    RefusesSettling o p s r ⊎ ((m : Option Held) × SettlesString o m s × CutsString m p s from to r)
 
 abbrev pub EntersSettled : Option Held → Option Held → ℕ → JsAnswer → Type 0
-EntersSettled o p s r = RefusesSettling o p s r ⊎ ((m : Option Held) × Settles o m s × Enters m p s r)
+EntersSettled o p s r = RefusesSettling o p s r
+    ⊎ ((m : Option Held) × SettlesString o m s × InternsString m p s r)

@@ -10,7 +10,7 @@ use Rattle.jsstr_c.specs.declared.given.Source.{Source}
 use Rattle.jsstr_c.specs.declared.given.Source.TheVariants as source
 use Rattle.jsstr_c.specs.declared.given.Task.{Task}
 use Rattle.jsstr_c.specs.declared.given.Task.TheVariants.{Make, Intern, Find}
-use Rattle.jsstr_c.specs.Given.{IsFinding, IsInterning, Makes, OnUtf8, OnWtf8}
+use Rattle.jsstr_c.specs.Given.{IsFinding, IsInterning, MakesString, OnUtf8, OnWtf8}
 
 -- the units or bytes as they are given
 abbrev pub given : Source → List ℕ
@@ -21,7 +21,7 @@ given (source.Wtf8 bytes) = bytes.now
 
 -- what a task does with units
 abbrev pub Does : Task → Option Held → Option Held → List ℕ → JsAnswer → Type 0
-Does Make o p us r = Makes o p us r
+Does Make o p us r = MakesString o p us r
 Does Intern o p us r = IsInterning o p us r
 Does Find o p us r = IsFinding o p us r
 

@@ -3,7 +3,7 @@ ghost use Rattle.std.specs.Prelude.{◌≡◌, ◌≢◌, [], IfOk, IfErr, OnErr
 ghost use Rattle.heap_agents.specs.Ready.{IsReady};
 ghost use Rattle.heap_build.specs.declared.builder.Builder as builder;
 ghost use Rattle.heap_build.specs.Built.{units_so_far};
-ghost use Rattle.jsstr_c.specs.Building.{IsBuilder, IsOpened, Spends, build_status, text_so_far, decoded_answer};
+ghost use Rattle.jsstr_c.specs.Building.{IsBuilder, IsOpened, EmptiesText, build_status, text_so_far, decoded_answer};
 ghost use Rattle.jsstr_c.specs.Decoded.{fault_answer};
 ghost use Rattle.jsstr_c.specs.Handles.{IsHandle};
 ghost use Rattle.jsstr_c.specs.Reports as reports;
@@ -67,7 +67,7 @@ impl JsBuilder {
     // Puts a text back, which is emptied where its units became a string.
     fn give_back(&mut self, text: Box<Builder>, status: u32)
         ensures handle { IsBuilder self.new }
-        ensures spent { Spends (Some text.value) self.new.at.value status }
+        ensures spent { EmptiesText (Some text.value) self.new.at.value status }
     {
         if status != DONE {
             self.put(text);
@@ -88,7 +88,7 @@ impl JsBuilder {
         ensures does { Does task agent.old.at.value agent.new.at.value (text_so_far self.old.at.value)
             result }
         ensures leaves { Leaves task agent.old.at.value agent.new.at.value }
-        ensures spent { Spends self.old.at.value self.new.at.value result.status }
+        ensures spent { EmptiesText self.old.at.value self.new.at.value result.status }
     {
         if self.live == 0 {
             return on_units(alloc, agent, task, &[]);

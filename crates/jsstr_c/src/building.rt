@@ -3,7 +3,7 @@ ghost use Rattle.std.specs.Prelude.{◌≡◌, length, None};
 ghost use Rattle.js_number.specs.Arith.{text_of};
 ghost use Rattle.js_number.specs.declared.Num.TheVariants.{Int};
 ghost use Rattle.heap_build.specs.Spelled.{SpellsUtf8, SpellsWtf8};
-ghost use Rattle.jsstr_c.specs.Building.{Builds, BuildsSpelled, IsBuilder, text_so_far};
+ghost use Rattle.jsstr_c.specs.Building.{AddsToText, BuildsSpelled, IsBuilder, text_so_far};
 
 use crate::answer::{JsAnswer, NO_MEMORY, no_memory};
 use crate::builder::{JsBuilder, of_decoded, status_of};
@@ -14,7 +14,7 @@ use std::alloc::Global;
 pub extern "C" fn jsstr_build_units(alloc: Global, text: &mut JsBuilder, units: &[u16]) -> u32
     requires { IsBuilder text.old }
     ensures handle { IsBuilder text.new }
-    ensures builds { Builds text.old.at.value text.new.at.value units.now result }
+    ensures builds { AddsToText text.old.at.value text.new.at.value units.now result }
 {
     match text.open(alloc) {
         Ok(mut opened) => {
@@ -31,7 +31,7 @@ pub extern "C" fn jsstr_build_units(alloc: Global, text: &mut JsBuilder, units: 
 pub extern "C" fn jsstr_build_latin1(alloc: Global, text: &mut JsBuilder, bytes: &[u8]) -> u32
     requires { IsBuilder text.old }
     ensures handle { IsBuilder text.new }
-    ensures builds { Builds text.old.at.value text.new.at.value bytes.now result }
+    ensures builds { AddsToText text.old.at.value text.new.at.value bytes.now result }
 {
     match text.open(alloc) {
         Ok(mut opened) => {
@@ -48,7 +48,7 @@ pub extern "C" fn jsstr_build_latin1(alloc: Global, text: &mut JsBuilder, bytes:
 pub extern "C" fn jsstr_build_number(alloc: Global, text: &mut JsBuilder, number: i64) -> u32
     requires { IsBuilder text.old }
     ensures handle { IsBuilder text.new }
-    ensures builds { Builds text.old.at.value text.new.at.value (text_of (Int number)) result }
+    ensures builds { AddsToText text.old.at.value text.new.at.value (text_of (Int number)) result }
 {
     match text.open(alloc) {
         Ok(mut opened) => {

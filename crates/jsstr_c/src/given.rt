@@ -6,7 +6,7 @@ ghost use Rattle.heap_rule.specs.Views.{IsSeenSettled};
 ghost use Rattle.heap_agents.specs.Ready.{IsReady, handle_view};
 ghost use Rattle.jsstr_c.specs.Checked.{OnlyLooks};
 ghost use Rattle.heap_bytes.specs.Spellings.{IsReadable, spelling_units};
-ghost use Rattle.jsstr_c.specs.Given.{IsFinding, IsInterning, Makes, OrNoMemory};
+ghost use Rattle.jsstr_c.specs.Given.{IsFinding, IsInterning, MakesString, OrNoMemory};
 ghost use Rattle.jsstr_c.specs.Handles.{IsHandle};
 ghost use Rattle.jsstr_c.specs.Reports as reports;
 ghost use Rattle.jsstr_c.specs.Sources.{Does, DoesOn, DoesSpelled, Leaves, given};
@@ -90,7 +90,7 @@ fn make_from(alloc: Global, agent: &mut JsAgent, spelled: &Spelling) -> JsAnswer
     requires short { length (spelling_units spelled.now) ≤ MAX }
     ensures handle { IsHandle agent.new }
     ensures told { result.status ≢ reports.BAD_ARGUMENT }
-    ensures makes { Makes agent.old.at.value agent.new.at.value (spelling_units spelled.now) result }
+    ensures makes { MakesString agent.old.at.value agent.new.at.value (spelling_units spelled.now) result }
 {
     let mut held = agent.take(alloc);
     let answer = held.make_from(spelled);

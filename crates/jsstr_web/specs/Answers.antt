@@ -9,7 +9,7 @@ use Rattle.js_eval.specs.declared.ending.End.TheVariants as end
 use Rattle.js_parse.specs.declared.fault.Role.TheVariants.{Main}
 use Rattle.js_parse.specs.declared.fault.ParseFault.{ParseFault}
 use Rattle.js_parse.specs.Faults.{fault_report}
-use Rattle.js_parse.specs.Spells.{Refused, Refuses, Spells}
+use Rattle.js_parse.specs.Spells.{Refused, HoldsOfFault, Spells}
 use Rattle.run_program.specs.declared.job.Outcome.{Outcome}
 use Rattle.run_here.specs.declared.here.Here.{Here}
 use Rattle.run_here.specs.Here.{IsHere}
@@ -53,6 +53,6 @@ pub data Answers (o : WebOptions) (text : List ℕ) (before after old new : List
       → Answers o text before after old new end
   runs : (script : Tree) → Spells Main [] text script → IsWebRun o script before after old new end
       → Answers o text before after old new end
-  refused : (fault : ParseFault) → Refuses (as_read fault) (Refused Main [] text)
+  refused : (fault : ParseFault) → HoldsOfFault (as_read fault) (Refused Main [] text)
       → end ≡ fault_told fault → BeginsWith (fault_report fault).1 before after → new ≡ old
       → Answers o text before after old new end

@@ -20,7 +20,7 @@ use Rattle.heap_session.specs.Shares.{total_by}
 use Rattle.run_program.specs.declared.job.Job.{Job}
 use Rattle.run_program.specs.declared.job.Outcome.{Outcome}
 use Rattle.run_program.specs.Files.{IsOwnEnd}
-use Rattle.run_program.specs.Jobs.{number, means, Runs}
+use Rattle.run_program.specs.Jobs.{number, means, RunsEachJob}
 use Rattle.run_program.specs.Stages.{HaveRunFrom, IsUnused}
 use Rattle.run_program.proofs.Having.{have_alone, have_behind, have_stopped}
 use Rattle.run_program.proofs.Jobs.{ran_one}
@@ -49,12 +49,12 @@ module _ (a b : State SessionFrame) (script : Script) (o : Outcome) (index : o.i
   abbrev job : Job
   job = record { index = 0; script = script }
 
-  one_runs : Runs a b env (job ∷ []) (o ∷ [])
+  one_runs : RunsEachJob a b env (job ∷ []) (o ∷ [])
   one_runs = ran_one (means a env) a b g job o index (bounds_seen b number (bounds_of after)) o.end refl ev
 
   -- with no prelude
   pub ran_alone : env ≡ [] → IsUnused a → HaveRunFrom a b None (tree_of script ∷ []) None (o ∷ [])
-  ran_alone none unused = have_alone a b (job ∷ []) (o ∷ []) unused (refl, tt) (subst (λ (e : List (Binding (Item JsStr))). Runs a b e (job ∷ []) (o ∷ [])) none one_runs)
+  ran_alone none unused = have_alone a b (job ∷ []) (o ∷ []) unused (refl, tt) (subst (λ (e : List (Binding (Item JsStr))). RunsEachJob a b e (job ∷ []) (o ∷ [])) none one_runs)
 
   pub left_alone : env ≡ [] → HasLeftFrom a b None (tree_of script) (bounds_of after) (o ∷ [])
   left_alone none own = own_bindings a b [] o.lines (bounds_seen b number (bounds_of after)) o.end (meaning (tree_of script) (bounds_seen a number (bounds_of env)) a.limit) ev own

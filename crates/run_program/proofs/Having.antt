@@ -17,7 +17,7 @@ use Rattle.heap_read.specs.declared.string.JsStr.{JsStr}
 use Rattle.heap_session.specs.Sessions.{SessionFrame}
 use Rattle.run_program.specs.declared.job.Job.{Job}
 use Rattle.run_program.specs.declared.job.Outcome.{Outcome}
-use Rattle.run_program.specs.Jobs.{JobUse, Runs, number, means}
+use Rattle.run_program.specs.Jobs.{JobUse, RunsEachJob, number, means}
 use Rattle.run_program.specs.Files.{RunFile, AreRun, AfterPrelude}
 use Rattle.run_program.proofs.Files.{run_jobs, run_one}
 use Rattle.run_program.specs.Meant.{scripts_meant}
@@ -25,7 +25,7 @@ use Rattle.run_program.specs.Stages.{AreNumbered, HaveRunFrom, IsUnused, job_tre
 use Rattle.run_program.proofs.Numbered.{in_places, means_jobs}
 
 -- scripts alone
-pub have_alone : (a b : State SessionFrame) (js : List Job) (os : List Outcome) → IsUnused a → AreNumbered 0 js → Runs a b [] js os → HaveRunFrom a b None (job_trees js) None os
+pub have_alone : (a b : State SessionFrame) (js : List Job) (os : List Outcome) → IsUnused a → AreNumbered 0 js → RunsEachJob a b [] js os → HaveRunFrom a b None (job_trees js) None os
 have_alone a b js os unused numbered r = let more = run_jobs a.sizes a b [] unused (means a []) js os r in record {
   files = more.0;
   are = more.1.means ∙ means_jobs js [] a.limit;
@@ -71,7 +71,7 @@ module _ (a b : State SessionFrame) (script : Script) (o : Outcome) (after : Lis
   leaves done = let h : Finished a b [] o.lines after Done flow = subst (λ (e : End). Evaluates a b [] o.lines after e flow) done ev in h.bindings
 
   module _ (c : State SessionFrame) (env : List (Binding (Item JsStr))) (js : List Job) (os : List Outcome) (is : after ≡ bounds_seen
-      b number (bounds_of env)) (done : o.end ≡ Done) (r : Runs b c env js os) where
+      b number (bounds_of env)) (done : o.end ≡ Done) (r : RunsEachJob b c env js os) where
     as_meant : map (means b env) js ≡ scripts_meant a.limit (Some (tree_of script)) (job_trees js)
     as_meant = means_jobs js (bounds_seen b number (bounds_of env)) b.limit
         ∙ (ap (λ (top : List (Bound Val)). map (λ t. meaning t top b.limit) (job_trees js)) (sym is ∙ leaves done)

@@ -18,13 +18,13 @@ use Rattle.heap_session.specs.Sessions.{SessionFrame}
 use Rattle.heap_session.specs.Shares.{IsSessionJoined, MayJoinSession, giver_after, right_by}
 use Rattle.run_program.specs.declared.job.Job.{Job}
 use Rattle.run_program.specs.declared.job.Outcome.{Outcome}
-use Rattle.run_program.specs.Jobs.{number, means, CameOf, pairs_of, Later, RanJobs, Runs, HasNoLines, MayRun}
+use Rattle.run_program.specs.Jobs.{number, means, CameOf, pairs_of, Later, RanJobs, RunsEachJob, HasNoLines, MayRun}
 use Rattle.run_program.proofs.Copies.{bounds_still}
 use Rattle.run_program.proofs.Jobs.{each_weaker, each_append, pairs_append, ids_append, words_append, came_later}
 
 -- what jobs mean is what they mean at an earlier moment
 pub runs_still : {F : Type 0} (a b c : State F) (env : List (Binding (Item JsStr))) (js : List Job) (os : List Outcome) → Grows a b →
-    BoundsFine a number (bounds_of env) → Runs b c env js os → RanJobs (means a env) b c js os
+    BoundsFine a number (bounds_of env) → RunsEachJob b c env js os → RanJobs (means a env) b c js os
 runs_still a b c env js os g h r =
     subst (λ (n : ℕ). RanJobs (λ j. meaning (tree_of j.script) (bounds_seen a number (bounds_of env)) n) b c js os) g.limit
     (subst (λ (bs : List (Bound Val)). RanJobs (λ j. meaning (tree_of j.script) bs b.limit) b c js os) (bounds_still a b number g (bounds_of env) h) r)

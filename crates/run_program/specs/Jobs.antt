@@ -126,9 +126,9 @@ pub record RanJobs {F : Type 0} (mean : Job → Flow) (before after : State F) (
   pub used_words : after.used_words ≡ before.used_words + words_of parts
 
 -- every job began with these bindings
-abbrev pub Runs : {F : Type 0} → State F → State F → List (Binding (Item JsStr)) → List Job
+abbrev pub RunsEachJob : {F : Type 0} → State F → State F → List (Binding (Item JsStr)) → List Job
     → List Outcome → Type 0
-Runs before after env jobs outcomes = RanJobs (means before env) before after jobs outcomes
+RunsEachJob before after env jobs outcomes = RanJobs (means before env) before after jobs outcomes
 
 -- what the jobs need together, and the greatest request that one of their reports has
 abbrev pub job_ids_needed : (Job → Flow) → List Job → ℕ

@@ -2,7 +2,7 @@
 ghost use Rattle.std.specs.Prelude.{◌≡◌, ◌≤◌, ◌<◌, ◌+◌, ℕ, List, length, All, [], ◌∷◌};
 ghost use Rattle.eval_scopes.specs.Seen.{bounds_of};
 ghost use Rattle.js_eval.specs.Seen.{BoundsFine};
-ghost use Rattle.run_program.specs.Jobs.{number, HasNoLines, Runs};
+ghost use Rattle.run_program.specs.Jobs.{number, HasNoLines, RunsEachJob};
 
 use crate::job::{Job, Outcome};
 use crate::shared::Shared;
@@ -23,7 +23,7 @@ pub(crate) fn run_in_order<S: Shared, G: Gate>(
     requires lengths { length outcomes.old ≡ length jobs.now }
     requires empty { All HasNoLines outcomes.old }
     requires env { BoundsFine (S.state session.old) number (bounds_of env.now) }
-    ensures { Runs (S.state session.old) (S.state session.new) env.now jobs.now outcomes.new }
+    ensures { RunsEachJob (S.state session.old) (S.state session.new) env.now jobs.now outcomes.new }
 {
     for k in 0..jobs.len() {
         gate.enter(jobs[k].index);
@@ -42,7 +42,8 @@ fn run_job<S: Shared>(
 )
     requires empty { HasNoLines outcome.old }
     requires env { BoundsFine (S.state session.old) number (bounds_of env.now) }
-    ensures { Runs (S.state session.old) (S.state session.new) env.now (job.now ∷ []) (outcome.new ∷ []) }
+    ensures { RunsEachJob (S.state session.old) (S.state session.new) env.now
+        (job.now ∷ []) (outcome.new ∷ []) }
 {
     outcome.index = job.index;
     outcome.end = End::Memory;

@@ -1,7 +1,7 @@
 // Jobs in groups that threads share.
 ghost use Rattle.std.specs.Prelude.{◌≡◌, ◌≤◌, ◌<◌, ◌+◌, ◌*◌, ◌/◌, ◌^◌, ℕ, List, length, All, []};
 ghost use Rattle.std.specs.Thread.{IsSend, IsSync};
-ghost use Rattle.run_program.specs.Jobs.{HasNoLines, MayRun, Runs};
+ghost use Rattle.run_program.specs.Jobs.{HasNoLines, MayRun, RunsEachJob};
 
 use crate::group::run_in_order;
 use crate::job::{Job, Outcome};
@@ -37,7 +37,7 @@ pub(crate) fn run_groups<R: Threads + Sync, S: Shared + Send, G: Gate + Sync>(
     gate: &G,
 )
     requires { MayRun (S.state session.old) groups env.now jobs.now outcomes.old }
-    ensures { Runs (S.state session.old) (S.state session.new) env.now jobs.now outcomes.new }
+    ensures { RunsEachJob (S.state session.old) (S.state session.new) env.now jobs.now outcomes.new }
 {
     if groups == 1 {
         run_in_order(alloc, session, jobs, outcomes, env, gate);
@@ -83,19 +83,20 @@ fn both_halves<R: Threads + Sync, S: Shared + Send, G: Gate + Sync>(
 )
     requires left { MayRun (S.state session.old) left env.now front.now low.old }
     requires right { MayRun (S.state other.old) right env.now back.now high.old }
-    ensures left { Runs (S.state session.old) (S.state session.new) env.now front.now low.new }
-    ensures right { Runs (S.state other.old) (S.state other.new) env.now back.now high.new }
+    ensures left { RunsEachJob (S.state session.old) (S.state session.new) env.now front.now low.new }
+    ensures right { RunsEachJob (S.state other.old) (S.state other.new) env.now back.now high.new }
 {
     let mut first = ||
         requires { IsSync R.row × IsSend S.row × IsSync G.row × MayRun (S.state session.now) left env.now
             front.now low.now }
-        ensures { Runs (S.state session.entry.now) (S.state session.exit.now) env.entry.now front.entry.now
+        ensures { RunsEachJob (S.state session.entry.now) (S.state session.exit.now) env.entry.now
+            front.entry.now
             low.exit.now }
     { run_groups(rt, alloc, session, front, low, left, env, gate) };
     let mut second = ||
         requires { IsSync R.row × IsSend S.row × IsSync G.row × MayRun (S.state other.now) right env.now
             back.now high.now }
-        ensures { Runs (S.state other.entry.now) (S.state other.exit.now) env.entry.now back.entry.now
+        ensures { RunsEachJob (S.state other.entry.now) (S.state other.exit.now) env.entry.now back.entry.now
             high.exit.now }
     { run_groups(rt, alloc, other, back, high, right, env, gate) };
     join_mut(rt, &mut first, &mut second);

@@ -3,7 +3,7 @@ ghost use Rattle.std.specs.Prelude.{◌≡◌, ◌≤◌, ◌<◌, ◌+◌, ℕ,
 ghost use Rattle.eval_scopes.specs.Seen.{bounds_of};
 ghost use Rattle.js_eval.specs.Seen.{BoundsFine};
 ghost use Rattle.heap_session.specs.Sessions.{state_in};
-ghost use Rattle.run_program.specs.Jobs.{number, HasNoLines, Runs, means, job_ids_needed, job_words_needed, most_ids_wanted, most_words_wanted};
+ghost use Rattle.run_program.specs.Jobs.{number, HasNoLines, RunsEachJob, means, job_ids_needed, job_words_needed, most_ids_wanted, most_words_wanted};
 
 use crate::group::run_in_order;
 use crate::halves::run_groups;
@@ -31,7 +31,7 @@ pub fn run_group<G: Gate + Sync>(
     requires lengths { length outcomes.old ≡ length jobs.now }
     requires empty { All HasNoLines outcomes.old }
     requires env { BoundsFine (state_in session.old) number (bounds_of env.now) }
-    ensures ran { Runs (state_in session.old) (state_in session.new) env.now jobs.now outcomes.new }
+    ensures ran { RunsEachJob (state_in session.old) (state_in session.new) env.now jobs.now outcomes.new }
     ensures frame { (state_in session.new).frame ≡ (state_in session.old).frame }
     ensures ids { (state_in session.new).used_ids + most_ids_wanted outcomes.new
         ≤ (state_in session.old).used_ids + job_ids_needed (means (state_in session.old) env.now) jobs.now }
@@ -60,7 +60,7 @@ pub fn run_all<R: Threads + Sync, G: Gate + Sync>(
     requires lengths { length outcomes.old ≡ length jobs.now }
     requires empty { All HasNoLines outcomes.old }
     requires env { BoundsFine (state_in session.old) number (bounds_of env.now) }
-    ensures ran { Runs (state_in session.old) (state_in session.new) env.now jobs.now outcomes.new }
+    ensures ran { RunsEachJob (state_in session.old) (state_in session.new) env.now jobs.now outcomes.new }
     ensures frame { (state_in session.new).frame ≡ (state_in session.old).frame }
     ensures ids { (state_in session.new).used_ids + most_ids_wanted outcomes.new
         ≤ (state_in session.old).used_ids + job_ids_needed (means (state_in session.old) env.now) jobs.now }

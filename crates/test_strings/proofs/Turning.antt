@@ -13,11 +13,11 @@ use Rattle.heap_read.specs.declared.reader.Reader.{Reader}
 use Rattle.heap_read.specs.declared.string.JsStr.{JsStr}
 use Rattle.heap_text.specs.declared.faults.TextFull.{TextFull}
 use Rattle.heap_text.proofs.Settled.{ok_then}
-use Rattle.heap_read.specs.Readers.{Moves, view_in}
+use Rattle.heap_read.specs.Readers.{MovesView, view_in}
 use Rattle.heap_read.specs.Reads.{Continues, OnlyLoads}
 use Rattle.heap_read.proofs.Loaded.{key_kept, known_refl, known_trans}
 use Rattle.heap_intern.specs.declared.table.faults.TableFull.{TableFull}
-use Rattle.heap_intern.specs.Answers.{Finds, IsInternAnswer, HeaderPlan}
+use Rattle.heap_intern.specs.Answers.{FindsString, IsInternAnswer, HeaderPlan}
 use Rattle.heap_intern.specs.Goes.{AddsCalls}
 use Rattle.heap_rule.specs.Agents.{MayJoin, left_after_split, right_after_split}
 use Rattle.test_strings.specs.Turns.{HasGoneOn, IsPlayed, Turns}
@@ -52,25 +52,25 @@ pub turns_interns : (v w : View) (us : List ℕ) (plan : HeaderPlan) (r : Result
 turns_interns v w us plan (Ok i) h = turns_goes v w ((us, i) ∷ []) h.0
 turns_interns v w us plan (Err f) h = turns_goes v w [] h.0
 
-pub turns_finds : (v w : View) (us : List ℕ) (r : Option ℕ) → Finds v w us r → Turns v w
+pub turns_finds : (v w : View) (us : List ℕ) (r : Option ℕ) → FindsString v w us r → Turns v w
 turns_finds v w us (Some i) h = turns_goes v w ((us, i) ∷ []) h.0
 turns_finds v w us None h = turns_goes v w [] h.0.goes
 
-pub found_key : (v w : View) (us : List ℕ) (r : Option ℕ) → Finds v w us r → IfSome r (λ i. HasKey w.units i)
+pub found_key : (v w : View) (us : List ℕ) (r : Option ℕ) → FindsString v w us r → IfSome r (λ i. HasKey w.units i)
 found_key v w us (Some i) h = key_of w.units i us h.2.1
 found_key v w us None h = tt
 
 module _ {H : Type 0} {r : Ghosts H} where
-  pub moves_refl : (a : Reader H r) → Moves Turns a a
+  pub moves_refl : (a : Reader H r) → MovesView Turns a a
   moves_refl a = record { heap = refl; view = turns_refl (view_in a) }
 
-  pub moves_trans : (a b c : Reader H r) → Moves Turns a b → Moves Turns b c → Moves Turns a c
+  pub moves_trans : (a b c : Reader H r) → MovesView Turns a b → MovesView Turns b c → MovesView Turns a c
   moves_trans a b c g h = record { heap = h.heap ∙ g.heap; view = turns_trans (view_in a) (view_in b) (view_in c) g.view h.view }
 
-  pub moves_continues : (a b : Reader H r) → b.heap ≡ a.heap → Continues (view_in a) (view_in b) → Moves Turns a b
+  pub moves_continues : (a b : Reader H r) → b.heap ≡ a.heap → Continues (view_in a) (view_in b) → MovesView Turns a b
   moves_continues a b e c = record { heap = e; view = turns_continues (view_in a) (view_in b) c }
 
-  pub moves_reads : (a b : Reader H r) → b.heap ≡ a.heap → OnlyLoads (view_in a) (view_in b) → Moves Turns a b
+  pub moves_reads : (a b : Reader H r) → b.heap ≡ a.heap → OnlyLoads (view_in a) (view_in b) → MovesView Turns a b
   moves_reads a b e c = record { heap = e; view = turns_reads (view_in a) (view_in b) c }
 
 -- strings that were made stay known
@@ -88,11 +88,11 @@ pub played_put : (v w : View) (n : ℕ) (ids more : List ℕ) (s : ℕ) → Turn
 played_put v w n ids more s t p some known = played_more w n ids more s some known (played_on v w n ids t p)
 
 module _ {H : Type 0} {r : Ghosts H} where
-  pub gone_on : (a b : Reader H r) → Moves Turns a b → HasGoneOn a b
+  pub gone_on : (a b : Reader H r) → MovesView Turns a b → HasGoneOn a b
   unfolding HasGoneOn
   gone_on a b g = g
 
-  pub goes_of : (a b : Reader H r) → HasGoneOn a b → Moves Turns a b
+  pub goes_of : (a b : Reader H r) → HasGoneOn a b → MovesView Turns a b
   unfolding HasGoneOn
   goes_of a b g = g
 

@@ -7,7 +7,7 @@ use Rattle.heap_rule.specs.Paths.{Calls}
 use Rattle.heap_table.specs.Known.{KeepsKnown}
 use Rattle.heap_read.specs.declared.heap_ref.HeapRef.{Ghosts}
 use Rattle.heap_read.specs.declared.reader.Reader.{Reader}
-use Rattle.heap_read.specs.Readers.{Moves}
+use Rattle.heap_read.specs.Readers.{MovesView}
 
 -- what it knew it knows, its share stays, and its history has some calls more
 pub record Turns (v w : View) : Type 0 where
@@ -27,4 +27,4 @@ pub record IsPlayed (v : View) (agents : ℕ) (ids : List ℕ) : Type 0 where
 -- the same of a reader as one fact, which a search uses as it is
 module _ {H : Type 0} {g : Ghosts H} where
   unfoldable pub HasGoneOn : Reader H g → Reader H g → Type 0
-  HasGoneOn a b = Moves Turns a b
+  HasGoneOn a b = MovesView Turns a b

@@ -3,7 +3,7 @@ ghost use Rattle.std.specs.Prelude.{◌≡◌, ℕ, ◌⊎◌, ◌≤◌, Contai
 ghost use Rattle.heap_rule.specs.Maps.{HasKey};
 ghost use Rattle.heap_rule.specs.Agents.{MayJoin, left_after_split, right_after_split};
 ghost use Rattle.heap_table.specs.Agents.{Belongs};
-ghost use Rattle.heap_read.specs.Readers.{Moves, view_in};
+ghost use Rattle.heap_read.specs.Readers.{MovesView, view_in};
 ghost use Rattle.test_strings.specs.Turns.{HasGoneOn, IsPlayed, Turns};
 
 use crate::by_hand::wide;
@@ -87,7 +87,7 @@ impl<'h> OnText<'h> {
     }
 
     fn units(&mut self, text: &str) -> Option<Told>
-        ensures goes { Moves Turns self.old.text.reader self.new.text.reader }
+        ensures goes { MovesView Turns self.old.text.reader self.new.text.reader }
     {
         let units = units_of(self.alloc, text)?;
         if units.len() > 65536 {
@@ -100,7 +100,7 @@ impl<'h> OnText<'h> {
     }
 
     fn concat(&mut self, a: usize, b: usize) -> Option<Told>
-        ensures goes { Moves Turns self.old.text.reader self.new.text.reader }
+        ensures goes { MovesView Turns self.old.text.reader self.new.text.reader }
     {
         let a = self.at(a)?;
         let b = self.at(b)?;
@@ -111,7 +111,7 @@ impl<'h> OnText<'h> {
     }
 
     fn settle(&mut self, k: usize) -> Option<Told>
-        ensures goes { Moves Turns self.old.text.reader self.new.text.reader }
+        ensures goes { MovesView Turns self.old.text.reader self.new.text.reader }
     {
         let s = self.at(k)?;
         match self.text.settle(s) {
@@ -121,7 +121,7 @@ impl<'h> OnText<'h> {
     }
 
     fn slice(&mut self, k: usize, from: u32, to: u32) -> Option<Told>
-        ensures goes { Moves Turns self.old.text.reader self.new.text.reader }
+        ensures goes { MovesView Turns self.old.text.reader self.new.text.reader }
     {
         let s = self.at(k)?;
         match cut(&mut self.text, s, from, to) {
@@ -134,7 +134,7 @@ impl<'h> OnText<'h> {
     }
 
     fn intern(&mut self, k: usize) -> Option<Told>
-        ensures goes { Moves Turns self.old.text.reader self.new.text.reader }
+        ensures goes { MovesView Turns self.old.text.reader self.new.text.reader }
     {
         let s = self.at(k)?;
         match interned(&mut self.text, s) {
@@ -147,7 +147,7 @@ impl<'h> OnText<'h> {
     }
 
     fn of_table(&mut self, text: &str, make: bool) -> Option<Told>
-        ensures goes { Moves Turns self.old.text.reader self.new.text.reader }
+        ensures goes { MovesView Turns self.old.text.reader self.new.text.reader }
     {
         let units = units_of(self.alloc, text)?;
         if units.len() > 65536 {
@@ -163,7 +163,7 @@ impl<'h> OnText<'h> {
     }
 
     fn reads(&mut self, k: usize, text: &str) -> Option<Told>
-        ensures goes { Moves Turns self.old.text.reader self.new.text.reader }
+        ensures goes { MovesView Turns self.old.text.reader self.new.text.reader }
     {
         let s = self.at(k)?;
         let want = units_of(self.alloc, text)?;
@@ -171,14 +171,14 @@ impl<'h> OnText<'h> {
     }
 
     fn len(&mut self, k: usize) -> Option<Told>
-        ensures goes { Moves Turns self.old.text.reader self.new.text.reader }
+        ensures goes { MovesView Turns self.old.text.reader self.new.text.reader }
     {
         let s = self.at(k)?;
         Some(Told::Number(u64::from(self.text.len(s))))
     }
 
     fn ends(&mut self, k: usize) -> Option<Told>
-        ensures goes { Moves Turns self.old.text.reader self.new.text.reader }
+        ensures goes { MovesView Turns self.old.text.reader self.new.text.reader }
     {
         let s = self.at(k)?;
         match ends::<Brand>(&mut self.text, s, Blank::new(1)) {
@@ -189,7 +189,7 @@ impl<'h> OnText<'h> {
 
     // The header of a string as it is at this moment, or its form word.
     fn header(&mut self, k: usize, as_word: bool) -> Option<Told>
-        ensures goes { Moves Turns self.old.text.reader self.new.text.reader }
+        ensures goes { MovesView Turns self.old.text.reader self.new.text.reader }
     {
         let s = self.at(k)?;
         let text = &mut self.text;
@@ -202,7 +202,7 @@ impl<'h> OnText<'h> {
 
     // Whether a string forwards to another.
     fn forwards(&mut self, k: usize, to: usize) -> Option<Told>
-        ensures goes { Moves Turns self.old.text.reader self.new.text.reader }
+        ensures goes { MovesView Turns self.old.text.reader self.new.text.reader }
     {
         let s = self.at(k)?;
         let target = self.at(to)?.id;
@@ -212,7 +212,7 @@ impl<'h> OnText<'h> {
     }
 
     fn word(&mut self, k: usize) -> Option<Told>
-        ensures goes { Moves Turns self.old.text.reader self.new.text.reader }
+        ensures goes { MovesView Turns self.old.text.reader self.new.text.reader }
     {
         let s = self.at(k)?;
         let text = &mut self.text;
@@ -220,7 +220,7 @@ impl<'h> OnText<'h> {
     }
 
     fn slot(&mut self, k: u32) -> Option<Told>
-        ensures goes { Moves Turns self.old.text.reader self.new.text.reader }
+        ensures goes { MovesView Turns self.old.text.reader self.new.text.reader }
     {
         let text = &mut self.text;
         if k >= text.reader.heap.size().slots {
@@ -235,7 +235,7 @@ impl<'h> OnText<'h> {
 
     // How many strings are interned.
     fn count(&mut self) -> Option<Told>
-        ensures goes { Moves Turns self.old.text.reader self.new.text.reader }
+        ensures goes { MovesView Turns self.old.text.reader self.new.text.reader }
     {
         let text = &mut self.text;
         if text.reader.agent.share() != self.agents {
@@ -246,7 +246,7 @@ impl<'h> OnText<'h> {
 
     // Both counters.
     fn totals(&mut self) -> Option<Told>
-        ensures goes { Moves Turns self.old.text.reader self.new.text.reader }
+        ensures goes { MovesView Turns self.old.text.reader self.new.text.reader }
     {
         let text = &mut self.text;
         if text.reader.agent.share() != self.agents {
@@ -259,7 +259,7 @@ impl<'h> OnText<'h> {
 
     // No longer string is made from now on.
     fn limit(&mut self, limit: u32) -> Option<Told>
-        ensures goes { Moves Turns self.old.text.reader self.new.text.reader }
+        ensures goes { MovesView Turns self.old.text.reader self.new.text.reader }
     {
         if limit > MAX {
             return None;
@@ -271,7 +271,7 @@ impl<'h> OnText<'h> {
 
     // The last string joined with itself, so often.
     fn doubled(&mut self, times: u32) -> Option<Told>
-        ensures goes { Moves Turns self.old.text.reader self.new.text.reader }
+        ensures goes { MovesView Turns self.old.text.reader self.new.text.reader }
     {
         for _turn in 0..times {
             let last = self.last();
@@ -282,7 +282,7 @@ impl<'h> OnText<'h> {
 
     // One string in front of the last one or behind it, so often.
     fn grown(&mut self, unit: usize, front: bool, times: u32) -> Option<Told>
-        ensures goes { Moves Turns self.old.text.reader self.new.text.reader }
+        ensures goes { MovesView Turns self.old.text.reader self.new.text.reader }
     {
         for _turn in 0..times {
             let last = self.last();
@@ -294,7 +294,7 @@ impl<'h> OnText<'h> {
 
     // The place of a string with another behind it where the bit is set.
     fn with_bit(&mut self, all: usize, twice: usize, bit: bool) -> Option<usize>
-        ensures goes { Moves Turns self.old.text.reader self.new.text.reader }
+        ensures goes { MovesView Turns self.old.text.reader self.new.text.reader }
     {
         if !bit {
             return Some(all);
@@ -306,7 +306,7 @@ impl<'h> OnText<'h> {
     // A rope of so many units, at most 2^28 - 1, of a string of one unit and the empty one: for each bit
     // of their number that is set, as many as it denotes. The last string but one is the rope.
     fn rope(&mut self, unit: usize, empty: usize, n: u32) -> Option<Told>
-        ensures goes { Moves Turns self.old.text.reader self.new.text.reader }
+        ensures goes { MovesView Turns self.old.text.reader self.new.text.reader }
     {
         let mut all = empty;
         let mut twice = unit;
@@ -323,7 +323,7 @@ impl<'h> OnText<'h> {
 
     // A string of four units in two-byte lanes, those of a word.
     fn wide(&mut self, word: &str) -> Option<Told>
-        ensures goes { Moves Turns self.old.text.reader self.new.text.reader }
+        ensures goes { MovesView Turns self.old.text.reader self.new.text.reader }
     {
         let word = word.parse::<u64>().ok()?;
         let text = &mut self.text;
@@ -340,7 +340,7 @@ impl<'h> OnText<'h> {
 
     // What a step says that makes strings or settles one; None where it can't be played.
     fn told(&mut self, name: &str, words: Words) -> Option<Told>
-        ensures goes { Moves Turns self.old.text.reader self.new.text.reader }
+        ensures goes { MovesView Turns self.old.text.reader self.new.text.reader }
     {
         let (a, b) = (words.a as usize, words.b as usize);
         match name {
@@ -363,7 +363,7 @@ impl<'h> OnText<'h> {
 
     // The same of a step that loads.
     fn found(&mut self, name: &str, words: Words) -> Option<Told>
-        ensures goes { Moves Turns self.old.text.reader self.new.text.reader }
+        ensures goes { MovesView Turns self.old.text.reader self.new.text.reader }
     {
         let (a, b) = (words.a as usize, words.b as usize);
         match name {
@@ -384,7 +384,7 @@ impl<'h> OnText<'h> {
 
     // What a line reports, where that is not what it expects.
     fn wrong_line(&mut self, line: &str) -> Option<String>
-        ensures goes { Moves Turns self.old.text.reader self.new.text.reader }
+        ensures goes { MovesView Turns self.old.text.reader self.new.text.reader }
     {
         let Some((step, want)) = line.split_once(" -> ") else {
             return fault(self.alloc, line);
@@ -398,7 +398,7 @@ impl<'h> OnText<'h> {
 
     /// The first line that does not report what it expects.
     pub(crate) fn wrong(&mut self, lines: &str) -> Option<String>
-        ensures goes { Moves Turns self.old.text.reader self.new.text.reader }
+        ensures goes { MovesView Turns self.old.text.reader self.new.text.reader }
     {
         for line in lines.lines() {
             if let Some(found) = self.wrong_line(line) {

@@ -3,7 +3,7 @@ ghost use Rattle.std.specs.Prelude.{◌≡◌, ◌≤◌, ◌<◌, IfOk, IfSome,
 ghost use Rattle.js_header.specs.Form.{IsInRange};
 ghost use Rattle.heap_rule.specs.Maps.{HasKey};
 ghost use Rattle.heap_table.specs.Agents.{size_of};
-ghost use Rattle.heap_read.specs.Readers.{Moves, view_in};
+ghost use Rattle.heap_read.specs.Readers.{MovesView, view_in};
 ghost use Rattle.test_strings.specs.Turns.{Turns};
 
 use heap_intern::{TableFull, find_units, intern, intern_units};
@@ -15,7 +15,7 @@ use std::sync::ledger::{Blank, Ledger};
 
 pub(crate) fn flat(text: &mut Text<&Heap>, units: &[u16]) -> Result<JsStr, TextFull>
     requires short { length units.now ≤ 65536 }
-    ensures goes { Moves Turns text.old.reader text.new.reader }
+    ensures goes { MovesView Turns text.old.reader text.new.reader }
     ensures known { IfOk result (λ s. HasKey (view_in text.new.reader).units s.id) }
 {
     text.make_flat(units)
@@ -24,7 +24,7 @@ pub(crate) fn flat(text: &mut Text<&Heap>, units: &[u16]) -> Result<JsStr, TextF
 pub(crate) fn joined(text: &mut Text<&Heap>, a: JsStr, b: JsStr) -> Result<JsStr, JoinFault>
     requires left { HasKey (view_in text.old.reader).units a.id }
     requires right { HasKey (view_in text.old.reader).units b.id }
-    ensures goes { Moves Turns text.old.reader text.new.reader }
+    ensures goes { MovesView Turns text.old.reader text.new.reader }
     ensures known { IfOk result (λ s. HasKey (view_in text.new.reader).units s.id) }
 {
     text.concat(a, b)
@@ -38,7 +38,7 @@ pub(crate) fn cut(
     to: u32,
 ) -> Option<Result<JsStr, TextFull>>
     requires known { HasKey (view_in text.old.reader).units s.id }
-    ensures goes { Moves Turns text.old.reader text.new.reader }
+    ensures goes { MovesView Turns text.old.reader text.new.reader }
     ensures known { IfSome result
         (λ r. IfOk r (λ t. HasKey (view_in text.new.reader).units t.id)) }
 {
@@ -55,7 +55,7 @@ pub(crate) fn cut(
 /// Whether the string has these units, read one by one, by a window and without.
 pub(crate) fn reads(text: &mut Text<&Heap>, s: JsStr, want: &[u16]) -> bool
     requires known { HasKey (view_in text.old.reader).units s.id }
-    ensures goes { Moves Turns text.old.reader text.new.reader }
+    ensures goes { MovesView Turns text.old.reader text.new.reader }
 {
     let Ok(()) = text.settle(s) else {
         return false;
@@ -80,7 +80,7 @@ pub(crate) fn reads(text: &mut Text<&Heap>, s: JsStr, want: &[u16]) -> bool
 /// The number that a string is interned as, once it is settled.
 pub(crate) fn interned(text: &mut Text<&Heap>, s: JsStr) -> Option<Result<u32, TableFull>>
     requires known { HasKey (view_in text.old.reader).units s.id }
-    ensures goes { Moves Turns text.old.reader text.new.reader }
+    ensures goes { MovesView Turns text.old.reader text.new.reader }
     ensures known { IfSome result
         (λ r. IfOk r (λ i. HasKey (view_in text.new.reader).units i)) }
 {
@@ -97,7 +97,7 @@ pub(crate) fn of_table(
     make: bool,
 ) -> Option<Result<u32, TableFull>>
     requires short { length units.now ≤ 65536 }
-    ensures goes { Moves Turns text.old.reader text.new.reader }
+    ensures goes { MovesView Turns text.old.reader text.new.reader }
     ensures known { IfSome result
         (λ r. IfOk r (λ i. HasKey (view_in text.new.reader).units i)) }
 {
@@ -113,7 +113,7 @@ pub(crate) fn of_table(
 /// The first content word of a string that is flat; None where it is empty or has another form.
 pub(crate) fn first_word(reader: &mut Reader<&Heap>, s: JsStr) -> Option<u64>
     requires known { HasKey (view_in reader.old).units s.id }
-    ensures goes { Moves Turns reader.old reader.new }
+    ensures goes { MovesView Turns reader.old reader.new }
 {
     let Form::Flat { start, .. } = reader.form_now(s.id) else {
         return None;
@@ -135,7 +135,7 @@ pub(crate) fn ends<L: Ledger>(
     requires parts { blank.parts ≡ L.parts }
     requires some { 0 < blank.parts }
     requires known { HasKey (view_in text.old.reader).units s.id }
-    ensures goes { Moves Turns text.old.reader text.new.reader }
+    ensures goes { MovesView Turns text.old.reader text.new.reader }
 {
     let mut steps = Steps::<L>::start(blank);
     let Ok(()) = text.settle_counted(s, &mut steps) else {

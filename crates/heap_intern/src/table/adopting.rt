@@ -5,11 +5,11 @@ ghost use Rattle.js_units.specs.Lanes.{hash_of};
 ghost use Rattle.heap_rule.specs.Maps.{Has, HasKey};
 ghost use Rattle.heap_rule.specs.Views.{MayUse, history};
 ghost use Rattle.heap_table.specs.Agents.{size_of};
-ghost use Rattle.heap_intern.specs.Adopted.{Adopts, IsAdopted, LoadsHere, LoadsNoneBehind, adopting_loads};
-ghost use Rattle.heap_intern.specs.Goes.{Looks};
+ghost use Rattle.heap_intern.specs.Adopted.{AdoptsSlot, IsAdopted, LoadsHere, LoadsNoneBehind, adopting_loads};
+ghost use Rattle.heap_intern.specs.Goes.{LoadsAlone};
 ghost use Rattle.heap_intern.specs.SlotLoads.{loads_at};
 ghost use Rattle.heap_read.specs.Frozen.{AreFrozen, IsFixedWindow, IsLearned};
-ghost use Rattle.heap_read.specs.Readers.{Moves, view_in};
+ghost use Rattle.heap_read.specs.Readers.{MovesView, view_in};
 ghost use Rattle.heap_read.specs.Reads.{HoldsForms, KeepsForms, OnlyLoads};
 ghost use Rattle.heap_read.specs.Windows.{IsFrozenWindow};
 
@@ -19,7 +19,7 @@ use heap_read::{HeapRef, Reader, Window};
 fn read_words<H: HeapRef>(reader: &mut Reader<H>, w: Window)
     requires frozen { IsFrozenWindow (view_in reader.old) w }
     requires learned { IsLearned (view_in reader.old) }
-    ensures reads { Moves OnlyLoads reader.old reader.new }
+    ensures reads { MovesView OnlyLoads reader.old reader.new }
     ensures forms { KeepsForms (view_in reader.old) (view_in reader.new) }
     ensures learned { IsLearned (view_in reader.new) }
     ensures frozen { AreFrozen (view_in reader.new) w }
@@ -54,7 +54,7 @@ fn enter<H: HeapRef>(reader: &mut Reader<H>, slot: u32, id: u32)
 pub fn adopt<H: HeapRef>(reader: &mut Reader<H>, slot: u32) -> Option<u32>
     requires { slot < (size_of (H.reached reader.old.heap)).slots }
     ensures heap { reader.new.heap ≡ reader.old.heap }
-    ensures adopts { Adopts (view_in reader.old) (view_in reader.new) slot result }
+    ensures adopts { AdoptsSlot (view_in reader.old) (view_in reader.new) slot result }
     ensures again { (i : ℕ) → Has (view_in reader.old).slots slot i → result ≡ Some i }
     ensures forms { HoldsForms (view_in reader.old) (view_in reader.new) }
     ensures loads { LoadsHere (view_in reader.old) (view_in reader.new) slot (adopting_loads result) }
@@ -71,7 +71,7 @@ pub fn adopt<H: HeapRef>(reader: &mut Reader<H>, slot: u32) -> Option<u32>
 fn has_string<H: HeapRef>(reader: &mut Reader<H>, slot: u32, id: u32) -> bool
     requires { slot < (size_of (H.reached reader.old.heap)).slots }
     ensures heap { reader.new.heap ≡ reader.old.heap }
-    ensures looks { Looks (view_in reader.old) (view_in reader.new) }
+    ensures looks { LoadsAlone (view_in reader.old) (view_in reader.new) }
     ensures forms { HoldsForms (view_in reader.old) (view_in reader.new) }
     ensures loads { LoadsHere (view_in reader.old) (view_in reader.new) slot 1 }
     ensures stands { IsTrue result ↔ Has (view_in reader.new).slots slot id }
@@ -87,7 +87,7 @@ fn walk_to<H: HeapRef>(reader: &mut Reader<H>, id: u32, hash: u32) -> u32
     requires stands { (k : ℕ) × Has (view_in reader.old).slots k id }
     requires hash { (us : List ℕ) × Has (view_in reader.old).units id us × (hash ≡ hash_of us) }
     ensures heap { reader.new.heap ≡ reader.old.heap }
-    ensures looks { Looks (view_in reader.old) (view_in reader.new) }
+    ensures looks { LoadsAlone (view_in reader.old) (view_in reader.new) }
     ensures forms { HoldsForms (view_in reader.old) (view_in reader.new) }
     ensures stands { Has (view_in reader.new).slots result id }
     ensures once { (k : ℕ) → loads_at (view_in reader.new) k ≤ loads_at (view_in reader.old) k + 1 }
@@ -112,7 +112,7 @@ pub fn slot_of<H: HeapRef>(reader: &mut Reader<H>, id: u32) -> u32
     requires known { HasKey (view_in reader.old).units id }
     requires call { (u : List ℕ) × Contains (history (view_in reader.old)) (u, id) }
     ensures heap { reader.new.heap ≡ reader.old.heap }
-    ensures looks { Looks (view_in reader.old) (view_in reader.new) }
+    ensures looks { LoadsAlone (view_in reader.old) (view_in reader.new) }
     ensures forms { HoldsForms (view_in reader.old) (view_in reader.new) }
     ensures inside { result < (size_of (H.reached reader.old.heap)).slots }
     ensures stands { Has (view_in reader.new).slots result id }

@@ -5,7 +5,7 @@ ghost use Rattle.heap_rule.specs.declared.view.View.{View};
 ghost use Rattle.heap_rule.specs.Views.{history};
 ghost use Rattle.heap_table.specs.Agents.{size_of};
 ghost use Rattle.heap_intern.specs.Counting.{count_below, different};
-ghost use Rattle.heap_intern.specs.Goes.{Looks};
+ghost use Rattle.heap_intern.specs.Goes.{LoadsAlone};
 ghost use Rattle.heap_intern.specs.Visits.{Counted};
 ghost use Rattle.heap_read.specs.Readers.{view_in};
 
@@ -16,7 +16,7 @@ fn used<H: HeapRef>(reader: &mut Reader<H>, k: u32) -> u32
     requires inside { k < (size_of (H.reached reader.old.heap)).slots }
     requires whole { (view_in reader.old).share ≡ (view_in reader.old).agents }
     ensures heap { reader.new.heap ≡ reader.old.heap }
-    ensures looks { Looks (view_in reader.old) (view_in reader.new) }
+    ensures looks { LoadsAlone (view_in reader.old) (view_in reader.new) }
     ensures one { result ≤ 1 }
     ensures counts { (a : View) (count : ℕ) → Counted a (view_in reader.old) k count
         → Counted a (view_in reader.new) (k + 1) (count + result) }
@@ -32,7 +32,7 @@ fn used<H: HeapRef>(reader: &mut Reader<H>, k: u32) -> u32
 pub fn count_interned<H: HeapRef>(reader: &mut Reader<H>) -> u32
     requires whole { (view_in reader.old).share ≡ (view_in reader.old).agents }
     ensures heap { reader.new.heap ≡ reader.old.heap }
-    ensures looks { Looks (view_in reader.old) (view_in reader.new) }
+    ensures looks { LoadsAlone (view_in reader.old) (view_in reader.new) }
     ensures count { result ≡ different (history (view_in reader.old)) }
     ensures used { result ≡ count_below (λ k. contains_key (view_in reader.new).slots k)
         (size_of (H.reached reader.old.heap)).slots }

@@ -4,7 +4,7 @@ ghost use Rattle.js_units.specs.Lanes.{hash_of};
 ghost use Rattle.heap_rule.specs.Layout.{MAX};
 ghost use Rattle.heap_rule.specs.Maps.{Has};
 ghost use Rattle.heap_table.specs.Agents.{size_of};
-ghost use Rattle.heap_intern.specs.Answers.{Finds, StandsInSlot};
+ghost use Rattle.heap_intern.specs.Answers.{FindsString, StandsInSlot};
 ghost use Rattle.heap_bytes.specs.Spellings.{IsReadable, spelling_units};
 ghost use Rattle.heap_intern.specs.Given.{FindsGiven};
 ghost use Rattle.heap_intern.specs.SlotLoads.{LoadsSlots, loads_at};
@@ -55,7 +55,7 @@ fn walk<L: Ledger, H: HeapRef>(
     ensures heap { reader.new.heap ≡ reader.old.heap }
     ensures forms { HoldsForms (view_in reader.old) (view_in reader.new) }
     ensures finds { (us : List ℕ) → IsWanted (view_in reader.old) wanted.now us
-        → Finds (view_in reader.old) (view_in reader.new) us result }
+        → FindsString (view_in reader.old) (view_in reader.new) us result }
     ensures loads { LoadsSlots (view_in reader.old) (view_in reader.new) result steps.old steps.new }
 {
     let n = reader.heap.heap().size().slots;
@@ -82,7 +82,7 @@ pub fn find_units_counted<L: Ledger, H: HeapRef>(
 ) -> Option<u32>
     requires short { length units.now ≤ MAX }
     ensures heap { reader.new.heap ≡ reader.old.heap }
-    ensures finds { Finds (view_in reader.old) (view_in reader.new) units.now result }
+    ensures finds { FindsString (view_in reader.old) (view_in reader.new) units.now result }
     ensures again { (i : ℕ) → Has (view_in reader.old).units i units.now
         → StandsInSlot (view_in reader.old) units.now i → result ≡ Some i }
     ensures forms { HoldsForms (view_in reader.old) (view_in reader.new) }
@@ -105,7 +105,7 @@ fn find_units_by<L: Ledger, H: HeapRef>(
     requires some { 0 < blank.parts }
     requires short { length units.now ≤ MAX }
     ensures heap { reader.new.heap ≡ reader.old.heap }
-    ensures finds { Finds (view_in reader.old) (view_in reader.new) units.now result }
+    ensures finds { FindsString (view_in reader.old) (view_in reader.new) units.now result }
     ensures again { (i : ℕ) → Has (view_in reader.old).units i units.now
         → StandsInSlot (view_in reader.old) units.now i → result ≡ Some i }
     ensures forms { HoldsForms (view_in reader.old) (view_in reader.new) }
@@ -122,7 +122,7 @@ fn find_units_by<L: Ledger, H: HeapRef>(
 pub fn find_units<H: HeapRef>(reader: &mut Reader<H>, units: &[u16]) -> Option<u32>
     requires short { length units.now ≤ MAX }
     ensures heap { reader.new.heap ≡ reader.old.heap }
-    ensures finds { Finds (view_in reader.old) (view_in reader.new) units.now result }
+    ensures finds { FindsString (view_in reader.old) (view_in reader.new) units.now result }
     ensures again { (i : ℕ) → Has (view_in reader.old).units i units.now
         → StandsInSlot (view_in reader.old) units.now i → result ≡ Some i }
     ensures forms { HoldsForms (view_in reader.old) (view_in reader.new) }

@@ -4,7 +4,7 @@ ghost use Rattle.std.specs.Bool.{MatchBool};
 ghost use Rattle.heap_rule.specs.HeaderMoves.{CanThin};
 ghost use Rattle.heap_rule.specs.Maps.{Has};
 ghost use Rattle.heap_intern.specs.Answers.{IsForwarded};
-ghost use Rattle.heap_intern.specs.Goes.{Looks};
+ghost use Rattle.heap_intern.specs.Goes.{LoadsAlone};
 ghost use Rattle.heap_intern.specs.Headers.{target_of};
 ghost use Rattle.heap_read.specs.Readers.{view_in};
 ghost use Rattle.heap_intern.specs.Seeking.{IsSought};
@@ -44,7 +44,7 @@ pub(crate) fn forward<H: HeapRef>(reader: &mut Reader<H>, s: Sought, answer: u32
     requires units { (us : List ℕ) × Has (view_in reader.old).units s.id us
         × Has (view_in reader.old).units answer us }
     ensures heap { reader.new.heap ≡ reader.old.heap }
-    ensures looks { Looks (view_in reader.old) (view_in reader.new) }
+    ensures looks { LoadsAlone (view_in reader.old) (view_in reader.new) }
     ensures loads { (view_in reader.new).slot_loads ≡ (view_in reader.old).slot_loads }
     ensures forwards { IsForwarded (view_in reader.new) s.id answer }
 {

@@ -1,9 +1,9 @@
 // Texts that are built up outside any heap: strings are added to them, and they become strings.
 ghost use Rattle.std.specs.Prelude.{◌≡◌, ◌↔◌};
 ghost use Rattle.heap_agents.specs.Ready.{HandleKnows, IsReady};
-ghost use Rattle.jsstr_c.specs.Building.{Builds, IsBuilder, Spends, text_so_far};
+ghost use Rattle.jsstr_c.specs.Building.{AddsToText, IsBuilder, EmptiesText, text_so_far};
 ghost use Rattle.jsstr_c.specs.Checked.{ReadsSettled};
-ghost use Rattle.jsstr_c.specs.Given.{IsInterning, Makes, Tests};
+ghost use Rattle.jsstr_c.specs.Given.{IsInterning, MakesString, TestsGiven};
 ghost use Rattle.jsstr_c.specs.Handles.{IsHandle};
 ghost use Rattle.jsstr_c.specs.Reports as reports;
 
@@ -30,7 +30,7 @@ pub extern "C" fn jsstr_build_string(
     ensures bad { result ≡ reports.BAD_ARGUMENT ↔ ¬ (HandleKnows agent.old.at.value s) }
     ensures builds { ReadsSettled agent.old.at.value agent.new.at.value s result
         (text.new.at.value ≡ text.old.at.value)
-        (λ us. Builds text.old.at.value text.new.at.value us result) }
+        (λ us. AddsToText text.old.at.value text.new.at.value us result) }
 {
     let settled = settle_known(alloc, agent, s);
     if settled.status != DONE {
@@ -47,8 +47,9 @@ pub extern "C" fn jsstr_built(alloc: Global, text: &mut JsBuilder, agent: &mut J
     requires handle { IsHandle agent.old }
     ensures handle { IsBuilder text.new × IsHandle agent.new }
     ensures bad { result.status ≡ reports.BAD_ARGUMENT ↔ ¬ (IsReady agent.old.at.value) }
-    ensures makes { Tests Makes agent.old.at.value agent.new.at.value (text_so_far text.old.at.value) result }
-    ensures spent { Spends text.old.at.value text.new.at.value result.status }
+    ensures makes { TestsGiven MakesString agent.old.at.value agent.new.at.value
+        (text_so_far text.old.at.value) result }
+    ensures spent { EmptiesText text.old.at.value text.new.at.value result.status }
 {
     if agent.is_empty() {
         return bad_argument();
@@ -67,9 +68,10 @@ pub extern "C" fn jsstr_built_interned(
     requires handle { IsHandle agent.old }
     ensures handle { IsBuilder text.new × IsHandle agent.new }
     ensures bad { result.status ≡ reports.BAD_ARGUMENT ↔ ¬ (IsReady agent.old.at.value) }
-    ensures interns { Tests IsInterning agent.old.at.value agent.new.at.value (text_so_far text.old.at.value)
+    ensures interns { TestsGiven IsInterning agent.old.at.value agent.new.at.value
+        (text_so_far text.old.at.value)
         result }
-    ensures spent { Spends text.old.at.value text.new.at.value result.status }
+    ensures spent { EmptiesText text.old.at.value text.new.at.value result.status }
 {
     if agent.is_empty() {
         return bad_argument();

@@ -2,8 +2,8 @@
 ghost use Rattle.std.specs.Prelude.{◌≡◌, ◌≢◌, ◌↔◌, ◌⊎◌, ℕ, List};
 ghost use Rattle.heap_rule.specs.Maps.{Has};
 ghost use Rattle.heap_agents.specs.Ready.{HandleLeaves, HandleKnows, IsReady, handle_view};
-ghost use Rattle.jsstr_c.specs.Checked.{RefusesSettling, Settled};
-ghost use Rattle.jsstr_c.specs.Given.{IsInterning, Makes, OrNoMemory};
+ghost use Rattle.jsstr_c.specs.Checked.{RefusesSettling, SettlesAndLooks};
+ghost use Rattle.jsstr_c.specs.Given.{IsInterning, MakesString, OrNoMemory};
 ghost use Rattle.jsstr_c.specs.Handles.{IsHandle};
 ghost use Rattle.jsstr_c.specs.Reports as reports;
 
@@ -32,9 +32,9 @@ pub extern "C" fn jsstr_copy_into(
     ensures leaves { result.status ≢ reports.BAD_ARGUMENT → HandleLeaves to.old.at.value to.new.at.value }
     ensures does { result.status ≢ reports.BAD_ARGUMENT
         → (RefusesSettling from.old.at.value from.new.at.value s result × (to.new.at.value ≡ to.old.at.value))
-        ⊎ (Settled from.old.at.value from.new.at.value s × ((us : List ℕ)
+        ⊎ (SettlesAndLooks from.old.at.value from.new.at.value s × ((us : List ℕ)
         → Has (handle_view from.old.at.value).units s us
-        → OrNoMemory Makes to.old.at.value to.new.at.value us result)) }
+        → OrNoMemory MakesString to.old.at.value to.new.at.value us result)) }
 {
     if to.is_empty() {
         return bad_argument();
@@ -64,7 +64,7 @@ pub extern "C" fn jsstr_intern_into(
         × (from.new.at.value ≡ from.old.at.value) × (to.new.at.value ≡ to.old.at.value) }
     ensures does { result.status ≢ reports.BAD_ARGUMENT
         → (RefusesSettling from.old.at.value from.new.at.value s result × (to.new.at.value ≡ to.old.at.value))
-        ⊎ (Settled from.old.at.value from.new.at.value s × ((us : List ℕ)
+        ⊎ (SettlesAndLooks from.old.at.value from.new.at.value s × ((us : List ℕ)
         → Has (handle_view from.old.at.value).units s us
         → OrNoMemory IsInterning to.old.at.value to.new.at.value us result)) }
 {

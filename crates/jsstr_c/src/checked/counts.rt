@@ -4,7 +4,7 @@ ghost use Rattle.heap_rule.specs.declared.size.Counter.TheVariants as counter;
 ghost use Rattle.heap_rule.specs.Claims.{loaded_counter};
 ghost use Rattle.heap_rule.specs.Views.{history};
 ghost use Rattle.heap_intern.specs.Counting.{different};
-ghost use Rattle.heap_intern.specs.Goes.{Looks};
+ghost use Rattle.heap_intern.specs.Goes.{LoadsAlone};
 ghost use Rattle.heap_agents.specs.Ready.{HasWhole, IsBeside, IsReady, MarksStay, share_in, handle_view};
 ghost use Rattle.jsstr_c.specs.Handles.{IsHandle};
 ghost use Rattle.jsstr_c.specs.Reports.{no_number, no_totals};
@@ -79,7 +79,7 @@ pub extern "C" fn jsstr_count_interned(alloc: Global, agent: &mut JsAgent) -> Js
     ensures same { result.status ≡ reports.DONE → IsBeside agent.old.at.value agent.new.at.value }
     ensures marks { result.status ≡ reports.DONE → MarksStay agent.old.at.value agent.new.at.value }
     ensures looks { result.status ≡ reports.DONE
-        → Looks (handle_view agent.old.at.value) (handle_view agent.new.at.value) }
+        → LoadsAlone (handle_view agent.old.at.value) (handle_view agent.new.at.value) }
     ensures count { result.status ≡ reports.DONE
         → result.value ≡ different (history (handle_view agent.old.at.value)) }
 {

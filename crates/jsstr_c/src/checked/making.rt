@@ -4,9 +4,9 @@ ghost use Rattle.heap_rule.specs.Births.{part};
 ghost use Rattle.heap_rule.specs.Maps.{Has};
 ghost use Rattle.heap_rule.specs.Views.{IsSeenSettled};
 ghost use Rattle.heap_agents.specs.Ready.{HandleKnows, handle_view};
-ghost use Rattle.jsstr_c.specs.Checked.{Looked, Reaches};
+ghost use Rattle.jsstr_c.specs.Checked.{IsSameOrMeasured, ReachesLength};
 ghost use Rattle.jsstr_c.specs.Handles.{IsHandle};
-ghost use Rattle.jsstr_c.specs.Made.{CutsSettled, Joins};
+ghost use Rattle.jsstr_c.specs.Made.{CutsSettled, JoinsStrings};
 ghost use Rattle.jsstr_c.specs.Reports as reports;
 
 use crate::agent::JsAgent;
@@ -25,7 +25,7 @@ pub extern "C" fn jsstr_concat(alloc: Global, agent: &mut JsAgent, a: u32, b: u3
     ensures unchanged { result.status ≡ reports.BAD_ARGUMENT
         → (result ≡ reports.bad_argument) × (agent.new.at.value ≡ agent.old.at.value) }
     ensures joins { result.status ≢ reports.BAD_ARGUMENT
-        → Joins agent.old.at.value agent.new.at.value a b result }
+        → JoinsStrings agent.old.at.value agent.new.at.value a b result }
     ensures units { result.status ≡ reports.DONE
         → (us vs : List ℕ) → Has (handle_view agent.old.at.value).units a us
         → Has (handle_view agent.old.at.value).units b vs
@@ -48,10 +48,11 @@ pub extern "C" fn jsstr_slice(
 ) -> JsAnswer
     requires { IsHandle agent.old }
     ensures handle { IsHandle agent.new }
-    ensures bad { result.status ≡ reports.BAD_ARGUMENT ↔ ¬ ((from ≤ to) × Reaches agent.old.at.value s to) }
+    ensures bad { result.status ≡ reports.BAD_ARGUMENT
+        ↔ ¬ ((from ≤ to) × ReachesLength agent.old.at.value s to) }
     ensures unknown { ¬ (HandleKnows agent.old.at.value s) → agent.new.at.value ≡ agent.old.at.value }
     ensures looked { result.status ≡ reports.BAD_ARGUMENT
-        → (result ≡ reports.bad_argument) × Looked agent.old.at.value agent.new.at.value }
+        → (result ≡ reports.bad_argument) × IsSameOrMeasured agent.old.at.value agent.new.at.value }
     ensures cuts { result.status ≢ reports.BAD_ARGUMENT
         → CutsSettled agent.old.at.value agent.new.at.value s from to result }
     ensures units { result.status ≡ reports.DONE

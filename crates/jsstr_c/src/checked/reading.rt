@@ -4,7 +4,7 @@ ghost use Rattle.heap_rule.specs.Maps.{Has};
 ghost use Rattle.heap_rule.specs.Views.{IsSeenSettled};
 ghost use Rattle.heap_agents.specs.Ready.{HandleKnows, handle_view};
 ghost use Rattle.heap_agents.specs.Words.{AreShown, AreThere};
-ghost use Rattle.jsstr_c.specs.Checked.{Measures, OnlyLooks, Reaches, ReadsSettled, SettlesFirst};
+ghost use Rattle.jsstr_c.specs.Checked.{ReadsLength, OnlyLooks, ReachesLength, ReadsSettled, SettlesFirst};
 ghost use Rattle.jsstr_c.specs.Handles.{IsHandle};
 ghost use Rattle.jsstr_c.specs.Reports.{no_words, shown_by, no_number, no_truth, number_answer};
 ghost use Rattle.js_units.specs.Lanes.{hash_of};
@@ -40,7 +40,7 @@ pub extern "C" fn jsstr_length(alloc: Global, agent: &mut JsAgent, s: u32) -> Js
         → (result ≡ no_number reports.BAD_ARGUMENT) × (agent.new.at.value ≡ agent.old.at.value) }
     ensures status { result.status ≢ reports.BAD_ARGUMENT → result.status ≡ reports.DONE }
     ensures known { result.status ≡ reports.DONE → HandleKnows agent.old.at.value s }
-    ensures measures { result.status ≡ reports.DONE → Measures agent.old.at.value agent.new.at.value }
+    ensures measures { result.status ≡ reports.DONE → ReadsLength agent.old.at.value agent.new.at.value }
     ensures length { result.status ≡ reports.DONE → (us : List ℕ)
         → Has (handle_view agent.old.at.value).units s us → result.value ≡ length us }
 {
@@ -77,7 +77,8 @@ pub extern "C" fn jsstr_read(
 ) -> u32
     requires { IsHandle agent.old }
     ensures handle { IsHandle agent.new }
-    ensures bad { result ≡ reports.BAD_ARGUMENT ↔ ¬ (Reaches agent.old.at.value s (from + length out.old)) }
+    ensures bad { result ≡ reports.BAD_ARGUMENT
+        ↔ ¬ (ReachesLength agent.old.at.value s (from + length out.old)) }
     ensures reads { ReadsSettled agent.old.at.value agent.new.at.value s result (out.new ≡ out.old)
         (λ us. (result ≡ reports.DONE) × (out.new ≡ slice_range us from (from + length out.old))) }
 {
@@ -119,7 +120,7 @@ pub extern "C" fn jsstr_window(
 pub extern "C" fn jsstr_unit_at(alloc: Global, agent: &mut JsAgent, s: u32, place: u32) -> JsNumber
     requires { IsHandle agent.old }
     ensures handle { IsHandle agent.new }
-    ensures bad { result.status ≡ reports.BAD_ARGUMENT ↔ ¬ (Reaches agent.old.at.value s (place + 1)) }
+    ensures bad { result.status ≡ reports.BAD_ARGUMENT ↔ ¬ (ReachesLength agent.old.at.value s (place + 1)) }
     ensures reads { ReadsSettled agent.old.at.value agent.new.at.value s result.status
         (result ≡ no_number result.status) (λ us. result ≡ number_answer (Some (slice_index us place))) }
 {

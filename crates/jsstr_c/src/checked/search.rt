@@ -2,10 +2,10 @@
 ghost use Rattle.std.specs.Prelude.{◌≡◌, ◌↔◌, ℕ, Option, IsTrue};
 ghost use Rattle.std.specs.declared.cmp.Ordering as ordering;
 ghost use Rattle.js_search.specs.Order.{units_cmp};
-ghost use Rattle.js_search.specs.Places.{IsFirst, IsLast, Stands, first, last, stands};
+ghost use Rattle.js_search.specs.Places.{IsFirst, IsLast, IsPartAt, first, last, stands};
 ghost use Rattle.heap_agents.specs.Ready.{HandleKnows};
 ghost use Rattle.heap_agents.specs.Searched.{IsOrder};
-ghost use Rattle.jsstr_c.specs.Checked.{Reaches, SeeksSettled};
+ghost use Rattle.jsstr_c.specs.Checked.{ReachesLength, SeeksSettled};
 ghost use Rattle.jsstr_c.specs.Handles.{IsHandle};
 ghost use Rattle.jsstr_c.specs.Reports.{no_order, no_place, no_truth, order_answer, order_number, place_answer};
 ghost use Rattle.jsstr_c.specs.Reports as reports;
@@ -81,7 +81,7 @@ pub extern "C" fn jsstr_starts_with(
     ensures seeks { SeeksSettled agent.old.at.value agent.new.at.value hay needle result.status
         (result ≡ no_truth result.status)
         (λ us vs. (result.status ≡ reports.DONE) × (result.holds ≡ stands us vs at)
-        × (IsTrue result.holds ↔ Stands us vs at)) }
+        × (IsTrue result.holds ↔ IsPartAt us vs at)) }
 {
     let status = settle_both(alloc, agent, hay, needle);
     if status != DONE {
@@ -131,7 +131,7 @@ pub extern "C" fn jsstr_index_of(
     requires { IsHandle agent.old }
     ensures handle { IsHandle agent.new }
     ensures bad { result.status ≡ reports.BAD_ARGUMENT
-        ↔ ¬ (Reaches agent.old.at.value hay from × HandleKnows agent.old.at.value needle) }
+        ↔ ¬ (ReachesLength agent.old.at.value hay from × HandleKnows agent.old.at.value needle) }
     ensures seeks { SeeksSettled agent.old.at.value agent.new.at.value hay needle result.status
         (result ≡ no_place result.status)
         (λ us vs. (result ≡ place_answer (first us vs from))

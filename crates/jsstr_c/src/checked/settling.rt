@@ -3,7 +3,7 @@ ghost use Rattle.std.specs.Prelude.{◌≡◌, ◌↔◌, ℕ, ◌+◌, ◌≤�
 ghost use Rattle.heap_rule.specs.Maps.{Has, HasKey};
 ghost use Rattle.heap_agents.specs.Ready.{IsReady, HandleKnows, handle_view};
 ghost use Rattle.heap_agents.specs.Searched.{IsSearchable};
-ghost use Rattle.jsstr_c.specs.Checked.{Looked, Measures, Reaches, SettlesFirst};
+ghost use Rattle.jsstr_c.specs.Checked.{IsSameOrMeasured, ReadsLength, ReachesLength, SettlesFirst};
 ghost use Rattle.jsstr_c.specs.Handles.{IsHandle};
 ghost use Rattle.jsstr_c.specs.Pairs.{SettlesPair};
 ghost use Rattle.jsstr_c.specs.Reports as reports;
@@ -17,10 +17,10 @@ use std::alloc::Global;
 fn reaches(alloc: Global, agent: &mut JsAgent, s: u32, from: u32, room: usize) -> bool
     requires { IsHandle agent.old }
     ensures handle { IsHandle agent.new }
-    ensures reaches { IsTrue result ↔ Reaches agent.old.at.value s (from + room) }
+    ensures reaches { IsTrue result ↔ ReachesLength agent.old.at.value s (from + room) }
     ensures unknown { ¬ (HandleKnows agent.old.at.value s) → agent.new.at.value ≡ agent.old.at.value }
-    ensures left { Looked agent.old.at.value agent.new.at.value }
-    ensures measures { IsTrue result → Measures agent.old.at.value agent.new.at.value }
+    ensures left { IsSameOrMeasured agent.old.at.value agent.new.at.value }
+    ensures measures { IsTrue result → ReadsLength agent.old.at.value agent.new.at.value }
     ensures ready { IsTrue result → IsReady agent.new.at.value }
     ensures key { IsTrue result → HasKey (handle_view agent.new.at.value).units s }
     ensures long { IsTrue result → (us : List ℕ) → Has (handle_view agent.new.at.value).units s us
@@ -61,7 +61,8 @@ pub(crate) fn settle_reaching(
 ) -> JsAnswer
     requires { IsHandle agent.old }
     ensures handle { IsHandle agent.new }
-    ensures bad { result.status ≡ reports.BAD_ARGUMENT ↔ ¬ (Reaches agent.old.at.value s (from + room)) }
+    ensures bad { result.status ≡ reports.BAD_ARGUMENT
+        ↔ ¬ (ReachesLength agent.old.at.value s (from + room)) }
     ensures settles { SettlesFirst agent.old.at.value agent.new.at.value s result }
     ensures ready { result.status ≡ reports.DONE → IsReady agent.new.at.value }
     ensures readable { result.status ≡ reports.DONE → IsSearchable (handle_view agent.new.at.value) s }
@@ -106,7 +107,7 @@ pub(crate) fn settle_both_reaching(
     requires { IsHandle agent.old }
     ensures handle { IsHandle agent.new }
     ensures bad { result ≡ reports.BAD_ARGUMENT
-        ↔ ¬ (Reaches agent.old.at.value a from × HandleKnows agent.old.at.value b) }
+        ↔ ¬ (ReachesLength agent.old.at.value a from × HandleKnows agent.old.at.value b) }
     ensures settles { SettlesPair agent.old.at.value agent.new.at.value a b result }
     ensures ready { result ≡ reports.DONE → IsReady agent.new.at.value }
     ensures left { result ≡ reports.DONE → IsSearchable (handle_view agent.new.at.value) a }

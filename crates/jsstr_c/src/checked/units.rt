@@ -2,7 +2,7 @@
 ghost use Rattle.std.specs.Prelude.{◌≡◌, ◌≢◌, ◌↔◌, ◌≤◌, length};
 ghost use Rattle.heap_rule.specs.Layout.{MAX};
 ghost use Rattle.heap_agents.specs.Ready.{HandleLeaves, IsReady};
-ghost use Rattle.jsstr_c.specs.Given.{IsFinding, IsInterning, Makes, OnUtf8, OnWtf8, Tests};
+ghost use Rattle.jsstr_c.specs.Given.{IsFinding, IsInterning, MakesString, OnUtf8, OnWtf8, TestsGiven};
 ghost use Rattle.jsstr_c.specs.Handles.{IsHandle};
 ghost use Rattle.jsstr_c.specs.Reports as reports;
 
@@ -18,7 +18,7 @@ pub extern "C" fn jsstr_from_units(alloc: Global, agent: &mut JsAgent, units: &[
     ensures handle { IsHandle agent.new }
     ensures bad { result.status ≡ reports.BAD_ARGUMENT
         ↔ ¬ (IsReady agent.old.at.value × (length units.now ≤ MAX)) }
-    ensures makes { Tests Makes agent.old.at.value agent.new.at.value units.now result }
+    ensures makes { TestsGiven MakesString agent.old.at.value agent.new.at.value units.now result }
 {
     tested(alloc, agent, Task::Make, Source::Units(units))
 }
@@ -31,7 +31,7 @@ pub extern "C" fn jsstr_from_latin1(alloc: Global, agent: &mut JsAgent, bytes: &
     ensures bad { result.status ≡ reports.BAD_ARGUMENT
         ↔ ¬ (IsReady agent.old.at.value × (length bytes.now ≤ MAX)) }
     ensures goes { result.status ≢ reports.BAD_ARGUMENT → HandleLeaves agent.old.at.value agent.new.at.value }
-    ensures makes { Tests Makes agent.old.at.value agent.new.at.value bytes.now result }
+    ensures makes { TestsGiven MakesString agent.old.at.value agent.new.at.value bytes.now result }
 {
     tested(alloc, agent, Task::Make, Source::Latin1(bytes))
 }
@@ -45,7 +45,7 @@ pub extern "C" fn jsstr_from_utf8(alloc: Global, agent: &mut JsAgent, bytes: &[u
     ensures bad { result.status ≡ reports.BAD_ARGUMENT
         ↔ ¬ (IsReady agent.old.at.value × (length bytes.now ≤ MAX)) }
     ensures goes { result.status ≢ reports.BAD_ARGUMENT → HandleLeaves agent.old.at.value agent.new.at.value }
-    ensures makes { Tests (OnUtf8 Makes) agent.old.at.value agent.new.at.value bytes.now result }
+    ensures makes { TestsGiven (OnUtf8 MakesString) agent.old.at.value agent.new.at.value bytes.now result }
 {
     tested(alloc, agent, Task::Make, Source::Utf8(bytes))
 }
@@ -59,7 +59,7 @@ pub extern "C" fn jsstr_from_wtf8(alloc: Global, agent: &mut JsAgent, bytes: &[u
     ensures bad { result.status ≡ reports.BAD_ARGUMENT
         ↔ ¬ (IsReady agent.old.at.value × (length bytes.now ≤ MAX)) }
     ensures goes { result.status ≢ reports.BAD_ARGUMENT → HandleLeaves agent.old.at.value agent.new.at.value }
-    ensures makes { Tests (OnWtf8 Makes) agent.old.at.value agent.new.at.value bytes.now result }
+    ensures makes { TestsGiven (OnWtf8 MakesString) agent.old.at.value agent.new.at.value bytes.now result }
 {
     tested(alloc, agent, Task::Make, Source::Wtf8(bytes))
 }
@@ -72,7 +72,7 @@ pub extern "C" fn jsstr_intern_units(alloc: Global, agent: &mut JsAgent, units: 
     ensures handle { IsHandle agent.new }
     ensures bad { result.status ≡ reports.BAD_ARGUMENT
         ↔ ¬ (IsReady agent.old.at.value × (length units.now ≤ MAX)) }
-    ensures interns { Tests IsInterning agent.old.at.value agent.new.at.value units.now result }
+    ensures interns { TestsGiven IsInterning agent.old.at.value agent.new.at.value units.now result }
 {
     tested(alloc, agent, Task::Intern, Source::Units(units))
 }
@@ -84,7 +84,7 @@ pub extern "C" fn jsstr_intern_latin1(alloc: Global, agent: &mut JsAgent, bytes:
     ensures handle { IsHandle agent.new }
     ensures bad { result.status ≡ reports.BAD_ARGUMENT
         ↔ ¬ (IsReady agent.old.at.value × (length bytes.now ≤ MAX)) }
-    ensures interns { Tests IsInterning agent.old.at.value agent.new.at.value bytes.now result }
+    ensures interns { TestsGiven IsInterning agent.old.at.value agent.new.at.value bytes.now result }
 {
     tested(alloc, agent, Task::Intern, Source::Latin1(bytes))
 }
@@ -97,7 +97,7 @@ pub extern "C" fn jsstr_intern_utf8(alloc: Global, agent: &mut JsAgent, bytes: &
     ensures handle { IsHandle agent.new }
     ensures bad { result.status ≡ reports.BAD_ARGUMENT
         ↔ ¬ (IsReady agent.old.at.value × (length bytes.now ≤ MAX)) }
-    ensures interns { Tests (OnUtf8 IsInterning) agent.old.at.value agent.new.at.value bytes.now result }
+    ensures interns { TestsGiven (OnUtf8 IsInterning) agent.old.at.value agent.new.at.value bytes.now result }
 {
     tested(alloc, agent, Task::Intern, Source::Utf8(bytes))
 }
@@ -110,7 +110,7 @@ pub extern "C" fn jsstr_intern_wtf8(alloc: Global, agent: &mut JsAgent, bytes: &
     ensures handle { IsHandle agent.new }
     ensures bad { result.status ≡ reports.BAD_ARGUMENT
         ↔ ¬ (IsReady agent.old.at.value × (length bytes.now ≤ MAX)) }
-    ensures interns { Tests (OnWtf8 IsInterning) agent.old.at.value agent.new.at.value bytes.now result }
+    ensures interns { TestsGiven (OnWtf8 IsInterning) agent.old.at.value agent.new.at.value bytes.now result }
 {
     tested(alloc, agent, Task::Intern, Source::Wtf8(bytes))
 }
@@ -122,7 +122,7 @@ pub extern "C" fn jsstr_find_units(alloc: Global, agent: &mut JsAgent, units: &[
     ensures handle { IsHandle agent.new }
     ensures bad { result.status ≡ reports.BAD_ARGUMENT
         ↔ ¬ (IsReady agent.old.at.value × (length units.now ≤ MAX)) }
-    ensures finds { Tests IsFinding agent.old.at.value agent.new.at.value units.now result }
+    ensures finds { TestsGiven IsFinding agent.old.at.value agent.new.at.value units.now result }
 {
     tested(alloc, agent, Task::Find, Source::Units(units))
 }
@@ -134,7 +134,7 @@ pub extern "C" fn jsstr_find_latin1(alloc: Global, agent: &mut JsAgent, bytes: &
     ensures handle { IsHandle agent.new }
     ensures bad { result.status ≡ reports.BAD_ARGUMENT
         ↔ ¬ (IsReady agent.old.at.value × (length bytes.now ≤ MAX)) }
-    ensures finds { Tests IsFinding agent.old.at.value agent.new.at.value bytes.now result }
+    ensures finds { TestsGiven IsFinding agent.old.at.value agent.new.at.value bytes.now result }
 {
     tested(alloc, agent, Task::Find, Source::Latin1(bytes))
 }
@@ -147,7 +147,7 @@ pub extern "C" fn jsstr_find_utf8(alloc: Global, agent: &mut JsAgent, bytes: &[u
     ensures handle { IsHandle agent.new }
     ensures bad { result.status ≡ reports.BAD_ARGUMENT
         ↔ ¬ (IsReady agent.old.at.value × (length bytes.now ≤ MAX)) }
-    ensures finds { Tests (OnUtf8 IsFinding) agent.old.at.value agent.new.at.value bytes.now result }
+    ensures finds { TestsGiven (OnUtf8 IsFinding) agent.old.at.value agent.new.at.value bytes.now result }
 {
     tested(alloc, agent, Task::Find, Source::Utf8(bytes))
 }
@@ -160,7 +160,7 @@ pub extern "C" fn jsstr_find_wtf8(alloc: Global, agent: &mut JsAgent, bytes: &[u
     ensures handle { IsHandle agent.new }
     ensures bad { result.status ≡ reports.BAD_ARGUMENT
         ↔ ¬ (IsReady agent.old.at.value × (length bytes.now ≤ MAX)) }
-    ensures finds { Tests (OnWtf8 IsFinding) agent.old.at.value agent.new.at.value bytes.now result }
+    ensures finds { TestsGiven (OnWtf8 IsFinding) agent.old.at.value agent.new.at.value bytes.now result }
 {
     tested(alloc, agent, Task::Find, Source::Wtf8(bytes))
 }

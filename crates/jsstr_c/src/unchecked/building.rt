@@ -3,9 +3,9 @@ ghost use Rattle.std.specs.Prelude.{◌≢◌, ℕ, List};
 ghost use Rattle.heap_rule.specs.Maps.{Has, HasKey};
 ghost use Rattle.heap_rule.specs.Views.{IsSeenSettled};
 ghost use Rattle.heap_agents.specs.Ready.{IsReady, handle_view};
-ghost use Rattle.jsstr_c.specs.Building.{Builds, IsBuilder, Spends, text_so_far};
+ghost use Rattle.jsstr_c.specs.Building.{AddsToText, IsBuilder, EmptiesText, text_so_far};
 ghost use Rattle.jsstr_c.specs.Checked.{OnlyLooks};
-ghost use Rattle.jsstr_c.specs.Given.{IsInterning, Makes};
+ghost use Rattle.jsstr_c.specs.Given.{IsInterning, MakesString};
 ghost use Rattle.jsstr_c.specs.Handles.{IsHandle};
 ghost use Rattle.jsstr_c.specs.Reports as reports;
 
@@ -34,7 +34,7 @@ pub extern "C" fn jsstr_build_string_unchecked(
     ensures words { result ≢ reports.NO_WORDS }
     ensures looks { OnlyLooks agent.old.at.value agent.new.at.value }
     ensures builds { (us : List ℕ) → Has (handle_view agent.old.at.value).units s us
-        → Builds text.old.at.value text.new.at.value us result }
+        → AddsToText text.old.at.value text.new.at.value us result }
 {
     let mut held = agent.take(alloc);
     match text.open(alloc) {
@@ -63,8 +63,8 @@ pub extern "C" fn jsstr_built_unchecked(
     requires ready { IsReady agent.old.at.value }
     ensures handle { IsBuilder text.new × IsHandle agent.new }
     ensures told { result.status ≢ reports.BAD_ARGUMENT }
-    ensures makes { Makes agent.old.at.value agent.new.at.value (text_so_far text.old.at.value) result }
-    ensures spent { Spends text.old.at.value text.new.at.value result.status }
+    ensures makes { MakesString agent.old.at.value agent.new.at.value (text_so_far text.old.at.value) result }
+    ensures spent { EmptiesText text.old.at.value text.new.at.value result.status }
 {
     text.spend(alloc, agent, Task::Make)
 }
@@ -82,7 +82,7 @@ pub extern "C" fn jsstr_built_interned_unchecked(
     ensures told { result.status ≢ reports.BAD_ARGUMENT }
     ensures interns { IsInterning agent.old.at.value agent.new.at.value (text_so_far text.old.at.value)
         result }
-    ensures spent { Spends text.old.at.value text.new.at.value result.status }
+    ensures spent { EmptiesText text.old.at.value text.new.at.value result.status }
 {
     text.spend(alloc, agent, Task::Intern)
 }

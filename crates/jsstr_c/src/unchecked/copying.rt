@@ -4,7 +4,7 @@ ghost use Rattle.heap_rule.specs.Maps.{Has, HasKey};
 ghost use Rattle.heap_rule.specs.Views.{IsSeenSettled};
 ghost use Rattle.heap_agents.specs.Ready.{HandleLeaves, IsReady, handle_view};
 ghost use Rattle.jsstr_c.specs.Checked.{OnlyLooks};
-ghost use Rattle.jsstr_c.specs.Given.{IsInterning, Makes, OrNoMemory};
+ghost use Rattle.jsstr_c.specs.Given.{IsInterning, MakesString, OrNoMemory};
 ghost use Rattle.jsstr_c.specs.Handles.{IsHandle};
 ghost use Rattle.jsstr_c.specs.Reports as reports;
 
@@ -32,7 +32,7 @@ pub extern "C" fn jsstr_copy_into_unchecked(
     ensures told { result.status ≢ reports.BAD_ARGUMENT }
     ensures leaves { HandleLeaves to.old.at.value to.new.at.value }
     ensures does { (us : List ℕ) → Has (handle_view from.old.at.value).units s us
-        → OrNoMemory Makes to.old.at.value to.new.at.value us result }
+        → OrNoMemory MakesString to.old.at.value to.new.at.value us result }
 {
     on_string(alloc, from, s, to, Task::Make)
 }

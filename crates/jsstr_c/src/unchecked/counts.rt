@@ -4,7 +4,7 @@ ghost use Rattle.heap_rule.specs.declared.size.Counter.TheVariants as counter;
 ghost use Rattle.heap_rule.specs.Claims.{loaded_counter};
 ghost use Rattle.heap_rule.specs.Views.{history};
 ghost use Rattle.heap_intern.specs.Counting.{different};
-ghost use Rattle.heap_intern.specs.Goes.{Looks};
+ghost use Rattle.heap_intern.specs.Goes.{LoadsAlone};
 ghost use Rattle.heap_agents.specs.Ready.{IsBeside, IsReady, MarksStay, share_in, handle_view};
 ghost use Rattle.jsstr_c.specs.Handles.{IsHandle};
 
@@ -57,7 +57,7 @@ pub extern "C" fn jsstr_count_interned_unchecked(alloc: Global, agent: &mut JsAg
     ensures ready { IsReady agent.new.at.value }
     ensures same { IsBeside agent.old.at.value agent.new.at.value }
     ensures marks { MarksStay agent.old.at.value agent.new.at.value }
-    ensures looks { Looks (handle_view agent.old.at.value) (handle_view agent.new.at.value) }
+    ensures looks { LoadsAlone (handle_view agent.old.at.value) (handle_view agent.new.at.value) }
     ensures count { result ≡ different (history (handle_view agent.old.at.value)) }
 {
     let mut held = agent.take(alloc);

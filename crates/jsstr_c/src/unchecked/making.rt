@@ -5,7 +5,7 @@ ghost use Rattle.heap_rule.specs.Maps.{Has, HasKey};
 ghost use Rattle.heap_rule.specs.Views.{IsSeenSettled};
 ghost use Rattle.heap_agents.specs.Ready.{IsReady, handle_view};
 ghost use Rattle.jsstr_c.specs.Handles.{IsHandle};
-ghost use Rattle.jsstr_c.specs.Made.{Cuts, Joins};
+ghost use Rattle.jsstr_c.specs.Made.{CutsString, JoinsStrings};
 ghost use Rattle.jsstr_c.specs.Reports as reports;
 
 use crate::agent::JsAgent;
@@ -26,7 +26,7 @@ pub extern "C" fn jsstr_concat_unchecked(
         × HasKey (handle_view agent.old.at.value).units b }
     ensures handle { IsHandle agent.new }
     ensures told { result.status ≢ reports.BAD_ARGUMENT }
-    ensures joins { Joins agent.old.at.value agent.new.at.value a b result }
+    ensures joins { JoinsStrings agent.old.at.value agent.new.at.value a b result }
     ensures units { result.status ≡ reports.DONE
         → (us vs : List ℕ) → Has (handle_view agent.old.at.value).units a us
         → Has (handle_view agent.old.at.value).units b vs
@@ -53,7 +53,7 @@ pub extern "C" fn jsstr_slice_unchecked(
         × (to ≤ length us) }
     ensures handle { IsHandle agent.new }
     ensures told { result.status ≢ reports.BAD_ARGUMENT }
-    ensures cuts { Cuts agent.old.at.value agent.new.at.value s from to result }
+    ensures cuts { CutsString agent.old.at.value agent.new.at.value s from to result }
     ensures units { result.status ≡ reports.DONE
         → (us : List ℕ) → Has (handle_view agent.old.at.value).units s us
         → Has (handle_view agent.new.at.value).units result.id (part from (to - from) us) }

@@ -4,7 +4,7 @@ ghost use Rattle.heap_rule.specs.Maps.{Has, HasKey};
 ghost use Rattle.heap_rule.specs.Views.{IsSeenSettled};
 ghost use Rattle.heap_agents.specs.Ready.{IsReady, handle_view};
 ghost use Rattle.heap_agents.specs.Words.{AreShown, AreThere};
-ghost use Rattle.jsstr_c.specs.Checked.{Measures, OnlyLooks, RefusesSettling, Settles};
+ghost use Rattle.jsstr_c.specs.Checked.{ReadsLength, OnlyLooks, RefusesSettling, SettlesString};
 ghost use Rattle.jsstr_c.specs.Handles.{IsHandle};
 ghost use Rattle.jsstr_c.specs.Reports.{shown_by, number_answer};
 ghost use Rattle.js_units.specs.Lanes.{hash_of};
@@ -27,7 +27,7 @@ pub extern "C" fn jsstr_length_unchecked(alloc: Global, agent: &mut JsAgent, s: 
     requires ready { IsReady agent.old.at.value }
     requires known { HasKey (handle_view agent.old.at.value).units s }
     ensures handle { IsHandle agent.new }
-    ensures measures { Measures agent.old.at.value agent.new.at.value }
+    ensures measures { ReadsLength agent.old.at.value agent.new.at.value }
     ensures length { (us : List ℕ) → Has (handle_view agent.old.at.value).units s us → result ≡ length us }
 {
     let mut held = agent.take(alloc);
@@ -45,7 +45,7 @@ pub extern "C" fn jsstr_settle_unchecked(alloc: Global, agent: &mut JsAgent, s: 
     ensures handle { IsHandle agent.new }
     ensures told { result.status ≢ reports.BAD_ARGUMENT }
     ensures settled { result.status ≡ reports.DONE
-        → (result ≡ reports.done s) × Settles agent.old.at.value agent.new.at.value s }
+        → (result ≡ reports.done s) × SettlesString agent.old.at.value agent.new.at.value s }
     ensures refused { result.status ≢ reports.DONE
         → RefusesSettling agent.old.at.value agent.new.at.value s result }
 {

@@ -3,8 +3,8 @@ ghost use Rattle.std.specs.Prelude.{◌≡◌, ◌≢◌, ◌↔◌, ℕ, ◌≤
 ghost use Rattle.std.specs.declared.cmp.Ordering as ordering;
 ghost use Rattle.heap_rule.specs.Maps.{Has};
 ghost use Rattle.js_search.specs.Order.{units_cmp};
-ghost use Rattle.js_search.specs.Places.{IsFirst, IsLast, Stands, first, last, stands};
-ghost use Rattle.heap_agents.specs.Ready.{IsReady, Searches, handle_view};
+ghost use Rattle.js_search.specs.Places.{IsFirst, IsLast, IsPartAt, first, last, stands};
+ghost use Rattle.heap_agents.specs.Ready.{IsReady, HandleSearches, handle_view};
 ghost use Rattle.heap_agents.specs.Searched.{IsOrder, IsSearchable};
 ghost use Rattle.jsstr_c.specs.Handles.{IsHandle};
 ghost use Rattle.jsstr_c.specs.Reports.{order_number, place_answer};
@@ -23,7 +23,7 @@ pub extern "C" fn jsstr_compare_unchecked(alloc: Global, agent: &mut JsAgent, a:
     requires left { IsSearchable (handle_view agent.old.at.value) a }
     requires right { IsSearchable (handle_view agent.old.at.value) b }
     ensures handle { IsHandle agent.new }
-    ensures searches { Searches agent.old.at.value agent.new.at.value }
+    ensures searches { HandleSearches agent.old.at.value agent.new.at.value }
     ensures order { (us vs : List ℕ) → Has (handle_view agent.old.at.value).units a us
         → Has (handle_view agent.old.at.value).units b vs
         → result ≡ order_number (units_cmp us vs) }
@@ -44,7 +44,7 @@ pub extern "C" fn jsstr_equal_unchecked(alloc: Global, agent: &mut JsAgent, a: u
     requires left { IsSearchable (handle_view agent.old.at.value) a }
     requires right { IsSearchable (handle_view agent.old.at.value) b }
     ensures handle { IsHandle agent.new }
-    ensures searches { Searches agent.old.at.value agent.new.at.value }
+    ensures searches { HandleSearches agent.old.at.value agent.new.at.value }
     ensures value { (us vs : List ℕ) → Has (handle_view agent.old.at.value).units a us
         → Has (handle_view agent.old.at.value).units b vs
         → IsTrue result ↔ (us ≡ vs) }
@@ -69,10 +69,10 @@ pub extern "C" fn jsstr_starts_with_unchecked(
     requires left { IsSearchable (handle_view agent.old.at.value) hay }
     requires right { IsSearchable (handle_view agent.old.at.value) needle }
     ensures handle { IsHandle agent.new }
-    ensures searches { Searches agent.old.at.value agent.new.at.value }
+    ensures searches { HandleSearches agent.old.at.value agent.new.at.value }
     ensures stands { (us vs : List ℕ) → Has (handle_view agent.old.at.value).units hay us
         → Has (handle_view agent.old.at.value).units needle vs
-        → IsTrue result ↔ Stands us vs at }
+        → IsTrue result ↔ IsPartAt us vs at }
     ensures test { (us vs : List ℕ) → Has (handle_view agent.old.at.value).units hay us
         → Has (handle_view agent.old.at.value).units needle vs
         → result ≡ stands us vs at }
@@ -98,7 +98,7 @@ pub extern "C" fn jsstr_index_of_unchecked(
     requires right { IsSearchable (handle_view agent.old.at.value) needle }
     requires within { (us : List ℕ) × Has (handle_view agent.old.at.value).units hay us × (from ≤ length us) }
     ensures handle { IsHandle agent.new }
-    ensures searches { Searches agent.old.at.value agent.new.at.value }
+    ensures searches { HandleSearches agent.old.at.value agent.new.at.value }
     ensures told { result.status ≢ reports.BAD_ARGUMENT }
     ensures words { result.status ≢ reports.NO_WORDS }
     ensures least { (us vs : List ℕ) → Has (handle_view agent.old.at.value).units hay us
@@ -128,7 +128,7 @@ pub extern "C" fn jsstr_last_index_of_unchecked(
     requires left { IsSearchable (handle_view agent.old.at.value) hay }
     requires right { IsSearchable (handle_view agent.old.at.value) needle }
     ensures handle { IsHandle agent.new }
-    ensures searches { Searches agent.old.at.value agent.new.at.value }
+    ensures searches { HandleSearches agent.old.at.value agent.new.at.value }
     ensures told { result.status ≢ reports.BAD_ARGUMENT }
     ensures words { result.status ≢ reports.NO_WORDS }
     ensures greatest { (us vs : List ℕ) → Has (handle_view agent.old.at.value).units hay us

@@ -5,7 +5,7 @@ ghost use Rattle.heap_rule.specs.Views.{IsSeenSettled, history};
 ghost use Rattle.heap_agents.specs.Interned.{IsEntered};
 ghost use Rattle.heap_agents.specs.Ready.{HasInterned, IsReady, handle_view};
 ghost use Rattle.jsstr_c.specs.Handles.{IsHandle};
-ghost use Rattle.jsstr_c.specs.Made.{Enters};
+ghost use Rattle.jsstr_c.specs.Made.{InternsString};
 ghost use Rattle.jsstr_c.specs.Reports as reports;
 
 use crate::agent::JsAgent;
@@ -21,7 +21,7 @@ pub extern "C" fn jsstr_intern_unchecked(alloc: Global, agent: &mut JsAgent, s: 
     ensures handle { IsHandle agent.new }
     ensures ready { IsReady agent.new.at.value }
     ensures told { result.status ≢ reports.BAD_ARGUMENT }
-    ensures enters { Enters agent.old.at.value agent.new.at.value s result }
+    ensures enters { InternsString agent.old.at.value agent.new.at.value s result }
     ensures entered { result.status ≡ reports.DONE
         → IsEntered (handle_view agent.old.at.value) (handle_view agent.new.at.value) s result.id }
 {

@@ -2,7 +2,7 @@
 ghost use Rattle.std.specs.Prelude.{◌≡◌, ◌≢◌, ◌≤◌, length};
 ghost use Rattle.heap_rule.specs.Layout.{MAX};
 ghost use Rattle.heap_agents.specs.Ready.{HandleLeaves, IsReady};
-ghost use Rattle.jsstr_c.specs.Given.{IsFinding, IsInterning, Makes, OnUtf8, OnWtf8};
+ghost use Rattle.jsstr_c.specs.Given.{IsFinding, IsInterning, MakesString, OnUtf8, OnWtf8};
 ghost use Rattle.jsstr_c.specs.Handles.{IsHandle};
 ghost use Rattle.jsstr_c.specs.Reports as reports;
 
@@ -22,7 +22,7 @@ pub extern "C" fn jsstr_from_units_unchecked(
     requires short { length units.now ≤ MAX }
     ensures handle { IsHandle agent.new }
     ensures told { result.status ≢ reports.BAD_ARGUMENT }
-    ensures makes { Makes agent.old.at.value agent.new.at.value units.now result }
+    ensures makes { MakesString agent.old.at.value agent.new.at.value units.now result }
 {
     let mut held = agent.take(alloc);
     let answer = held.from_units(units);
@@ -42,7 +42,7 @@ pub extern "C" fn jsstr_from_latin1_unchecked(
     ensures handle { IsHandle agent.new }
     ensures told { result.status ≢ reports.BAD_ARGUMENT }
     ensures goes { HandleLeaves agent.old.at.value agent.new.at.value }
-    ensures makes { Makes agent.old.at.value agent.new.at.value bytes.now result }
+    ensures makes { MakesString agent.old.at.value agent.new.at.value bytes.now result }
 {
     on_source(alloc, agent, Task::Make, Source::Latin1(bytes))
 }
@@ -60,7 +60,7 @@ pub extern "C" fn jsstr_from_utf8_unchecked(
     ensures handle { IsHandle agent.new }
     ensures told { result.status ≢ reports.BAD_ARGUMENT }
     ensures goes { HandleLeaves agent.old.at.value agent.new.at.value }
-    ensures makes { OnUtf8 Makes agent.old.at.value agent.new.at.value bytes.now result }
+    ensures makes { OnUtf8 MakesString agent.old.at.value agent.new.at.value bytes.now result }
 {
     on_source(alloc, agent, Task::Make, Source::Utf8(bytes))
 }
@@ -78,7 +78,7 @@ pub extern "C" fn jsstr_from_wtf8_unchecked(
     ensures handle { IsHandle agent.new }
     ensures told { result.status ≢ reports.BAD_ARGUMENT }
     ensures goes { HandleLeaves agent.old.at.value agent.new.at.value }
-    ensures makes { OnWtf8 Makes agent.old.at.value agent.new.at.value bytes.now result }
+    ensures makes { OnWtf8 MakesString agent.old.at.value agent.new.at.value bytes.now result }
 {
     on_source(alloc, agent, Task::Make, Source::Wtf8(bytes))
 }

@@ -2,7 +2,7 @@ use Rattle.std.proofs.Common.{◌≡◌, ◌+◌, ◌≤◌, get_or, length, dro
 use Rattle.js_units.specs.Lanes.{words_over}
 use Rattle.heap_read.specs.Filling.{IsFilled, own_word}
 use Rattle.heap_read.specs.Readers.{view_in}
-use Rattle.heap_read.specs.Reads.{KeepsBelow, KeepsForms, KeepsFrom, Writes}
+use Rattle.heap_read.specs.Reads.{KeepsBelow, KeepsForms, KeepsFrom, WritesOwnWords}
 use Rattle.heap_bytes.specs.Spellings.{IsReadable, spelling_units}
 use Rattle.heap_bytes.proofs.writing.fill_spelled.Given as goal
 
@@ -10,7 +10,7 @@ abbrev pub invariant-loop-count : goal.invariant-loop-count
 invariant-loop-count g l = record {
   long : length l.room ≡ 65;
   heap : l.reader.heap ≡ l.fn.reader.heap;
-  writes : Writes (view_in l.fn.reader) (view_in l.reader);
+  writes : WritesOwnWords (view_in l.fn.reader) (view_in l.reader);
   below : KeepsBelow l.to.start (view_in l.fn.reader) (view_in l.reader);
   above : KeepsFrom (l.to.start + words_over l.to.wide (length (spelling_units l.source))) (view_in l.fn.reader) (view_in l.reader);
   forms : KeepsForms (view_in l.fn.reader) (view_in l.reader);

@@ -3,7 +3,7 @@ use Rattle.heap_rule.specs.Loads.{added_loads}
 use Rattle.heap_rule.specs.Maps.{HasKey}
 use Rattle.heap_read.specs.Readers.{view_in}
 use Rattle.heap_text.specs.Filling.{HoldsAbove, units_at}
-use Rattle.heap_read.specs.Reads.{KeepsBelow, Writes}
+use Rattle.heap_read.specs.Reads.{KeepsBelow, WritesOwnWords}
 use Rattle.heap_read.specs.Filling.{own_word}
 use Rattle.heap_text.proofs.Progress.{IsFilling}
 use Rattle.heap_text.proofs.filling.+fill.Given as goal
@@ -14,7 +14,7 @@ decreases-fill g l = l.n
 abbrev pub invariant-loop-left : goal.invariant-loop-left
 invariant-loop-left g l = record {
   heap : l.reader.heap ≡ l.fn.reader.heap;
-  writes : Writes (view_in l.fn.reader) (view_in l.reader);
+  writes : WritesOwnWords (view_in l.fn.reader) (view_in l.reader);
   below : KeepsBelow l.to.start (view_in l.fn.reader) (view_in l.reader);
   above : HoldsAbove (view_in l.fn.reader) (view_in l.reader) l.fn.id;
   lower : l.id ≤ l.fn.id;

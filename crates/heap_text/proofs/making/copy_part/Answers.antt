@@ -8,7 +8,7 @@ use Rattle.heap_rule.proofs.Possible.{possible_short}
 use Rattle.heap_table.specs.Agents.{size_of}
 use Rattle.heap_read.specs.declared.source.UnitSource.TheVariants as source
 use Rattle.heap_read.specs.Sources.{source_units}
-use Rattle.heap_text.specs.Texts.{Told}
+use Rattle.heap_text.specs.Texts.{LacksRoom}
 use Rattle.heap_read.proofs.Going.{continues_reads, continues_trans}
 use Rattle.heap_text.proofs.Owned.{own_reads, own_trans}
 use Rattle.heap_text.proofs.Pieces.{copy_answer, length_part}
@@ -40,7 +40,7 @@ returns-clause-copied g c us h = let v : View = c.args.reader.now.agent.seat.me.
     (λ y. size_of (g.H.HeapRef.reached y)) c.part_piece-piece.ensures.reads.heap in let e = c.copy.ensures in
     copy_answer v w x (size_of (g.H.HeapRef.reached c.args.reader.now.heap)) c.copy.result xs (part c.args.from n us) n all
     (λ i. words_over (is_wide (all i)) (count i)) c.part_piece-piece.ensures.reads.view e.units e.form e.used
-    (subst (λ (y : HeapSize). IfErr c.copy.result (λ f. Told x y (words_over (is_wide xs) n) f)) same e.refused) e.spared
+    (subst (λ (y : HeapSize). IfErr c.copy.result (λ f. LacksRoom x y (words_over (is_wide xs) n) f)) same e.refused) e.spared
 
 pub returns-clause-own : goal.returns-clause-own
 returns-clause-own g c = let v : View = c.args.reader.now.agent.seat.me.0 in let w : View = c.part_piece-piece.new.reader.agent.seat.me.0 in

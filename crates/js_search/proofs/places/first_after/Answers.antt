@@ -2,7 +2,7 @@ use Rattle.std.proofs.Common.{ℕ, List, ◌+◌, ◌<◌, length, subst, sym, a
 use Rattle.js_store.specs.State.{text}
 use Rattle.js_store.proofs.Laws.{step_trans, text_still}
 use Rattle.js_search.specs.Blocks.{IsPart}
-use Rattle.js_search.specs.Places.{IsFirst, Stands}
+use Rattle.js_search.specs.Places.{IsFirst, IsPartAt}
 use Rattle.js_search.proofs.Passed.{first_none, first_past, first_there, none_next, first_among}
 use Rattle.js_search.proofs.places.first_after.Goals as goal
 
@@ -37,9 +37,9 @@ returns-then-same-size-clause-least g c =
     let grows = step_trans s.step e.uses.step in
     let f = text_still grows.grows (g.S.Strings.number c.args.hay) c.requires.hay_known in
     let h = text_still grows.grows (g.S.Strings.number c.args.needle) c.requires.needle_known in
-    let there : Stands u w at =
-    subst (λ (x : List ℕ). Stands x w at) f
-    (subst (λ (x : List ℕ). Stands (text (g.S.Strings.state c.next_pair.new.store) (g.S.Strings.number c.args.hay)) x at) h (c.same_units-same.ensures.all.0 c.if-same-size.true)) in
+    let there : IsPartAt u w at =
+    subst (λ (x : List ℕ). IsPartAt x w at) f
+    (subst (λ (x : List ℕ). IsPartAt (text (g.S.Strings.state c.next_pair.new.store) (g.S.Strings.number c.args.hay)) x at) h (c.same_units-same.ensures.all.0 c.if-same-size.true)) in
     let same = text_still s.step.grows _ c.requires.hay_known in
     first_there u _ w c.pair_of-pair.result c.pair_of-pair.ensures.pair same c.args.from c.loop-cost.place s.apart at s.low e.least.0 e.least.2 there
 
@@ -64,8 +64,8 @@ loop-cost-preserved g c =
       high = omega arith;
       apart = none_next u _ w c.pair_of-pair.result c.pair_of-pair.ensures.pair g1 c.args.from c.loop-cost.place s.apart at s.low e.least.0 e.least.2
           (λ there. c.if-same-size.false (c.same_units-same.ensures.all.1
-          (subst (λ (x : List ℕ). Stands x (text (g.S.Strings.state c.next_pair.new.store) (g.S.Strings.number c.args.needle)) at) (sym f)
-          (subst (λ (x : List ℕ). Stands u x at) (sym h) there))));
+          (subst (λ (x : List ℕ). IsPartAt x (text (g.S.Strings.state c.next_pair.new.store) (g.S.Strings.number c.args.needle)) at) (sym f)
+          (subst (λ (x : List ℕ). IsPartAt u x at) (sym h) there))));
       part = subst (λ (x : List ℕ). IsPart x c.next_pair.new.block) g1 e.part;
       step = step_trans grows c.same_units-same.ensures.uses.step;
       history = c.same_units-same.ensures.uses.history ∙ (e.uses.history ∙ s.history);

@@ -2,7 +2,7 @@ use Rattle.std.proofs.Common.{ℕ, List, ◌≡◌, ◌+◌, ◌-◌, subst, sym
 use Rattle.js_store.specs.State.{text}
 use Rattle.js_store.proofs.Laws.{step_trans, text_still}
 use Rattle.js_search.specs.Blocks.{IsPart}
-use Rattle.js_search.specs.Places.{IsLast, Stands}
+use Rattle.js_search.specs.Places.{IsLast, IsPartAt}
 use Rattle.js_search.proofs.Pairing.{last_among, last_there, none_from}
 use Rattle.js_search.proofs.Passed.{last_none}
 use Rattle.js_search.proofs.places.last_before.Goals as goal
@@ -48,9 +48,9 @@ returns-then-same-size-clause-greatest g c =
     let grows = step_trans s.step e.uses.step in
     let f = text_still grows.grows (g.S.Strings.number c.args.hay) c.requires.hay_known in
     let h = text_still grows.grows (g.S.Strings.number c.args.needle) c.requires.needle_known in
-    let there : Stands u w at =
-    subst (λ (x : List ℕ). Stands x w at) f
-    (subst (λ (x : List ℕ). Stands (text (g.S.Strings.state c.previous_pair.new.store) (g.S.Strings.number c.args.hay)) x at) h (c.same_units-same.ensures.all.0 c.if-same-size.true)) in
+    let there : IsPartAt u w at =
+    subst (λ (x : List ℕ). IsPartAt x w at) f
+    (subst (λ (x : List ℕ). IsPartAt (text (g.S.Strings.state c.previous_pair.new.store) (g.S.Strings.number c.args.hay)) x at) h (c.same_units-same.ensures.all.0 c.if-same-size.true)) in
     last_there u _ w c.pair_of-pair.result c.args.most c.loop-end.end at c.pair_of-pair.ensures.pair (text_still s.step.grows _ c.requires.hay_known) e.greatest.1 s.apart (omega arith) there
 
 pub loop-end-preserved : goal.loop-end-preserved
@@ -70,8 +70,8 @@ loop-end-preserved g c =
       high = omega arith;
       apart = none_from u _ w c.pair_of-pair.result c.args.most c.loop-end.end at c.pair_of-pair.ensures.pair g1 e.greatest.1 s.apart
           (λ there. c.if-same-size.false (c.same_units-same.ensures.all.1
-          (subst (λ (x : List ℕ). Stands x (text (g.S.Strings.state c.previous_pair.new.store) (g.S.Strings.number c.args.needle)) at) (sym f)
-          (subst (λ (x : List ℕ). Stands u x at) (sym h) there))));
+          (subst (λ (x : List ℕ). IsPartAt x (text (g.S.Strings.state c.previous_pair.new.store) (g.S.Strings.number c.args.needle)) at) (sym f)
+          (subst (λ (x : List ℕ). IsPartAt u x at) (sym h) there))));
       part = subst (λ (x : List ℕ). IsPart x c.previous_pair.new.block) g1 e.part;
       step = step_trans grows c.same_units-same.ensures.uses.step;
       history = c.same_units-same.ensures.uses.history ∙ (e.uses.history ∙ s.history);

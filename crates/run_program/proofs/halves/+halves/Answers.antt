@@ -3,7 +3,7 @@ use Rattle.std.proofs.lemmas.List.{take-append-drop}
 use Rattle.js_store.specs.State.{State}
 use Rattle.heap_session.specs.Sessions.{SessionFrame}
 use Rattle.run_program.specs.declared.job.Job.{Job}
-use Rattle.run_program.specs.Jobs.{Runs, means}
+use Rattle.run_program.specs.Jobs.{RunsEachJob, means}
 use Rattle.run_program.proofs.Sharing.{beside_may_join, ran_beside, may_left, may_right}
 use Rattle.run_program.proofs.halves.+halves.Goals as goal
 
@@ -14,8 +14,8 @@ run_groups-take_back-requires g t c = let s = g.S.Shared.state in
     let give : ℕ = c.args.groups - c.args.groups / 2 in
     let less : give < v.frame.share = omega (arith, c.requires.some, c.requires.share, c.if-groups-eq1.false) in
     beside_may_join (means v c.args.env.now) v (s b.new.session) (s b.new.other) give _ b.new.low _ b.new.high less
-    (subst (λ (x : State SessionFrame). Runs x (s b.new.session) c.args.env.now c.split_at.result.0.now b.new.low) c.lend-other.ensures.left b.ensures.left)
-    (subst (λ (x : State SessionFrame). Runs x (s b.new.other) c.args.env.now c.split_at.result.1.now b.new.high) c.lend-other.ensures.right b.ensures.right)
+    (subst (λ (x : State SessionFrame). RunsEachJob x (s b.new.session) c.args.env.now c.split_at.result.0.now b.new.low) c.lend-other.ensures.left b.ensures.left)
+    (subst (λ (x : State SessionFrame). RunsEachJob x (s b.new.other) c.args.env.now c.split_at.result.1.now b.new.high) c.lend-other.ensures.right b.ensures.right)
     c.requires.begins
 
 pub run_groups-returns : goal.run_groups-returns
@@ -25,10 +25,10 @@ run_groups-returns g t c = let s = g.S.Shared.state in
     let give : ℕ = c.args.groups - c.args.groups / 2 in
     let less : give < v.frame.share = omega (arith, c.requires.some, c.requires.share, c.if-groups-eq1.false) in
     let all : c.split_at.result.0.now ++ c.split_at.result.1.now ≡ c.args.jobs.now = ap₂ ◌++◌ c.split_at.ensures.front c.split_at.ensures.back ∙ take-append-drop c.cut-count.result c.args.jobs.now in
-    subst (λ (x : List Job). Runs v (s c.take_back.new.self) c.args.env.now x (b.new.low ++ b.new.high)) all
+    subst (λ (x : List Job). RunsEachJob v (s c.take_back.new.self) c.args.env.now x (b.new.low ++ b.new.high)) all
     (ran_beside (means v c.args.env.now) v (s b.new.session) (s b.new.other) give _ b.new.low _ b.new.high less
-    (subst (λ (x : State SessionFrame). Runs x (s b.new.session) c.args.env.now c.split_at.result.0.now b.new.low) c.lend-other.ensures.left b.ensures.left)
-    (subst (λ (x : State SessionFrame). Runs x (s b.new.other) c.args.env.now c.split_at.result.1.now b.new.high) c.lend-other.ensures.right b.ensures.right)
+    (subst (λ (x : State SessionFrame). RunsEachJob x (s b.new.session) c.args.env.now c.split_at.result.0.now b.new.low) c.lend-other.ensures.left b.ensures.left)
+    (subst (λ (x : State SessionFrame). RunsEachJob x (s b.new.other) c.args.env.now c.split_at.result.1.now b.new.high) c.lend-other.ensures.right b.ensures.right)
     (s c.take_back.new.self) c.take_back.ensures.joined c.take_back.ensures.bounded c.take_back.ensures.sure)
 
 pub run_groups-both_halves-requires-clause-left : goal.run_groups-both_halves-requires-clause-left

@@ -1,6 +1,6 @@
 use Rattle.std.proofs.Common.{ℕ, ◌≡◌, Some, ap, refl}
 use Rattle.std.specs.Arc.{arc_value}
-use Rattle.heap_intern.specs.Answers.{Finds, StandsInSlot}
+use Rattle.heap_intern.specs.Answers.{FindsString, StandsInSlot}
 use Rattle.heap_rule.specs.declared.view.View.{View}
 use Rattle.heap_rule.specs.Maps.{Has}
 use Rattle.heap_rule.proofs.MapLemmas.{key_of}
@@ -31,7 +31,7 @@ returns-in-Some-found c = let x = c.args.self.now in let t = c.in-Some.text in l
     let u : SharedText = record t { reader = call.new.reader; within = _ } in let v : View = view_of t.reader.agent in let w : View = view_of u.reader.agent in let i = c.in-Some-found.ensures.finds in
     found_marked x mark.new.self (Some u) mark.ensures.text us id mark.ensures.held mark.ensures.marks mark.ensures.marked (same_text x t u c.in-Some.is (ap arc_value call.ensures.heap) refl)
     (told x t u c.in-Some.is KeepsKnown (known_found v w us (Some id) i)) (told x t u c.in-Some.is KeepsCalls (calls_found v w us (Some id) i))
-    (entered_found v w us (Some id) i) (told x t u c.in-Some.is (λ (a b : View). Finds a b us (Some id)) i)
+    (entered_found v w us (Some id) i) (told x t u c.in-Some.is (λ (a b : View). FindsString a b us (Some id)) i)
     (told x t u c.in-Some.is (λ (a b : View). (j : ℕ) → Has a.units j us → StandsInSlot a us j → Some id ≡ Some j) c.in-Some-found.ensures.again)
 
 pub returns-in-None-found : goal.returns-in-None-found

@@ -8,7 +8,7 @@ use Rattle.heap_table.specs.Agents.{Belongs, view_of}
 use Rattle.heap_intern.specs.Seats.{AreSeats}
 use Rattle.heap_session.specs.Sessions.{state_by, state_in, table_of}
 use Rattle.heap_agents.specs.declared.held.Held.{Held}
-use Rattle.heap_agents.specs.Held.{Searched}
+use Rattle.heap_agents.specs.Held.{LeavesSearched}
 use Rattle.heap_agents.specs.Shared.{SharedText, heap_of, view_if}
 use Rattle.heap_agents.proofs.Refusing.{looked_as, seats_left}
 use Rattle.heap_agents.proofs.Searched.{belongs, searched}
@@ -34,7 +34,7 @@ returns-clause-searched c = let t = c.take_text-reader.result in let x = c.args.
     let same : done.new.store.seats.now ≡ x.seats.slots.items = seats_left (state_in made.result.session) (state_in done.new.store.session)
     made.result.seats.now done.new.store.seats.now done.ensures.uses
     ∙ (made.ensures.seats ∙ (c.as_slice.ensures.value ∙ ap (λ (y : Held). y.seats.slots.items) c.take_text-reader.ensures.rest)) in
-    subst (λ (y : Held). Searched x (record y { text = Some c.new.result })) (sym c.take_text-reader.ensures.rest)
+    subst (λ (y : Held). LeavesSearched x (record y { text = Some c.new.result })) (sym c.take_text-reader.ensures.rest)
     (searched x t made.result.session c.take_text-reader.ensures.text made.ensures.view done.new.store.session c.new.result c.requires.held
     (ap arc_value c.new.ensures.heap) c.new.ensures.limit uses (ap view_of c.new.ensures.agent ∙ left.ensures.view)
     (subst (λ (l : List ℕ). AreSeats (view_of c.new.result.reader.agent) l) same (subst (λ (a : Agent). AreSeats (view_of a) done.new.store.seats.now) (sym c.new.ensures.agent) left.ensures.seated)))

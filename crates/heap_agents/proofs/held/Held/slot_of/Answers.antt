@@ -4,7 +4,7 @@ use Rattle.heap_rule.specs.declared.view.View.{View}
 use Rattle.heap_rule.specs.Maps.{Has}
 use Rattle.heap_table.specs.Agents.{view_of}
 use Rattle.heap_intern.specs.Adopted.{LoadsNoneBehind}
-use Rattle.heap_intern.specs.Goes.{Looks}
+use Rattle.heap_intern.specs.Goes.{LoadsAlone}
 use Rattle.heap_intern.specs.SlotLoads.{loads_at}
 use Rattle.heap_agents.specs.Shared.{SharedText, size_if}
 use Rattle.heap_agents.proofs.Interned.{calls_looked}
@@ -19,7 +19,7 @@ returns c = let x = c.args.self.now in let t = c.in-Some.text in let call = c.sl
       same = same_text x t u c.in-Some.is heap refl;
       marks = kept_marks x (Some u);
       marked = (refl, refl);
-      looks = told x t u c.in-Some.is Looks e.looks;
+      looks = told x t u c.in-Some.is LoadsAlone e.looks;
       inside = subst (λ (o : Option SharedText). k < (size_if o).slots) (sym c.in-Some.is) e.inside;
       stands = e.stands;
       once = told x t u c.in-Some.is (λ (a b : View). (j : ℕ) → loads_at b j ≤ loads_at a j + 1) e.once;

@@ -9,7 +9,7 @@ use Rattle.heap_rule.proofs.Possible.{possible_lawful}
 use Rattle.heap_rule.proofs.Steps.{possible_within}
 use Rattle.heap_table.specs.Known.{KeepsKnown}
 use Rattle.heap_read.specs.Filling.{IsFilled, IsPlaced, own_word}
-use Rattle.heap_read.specs.Reads.{Writes}
+use Rattle.heap_read.specs.Reads.{WritesOwnWords}
 use Rattle.heap_read.specs.Sources.{source_units}
 use Rattle.heap_read.proofs.Going.{known_stored}
 use Rattle.heap_read.proofs.Listing.{listed_same, shows_kept}
@@ -72,7 +72,7 @@ loop-done-preserved g c = let v : View = c.args.self.now.agent.seat.me.0 in let 
     let next : IsFilled wide start (own_word u.own_words) (own_word w.own_words) o count (λ k. get_or us (done + k) 0) = placed_filled wide
     start (own_word u.own_words) (own_word w.own_words) o count x (λ k. get_or us (done + k) 0) room stored here in record {
       heap = e.reads.heap ∙ i.heap;
-      writes = writes_trans v u w i.writes (writes_trans u p w (writes_reads u p e.reads.view) (subst (Writes p) (sym f.view) (writes_stored p (start + number) x)));
+      writes = writes_trans v u w i.writes (writes_trans u p w (writes_reads u p e.reads.view) (subst (WritesOwnWords p) (sym f.view) (writes_stored p (start + number) x)));
       below = λ q y l h. let old : Has p.own_words q y = subst (λ (m : FinMap nat_cmp ℕ). Has m q y) (sym e.reads.view.own_words) (i.below q y l h) in
           subst (λ (a : View). Has a.own_words q y) (sym f.view) (insert_other p.own_words (start + number) q x (λ d. omega arith) ∙ old);
       above = λ q y l h. let old : Has p.own_words q y = subst (λ (m : FinMap nat_cmp ℕ). Has m q y) (sym e.reads.view.own_words) (i.above q y l h) in

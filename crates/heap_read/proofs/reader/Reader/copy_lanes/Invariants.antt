@@ -2,14 +2,14 @@ use Rattle.std.proofs.Common.{◌≡◌, ◌+◌, ◌-◌, ◌≤◌, get_or}
 use Rattle.js_units.specs.Lanes.{words_over}
 use Rattle.heap_read.specs.Filling.{IsFilled, own_word}
 use Rattle.heap_read.specs.Readers.{view_in}
-use Rattle.heap_read.specs.Reads.{KeepsBelow, KeepsForms, KeepsFrom, Writes}
+use Rattle.heap_read.specs.Reads.{KeepsBelow, KeepsForms, KeepsFrom, WritesOwnWords}
 use Rattle.heap_read.specs.Sources.{ShowsSource, source_units}
 use Rattle.heap_read.proofs.reader.Reader.copy_lanes.Given as goal
 
 abbrev pub invariant-loop-done : goal.invariant-loop-done
 invariant-loop-done g l = record {
   heap : l.self.heap ≡ l.fn.self.heap;
-  writes : Writes (view_in l.fn.self) (view_in l.self);
+  writes : WritesOwnWords (view_in l.fn.self) (view_in l.self);
   below : KeepsBelow l.to.start (view_in l.fn.self) (view_in l.self);
   above : KeepsFrom (l.to.start + words_over l.to.wide (l.at + l.n)) (view_in l.fn.self) (view_in l.self);
   forms : KeepsForms (view_in l.fn.self) (view_in l.self);

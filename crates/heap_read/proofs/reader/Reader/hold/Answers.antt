@@ -2,7 +2,7 @@ use Rattle.std.proofs.Common.{◌+◌, ◌<◌, true, length, subst, sym, arith}
 use Rattle.heap_rule.specs.declared.view.View.{View}
 use Rattle.heap_read.specs.declared.source.UnitSource.{UnitSource}
 use Rattle.heap_read.specs.Sources.{ShowsSource, source_units, piece_units}
-use Rattle.heap_read.specs.Written.{Holds}
+use Rattle.heap_read.specs.Written.{HoldsUnits}
 use Rattle.heap_read.proofs.Holding.{holds_back, holds_front, holds_one}
 use Rattle.heap_read.proofs.Listing.{shows_kept}
 use Rattle.heap_read.proofs.Showing.{forms_held, window_frozen, window_length}
@@ -38,7 +38,7 @@ pub returns-in-Units-clause-holds : goal.returns-in-Units-clause-holds
 returns-in-Units-clause-holds g c = let v : View = c.args.self.now.agent.seat.me.0 in
     let l = subst (λ (x : UnitSource). c.args.i < length (source_units v x)) c.in-Units.is c.requires.within in let e = c.unit_of.ensures in
     let f = c.from.ensures in
-    subst (λ (x : UnitSource). Holds (source_units v x) (record {
+    subst (λ (x : UnitSource). HoldsUnits (source_units v x) (record {
       word = c.from.result;
       wide = true;
       lane = 0;
@@ -49,11 +49,11 @@ returns-in-Units-clause-holds g c = let v : View = c.args.self.now.agent.seat.me
 pub returns-then-i-left-clause-holds : goal.returns-then-i-left-clause-holds
 returns-then-i-left-clause-holds g c = let v : View = c.args.self.now.agent.seat.me.0 in let p = c.in-Pieces.front in
     let q = c.in-Pieces.back in let s = subst (ShowsSource v) c.in-Pieces.is c.requires.shows in
-    subst (λ (x : UnitSource). Holds (source_units v x) c.hold_in-then-i-left.result) (sym c.in-Pieces.is)
+    subst (λ (x : UnitSource). HoldsUnits (source_units v x) c.hold_in-then-i-left.result) (sym c.in-Pieces.is)
     (holds_front (piece_units v p) (piece_units v q) c.hold_in-then-i-left.result (c.hold_in-then-i-left.ensures.holds (piece_units v p) s.0.1))
 
 pub returns-else-i-left-clause-holds : goal.returns-else-i-left-clause-holds
 returns-else-i-left-clause-holds g c = let v : View = c.args.self.now.agent.seat.me.0 in let p = c.in-Pieces.front in
     let q = c.in-Pieces.back in let s = subst (ShowsSource v) c.in-Pieces.is c.requires.shows in let h = c.hold_in-held.result in
-    subst (λ (x : UnitSource). Holds (source_units v x) (record { word = h.word; wide = h.wide; lane = h.lane; from = p.window.len + h.from; count = h.count })) (sym c.in-Pieces.is)
+    subst (λ (x : UnitSource). HoldsUnits (source_units v x) (record { word = h.word; wide = h.wide; lane = h.lane; from = p.window.len + h.from; count = h.count })) (sym c.in-Pieces.is)
     (holds_back (piece_units v p) (piece_units v q) p.window.len h (window_length v p.window (piece_units v p) s.0.1) (c.hold_in-held.ensures.holds (piece_units v q) s.1.1))

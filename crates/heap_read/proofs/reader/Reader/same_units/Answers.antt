@@ -1,6 +1,6 @@
 use Rattle.std.proofs.Common.{◌≡◌, ◌∙◌, ℕ, ◌+◌, ◌<◌, arith}
 use Rattle.heap_rule.specs.declared.view.View.{View}
-use Rattle.heap_read.specs.Written.{HasAt, Holds, held_unit}
+use Rattle.heap_read.specs.Written.{HasAt, HoldsUnits, held_unit}
 use Rattle.heap_read.proofs.Comparison.{compared_on, compared_other, frozen_window_stays}
 use Rattle.heap_read.proofs.Loaded.{reads_trans}
 use Rattle.heap_read.proofs.Showing.{forms_held}
@@ -29,7 +29,7 @@ returns-then-not-has_same_units-clause-same g c us window = let v : View = c.arg
     let y : View = c.hold_in-right.new.self.agent.seat.me.0 in
     let s = c.loop-i.invariant in let e = c.hold_in-left.ensures in let f = c.hold_in-right.ensures in let has = e.has in
     let has' = f.has in let m = c.min-count.ensures in let n = c.count_from.ensures in let n' = c.count_from-in-loop-i.ensures in
-    let here : Holds us c.hold_in-left.result = e.holds us (window_later v u c.args.a us s.reads s.forms window) in
+    let here : HoldsUnits us c.hold_in-left.result = e.holds us (window_later v u c.args.a us s.reads s.forms window) in
     let al : HasAt c.hold_in-left.result c.loop-i.i c.min-count.result = record { lanes = e.held.lanes; low = has.0; high = omega arith } in
     let ar : HasAt c.hold_in-right.result c.loop-i.i c.min-count.result = record { lanes = f.held.lanes; low = has'.0; high = omega arith } in
     let t : (k : ℕ) × (k < c.min-count.result) × (held_unit c.hold_in-left.result (c.loop-i.i + k) ≡ held_unit c.hold_in-right.result (c.loop-i.i + k) → ⊥) = c.if-not-has_same_units.ensures in
@@ -48,7 +48,7 @@ loop-i-preserved g c = let v : View = c.args.self.now.agent.seat.me.0 in let u :
       reads = reads_trans v u y s.reads (reads_trans u x y e.reads.view f.reads.view);
       forms = forms_trans v u y s.forms (forms_trans u x y e.forms f.forms);
       learned = f.learned;
-      same = λ us window. let here : Holds us c.hold_in-left.result = e.holds us (window_later v u c.args.a us s.reads s.forms window) in
+      same = λ us window. let here : HoldsUnits us c.hold_in-left.result = e.holds us (window_later v u c.args.a us s.reads s.forms window) in
           let t : (k : ℕ) → k < c.min-count.result → held_unit c.hold_in-left.result (c.loop-i.i + k) ≡ held_unit c.hold_in-right.result (c.loop-i.i + k) = c.if-not-has_same_units.ensures in
           compared_on u y c.args.b us c.hold_in-left.result c.hold_in-right.result c.loop-i.i c.min-count.result
           (reads_trans u x y e.reads.view f.reads.view).known here f.held al ar (s.same us window) t;

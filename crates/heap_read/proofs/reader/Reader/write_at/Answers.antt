@@ -8,7 +8,7 @@ use Rattle.heap_rule.proofs.MapLemmas.{insert_other}
 use Rattle.heap_rule.proofs.Possible.{possible_lawful}
 use Rattle.heap_rule.proofs.Steps.{possible_within}
 use Rattle.heap_table.specs.Known.{KeepsKnown}
-use Rattle.heap_read.specs.Reads.{Writes}
+use Rattle.heap_read.specs.Reads.{WritesOwnWords}
 use Rattle.heap_read.specs.Sources.{source_units}
 use Rattle.heap_read.specs.Written.{AreWords}
 use Rattle.heap_read.proofs.Going.{known_stored, words_stored}
@@ -49,7 +49,7 @@ loop-at-preserved g c = let v : View = c.args.self.now.agent.seat.me.0 in let u 
     let next : suc at ≡ at + 1 = omega arith in let is : IsWordOf c.args.wide us at word = subst (λ (xs : List ℕ). IsWordOf c.args.wide xs at word) i.same e.word in
     let here : at < words_over c.args.wide c.args.n = omega arith in record {
       heap = e.reads.heap ∙ i.heap;
-      writes = writes_trans v u w i.writes (writes_trans u p w (writes_reads u p e.reads.view) (subst (Writes p) (sym f.view) (writes_stored p (start + at) word)));
+      writes = writes_trans v u w i.writes (writes_trans u p w (writes_reads u p e.reads.view) (subst (WritesOwnWords p) (sym f.view) (writes_stored p (start + at) word)));
       forms = forms_trans v u w i.forms (forms_trans u p w e.forms (ap (λ (x : View). x.forms) f.view, ap (λ (x : View). x.form_loads) f.view));
       shows = shows_kept p w c.args.source.now known (forms_held p w (ap (λ (x : View). x.forms) f.view)) e.shows;
       same = listed_same p w c.args.source.now known e.shows ∙ (e.listed ∙ i.same);

@@ -2,7 +2,7 @@ use Rattle.std.proofs.Common.{◌≡◌, ◌<◌, ◌+◌, ℕ}
 use Rattle.js_units.specs.Lanes.{words_over}
 use Rattle.heap_rule.specs.Maps.{HasKey}
 use Rattle.heap_read.specs.Readers.{view_in}
-use Rattle.heap_read.specs.Reads.{KeepsBeside, KeepsForms, Writes}
+use Rattle.heap_read.specs.Reads.{KeepsBeside, KeepsForms, WritesOwnWords}
 use Rattle.heap_read.specs.Sources.{ShowsSource, source_units}
 use Rattle.heap_read.specs.Written.{AreWords}
 use Rattle.heap_read.proofs.reader.Reader.write_at.Given as goal
@@ -10,7 +10,7 @@ use Rattle.heap_read.proofs.reader.Reader.write_at.Given as goal
 abbrev pub invariant-loop-at : goal.invariant-loop-at
 invariant-loop-at g l = record {
   heap : l.self.heap ≡ l.fn.self.heap;
-  writes : Writes (view_in l.fn.self) (view_in l.self);
+  writes : WritesOwnWords (view_in l.fn.self) (view_in l.self);
   forms : KeepsForms (view_in l.fn.self) (view_in l.self);
   shows : ShowsSource (view_in l.self) l.source;
   same : source_units (view_in l.self) l.source ≡ source_units (view_in l.fn.self) l.source;

@@ -5,7 +5,7 @@ use Rattle.heap_rule.specs.declared.size.HeapSize.{HeapSize}
 use Rattle.heap_rule.specs.declared.view.View.{View}
 use Rattle.heap_table.specs.Agents.{size_of}
 use Rattle.heap_bytes.specs.Spellings.{spelling_units}
-use Rattle.heap_text.specs.Texts.{Told}
+use Rattle.heap_text.specs.Texts.{LacksRoom}
 use Rattle.heap_text.proofs.Owned.{own_reads, own_trans}
 use Rattle.heap_text.proofs.Pieces.{copy_answer}
 use Rattle.heap_reserve.specs.Making.{words_holding}
@@ -29,6 +29,6 @@ returns-in-None-clause-made g c = let v : View = c.args.text.now.reader.agent.se
         left.1,
         own_trans v u w (own_reads v u left.2) e.own,
         copy_answer v u w (size_of (g.H.HeapRef.reached c.args.text.now.reader.heap)) answer us us n refl refl left.2 e.units e.form e.used
-            (subst (λ (y : HeapSize). IfErr answer (λ f. Told w y (words_over (is_wide us) n) f)) same e.refused) e.spared,
+            (subst (λ (y : HeapSize). IfErr answer (λ f. LacksRoom w y (words_over (is_wide us) n) f)) same e.refused) e.spared,
       );
     }

@@ -3,7 +3,7 @@ use Rattle.heap_rule.specs.declared.view.View.{View}
 use Rattle.heap_rule.specs.declared.size.Counter.TheVariants.{Ids}
 use Rattle.heap_rule.specs.Sound.{IsPossible}
 use Rattle.heap_rule.proofs.Splitting.{possible_split}
-use Rattle.heap_table.specs.Plays.{Sat}
+use Rattle.heap_table.specs.Plays.{AgentSeat}
 use Rattle.heap_table.proofs.Keeps.{splits, counter_small}
 use Rattle.heap_table.proofs.agent.Agent.split.Goals as goal
 
@@ -23,18 +23,18 @@ returns-clause-belongs c = let b = c.note.ensures.belongs in let v : View = c.no
     let possible = possible_split v v.giving (omega arith) (omega arith) b.5 in (
       (
         e.0 ∙ b.0,
-        ap (λ (q : Sat). q.0.sizes) e.2 ∙ b.1,
-        ap (λ (q : Sat). q.0.live) e.2 ∙ b.2,
-        ap (λ (q : Sat). q.1) e.2 ∙ b.3,
-        ap (λ (q : Sat). q.0.share) e.2 ∙ (λ i. b.4 i - giving i),
-        subst (λ (q : Sat). IsPossible q.0) (sym e.2) possible.0,
+        ap (λ (q : AgentSeat). q.0.sizes) e.2 ∙ b.1,
+        ap (λ (q : AgentSeat). q.0.live) e.2 ∙ b.2,
+        ap (λ (q : AgentSeat). q.1) e.2 ∙ b.3,
+        ap (λ (q : AgentSeat). q.0.share) e.2 ∙ (λ i. b.4 i - giving i),
+        subst (λ (q : AgentSeat). IsPossible q.0) (sym e.2) possible.0,
       ),
       (
         e.3 ∙ b.0,
-        ap (λ (q : Sat). q.0.sizes) e.4 ∙ b.1,
-        ap (λ (q : Sat). q.0.live) e.4 ∙ b.2,
-        ap (λ (q : Sat). q.1) e.4,
-        ap (λ (q : Sat). q.0.share) e.4 ∙ giving,
-        subst (λ (q : Sat). IsPossible q.0) (sym e.4) possible.1,
+        ap (λ (q : AgentSeat). q.0.sizes) e.4 ∙ b.1,
+        ap (λ (q : AgentSeat). q.0.live) e.4 ∙ b.2,
+        ap (λ (q : AgentSeat). q.1) e.4,
+        ap (λ (q : AgentSeat). q.0.share) e.4 ∙ giving,
+        subst (λ (q : AgentSeat). IsPossible q.0) (sym e.4) possible.1,
       ),
     )

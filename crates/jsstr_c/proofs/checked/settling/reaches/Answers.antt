@@ -2,7 +2,7 @@ use Rattle.std.proofs.Common.{◌≡◌, ◌+◌, ◌≤◌, Option, false, true
 use borrow.Author.Tests.{leb-true}
 use Rattle.heap_agents.specs.declared.held.Held.{Held}
 use Rattle.heap_agents.specs.Ready.{HandleKnows}
-use Rattle.jsstr_c.specs.Checked.{Reaches}
+use Rattle.jsstr_c.specs.Checked.{ReachesLength}
 use Rattle.jsstr_c.proofs.Going.{leb_of, reached, reaching}
 use Rattle.jsstr_c.proofs.checked.settling.reaches.Goals as goal
 
@@ -11,7 +11,7 @@ returns-then-all-from-clause-reaches c = let o = c.args.agent.now.at.value in le
     let all = c.jsstr_length_unchecked-all in let same = c.knows.ensures.same in let t = c.if-not-knows.false in
     let known = subst (λ (p : Option Held). HandleKnows p c.args.s) (sym same) (c.knows.ensures.known.0 t) in (
       λ h. let e : false ≡ true = h in absurd (cc),
-      λ r. let le : n ≤ all.result = reached mid mid c.args.s all.result n (c.knows.ensures.ready t) known all.ensures.length (subst (λ (p : Option Held). Reaches p c.args.s n) (sym same) r) in
+      λ r. let le : n ≤ all.result = reached mid mid c.args.s all.result n (c.knows.ensures.ready t) known all.ensures.length (subst (λ (p : Option Held). ReachesLength p c.args.s n) (sym same) r) in
           absurd (omega (arith, le, c.if-all-from.true)),
     )
 
@@ -19,8 +19,8 @@ pub returns-clause-reaches : goal.returns-clause-reaches
 returns-clause-reaches c = let o = c.args.agent.now.at.value in let mid = c.knows.new.self.at.value in let n = c.args.from + c.args.room in
     let all = c.jsstr_length_unchecked-all in let same = c.knows.ensures.same in let t = c.if-not-knows.false in
     let known = subst (λ (p : Option Held). HandleKnows p c.args.s) (sym same) (c.knows.ensures.known.0 t) in (
-      λ h. subst (λ (p : Option Held). Reaches p c.args.s n) same
+      λ h. subst (λ (p : Option Held). ReachesLength p c.args.s n) same
           (reaching mid mid c.args.s all.result n (c.knows.ensures.ready t) known all.ensures.length (omega (arith, leb-true _ _ h, c.if-all-from.false))),
-      λ r. let le : n ≤ all.result = reached mid mid c.args.s all.result n (c.knows.ensures.ready t) known all.ensures.length (subst (λ (p : Option Held). Reaches p c.args.s n) (sym same) r) in
+      λ r. let le : n ≤ all.result = reached mid mid c.args.s all.result n (c.knows.ensures.ready t) known all.ensures.length (subst (λ (p : Option Held). ReachesLength p c.args.s n) (sym same) r) in
           leb_of _ _ (omega (arith, le, c.if-all-from.false)),
     )

@@ -2,7 +2,7 @@ use Rattle.std.proofs.Common.{◌≡◌, ◌∙◌, Option, subst, sym, arith}
 use Rattle.heap_rule.specs.Maps.{HasKey}
 use Rattle.heap_agents.specs.declared.held.Held.{Held}
 use Rattle.heap_agents.specs.Ready.{HandleKnows, handle_view}
-use Rattle.jsstr_c.specs.Checked.{RefusesSettling, Settles}
+use Rattle.jsstr_c.specs.Checked.{RefusesSettling, SettlesString}
 use Rattle.jsstr_c.proofs.Going.{goes_continues, goes_key}
 use Rattle.jsstr_c.proofs.Stages.{left_refused, right_ends}
 use Rattle.jsstr_c.proofs.checked.settling.settle_both.Goals as goal
@@ -18,7 +18,7 @@ returns-clause-settles c = let left = c.jsstr_settle_unchecked-left in let right
     let n = c.if-left-ne-DONE.false in let one : left.result.status ≡ 0 = omega (arith, n) in
     let kb = subst (λ (x : Option Held). HandleKnows x c.args.b) c.knows.ensures.same (second.ensures.known.0 c.if-not-knows-2.false) in
     right_ends c.args.agent.now.at.value m right.new.agent.at.value c.args.a c.args.b right.result (c.knows.ensures.known.0 c.if-not-knows.false) kb
-    (subst (λ (x : Option Held). Settles x m c.args.a) (second.ensures.same ∙ c.knows.ensures.same) (left.ensures.settled one).1)
+    (subst (λ (x : Option Held). SettlesString x m c.args.a) (second.ensures.same ∙ c.knows.ensures.same) (left.ensures.settled one).1)
     right.ensures.told (λ e. (right.ensures.settled e).1) right.ensures.refused
 
 pub returns-clause-left : goal.returns-clause-left
