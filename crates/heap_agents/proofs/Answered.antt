@@ -1,99 +1,100 @@
 -- What interning units, and finding them, leaves, once the answer is marked.
 use Rattle.std.proofs.Common.{◌≡◌, ℕ, List, Option, None, Some, Result, Ok, Err, refl, subst, sym}
-use Rattle.heap_rule.specs.Maps.{Has}
 use Rattle.heap_rule.specs.declared.view.View.{View}
 use Rattle.heap_table.specs.Known.{KeepsKnown}
 use Rattle.heap_intern.specs.declared.table.faults.TableFull.{TableFull}
-use Rattle.heap_intern.specs.Answers.{FindsString, IsInternAnswer, IsFoundAgain, StandsInSlot, copy_plan}
+use Rattle.heap_intern.specs.Answers.{FindsString, IsInternAnswer, copy_plan}
+use Rattle.heap_intern.specs.Given.{FindsGiven, InternsGiven}
 use Rattle.heap_agents.specs.declared.held.Held.{Held}
+use Rattle.heap_agents.specs.declared.seats.Seats.{Seats}
 use Rattle.heap_agents.specs.Held.{IsHeld, KeepsMarks, MarksOnlyKey, view_by}
 use Rattle.heap_agents.specs.Interned.{HasEntered, KeepsCalls}
 use Rattle.heap_agents.specs.Keys.{FoundUnits, InternedUnits}
-use Rattle.heap_table.specs.Agents.{view_of}
-use Rattle.heap_agents.specs.Shared.{IsSameText, SharedText, heap_of, view_if}
-use Rattle.heap_agents.proofs.Interned.{agents_found, agents_from, calls_found, calls_from, known_found, known_from}
-use Rattle.heap_agents.proofs.Marks.{held_on, kept_marks, same_text, told}
+use Rattle.heap_agents.specs.Noted.{AreNoted}
+use Rattle.heap_agents.specs.Shared.{IsSameText, IsThere, SharedText, view_if}
+use Rattle.heap_agents.proofs.Interned.{agents_found, agents_from, calls_found, calls_from, entered_found, entered_from, known_found, known_from}
+use Rattle.heap_agents.proofs.Marks.{noted}
 
-module _ (x y : Held) (m : Option SharedText) (is : y.text ≡ m) (us : List ℕ) (i : ℕ) (held : IsHeld y) (keeps : KeepsMarks (record x { text = m }) y)
-    (marked : MarksOnlyKey (record x { text = m }) y i) (same : IsSameText x.text m) (known : KeepsKnown (view_by x) (view_if m)) (calls : KeepsCalls (view_by x) (view_if m))
-    (entered : HasEntered (view_if m) us i) where
-  there : (P : Option SharedText → Type 0) → P m → P y.text
-  there P h = subst P (sym is) h
+-- a call by which the text of x became m, and what x notes `seats`
+module _ (x : Held) (m : Option SharedText) (seats : Seats) (held : IsHeld x) (there : IsThere m) (same : IsSameText x.text m) (right : AreNoted (view_if m) seats) (us : List ℕ) where
+  abbrev v : View
+  v = view_by x
 
-  abbrev answer : Result ℕ TableFull
-  answer = Ok i
+  abbrev w : View
+  w = view_if m
 
-  marks : KeepsMarks x y
-  marks = record { known = keeps.known; interned = keeps.interned; number = keeps.number; giver = keeps.giver }
+  abbrev left : Held
+  left = record x { text = m; seats = seats }
 
-  both : MarksOnlyKey x y i
-  both = record { known = marked.known; interned = marked.interned; only = marked.only; only_interned = marked.only_interned }
+  pub held_interned : (r : Result ℕ TableFull) → IsInternAnswer (view_by x) (view_if m) us (copy_plan us) r → IsHeld (record x { text = m; seats = seats })
+  held_interned r i = noted x m held there same (known_from v w us (copy_plan us) r i).units (calls_from v w us (copy_plan us) r i) (agents_from v w us (copy_plan us) r i) seats right
 
-  pub interned_marked : IsInternAnswer (view_by x) (view_if m) us (copy_plan us) (Ok i) → IsFoundAgain (view_by x) (view_if m) us answer → InternedUnits x y us (Ok i)
-  interned_marked interns again = record {
-    held = held;
-    same = there (λ (n : Option SharedText). IsSameText x.text n) same;
-    marks = marks;
-    marked = both;
-    known = there (λ (n : Option SharedText). KeepsKnown (view_by x) (view_if n)) known;
-    calls = there (λ (n : Option SharedText). KeepsCalls (view_by x) (view_if n)) calls;
-    entered = there (λ (n : Option SharedText). HasEntered (view_if n) us i) entered;
-    interns = there (λ (n : Option SharedText). IsInternAnswer (view_by x) (view_if n) us (copy_plan us) (Ok i)) interns;
-    again = there (λ (n : Option SharedText). IsFoundAgain (view_by x) (view_if n) us answer) again;
-  }
+  pub held_found : (r : Option ℕ) → FindsString (view_by x) (view_if m) us r → IsHeld (record x { text = m; seats = seats })
+  held_found r i = noted x m held there same (known_found v w us r i).units (calls_found v w us r i) (agents_found v w us r i) seats right
 
-  pub found_marked : FindsString (view_by x) (view_if m) us (Some i) → ((j : ℕ) → Has (view_by x).units j us → StandsInSlot (view_by x) us j → Some i ≡ Some j) → FoundUnits x y us (Some i)
-  found_marked finds again = record {
-    held = held;
-    same = there (λ (n : Option SharedText). IsSameText x.text n) same;
-    marks = marks;
-    marked = both;
-    known = there (λ (n : Option SharedText). KeepsKnown (view_by x) (view_if n)) known;
-    calls = there (λ (n : Option SharedText). KeepsCalls (view_by x) (view_if n)) calls;
-    entered = there (λ (n : Option SharedText). HasEntered (view_if n) us i) entered;
-    finds = there (λ (n : Option SharedText). FindsString (view_by x) (view_if n) us (Some i)) finds;
-    again = again;
-  }
+  kept : KeepsMarks x left
+  kept = record { known = λ i h. h; interned = λ i h. h; number = λ i. x.number; giver = λ i. x.giver }
 
--- a call by which the text t became u, and no answer to mark
-module _ (x : Held) (t u : SharedText) (own : x.text ≡ Some t) (heap : heap_of u ≡ heap_of t) (limit : u.limit ≡ t.limit) (held : IsHeld x) (us : List ℕ) where
-  abbrev pub v : View
-  v = view_of t.reader.agent
-
-  abbrev pub w : View
-  w = view_of u.reader.agent
-
-  pub held_interned : (r : Result ℕ TableFull) → IsInternAnswer v w us (copy_plan us) r → IsHeld (record x { text = Some u })
-  held_interned r i = held_on x t u own heap limit held (known_from v w us (copy_plan us) r i) (calls_from v w us (copy_plan us) r i) (agents_from v w us (copy_plan us) r i)
-
-  pub held_found : (r : Option ℕ) → FindsString v w us r → IsHeld (record x { text = Some u })
-  held_found r i = held_on x t u own heap limit held (known_found v w us r i) (calls_found v w us r i) (agents_found v w us r i)
-
-  abbrev pub refusal : TableFull → Result ℕ TableFull
-  refusal f = Err f
-
-  pub refused_units : (f : TableFull) → IsInternAnswer v w us (copy_plan us) (Err f) → IsFoundAgain v w us (refusal f) → InternedUnits x (record x { text = Some u }) us (Err f)
-  refused_units f i again = record {
-    held = held_interned (Err f) i;
-    same = same_text x t u own heap limit;
-    marks = kept_marks x (Some u);
+  -- no answer is marked
+  pub refused_units : (f : TableFull) → InternsGiven (view_by x) (view_if m) us (Err f) → InternedUnits x (record x { text = m; seats = seats }) us (Err f)
+  refused_units f g = record {
+    held = held_interned (Err f) g.answer;
+    same = same;
+    marks = kept;
     marked = (refl, refl);
-    known = told x t u own KeepsKnown (known_from v w us (copy_plan us) (Err f) i);
-    calls = told x t u own KeepsCalls (calls_from v w us (copy_plan us) (Err f) i);
+    known = known_from v w us (copy_plan us) (Err f) g.answer;
+    calls = calls_from v w us (copy_plan us) (Err f) g.answer;
     entered = tt;
-    interns = told x t u own (λ (a b : View). IsInternAnswer a b us (copy_plan us) (Err f)) i;
-    again = told x t u own (λ (a b : View). IsFoundAgain a b us (refusal f)) again;
+    interns = g.answer;
+    again = g.again;
   }
 
-  pub missing_units : FindsString v w us None → ((j : ℕ) → Has v.units j us → StandsInSlot v us j → None ≡ Some j) → FoundUnits x (record x { text = Some u }) us None
-  missing_units i again = record {
-    held = held_found None i;
-    same = same_text x t u own heap limit;
-    marks = kept_marks x (Some u);
+  pub missing_units : FindsGiven (view_by x) (view_if m) us None → FoundUnits x (record x { text = m; seats = seats }) us None
+  missing_units g = record {
+    held = held_found None g.answer;
+    same = same;
+    marks = kept;
     marked = (refl, refl);
-    known = told x t u own KeepsKnown (known_found v w us None i);
-    calls = told x t u own KeepsCalls (calls_found v w us None i);
+    known = known_found v w us None g.answer;
+    calls = calls_found v w us None g.answer;
     entered = tt;
-    finds = told x t u own (λ (a b : View). FindsString a b us None) i;
-    again = told x t u own (λ (a b : View). (j : ℕ) → Has a.units j us → StandsInSlot a us j → None ≡ Some j) again;
+    finds = g.answer;
+    again = g.again;
   }
+
+  -- the answer i is marked, which leaves y
+  module _ (y : Held) (is : y.text ≡ m) (i : ℕ) (own : IsHeld y) (keeps : KeepsMarks (record x { text = m; seats = seats }) y) (marked : MarksOnlyKey (record x { text = m; seats = seats }) y i) where
+    at_end : (P : Option SharedText → Type 0) → P m → P y.text
+    at_end P h = subst P (sym is) h
+
+    marks : KeepsMarks x y
+    marks = record { known = keeps.known; interned = keeps.interned; number = keeps.number; giver = keeps.giver }
+
+    both : MarksOnlyKey x y i
+    both = record { known = marked.known; interned = marked.interned; only = marked.only; only_interned = marked.only_interned }
+
+    pub interned_marked : InternsGiven (view_by x) (view_if m) us (Ok i) → InternedUnits x y us (Ok i)
+    interned_marked g = record {
+      held = own;
+      same = at_end (λ (n : Option SharedText). IsSameText x.text n) same;
+      marks = marks;
+      marked = both;
+      known = at_end (λ (n : Option SharedText). KeepsKnown (view_by x) (view_if n)) (known_from v w us (copy_plan us) (Ok i) g.answer);
+      calls = at_end (λ (n : Option SharedText). KeepsCalls (view_by x) (view_if n)) (calls_from v w us (copy_plan us) (Ok i) g.answer);
+      entered = at_end (λ (n : Option SharedText). HasEntered (view_if n) us i) (entered_from v w us (copy_plan us) (Ok i) g.answer);
+      interns = at_end (λ (n : Option SharedText). IsInternAnswer (view_by x) (view_if n) us (copy_plan us) (Ok i)) g.answer;
+      again = (at_end (λ (n : Option SharedText). InternsGiven (view_by x) (view_if n) us (Ok i)) g).again;
+    }
+
+    pub found_marked : FindsGiven (view_by x) (view_if m) us (Some i) → FoundUnits x y us (Some i)
+    found_marked g = record {
+      held = own;
+      same = at_end (λ (n : Option SharedText). IsSameText x.text n) same;
+      marks = marks;
+      marked = both;
+      known = at_end (λ (n : Option SharedText). KeepsKnown (view_by x) (view_if n)) (known_found v w us (Some i) g.answer);
+      calls = at_end (λ (n : Option SharedText). KeepsCalls (view_by x) (view_if n)) (calls_found v w us (Some i) g.answer);
+      entered = at_end (λ (n : Option SharedText). HasEntered (view_if n) us i) (entered_found v w us (Some i) g.answer);
+      finds = at_end (λ (n : Option SharedText). FindsString (view_by x) (view_if n) us (Some i)) g.answer;
+      again = g.again;
+    }

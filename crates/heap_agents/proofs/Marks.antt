@@ -20,16 +20,18 @@ use Rattle.std.specs.Arc.{arc_value}
 use Rattle.heap_read.specs.Reads.{Continues, OnlyLoads}
 use Rattle.heap_read.proofs.Going.{continues_reads}
 use Rattle.heap_text.specs.Keeping.{KeepsText}
+use Rattle.heap_intern.specs.Hashes.{AreHashes, IsHashed}
 use Rattle.heap_intern.specs.Seats.{AreSeats, IsSeated}
-use Rattle.heap_intern.proofs.Seats.{seats_kept}
 use Rattle.heap_agents.specs.declared.ids.IdSet.{IdSet}
 use Rattle.heap_agents.specs.declared.seats.Seats.{Seats}
 use Rattle.heap_agents.specs.Sets.{Covers, IsIn}
 use Rattle.heap_agents.specs.declared.held.Held.{Held}
 use Rattle.heap_agents.specs.Held.{IsHeld, IsMarked, IsSame, KeepsMarks, LeavesStrings, share_by, held_size, view_by}
 use Rattle.heap_agents.specs.Interned.{KeepsCalls}
+use Rattle.heap_agents.specs.Noted.{AreNoted}
 use Rattle.heap_agents.specs.Shared.{IsSameText, IsThere, SharedText, TextLeaves, heap_of, share_if, size_if, view_if}
 use Rattle.heap_agents.proofs.Interned.{continued}
+use Rattle.heap_agents.proofs.Noting.{notes_kept}
 
 -- what is known and which calls are known stay, so what was marked still may be
 marked_still : (v w : View) (known interned : IdSet) (ids : ℕ) → IsMarked v known interned ids
@@ -60,17 +62,17 @@ kept_marks x y = record { known = λ i h. h; interned = λ i h. h; number = λ i
 module _ (x : Held) (y : Option SharedText) (held : IsHeld x) (there : IsThere y) (same : IsSameText x.text y)
     (units : (i : ℕ) (us : List ℕ) → Has (view_by x).units i us → Has (view_if y).units i us) (calls : KeepsCalls (view_by x) (view_if y)) (agents : (view_if y).agents ≡ (view_by x).agents) where
   -- also where other slots are noted
-  pub noted : (seats : Seats) → AreSeats (view_if y) seats.slots.items → IsHeld (record x { text = y; seats = seats })
-  noted seats seated = record {
+  pub noted : (seats : Seats) → AreNoted (view_if y) seats → IsHeld (record x { text = y; seats = seats })
+  noted seats right = record {
     there = there;
     agents = held.agents ∙ sym agents;
     marked = subst (λ (n : ℕ). IsMarked (view_if y) x.known x.interned n) (same_ids x.text y same)
         (marked_still (view_by x) (view_if y) x.known x.interned (held_size x).ids held.marked units calls);
-    seated = seated;
+    noted = right;
   }
 
-  pub still : AreSeats (view_if y) x.seats.slots.items → IsHeld (record x { text = y })
-  still seated = noted x.seats seated
+  pub still : AreNoted (view_if y) x.seats → IsHeld (record x { text = y })
+  still right = noted x.seats right
 
 possible_in : (t : Option SharedText) → IsThere t → IsPossible (view_if t)
 possible_in None there = absurd there
@@ -85,18 +87,24 @@ same_sizes None y s = absurd s
 same_sizes (Some a) None s = absurd s
 same_sizes (Some a) (Some b) s = λ i. size_of (s.0 i)
 
--- what is known stays known, so the slots that were noted are right still
-pub seats_still : (x : Held) (y : Option SharedText) → IsHeld x → IsThere y → IsSameText x.text y → KeepsKnown (view_by x) (view_if y) → AreSeats (view_if y) x.seats.slots.items
-seats_still x y held there same known = seats_kept (view_by x) (view_if y) (possible_in x.text held.there) known
-    (sizes_in y there ∙ (same_sizes x.text y same ∙ sym (sizes_in x.text held.there))) x.seats.slots.items held.seated
+-- what is known stays known, so what was noted is right still
+pub seats_still : (x : Held) (y : Option SharedText) → IsHeld x → IsThere y → IsSameText x.text y → KeepsKnown (view_by x) (view_if y) → AreNoted (view_if y) x.seats
+seats_still x y held there same known = notes_kept (view_by x) (view_if y) (possible_in x.text held.there) known
+    (sizes_in y there ∙ (same_sizes x.text y same ∙ sym (sizes_in x.text held.there))) x.seats held.noted
 
 -- where none is noted, none is wrong
-pub none_seated : (v : View) (l : List ℕ) → l ≡ [] → AreSeats v l
-none_seated v l e s some = let none : slice_index l s ≡ 0 = ap (λ (m : List ℕ). slice_index m s) e in absurd (omega arith)
+pub none_noted : (v : View) (s : Seats) → s.slots.items ≡ [] → s.hashes.items ≡ [] → AreNoted v s
+none_noted v s e d = (
+  λ i some. let none : slice_index s.slots.items i ≡ 0 = ap (λ (m : List ℕ). slice_index m i) e in absurd (omega arith),
+  λ i some. let none : slice_index s.hashes.items i ≡ 0 = ap (λ (m : List ℕ). slice_index m i) d in absurd (omega arith),
+)
 
 -- where each place has what it had, what is noted is as right
 pub same_seats : (v : View) (l m : List ℕ) → ((i : ℕ) → slice_index m i ≡ slice_index l i) → AreSeats v l → AreSeats v m
 same_seats v l m e h s some = subst (λ (n : ℕ). IsSeated v s (n - 1)) (sym (e s)) (h s (subst (λ (n : ℕ). 0 < n) (e s) some))
+
+pub same_hashes : (v : View) (l m : List ℕ) → ((k : ℕ) → slice_index m k ≡ slice_index l k) → AreHashes v l → AreHashes v m
+same_hashes v l m e h k some = subst (IsHashed v k) (sym (e k)) (h k (subst (λ (n : ℕ). 0 < n) (e k) some))
 
 pub counted_known : (v : View) (ids words : ℕ) → KeepsKnown v (loaded_counter (loaded_counter v Ids ids) Words words)
 counted_known v ids words = record {
@@ -207,7 +215,7 @@ module _ (x o : Held) (y : Option SharedText) (held : IsHeld x) (theirs : IsHeld
       room = room (held_size x).ids held.marked.room;
       calls_room = calls_room (held_size x).ids held.marked.calls_room;
     });
-    seated = seats_still x y held there same ours;
+    noted = seats_still x y held there same ours;
   }
 
 -- what another agent may use is among what was added
@@ -237,8 +245,8 @@ module _ (x : Held) (y : Option SharedText) (give : ℕ) (held : IsHeld x) (ther
   pub right_held : view_if y ≡ right_after_split (view_by x) give → (o z : Held) → ((i : ℕ) → IsIn o.known i ↔ IsIn x.known i) → ((i : ℕ) → IsIn o.interned i ↔ IsIn x.interned i)
       → ((n : ℕ) → Covers x.known n → Covers o.known n) → ((n : ℕ) → Covers x.interned n → Covers o.interned n) → z.text ≡ y → z.agents ≡
       x.agents → z.known ≡ o.known → z.interned ≡ o.interned → z.seats.slots.items ≡ []
-      → IsHeld z × IsSame x z
-  right_held e o z known interned room calls_room member agents marks calls seats = (
+      → z.seats.hashes.items ≡ [] → IsHeld z × IsSame x z
+  right_held e o z known interned room calls_room member agents marks calls seats hashes = (
     record {
       there = subst (λ (m : Option SharedText). IsThere m) (sym member) there;
       agents = agents ∙ (held.agents ∙ sym (ap (λ (m : Option SharedText). (view_if m).agents) member ∙ ap (λ (v : View). v.agents) e));
@@ -253,7 +261,7 @@ module _ (x : Held) (y : Option SharedText) (give : ℕ) (held : IsHeld x) (ther
             room = room (held_size x).ids held.marked.room;
             calls_room = calls_room (held_size x).ids held.marked.calls_room;
           }))));
-      seated = none_seated (view_by z) z.seats.slots.items seats;
+      noted = none_noted (view_by z) z.seats seats hashes;
     },
     subst (λ (m : Option SharedText). IsSameText x.text m) (sym member) same,
   )
@@ -273,7 +281,7 @@ interned_held x i known interned held key call room only here kept calls_room on
     room = room (held_size x).ids held.marked.room;
     calls_room = calls_room (held_size x).ids held.marked.calls_room;
   };
-  seated = held.seated;
+  noted = held.noted;
 }
 
 share_in_view : (t : Option SharedText) → IsThere t → (view_if t).share ≡ share_if t

@@ -1,13 +1,14 @@
 -- A session that makes nothing: what its calls leave of it, by what they leave of the session, and the refusals.
-use Rattle.std.proofs.Common.{◌≡◌, ◌∙◌, ℕ, true, List, refl, sym, arith, Some, None}
+use Rattle.std.proofs.Common.{◌≡◌, ◌∙◌, ℕ, true, refl, sym, arith, Some, None}
 use Rattle.js_store.specs.declared.faults.StoreFault.TheVariants.{Memory}
 use Rattle.js_store.specs.Faults.{StoreStep, Uses}
 use Rattle.js_store.specs.State.{State}
 use Rattle.heap_session.specs.Sessions.{SessionFrame}
+use Rattle.heap_agents.specs.declared.seats.Seats.{Seats}
 use Rattle.heap_agents.specs.Looking.{looking_state}
 
 -- a call on the session
-pub looks_as : (a b : State SessionFrame) (seats : List ℕ) → Uses a b None 0 0 → Uses (looking_state a seats) (looking_state b seats) None 0 0
+pub looks_as : (a b : State SessionFrame) (seats : Seats) → Uses a b None 0 0 → Uses (looking_state a seats) (looking_state b seats) None 0 0
 looks_as a b seats u = let o = u.step.grows in record {
   step = record {
     grows = record {
@@ -34,7 +35,7 @@ looks_as a b seats u = let o = u.step.grows in record {
 }
 
 -- and back
-pub looked_as : (a b : State SessionFrame) (s t : List ℕ) → a.sure ≡ true → b.sure ≡ true → Uses (looking_state a s) (looking_state b t) None 0 0 → Uses a b None 0 0
+pub looked_as : (a b : State SessionFrame) (s t : Seats) → a.sure ≡ true → b.sure ≡ true → Uses (looking_state a s) (looking_state b t) None 0 0 → Uses a b None 0 0
 looked_as a b s t sure' sure u = let o = u.step.grows in record {
   step = record {
     grows = record {
@@ -60,11 +61,11 @@ looked_as a b s t sure' sure u = let o = u.step.grows in record {
   history = u.history;
 }
 
-pub seats_left : (a b : State SessionFrame) (s t : List ℕ) → Uses (looking_state a s) (looking_state b t) None 0 0 → t ≡ s
+pub seats_left : (a b : State SessionFrame) (s t : Seats) → Uses (looking_state a s) (looking_state b t) None 0 0 → t ≡ s
 seats_left a b s t u = λ i. (u.step.grows.frame i).seats
 
 -- a call that is refused
-pub refused : (a : State SessionFrame) (seats : List ℕ) (ids words : ℕ) → StoreStep (looking_state a seats) (looking_state a seats) (Some Memory) ids words
+pub refused : (a : State SessionFrame) (seats : Seats) (ids words : ℕ) → StoreStep (looking_state a seats) (looking_state a seats) (Some Memory) ids words
 refused a seats ids words = record {
   grows = record {
     known = λ n h. refl;
@@ -86,5 +87,5 @@ refused a seats ids words = record {
   within_words = omega arith;
 }
 
-pub refused_use : (a : State SessionFrame) (seats : List ℕ) (ids words : ℕ) → Uses (looking_state a seats) (looking_state a seats) (Some Memory) ids words
+pub refused_use : (a : State SessionFrame) (seats : Seats) (ids words : ℕ) → Uses (looking_state a seats) (looking_state a seats) (Some Memory) ids words
 refused_use a seats ids words = record { step = refused a seats ids words; no_slots = tt; history = refl }

@@ -26,7 +26,7 @@ use Rattle.heap_agents.specs.declared.held.Held.{Held}
 use Rattle.heap_agents.specs.Held.{IsHeld, LeavesSearched, view_by}
 use Rattle.heap_agents.specs.Shared.{IsSameText, SharedText, heap_of, view_if}
 use Rattle.heap_agents.specs.Searched.{IsOrder, KeepsStrings}
-use Rattle.heap_intern.specs.Seats.{AreSeats}
+use Rattle.heap_agents.specs.Noted.{AreNoted}
 use Rattle.heap_agents.proofs.Marks.{held_on, kept_marks, same_text, still, told}
 
 is_some : (o : Option (List ℕ)) (us : List ℕ) → o ≡ Some us → IsSome o
@@ -111,12 +111,12 @@ module _ {H : Type 0} {g : Ghosts H} (x : Held) (t : SharedText) (s : Session H 
 
   -- and the text z has the agent that the session leaves
   pub searched : (r : Session H g) (z : SharedText) → IsHeld x → heap_of z ≡ heap_of t → z.limit ≡ t.limit
-      → Uses (state_in s) (state_in r) None 0 0 → view_of z.reader.agent ≡ session_view r → AreSeats (view_of z.reader.agent) x.seats.slots.items → LeavesSearched x (record x { text = Some z })
-  searched r z held heap limit u view seated =
+      → Uses (state_in s) (state_in r) None 0 0 → view_of z.reader.agent ≡ session_view r → AreNoted (view_of z.reader.agent) x.seats → LeavesSearched x (record x { text = Some z })
+  searched r z held heap limit u view right =
       let kept : KeepsStrings (view_by x) (view_of z.reader.agent) = subst (λ (o : Option SharedText). KeepsStrings (view_if o) (view_of z.reader.agent)) (sym own)
       (subst (λ (v : View). KeepsStrings v (view_of z.reader.agent)) same (subst (λ (w : View). KeepsStrings (session_view s) w) (sym view) (strings s r u))) in
       let one : IsSameText x.text (Some z) = subst (λ (o : Option SharedText). IsSameText o (Some z)) (sym own) (heap, limit) in record {
-        held = still x (Some z) held tt one kept.units (record { calls = λ v i h. subst (λ (m : Calls). Contains m (v, i)) (sym kept.calls) h }) kept.agents seated;
+        held = still x (Some z) held tt one kept.units (record { calls = λ v i h. subst (λ (m : Calls). Contains m (v, i)) (sym kept.calls) h }) kept.agents right;
         same = one;
         strings = kept;
         marks = kept_marks x (Some z);

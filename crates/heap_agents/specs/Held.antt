@@ -1,18 +1,17 @@
 -- What is kept at run time beside an agent: which ids it may use, which of them are answers of the string
--- table, in which slots these are for strings that were interned, and the numbers by which a join is known to
--- be valid.
+-- table, what it notes of that table, and the numbers by which a join is known to be valid.
 use Rattle.std.specs.Prelude.{◌≡◌, ◌⊎◌, ℕ, ◌<◌, List, Contains, Result, Ok, Err, None}
 use Rattle.heap_rule.specs.Maps.{HasKey}
 use Rattle.heap_rule.specs.Views.{history}
 use Rattle.heap_rule.specs.declared.size.HeapSize.{HeapSize}
 use Rattle.heap_rule.specs.declared.view.View.{View}
 use Rattle.heap_read.specs.Reads.{Continues}
-use Rattle.heap_intern.specs.Seats.{AreSeats}
 use Rattle.heap_read.specs.declared.string.JsStr.{JsStr}
 use Rattle.heap_agents.specs.declared.ids.IdSet.{IdSet}
 use Rattle.heap_agents.specs.Sets.{Covers, IsIn}
 use Rattle.heap_agents.specs.declared.held.Held.{Held}
 use Rattle.heap_agents.specs.Shared.{IsSameText, IsThere, limit_if, share_if, size_if, view_if}
+use Rattle.heap_agents.specs.Noted.{AreNoted}
 use Rattle.heap_agents.specs.Searched.{KeepsStrings}
 
 -- what its agent knows, its share, the sizes of its heap, and the limit of the strings that it joins
@@ -50,7 +49,7 @@ pub record IsHeld (x : Held) : Type 0 where
   pub there : IsThere x.text
   pub agents : x.agents ≡ (view_by x).agents
   pub marked : IsMarked (view_by x) x.known x.interned (held_size x).ids
-  pub seated : AreSeats (view_by x) x.seats.slots.items
+  pub noted : AreNoted (view_by x) x.seats
 
 -- what was marked stays marked, and an agent keeps its numbers
 pub record KeepsMarks (x y : Held) : Type 0 where

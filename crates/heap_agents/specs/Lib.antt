@@ -4,6 +4,7 @@ pub mod Interned
 pub mod Searched
 pub mod Words
 pub mod Looking
+pub mod Noted
 pub mod Held
 pub mod Keys
 pub mod Batch

@@ -1,15 +1,16 @@
 -- Helpers: no public contract reaches these definitions.
 -- The state of a session that makes nothing: that of the session, but for memory, which it always lacks, and
 -- with what its agent noted, which stays.
-use Rattle.std.specs.Prelude.{ℕ, List, false}
+use Rattle.std.specs.Prelude.{false}
 use Rattle.js_store.specs.State.{Sound, State}
 use Rattle.heap_session.specs.Sessions.{SessionFrame}
+use Rattle.heap_agents.specs.declared.seats.Seats.{Seats}
 
 pub record LookFrame : Type 0 where
   pub session : SessionFrame
-  pub seats : List ℕ
+  pub seats : Seats
 
-abbrev pub looking_state : State SessionFrame → List ℕ → State LookFrame
+abbrev pub looking_state : State SessionFrame → Seats → State LookFrame
 looking_state s seats = record {
   known = s.known;
   settled = s.settled;
@@ -27,7 +28,7 @@ looking_state s seats = record {
 }
 
 -- what the trait of stores asks of it
-pub looking_sound : (s : State SessionFrame) (seats : List ℕ) → Sound s → Sound (looking_state s seats)
+pub looking_sound : (s : State SessionFrame) (seats : Seats) → Sound s → Sound (looking_state s seats)
 looking_sound s seats p = record {
   one_number = p.one_number;
   one_list = p.one_list;

@@ -5,6 +5,7 @@ ghost use Rattle.heap_agents.specs.Held.{IsHeld};
 ghost use Rattle.heap_agents.specs.Keys.{FoundUnits, InternedUnits};
 
 use crate::held::Held;
+use crate::noting::{find_units, intern_units};
 use heap_intern::TableFull;
 
 impl Held {
@@ -15,10 +16,7 @@ impl Held {
         requires short { length units.now ≤ MAX }
         ensures { InternedUnits self.old self.new units.now result }
     {
-        let answer = match &mut self.text {
-            Some(text) => heap_intern::intern_units(&mut text.reader, units),
-            None => unreachable!(),
-        };
+        let answer = intern_units(&mut self.text, &mut self.seats, units);
         let id = answer?;
         self.mark_interned(id);
         Ok(id)
@@ -31,10 +29,7 @@ impl Held {
         requires short { length units.now ≤ MAX }
         ensures { FoundUnits self.old self.new units.now result }
     {
-        let found = match &mut self.text {
-            Some(text) => heap_intern::find_units(&mut text.reader, units),
-            None => unreachable!(),
-        };
+        let found = find_units(&mut self.text, &mut self.seats, units);
         match found {
             Some(id) => {
                 self.mark_interned(id);

@@ -19,6 +19,7 @@ mod out;
 mod reading;
 mod room;
 mod search;
+mod noting;
 mod seats;
 mod streams;
 mod table;

@@ -173,6 +173,7 @@ impl Held {
         ensures calls_room { IfOk result
             (λ b. (n : ℕ) → Covers self.now.interned n → Covers b.value.interned n) }
         ensures seats { IfOk result (λ b. b.value.seats.slots.items ≡ []) }
+        ensures hashes { IfOk result (λ b. b.value.seats.hashes.items ≡ []) }
         ensures agents { IfOk result (λ b. b.value.agents ≡ self.now.agents) }
         ensures giver { IfOk result (λ b. b.value.giver ≡ self.now.number) }
     {

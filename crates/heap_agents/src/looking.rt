@@ -4,27 +4,28 @@ ghost use Rattle.std.specs.Prelude.{◌≡◌};
 ghost use Rattle.js_store.specs.declared.limit.Limit.TheVariants as bound;
 ghost use Rattle.js_store.specs.Limits.{limit_units};
 ghost use Rattle.heap_table.specs.Agents.{Belongs, view_of};
-ghost use Rattle.heap_intern.specs.Seats.{AreSeats};
+ghost use Rattle.heap_agents.specs.Noted.{AreNoted};
 ghost use Rattle.heap_session.specs.Sessions.{session_view, state_by, state_in, table_of};
 ghost use Rattle.heap_session.specs.Shares.{BelongsAs};
 
+use crate::seats::Seats;
 use heap_session::Session;
 use heap_table::{Agent, Heap};
 use heap_text::JsStr;
 use js_store::{ConcatFault, Limit, StoreFault, Strings};
 
-/// A session on a heap, and the slots that its agent noted.
+/// A session on a heap, and what its agent noted.
 #[derive(Drop)]
 pub(crate) struct Looking<'h> {
     pub(crate) session: Session<&'h Heap>,
-    pub(crate) seats: &'h [u32],
-    ghost seated: { AreSeats (session_view session) seats.now },
+    pub(crate) seats: &'h Seats,
+    ghost noted: { AreNoted (session_view session) seats.now },
 }
 
 impl<'h> Looking<'h> {
-    pub(crate) fn new(heap: &'h Heap, agent: Agent, seats: &'h [u32]) -> Looking<'h>
+    pub(crate) fn new(heap: &'h Heap, agent: Agent, seats: &'h Seats) -> Looking<'h>
         requires belongs { Belongs agent heap.now }
-        requires seated { AreSeats (view_of agent) seats.now }
+        requires noted { AreNoted (view_of agent) seats.now }
         ensures state { state_in result.session
             ≡ state_by (view_of agent) (limit_units bound.Bits64) (table_of heap.now) }
         ensures view { session_view result.session ≡ view_of agent }
@@ -38,7 +39,7 @@ impl<'h> Looking<'h> {
     pub(crate) fn into_agent(self) -> Agent
         ensures view { view_of result ≡ session_view self.entry.session }
         ensures belongs { BelongsAs (state_in self.entry.session) result }
-        ensures seated { AreSeats (view_of result) self.entry.seats.now }
+        ensures noted { AreNoted (view_of result) self.entry.seats.now }
     {
         let Looking { session, seats: _ } = self;
         session.into_agent()

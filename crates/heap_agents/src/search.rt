@@ -82,7 +82,7 @@ impl Held {
     {
         let Text { reader, limit } = self.take_text();
         let Reader { heap, agent } = reader;
-        let mut store = Looking::new(&*heap, agent, self.seats.slots.as_slice());
+        let mut store = Looking::new(&*heap, agent, &self.seats);
         let answer = js_search::stands_at(&mut store, hay, needle, at);
         let agent = store.into_agent();
         self.text = Some(Text::new(heap, agent, limit));
@@ -105,7 +105,7 @@ impl Held {
     {
         let Text { reader, limit } = self.take_text();
         let Reader { heap, agent } = reader;
-        let mut store = Looking::new(&*heap, agent, self.seats.slots.as_slice());
+        let mut store = Looking::new(&*heap, agent, &self.seats);
         let answer = js_search::index_of(&mut store, hay, needle, from);
         let agent = store.into_agent();
         self.text = Some(Text::new(heap, agent, limit));
@@ -130,7 +130,7 @@ impl Held {
             limit: most,
         } = self.take_text();
         let Reader { heap, agent } = reader;
-        let mut store = Looking::new(&*heap, agent, self.seats.slots.as_slice());
+        let mut store = Looking::new(&*heap, agent, &self.seats);
         let answer = js_search::last_index_of(&mut store, hay, needle, limit);
         let agent = store.into_agent();
         self.text = Some(Text::new(heap, agent, most));

@@ -13,6 +13,7 @@ ghost use Rattle.heap_agents.specs.Held.{IsHeld, LeavesStrings, MarksMade, Marks
 ghost use Rattle.heap_agents.specs.Keys.{FoundUnits, InternedUnits};
 
 use crate::held::Held;
+use crate::noting::{find_from, intern_from};
 use heap_bytes::Spelling;
 use heap_intern::TableFull;
 use heap_text::{JsStr, TextFull};
@@ -55,10 +56,7 @@ impl Held {
         requires short { length (spelling_units source.now) ≤ MAX }
         ensures { InternedUnits self.old self.new (spelling_units source.now) result }
     {
-        let answer = match &mut self.text {
-            Some(text) => heap_intern::intern_from(&mut text.reader, source),
-            None => unreachable!(),
-        };
+        let answer = intern_from(&mut self.text, &mut self.seats, source);
         let id = answer?;
         self.mark_interned(id);
         Ok(id)
@@ -72,10 +70,7 @@ impl Held {
         requires short { length (spelling_units source.now) ≤ MAX }
         ensures { FoundUnits self.old self.new (spelling_units source.now) result }
     {
-        let found = match &mut self.text {
-            Some(text) => heap_intern::find_from(&mut text.reader, source),
-            None => unreachable!(),
-        };
+        let found = find_from(&mut self.text, &mut self.seats, source);
         match found {
             Some(id) => {
                 self.mark_interned(id);

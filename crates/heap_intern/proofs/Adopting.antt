@@ -101,7 +101,7 @@ one_slot_in : (v : View) → StandsIn v → (k l i : ℕ) → Has v.slots k i �
 one_slot_in v (z, agents, W, vs, j, s, at, live) k l i a b = let know = s.knows j v at live in let here = know.of_slots k i a in
     let there = know.of_slots l i b in s.different k l i i here.0 there.0 here.1 there.1 refl
 
-one_slot : (v : View) → IsPossible v → (k l i : ℕ) → Has v.slots k i → Has v.slots l i → k ≡ l
+pub one_slot : (v : View) → IsPossible v → (k l i : ℕ) → Has v.slots k i → Has v.slots l i → k ≡ l
 one_slot v p k l i a b = ∥∥₁_elim p (Prim.hlevel props) (λ t. one_slot_in v t k l i a b)
 
 -- a string of the history stands in a slot

@@ -1,5 +1,5 @@
 // Looking for units in the string table, where nothing is made. Each load of a slot is counted.
-ghost use Rattle.std.specs.Prelude.{◌≡◌, ℕ, List, ◌+◌, ◌*◌, ◌%◌, ◌≤◌, ◌<◌, ◌^◌, Option, Some, length};
+ghost use Rattle.std.specs.Prelude.{◌≡◌, ℕ, List, ◌+◌, ◌*◌, ◌%◌, ◌≤◌, ◌<◌, ◌^◌, Option, Some, IfSome, length, max};
 ghost use Rattle.js_units.specs.Lanes.{hash_of};
 ghost use Rattle.heap_rule.specs.Layout.{MAX};
 ghost use Rattle.heap_rule.specs.Maps.{Has};
@@ -7,13 +7,15 @@ ghost use Rattle.heap_table.specs.Agents.{size_of};
 ghost use Rattle.heap_intern.specs.Answers.{FindsString, StandsInSlot};
 ghost use Rattle.heap_bytes.specs.Spellings.{IsReadable, spelling_units};
 ghost use Rattle.heap_intern.specs.Given.{FindsGiven};
+ghost use Rattle.heap_intern.specs.Hashes.{AreHashes, IsNotedApart, NotesHash};
 ghost use Rattle.heap_intern.specs.SlotLoads.{LoadsSlots, loads_at};
-ghost use Rattle.heap_intern.specs.Visits.{Looked, LoadsOne, entries_seen};
+ghost use Rattle.heap_intern.specs.Visits.{Looked, LoadsOne, entries_seen, found_id};
 ghost use Rattle.heap_intern.specs.Wanted.{IsWanted, wanted_plan};
 ghost use Rattle.heap_read.specs.Readers.{view_in};
 ghost use Rattle.heap_read.specs.Reads.{HoldsForms};
 
-use crate::table::probing::{Visit, visit_used};
+use crate::table::hashes::{next_rank, note_hash};
+use crate::table::probing::{Seat, Visit, visit_used};
 use crate::table::wanted::Wanted;
 use heap_bytes::Spelling;
 use heap_read::{HeapRef, Reader, Steps};
@@ -43,34 +45,72 @@ fn look<L: Ledger, H: HeapRef>(
     }
 }
 
-// The slots of the path, from the first on, up to the one with the string or a free one.
-fn walk<L: Ledger, H: HeapRef>(
+// The slots of the path, from the first on, up to the one with the string or a free one, but for those that are
+// noted with another hash.
+fn walk_path<L: Ledger, H: HeapRef>(
     reader: &mut Reader<H>,
     wanted: &Wanted,
     hash: u32,
+    hashes: &[u32],
+    steps: &mut Steps<L>,
+) -> Option<Seat>
+    requires wanted { (us : List ℕ) × IsWanted (view_in reader.old) wanted.now us }
+    requires hash { (us : List ℕ) → IsWanted (view_in reader.old) wanted.now us → hash ≡ hash_of us }
+    requires hashed { AreHashes (view_in reader.old) hashes.now }
+    ensures heap { reader.new.heap ≡ reader.old.heap }
+    ensures forms { HoldsForms (view_in reader.old) (view_in reader.new) }
+    ensures finds { (us : List ℕ) → IsWanted (view_in reader.old) wanted.now us
+        → FindsString (view_in reader.old) (view_in reader.new) us (found_id result) }
+    ensures loads { LoadsSlots (view_in reader.old) (view_in reader.new) (found_id result)
+        steps.old steps.new }
+    ensures stands { IfSome result (λ s. Has (view_in reader.new).slots s.slot s.id) }
+    ensures apart { (k : ℕ) → IsNotedApart hashes.now k (max hash 1)
+        → loads_at (view_in reader.new) k ≡ loads_at (view_in reader.old) k }
+{
+    let n = reader.heap.heap().size().slots;
+    let start = hash % n;
+    let mark = hash.max(1);
+    let mut r = next_rank(hashes, start, n, mark, 0);
+    while r < n {
+        let slot = (start + r) % n;
+        let visit = match look(reader, wanted, slot, steps) {
+            Some(visit) => visit,
+            None => return None,
+        };
+        match visit {
+            Visit::Answer { id } => return Some(Seat { id, slot }),
+            Visit::Next { .. } => {}
+        }
+        r = next_rank(hashes, start, n, mark, r + 1);
+    }
+    None
+}
+
+// The same, and notes the hash for the slot of the string.
+pub(crate) fn walk<L: Ledger, H: HeapRef>(
+    reader: &mut Reader<H>,
+    wanted: &Wanted,
+    hash: u32,
+    hashes: &mut [u32],
     steps: &mut Steps<L>,
 ) -> Option<u32>
     requires wanted { (us : List ℕ) × IsWanted (view_in reader.old) wanted.now us }
     requires hash { (us : List ℕ) → IsWanted (view_in reader.old) wanted.now us → hash ≡ hash_of us }
+    requires hashed { AreHashes (view_in reader.old) hashes.old }
     ensures heap { reader.new.heap ≡ reader.old.heap }
     ensures forms { HoldsForms (view_in reader.old) (view_in reader.new) }
     ensures finds { (us : List ℕ) → IsWanted (view_in reader.old) wanted.now us
         → FindsString (view_in reader.old) (view_in reader.new) us result }
     ensures loads { LoadsSlots (view_in reader.old) (view_in reader.new) result steps.old steps.new }
+    ensures notes { (us : List ℕ) → IsWanted (view_in reader.old) wanted.now us
+        → NotesHash (view_in reader.old) (view_in reader.new) us result hashes.old hashes.new }
 {
-    let n = reader.heap.heap().size().slots;
-    let start = hash % n;
-    for r in 0..n {
-        let visit = match look(reader, wanted, (start + r) % n, steps) {
-            Some(visit) => visit,
-            None => return None,
-        };
-        match visit {
-            Visit::Answer { id } => return Some(id),
-            Visit::Next { .. } => {}
-        }
-    }
-    None
+    let seat = match walk_path(reader, wanted, hash, hashes, steps) {
+        Some(seat) => seat,
+        None => return None,
+    };
+    note_hash(hashes, seat.slot, hash.max(1));
+    Some(seat.id)
 }
 
 /// As [`find_units`], and counts each load of a slot. No slot is loaded twice but the one that
@@ -91,7 +131,7 @@ pub fn find_units_counted<L: Ledger, H: HeapRef>(
     ensures most { steps.new ≤ steps.old + 2 * (size_of (H.reached reader.old.heap)).slots }
 {
     let hash = hash_units(0, units);
-    walk(reader, &Wanted::Units(units), hash, steps)
+    walk(reader, &Wanted::Units(units), hash, &mut [], steps)
 }
 
 // The ledger of a caller that counts nothing.
@@ -147,7 +187,7 @@ fn find_from_by<L: Ledger, H: HeapRef>(
 {
     let mut steps = Steps::<L>::start(blank);
     let hash = source.hash();
-    walk(reader, &Wanted::Spelled(*source), hash, &mut steps)
+    walk(reader, &Wanted::Spelled(*source), hash, &mut [], &mut steps)
 }
 
 /// The interned string of the units that bytes spell, by its number, if it is in the table, as [`find_units`]

@@ -5,8 +5,9 @@ ghost use Rattle.heap_rule.specs.Maps.{Has, HasKey};
 ghost use Rattle.heap_rule.specs.Views.{IsSeenSettled};
 ghost use Rattle.heap_intern.specs.Adopted.{LoadsHere};
 ghost use Rattle.heap_intern.specs.Answers.{HeaderPlan, IsForwarded, IsFoundAgain, IsInternAnswer, IsPlan};
+ghost use Rattle.heap_intern.specs.Hashes.{AreHashes, NotesHash};
 ghost use Rattle.heap_intern.specs.Seats.{AreSeats, IsSeated};
-ghost use Rattle.heap_intern.specs.SlotLoads.{loads_at};
+ghost use Rattle.heap_intern.specs.SlotLoads.{answered, loads_at};
 ghost use Rattle.heap_intern.specs.Visits.{StandsAt, id_in};
 ghost use Rattle.heap_read.specs.Readers.{view_in};
 
@@ -66,6 +67,7 @@ fn intern_again<H: HeapRef>(reader: &mut Reader<H>, id: u32, slot: u32) -> u32
 fn intern_seat_by<L: Ledger, H: HeapRef>(
     reader: &mut Reader<H>,
     id: u32,
+    hashes: &mut [u32],
     blank: Blank,
 ) -> Result<Seat, TableFull>
     requires name { blank.name ≡ L.name }
@@ -73,6 +75,7 @@ fn intern_seat_by<L: Ledger, H: HeapRef>(
     requires some { 0 < blank.parts }
     requires known { HasKey (view_in reader.old).units id }
     requires settled { IsSeenSettled (view_in reader.old) id }
+    requires hashed { AreHashes (view_in reader.old) hashes.old }
     ensures heap { reader.new.heap ≡ reader.old.heap }
     ensures interns { (us : List ℕ) → Has (view_in reader.old).units id us
         → (plan : HeaderPlan) × IsPlan (view_in reader.old) (view_in reader.new) id us plan
@@ -83,15 +86,23 @@ fn intern_seat_by<L: Ledger, H: HeapRef>(
     ensures stands { IfOk result (λ s. (us : List ℕ) → Has (view_in reader.old).units id us
         → StandsAt (view_in reader.new) us s.slot s.id) }
     ensures few { (k : ℕ) → loads_at (view_in reader.new) k ≤ loads_at (view_in reader.old) k + 2 }
+    ensures notes { (us : List ℕ) → Has (view_in reader.old).units id us
+        → NotesHash (view_in reader.old) (view_in reader.new) us (answered (id_in result))
+        hashes.old hashes.new }
 {
     let mut steps = Steps::<L>::start(blank);
-    intern_seat(reader, id, &mut steps)
+    intern_seat(reader, id, hashes, &mut steps)
 }
 
 // The interned string and its slot, with no count.
-fn intern_seated<H: HeapRef>(reader: &mut Reader<H>, id: u32) -> Result<Seat, TableFull>
+fn intern_seated<H: HeapRef>(
+    reader: &mut Reader<H>,
+    id: u32,
+    hashes: &mut [u32],
+) -> Result<Seat, TableFull>
     requires known { HasKey (view_in reader.old).units id }
     requires settled { IsSeenSettled (view_in reader.old) id }
+    requires hashed { AreHashes (view_in reader.old) hashes.old }
     ensures heap { reader.new.heap ≡ reader.old.heap }
     ensures interns { (us : List ℕ) → Has (view_in reader.old).units id us
         → (plan : HeaderPlan) × IsPlan (view_in reader.old) (view_in reader.new) id us plan
@@ -102,21 +113,27 @@ fn intern_seated<H: HeapRef>(reader: &mut Reader<H>, id: u32) -> Result<Seat, Ta
     ensures stands { IfOk result (λ s. (us : List ℕ) → Has (view_in reader.old).units id us
         → StandsAt (view_in reader.new) us s.slot s.id) }
     ensures few { (k : ℕ) → loads_at (view_in reader.new) k ≤ loads_at (view_in reader.old) k + 2 }
+    ensures notes { (us : List ℕ) → Has (view_in reader.old).units id us
+        → NotesHash (view_in reader.old) (view_in reader.new) us (answered (id_in result))
+        hashes.old hashes.new }
 {
-    intern_seat_by::<Brand, _>(reader, id, Blank::new(1))
+    intern_seat_by::<Brand, _>(reader, id, hashes, Blank::new(1))
 }
 
 /// As [`intern`](crate::intern), for a caller that notes slots: at the place of each number is 0, or one above
 /// the slot that the interned string of that number is in. Where the one for `id` is noted, it is loaded once,
 /// and nothing else is loaded or used; else it is noted once `id` is interned, where there is room for it.
+/// Hashes are noted too, as by [`intern_units_noted`](crate::intern_units_noted).
 pub fn intern_noted<H: HeapRef>(
     reader: &mut Reader<H>,
     id: u32,
     seats: &mut [u32],
+    hashes: &mut [u32],
 ) -> Result<u32, TableFull>
     requires known { HasKey (view_in reader.old).units id }
     requires settled { IsSeenSettled (view_in reader.old) id }
     requires seated { AreSeats (view_in reader.old) seats.old }
+    requires hashed { AreHashes (view_in reader.old) hashes.old }
     ensures heap { reader.new.heap ≡ reader.old.heap }
     ensures interns { (us : List ℕ) → Has (view_in reader.old).units id us
         → (plan : HeaderPlan) × IsPlan (view_in reader.old) (view_in reader.new) id us plan
@@ -130,11 +147,15 @@ pub fn intern_noted<H: HeapRef>(
     ensures seated { AreSeats (view_in reader.new) seats.new }
     ensures noted { id < length seats.old → IfOk result (λ i. 0 < slice_index seats.new id) }
     ensures room { length seats.new ≡ length seats.old }
+    ensures hashed { AreHashes (view_in reader.new) hashes.new }
+    ensures hash_room { length hashes.new ≡ length hashes.old }
+    ensures notes { slice_index seats.old id ≡ 0 → (us : List ℕ) → Has (view_in reader.old).units id us
+        → NotesHash (view_in reader.old) (view_in reader.new) us (answered result) hashes.old hashes.new }
 {
     if let Some(slot) = seat_in(seats, id) {
         return Ok(intern_again(reader, id, slot));
     }
-    let seat = match intern_seated(reader, id) {
+    let seat = match intern_seated(reader, id, hashes) {
         Ok(seat) => seat,
         Err(full) => return Err(full),
     };

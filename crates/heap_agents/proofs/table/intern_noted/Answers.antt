@@ -1,16 +1,26 @@
-use Rattle.std.proofs.Common.{◌≡◌, ◌∙◌, ℕ, List, Option, length, subst, sym}
+use Rattle.std.proofs.Common.{◌≡◌, ◌∙◌, ℕ, List, Option, ap, length, subst, sym}
+use Rattle.std.specs.Prelude.{slice_index}
 use Rattle.std.proofs.lemmas.List.{take_at}
 use Rattle.heap_table.specs.Agents.{view_of}
+use Rattle.heap_intern.specs.Hashes.{AreHashes}
 use Rattle.heap_intern.specs.Seats.{AreSeats}
 use Rattle.heap_agents.specs.Shared.{SharedText, view_if}
-use Rattle.heap_agents.proofs.Marks.{same_seats}
+use Rattle.heap_agents.proofs.Marks.{same_hashes, same_seats}
 use Rattle.heap_agents.proofs.table.intern_noted.Goals as goal
 
 pub intern_noted-requires-clause-seated : goal.intern_noted-requires-clause-seated
 intern_noted-requires-clause-seated c = let v = view_of c.in-Some.text.reader.agent in
-    subst (λ (l : List ℕ). AreSeats v l) (sym c.as_mut_slice.ensures.value) (same_seats v c.args.seats.now.slots.items c.reach.new.self.slots.items c.reach.ensures
-    (subst (λ (o : Option SharedText). AreSeats (view_if o) c.args.seats.now.slots.items) c.in-Some.is c.requires.seated))
+    subst (λ (l : List ℕ). AreSeats v l) (sym c.as_mut_slice.ensures.value) (same_seats v c.args.seats.now.slots.items c.reach_hashes.new.self.slots.items (λ i. (λ j. slice_index (c.reach_hashes.ensures.slots j).items i) ∙ c.reach.ensures.slots i)
+    (subst (λ (o : Option SharedText). AreSeats (view_if o) c.args.seats.now.slots.items) c.in-Some.is c.requires.noted.0))
 
-pub returns-clause-seated : goal.returns-clause-seated
-returns-clause-seated c = let call = c.intern_noted in let len : length call.new.seats ≡ c.reach.new.self.slots.len = call.ensures.room ∙ c.as_mut_slice.ensures.len in
-    subst (λ (l : List ℕ). AreSeats (view_of call.new.reader.agent) l) (sym (take_at call.new.seats _ c.reach.new.self.slots.len len)) call.ensures.seated
+pub intern_noted-requires-clause-hashed : goal.intern_noted-requires-clause-hashed
+intern_noted-requires-clause-hashed c = let v = view_of c.in-Some.text.reader.agent in
+    subst (λ (l : List ℕ). AreHashes v l) (sym c.as_mut_slice-2.ensures.value) (same_hashes v c.args.seats.now.hashes.items c.reach_hashes.new.self.hashes.items (λ k. c.reach_hashes.ensures.hashes k ∙ (λ j. slice_index (c.reach.ensures.hashes j).items k))
+    (subst (λ (o : Option SharedText). AreHashes (view_if o) c.args.seats.now.hashes.items) c.in-Some.is c.requires.noted.1))
+
+pub returns-clause-noted : goal.returns-clause-noted
+returns-clause-noted c = let call = c.intern_noted in let len : length call.new.seats ≡ c.reach_hashes.new.self.slots.len = call.ensures.room ∙ c.as_mut_slice.ensures.len in
+    let hash_len : length call.new.hashes ≡ c.reach_hashes.new.self.hashes.len = call.ensures.hash_room ∙ c.as_mut_slice-2.ensures.len in (
+      subst (λ (l : List ℕ). AreSeats (view_of call.new.reader.agent) l) (sym (take_at call.new.seats _ c.reach_hashes.new.self.slots.len len)) call.ensures.seated,
+      subst (λ (l : List ℕ). AreHashes (view_of call.new.reader.agent) l) (sym (take_at call.new.hashes _ c.reach_hashes.new.self.hashes.len hash_len)) call.ensures.hashed,
+    )

@@ -5,10 +5,11 @@ use Rattle.js_store.specs.Limits.{limit_units}
 use Rattle.heap_table.specs.declared.agent.Agent.{Agent}
 use Rattle.heap_table.specs.declared.heap.Heap.{Heap}
 use Rattle.heap_table.specs.Agents.{Belongs, view_of}
-use Rattle.heap_intern.specs.Seats.{AreSeats}
 use Rattle.heap_session.specs.Sessions.{state_by, state_in, table_of}
 use Rattle.heap_agents.specs.declared.held.Held.{Held}
 use Rattle.heap_agents.specs.Held.{LeavesSearched}
+use Rattle.heap_agents.specs.declared.seats.Seats.{Seats}
+use Rattle.heap_agents.specs.Noted.{AreNoted}
 use Rattle.heap_agents.specs.Shared.{SharedText, heap_of, view_if}
 use Rattle.heap_agents.proofs.Refusing.{looked_as, seats_left}
 use Rattle.heap_agents.proofs.Searched.{belongs, searched}
@@ -17,10 +18,10 @@ use Rattle.heap_agents.proofs.held.Held.index_of.Goals as goal
 pub new-store-requires-clause-belongs : goal.new-store-requires-clause-belongs
 new-store-requires-clause-belongs c = let t = c.take_text-reader.result in subst (λ (h : Heap). Belongs t.reader.agent h) (sym c.deref.ensures) t.reader.belongs
 
-pub new-store-requires-clause-seated : goal.new-store-requires-clause-seated
-new-store-requires-clause-seated c = let t = c.take_text-reader.result in let x = c.args.self.now in
-    subst (λ (l : List ℕ). AreSeats (view_of t.reader.agent) l) (ap (λ (y : Held). y.seats.slots.items) (sym c.take_text-reader.ensures.rest) ∙ sym c.as_slice.ensures.value)
-    (subst (λ (o : Option SharedText). AreSeats (view_if o) x.seats.slots.items) c.take_text-reader.ensures.text c.requires.held.seated)
+pub new-store-requires-clause-noted : goal.new-store-requires-clause-noted
+new-store-requires-clause-noted c = let t = c.take_text-reader.result in let x = c.args.self.now in
+    subst (λ (l : Seats). AreNoted (view_of t.reader.agent) l) (ap (λ (y : Held). y.seats) (sym c.take_text-reader.ensures.rest))
+    (subst (λ (o : Option SharedText). AreNoted (view_if o) x.seats) c.take_text-reader.ensures.text c.requires.held.noted)
 
 pub new-requires-clause-belongs : goal.new-requires-clause-belongs
 new-requires-clause-belongs c = let t = c.take_text-reader.result in let made = c.new-store in let left = c.into_agent-agent in let done = c.index_of-answer in
@@ -31,10 +32,10 @@ new-requires-clause-belongs c = let t = c.take_text-reader.result in let made = 
 pub returns-clause-searched : goal.returns-clause-searched
 returns-clause-searched c = let t = c.take_text-reader.result in let x = c.args.self.now in let made = c.new-store in let left = c.into_agent-agent in let done = c.index_of-answer in
     let uses = looked_as (state_in made.result.session) (state_in done.new.store.session) made.result.seats.now done.new.store.seats.now refl refl done.ensures.uses in
-    let same : done.new.store.seats.now ≡ x.seats.slots.items = seats_left (state_in made.result.session) (state_in done.new.store.session)
+    let same : done.new.store.seats.now ≡ x.seats = seats_left (state_in made.result.session) (state_in done.new.store.session)
     made.result.seats.now done.new.store.seats.now done.ensures.uses
-    ∙ (made.ensures.seats ∙ (c.as_slice.ensures.value ∙ ap (λ (y : Held). y.seats.slots.items) c.take_text-reader.ensures.rest)) in
+    ∙ (made.ensures.seats ∙ ap (λ (y : Held). y.seats) c.take_text-reader.ensures.rest) in
     subst (λ (y : Held). LeavesSearched x (record y { text = Some c.new.result })) (sym c.take_text-reader.ensures.rest)
     (searched x t made.result.session c.take_text-reader.ensures.text made.ensures.view done.new.store.session c.new.result c.requires.held
     (ap arc_value c.new.ensures.heap) c.new.ensures.limit uses (ap view_of c.new.ensures.agent ∙ left.ensures.view)
-    (subst (λ (l : List ℕ). AreSeats (view_of c.new.result.reader.agent) l) same (subst (λ (a : Agent). AreSeats (view_of a) done.new.store.seats.now) (sym c.new.ensures.agent) left.ensures.seated)))
+    (subst (λ (l : Seats). AreNoted (view_of c.new.result.reader.agent) l) same (subst (λ (a : Agent). AreNoted (view_of a) done.new.store.seats.now) (sym c.new.ensures.agent) left.ensures.noted)))

@@ -14,7 +14,7 @@ pub mark_interned-requires-clause-held : goal.mark_interned-requires-clause-held
 mark_interned-requires-clause-held c = let x = c.args.self.now in let call = c.intern_noted-answer in let v : View = view_by x in
     let w : View = view_if call.new.text in let s : ℕ = c.args.s in let e = call.ensures in
     noted x call.new.text c.requires.held e.there e.same (known_by v w s c.requires.known call.result e.interns).units (calls_by v w s c.requires.known call.result e.interns)
-    (agents_by v w s c.requires.known call.result e.interns) call.new.seats e.seated
+    (agents_by v w s c.requires.known call.result e.interns) call.new.seats e.noted
 
 pub mark_interned-requires-clause-known : goal.mark_interned-requires-clause-known
 mark_interned-requires-clause-known c = let v : View = view_by c.args.self.now in let w : View = view_if c.intern_noted-answer.new.text in

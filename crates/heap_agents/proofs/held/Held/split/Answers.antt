@@ -14,3 +14,4 @@ returns-clause-other c = let s = c.in_ok-split_text.ensures in let b = c.in_ok-o
     (ap (λ (h : Held). h.known) c.deref_mut-2.ensures.value ∙ ap (λ (h : Held). h.known) c.deref_mut.ensures.value)
     (ap (λ (h : Held). h.interned) c.deref_mut-2.ensures.value ∙ ap (λ (h : Held). h.interned) c.deref_mut.ensures.value)
     (ap (λ (h : Held). h.seats.slots.items) c.deref_mut-2.ensures.value ∙ (ap (λ (h : Held). h.seats.slots.items) c.deref_mut.ensures.value ∙ b.seats))
+    (ap (λ (h : Held). h.seats.hashes.items) c.deref_mut-2.ensures.value ∙ (ap (λ (h : Held). h.seats.hashes.items) c.deref_mut.ensures.value ∙ b.hashes))

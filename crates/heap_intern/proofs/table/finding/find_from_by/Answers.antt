@@ -3,6 +3,7 @@ use Rattle.js_units.specs.Lanes.{hash_of}
 use Rattle.heap_rule.specs.declared.view.View.{View}
 use Rattle.heap_bytes.specs.Spellings.{spelling_units}
 use Rattle.heap_intern.proofs.Again.{find_again}
+use Rattle.heap_intern.proofs.Hashes.{no_hashes}
 use Rattle.heap_intern.proofs.Loading.{slots_few}
 use Rattle.heap_intern.proofs.table.finding.find_from_by.Goals as goal
 
@@ -21,3 +22,6 @@ returns-clause-finds g c = let v : View = c.args.reader.now.agent.seat.me.0 in l
       forms = e.forms;
       few = slots_few v w c.walk.result _ _ e.loads;
     }
+
+pub walk-requires-clause-hashed : goal.walk-requires-clause-hashed
+walk-requires-clause-hashed g c = no_hashes c.args.reader.now.agent.seat.me.0

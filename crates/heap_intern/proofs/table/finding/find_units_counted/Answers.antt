@@ -2,6 +2,7 @@ use Rattle.std.proofs.Common.{◌≤◌, ◌+◌, ◌*◌, ◌∙◌, refl, ap, 
 use Rattle.js_units.specs.Lanes.{hash_of}
 use Rattle.heap_rule.specs.declared.size.HeapSize.{HeapSize}
 use Rattle.heap_intern.proofs.Again.{find_again}
+use Rattle.heap_intern.proofs.Hashes.{no_hashes}
 use Rattle.heap_intern.proofs.Loading.{slots_few, slots_most}
 use Rattle.heap_intern.proofs.table.finding.find_units_counted.Goals as goal
 
@@ -24,3 +25,6 @@ returns-clause-few g c = slots_few c.args.reader.now.agent.seat.me.0 c.walk.new.
 pub returns-clause-most : goal.returns-clause-most
 returns-clause-most g c = subst (λ (z : HeapSize). c.walk.new.steps ≤ c.args.steps.now + 2 * z.slots) c.args.reader.now.belongs.1
     (slots_most c.args.reader.now.agent.seat.me.0 c.walk.new.reader.agent.seat.me.0 c.walk.result c.args.steps.now c.walk.new.steps c.walk.ensures.loads)
+
+pub walk-requires-clause-hashed : goal.walk-requires-clause-hashed
+walk-requires-clause-hashed g c = no_hashes c.args.reader.now.agent.seat.me.0

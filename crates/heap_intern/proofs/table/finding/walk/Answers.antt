@@ -1,116 +1,16 @@
-use Rattle.std.proofs.Common.{◌≡◌, ◌+◌, ◌%◌, ◌≤◌, ◌∙◌, ℕ, Option, Some, None, ap, inl, inr, refl, subst, sym, arith}
-use Rattle.heap_rule.specs.declared.size.HeapSize.{HeapSize}
+use Rattle.std.proofs.Common.{ℕ, None}
 use Rattle.heap_rule.specs.declared.view.View.{View}
-use Rattle.heap_rule.proofs.Possible.{possible_lawful}
-use Rattle.heap_intern.specs.declared.table.probing.Visit.{Visit}
-use Rattle.heap_intern.specs.Wanted.{wanted_plan}
-use Rattle.heap_intern.specs.Visits.{LoadsOne, Visited, entries}
-use Rattle.heap_intern.proofs.Going.{forms_trans, looks_trans}
-use Rattle.heap_intern.proofs.Loading.{walked_all, walked_to, walking_next, walking_none}
-use Rattle.heap_intern.proofs.Visiting.{Probing, free_slot, looks_probing, next_inside, next_rank, next_probing, none_made, probed_all, probed_to, probing_first}
-use Rattle.heap_table.specs.Agents.{size_of}
+use Rattle.heap_intern.proofs.Again.{finds_known}
+use Rattle.heap_intern.proofs.Hashes.{notes_answer, notes_none}
 use Rattle.heap_intern.proofs.table.finding.walk.Goals as goal
 
-pub nonzero_rem-start : goal.nonzero_rem-start
-nonzero_rem-start g c = let v : View = c.args.reader.now.agent.seat.me.0 in let some : 1 ≤ v.sizes.slots = (possible_lawful v c.args.reader.now.belongs.5).4 in
-    let is : c.size-n.result.slots ≡ v.sizes.slots = ap (λ (z : HeapSize). z.slots) ((c.size-n.ensures ∙ ap size_of c.heap.ensures) ∙ sym c.args.reader.now.belongs.1) in omega arith
+pub returns-in-None-clause-notes : goal.returns-in-None-clause-notes
+returns-in-None-clause-notes g c us h = let v : View = c.args.reader.now.agent.seat.me.0 in let w : View = c.walk_path.new.reader.agent.seat.me.0 in
+    notes_none v w c.walk_path.new.reader.belongs.5 us c.args.hashes.now c.args.hashes.now c.args.hash (c.requires.hash us h)
+    (finds_known v w us None (c.in-None.ensures.finds us h)) c.requires.hashed c.walk_path.ensures.apart
 
-pub loop-r-init : goal.loop-r-init
-loop-r-init g c = (
-  refl,
-  λ us h. probing_first c.args.reader.now.agent.seat.me.0 c.args.wanted.now us (wanted_plan c.args.wanted.now us)
-      None h tt,
-  λ us h. walking_none c.args.reader.now.agent.seat.me.0 us c.args.steps.now,
-)
-
-pub look-requires-clause-wanted : goal.look-requires-clause-wanted
-look-requires-clause-wanted g c = let u = c.requires.wanted in (u.0, (c.loop-r.invariant.1 u.0 u.1).wanted)
-
-pub returns-in-None-clause-finds : goal.returns-in-None-clause-finds
-returns-in-None-clause-finds g c us h = let a : View = c.args.reader.now.agent.seat.me.0 in
-    let v : View = c.loop-r.reader.agent.seat.me.0 in let w : View = c.look.new.reader.agent.seat.me.0 in let s = c.args.wanted.now in
-    let i = c.loop-r.invariant.1 us h in
-    let n = c.size-n.result.slots in
-    let slots : n ≡ a.sizes.slots = ap (λ (z : HeapSize). z.slots) ((c.size-n.ensures ∙ ap size_of c.heap.ensures) ∙
-    sym c.args.reader.now.belongs.1) in let l = c.in-None.ensures.looked us i.wanted in (
-      looks_trans a v w (looks_probing a v s us (wanted_plan s us) c.loop-r.r i) l.0,
-      inl (free_slot a v s us (wanted_plan s us) None c.loop-r.r None i n c.args.hash slots (c.requires.hash us h) w c.loop-r.reader.belongs.5 c.loop-r-test.true l.0.goes l.2),
-    )
-
-pub returns-in-Answer-clause-finds : goal.returns-in-Answer-clause-finds
-returns-in-Answer-clause-finds g c us h = let a : View = c.args.reader.now.agent.seat.me.0 in
-    let v : View = c.loop-r.reader.agent.seat.me.0 in let w : View = c.look.new.reader.agent.seat.me.0 in let s = c.args.wanted.now in
-    let i = c.loop-r.invariant.1 us h in
-    let n = c.size-n.result.slots in
-    let slots : n ≡ a.sizes.slots = ap (λ (z : HeapSize). z.slots) ((c.size-n.ensures ∙ ap size_of c.heap.ensures) ∙
-    sym c.args.reader.now.belongs.1) in let l = c.in-Some.ensures.looked us i.wanted in let before = looks_probing a v s us (wanted_plan s us) c.loop-r.r i in
-    let t = probed_to a v s us (wanted_plan s us) None c.loop-r.r None i n c.args.hash slots (c.requires.hash us h) w c.in-Answer.id c.loop-r.reader.belongs.5 c.loop-r-test.true
-    (subst (λ (x : Visit). Visited v w us (wanted_plan s us) ((c.args.hash % n + c.loop-r.r) % n) None x) c.in-Answer.is l.0) in
-    (t.0, (l.1.0 ∙ before.used, l.1.1 ∙ before.words), t.3, t.4)
-
-pub loop-r-preserved : goal.loop-r-preserved
-loop-r-preserved g c = let a : View = c.args.reader.now.agent.seat.me.0 in let v : View = c.loop-r.reader.agent.seat.me.0 in
-    let w : View = c.look.new.reader.agent.seat.me.0 in let s = c.args.wanted.now in
-    let n = c.size-n.result.slots in
-    let slots : n ≡ a.sizes.slots = ap (λ (z : HeapSize). z.slots) ((c.size-n.ensures ∙ ap size_of c.heap.ensures) ∙
-    sym c.args.reader.now.belongs.1) in let k : ℕ = (c.args.hash % n + c.loop-r.r) % n in (
-      c.look.ensures.heap ∙ c.loop-r.invariant.0,
-      λ us h. let i = c.loop-r.invariant.1 us h in let l = c.in-Some.ensures.looked us i.wanted in
-          let next = subst (λ (x : Visit). Visited v w us (wanted_plan s us) k None x) c.in-Next.is l.0 in
-          subst (λ (o : Option ℕ). Probing a w s us (wanted_plan s us) None (c.loop-r.r + 1) o) (none_made v w us (wanted_plan s us) k c.in-Next.header next l.1)
-          (next_probing a v s us (wanted_plan s us) None c.loop-r.r None i n c.args.hash slots (c.requires.hash us h) w c.in-Next.header c.loop-r.reader.belongs.5 next),
-      λ us h. let i = c.loop-r.invariant.1 us h in
-          walking_next a v w us c.loop-r.r c.args.steps.now c.loop-r.steps c.look.new.steps k (0 + 1) (c.loop-r.invariant.2 us h)
-          (next_inside a v s us (wanted_plan s us) None c.loop-r.r None i n c.args.hash slots (c.requires.hash us h) c.loop-r-test.true)
-          (next_rank a v s us (wanted_plan s us) None c.loop-r.r None i n c.args.hash slots (c.requires.hash us h) c.loop-r-test.true)
-          (subst (λ (x : Visit). LoadsOne v w k (entries x + 1) c.loop-r.steps c.look.new.steps) c.in-Next.is c.in-Some.ensures.loads) (omega arith),
-    )
-
-pub returns-clause-finds : goal.returns-clause-finds
-returns-clause-finds g c us h = let a : View = c.args.reader.now.agent.seat.me.0 in let v : View = c.loop-r.reader.agent.seat.me.0 in
-    let s = c.args.wanted.now in let n = c.size-n.result.slots in let e : c.loop-r.r ≡ n = omega arith in let i = c.loop-r.invariant.1 us h in
-    let slots : n ≡ a.sizes.slots = ap (λ (z : HeapSize). z.slots) ((c.size-n.ensures ∙ ap size_of c.heap.ensures) ∙ sym c.args.reader.now.belongs.1) in
-    (looks_probing a v s us (wanted_plan s us) c.loop-r.r i, inr (probed_all a v s us (wanted_plan s us) None c.loop-r.r None i n c.args.hash slots (c.requires.hash us h) e).1.1)
-
-pub returns-in-None-clause-loads : goal.returns-in-None-clause-loads
-returns-in-None-clause-loads g c = let a : View = c.args.reader.now.agent.seat.me.0 in let v : View = c.loop-r.reader.agent.seat.me.0 in
-    let w : View = c.look.new.reader.agent.seat.me.0 in let s = c.args.wanted.now in let u = c.requires.wanted in
-    let i = c.loop-r.invariant.1 u.0 u.1 in let n = c.size-n.result.slots in
-    let slots : n ≡ a.sizes.slots = ap (λ (z : HeapSize). z.slots) ((c.size-n.ensures ∙ ap size_of c.heap.ensures) ∙
-    sym c.args.reader.now.belongs.1) in let k : ℕ = (c.args.hash % n + c.loop-r.r) % n in
-    walked_to a v w u.0 c.loop-r.r c.args.steps.now c.loop-r.steps c.look.new.steps k (0 + 1) (c.loop-r.invariant.2 u.0 u.1)
-    (next_inside a v s u.0 (wanted_plan s u.0) None c.loop-r.r None i n c.args.hash slots (c.requires.hash u.0 u.1) c.loop-r-test.true)
-    (next_rank a v s u.0 (wanted_plan s u.0) None c.loop-r.r None i n c.args.hash slots (c.requires.hash u.0 u.1) c.loop-r-test.true)
-    c.in-None.ensures.loads None (omega arith) (λ l. absurd (omega arith))
-
-pub returns-in-Answer-clause-loads : goal.returns-in-Answer-clause-loads
-returns-in-Answer-clause-loads g c = let a : View = c.args.reader.now.agent.seat.me.0 in let v : View = c.loop-r.reader.agent.seat.me.0 in
-    let w : View = c.look.new.reader.agent.seat.me.0 in let s = c.args.wanted.now in let u = c.requires.wanted in
-    let i = c.loop-r.invariant.1 u.0 u.1 in let n = c.size-n.result.slots in
-    let slots : n ≡ a.sizes.slots = ap (λ (z : HeapSize). z.slots) ((c.size-n.ensures ∙ ap size_of c.heap.ensures) ∙
-    sym c.args.reader.now.belongs.1) in let k : ℕ = (c.args.hash % n + c.loop-r.r) % n in
-    let answer = subst (λ (x : Visit). Visited v w u.0 (wanted_plan s u.0) k None x) c.in-Answer.is (c.in-Some.ensures.looked u.0 i.wanted).0 in
-    walked_to a v w u.0 c.loop-r.r c.args.steps.now c.loop-r.steps c.look.new.steps k (1 + 1) (c.loop-r.invariant.2 u.0 u.1)
-    (next_inside a v s u.0 (wanted_plan s u.0) None c.loop-r.r None i n c.args.hash slots (c.requires.hash u.0 u.1) c.loop-r-test.true)
-    (next_rank a v s u.0 (wanted_plan s u.0) None c.loop-r.r None i n c.args.hash slots (c.requires.hash u.0 u.1) c.loop-r-test.true)
-    (subst (λ (x : Visit). LoadsOne v w k (entries x + 1) c.loop-r.steps c.look.new.steps) c.in-Answer.is c.in-Some.ensures.loads)
-    (Some c.in-Answer.id) (omega arith) (λ l. (c.in-Answer.id, refl, answer.stands))
-
-pub returns-clause-loads : goal.returns-clause-loads
-returns-clause-loads g c = let a : View = c.args.reader.now.agent.seat.me.0 in let u = c.requires.wanted in
-    walked_all a c.loop-r.reader.agent.seat.me.0 u.0 c.loop-r.r c.args.steps.now c.loop-r.steps None (c.loop-r.invariant.2 u.0 u.1)
-
-pub returns-in-None-clause-forms : goal.returns-in-None-clause-forms
-returns-in-None-clause-forms g c = let a : View = c.args.reader.now.agent.seat.me.0 in let v : View = c.loop-r.reader.agent.seat.me.0 in
-    let w : View = c.look.new.reader.agent.seat.me.0 in let u = c.requires.wanted in let i = c.loop-r.invariant.1 u.0 u.1 in
-    forms_trans a v w i.forms (c.in-None.ensures.looked u.0 i.wanted).1
-
-pub returns-in-Answer-clause-forms : goal.returns-in-Answer-clause-forms
-returns-in-Answer-clause-forms g c = let a : View = c.args.reader.now.agent.seat.me.0 in let v : View = c.loop-r.reader.agent.seat.me.0 in
-    let w : View = c.look.new.reader.agent.seat.me.0 in let s = c.args.wanted.now in let u = c.requires.wanted in let i = c.loop-r.invariant.1 u.0 u.1 in
-    let answer = subst (λ (x : Visit). Visited v w u.0 (wanted_plan s u.0)
-    ((c.args.hash % c.size-n.result.slots + c.loop-r.r) % c.size-n.result.slots) None x) c.in-Answer.is
-    (c.in-Some.ensures.looked u.0 i.wanted).0 in forms_trans a v w i.forms answer.forms
-
-pub returns-clause-forms : goal.returns-clause-forms
-returns-clause-forms g c = let u = c.requires.wanted in (c.loop-r.invariant.1 u.0 u.1).forms
+pub returns-clause-notes : goal.returns-clause-notes
+returns-clause-notes g c us h = let v : View = c.args.reader.now.agent.seat.me.0 in let w : View = c.walk_path.new.reader.agent.seat.me.0 in
+    let answer = c.in-Some.ensures.finds us h in let seat = c.in-Some.seat in let n = c.note_hash.ensures in
+    notes_answer v w c.walk_path.new.reader.belongs.5 us c.args.hashes.now c.note_hash.new.hashes c.args.hash (c.requires.hash us h) answer.0.known c.requires.hashed
+    c.walk_path.ensures.apart seat.slot seat.id c.max.result c.max.ensures c.in-Some.ensures.stands answer.2.1 n.room n.only n.there

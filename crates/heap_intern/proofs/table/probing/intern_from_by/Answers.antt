@@ -4,6 +4,7 @@ use Rattle.heap_rule.specs.declared.view.View.{View}
 use Rattle.heap_bytes.specs.Spellings.{spelling_units}
 use Rattle.heap_intern.specs.Answers.{copy_plan}
 use Rattle.heap_intern.proofs.Again.{found_again}
+use Rattle.heap_intern.proofs.Hashes.{no_hashes}
 use Rattle.heap_intern.proofs.Loading.{slots_few}
 use Rattle.heap_intern.proofs.table.probing.intern_from_by.Goals as goal
 
@@ -32,3 +33,6 @@ returns-clause-interns g c = let v : View = c.args.reader.now.agent.seat.me.0 in
       forms = c.probe.ensures.forms;
       few = slots_few v w None _ _ e.loads;
     }
+
+pub probe-requires-clause-hashed : goal.probe-requires-clause-hashed
+probe-requires-clause-hashed g c = no_hashes c.args.reader.now.agent.seat.me.0

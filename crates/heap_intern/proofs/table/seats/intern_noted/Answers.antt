@@ -6,6 +6,7 @@ use Rattle.heap_rule.proofs.Possible.{possible_inside, possible_lawful}
 use Rattle.heap_intern.specs.Adopted.{LoadsHere}
 use Rattle.heap_intern.specs.Seats.{IsSeated}
 use Rattle.heap_intern.proofs.Again.{found_again}
+use Rattle.heap_intern.proofs.Hashes.{hashes_kept}
 use Rattle.heap_intern.proofs.Seats.{seats_kept, seats_with}
 use Rattle.heap_intern.proofs.table.seats.intern_noted.Goals as goal
 
@@ -24,6 +25,11 @@ returns-in-Some-clause-seated g c = let v : View = c.args.reader.now.agent.seat.
     let w : View = c.intern_again.new.reader.agent.seat.me.0 in let u = has_key v.units c.args.id c.requires.known in
     let goes = (c.intern_again.ensures.interns u.0 u.1).2.0 in
     seats_kept v w c.args.reader.now.belongs.5 goes.known goes.sizes c.args.seats.now c.requires.seated
+
+pub returns-in-Some-clause-hashed : goal.returns-in-Some-clause-hashed
+returns-in-Some-clause-hashed g c = let v : View = c.args.reader.now.agent.seat.me.0 in
+    let w : View = c.intern_again.new.reader.agent.seat.me.0 in let u = has_key v.units c.args.id c.requires.known in
+    hashes_kept v w (c.intern_again.ensures.interns u.0 u.1).2.0.known c.args.hashes.now c.requires.hashed
 
 pub returns-in-Some-clause-once : goal.returns-in-Some-clause-once
 returns-in-Some-clause-once g c some = let v : View = c.args.reader.now.agent.seat.me.0 in
