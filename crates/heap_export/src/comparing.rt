@@ -139,6 +139,12 @@ fn compare_fronts<H: HeapRef>(text: &mut Text<H>, a: JsStr, b: JsStr, size: u32)
         → Has (view_of text.old.reader.agent).units b.id vs
         → units_cmp us vs ≡ ordering_then result (units_cmp (drop size us) (drop size vs)) }
 {
+    if a.id == b.id {
+        return Ordering::Equal;
+    }
+    if let Some(pair) = text.reader.both_windows(a, b) {
+        return compare_windows(text, pair.0, pair.1, size);
+    }
     if size > FEW {
         return compare_blocks(text, a, b, size);
     }
@@ -147,7 +153,27 @@ fn compare_fronts<H: HeapRef>(text: &mut Text<H>, a: JsStr, b: JsStr, size: u32)
     compare_block(text, a, b, 0, left, right)
 }
 
-// The same by blocks.
+// The order of the first `size` units of two windows.
+fn compare_windows<H: HeapRef>(text: &mut Text<H>, a: Window, b: Window, size: u32) -> Ordering
+    requires left { (us : List ℕ) × IsWindow (view_of text.old.reader.agent) a us }
+    requires right { (vs : List ℕ) × IsWindow (view_of text.old.reader.agent) b vs }
+    requires within { (size ≤ a.len) × (size ≤ b.len) }
+    ensures kept { KeepsText text.old text.new }
+    ensures loads { LoadsWords (view_of text.old.reader.agent) (view_of text.new.reader.agent) }
+    ensures order { (us vs : List ℕ) → IsWindow (view_of text.old.reader.agent) a us
+        → IsWindow (view_of text.old.reader.agent) b vs
+        → units_cmp us vs ≡ ordering_then result (units_cmp (drop size us) (drop size vs)) }
+{
+    let at = text.reader.first_other(a, b, size);
+    if at == size {
+        return Ordering::Equal;
+    }
+    let left = unit(text, a, at);
+    let right = unit(text, b, at);
+    left.cmp(&right)
+}
+
+// The same of the strings by blocks.
 fn compare_blocks<H: HeapRef>(text: &mut Text<H>, a: JsStr, b: JsStr, size: u32) -> Ordering
     requires left_known { HasKey (view_of text.old.reader.agent).units a.id }
     requires left_settled { IsSeenSettled (view_of text.old.reader.agent) a.id }
