@@ -1,4 +1,4 @@
-use Rattle.std.proofs.Common.{◌≡◌, ◌∙◌, ℕ, ◌+◌, ◌<◌, ◌≤◌, ap, sym, get_or, List, ⊎_elim, arith}
+use Rattle.std.proofs.Common.{◌∙◌, sym, arith}
 use Rattle.heap_rule.specs.declared.view.View.{View}
 use Rattle.heap_read.proofs.Fronts.{one_more}
 use Rattle.heap_read.proofs.Loaded.{reads_trans}

@@ -1,11 +1,11 @@
-use Rattle.std.proofs.Common.{◌+◌, ◌/◌, ◌⊎◌, ◌≡◌, ℕ, ◌∙◌, ap, refl, subst, sym, arith}
+use Rattle.std.proofs.Common.{◌+◌, ◌/◌, ◌⊎◌, ◌≡◌, ℕ, ◌∙◌, ap, refl, subst, sym}
 use Rattle.js_units.specs.Lanes.{lane_count}
 use Rattle.heap_rule.specs.declared.view.View.{View}
 use Rattle.heap_rule.specs.Maps.{HasKey}
 use Rattle.heap_rule.specs.Views.{shown_word}
 use Rattle.heap_read.proofs.Holding.{shows_on}
 use Rattle.heap_read.proofs.Loaded.{has_loaded, reads_word}
-use Rattle.heap_read.proofs.Showing.{forms_held, place_frozen, window_kept}
+use Rattle.heap_read.proofs.Showing.{forms_held, window_kept}
 use Rattle.heap_read.proofs.reader.Reader.word_from.Goals as goal
 
 pub returns-clause-word : goal.returns-clause-word
