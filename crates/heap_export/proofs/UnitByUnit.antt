@@ -1,6 +1,7 @@
 -- Comparing unit by unit.
 use Rattle.std.proofs.Common.{◌≡◌, ◌⊎◌, inl, inr, true, false, Some, None, ◌++◌, ℕ, zero, suc, ◌+◌, ◌<◌, ◌≤◌, List, [], ◌∷◌, length, take, drop, get_or, drop-cons, ap, ap₂, sym, ◌∙◌, refl, arith}
 use Rattle.std.specs.Prelude.{◌≢◌, ◌↔◌, ◌==◌, nat_lt, not}
+use Rattle.std.proofs.lemmas.Bool.Decides.{nat_tests}
 use Rattle.std.proofs.lemmas.Bool.{cases_lt, cond-true, cond-false, lt-ltb, le-ltb}
 use Rattle.std.specs.declared.cmp.Ordering.{Ordering}
 use Rattle.std.specs.declared.cmp.Ordering.TheVariants.{Less, Equal, Greater}
@@ -16,6 +17,12 @@ first_then : (us vs : List ℕ) (i : ℕ) → i < length us → i < length vs
     → units_cmp (drop i us) (drop i vs) ≡ ordering_then (nat_cmp (get_or us i 0) (get_or vs i 0)) (units_cmp (drop (i + 1) us) (drop (i + 1) vs))
 first_then us vs i l m = ap₂ units_cmp (front us i l) (front vs i m)
 
+cmp_same : (x y : ℕ) → x ≡ y → nat_cmp x y ≡ Equal
+cmp_same x y e = grind (arith, nat_tests)
+
+cmp_equal : (x y : ℕ) → nat_cmp x y ≡ Equal → x ≡ y
+cmp_equal x y e = grind (arith, nat_tests)
+
 pub next_same : (us vs : List ℕ) (i : ℕ) (all : Ordering) → i < length us → i < length vs → nat_cmp (get_or us i 0) (get_or vs i 0) ≡ Equal
     → units_cmp (drop i us) (drop i vs) ≡ all → units_cmp (drop (i + 1) us) (drop (i + 1) vs) ≡ all
 next_same us vs i all l m e h = sym (ap (λ o. ordering_then o (units_cmp (drop (i + 1) us) (drop (i + 1) vs))) e) ∙ (sym (first_then us vs i l m) ∙ h)
@@ -30,6 +37,24 @@ pub first_other : (us vs : List ℕ) (i n : ℕ) (o : Ordering) → i < length u
 first_other us vs i n o l m e d h = sym h ∙ (first_then us vs i l m ∙ (ap
     (λ p. ordering_then p (units_cmp (drop (i + 1) us) (drop (i + 1) vs))) e ∙ decided o (units_cmp (drop (i + 1) us) (drop (i + 1) vs))
     (units_cmp (drop n us) (drop n vs)) d))
+
+-- two lists with the same front are in the order of what is behind it
+front_passed : (us vs : List ℕ) (n : ℕ) → n ≤ length us → n ≤ length vs → ((k : ℕ) → k < n → get_or us k 0 ≡ get_or vs k 0) → units_cmp (drop n us) (drop n vs) ≡ units_cmp us vs
+front_passed us vs zero l m same = refl
+front_passed us vs (suc n) l m same = let e : n + 1 ≡ suc n = omega arith in
+    ap (λ (k : ℕ). units_cmp (drop k us) (drop k vs)) (sym e)
+    ∙ next_same us vs n (units_cmp us vs) (omega arith) (omega arith) (cmp_same (get_or us n 0) (get_or vs n 0) (same n (omega arith)))
+    (front_passed us vs n (omega arith) (omega arith) (λ k h. same k (omega arith)))
+
+pub same_passed : (us vs : List ℕ) (n : ℕ) → n ≤ length us → n ≤ length vs → ((k : ℕ) → k < n → get_or us k 0 ≡ get_or vs k 0)
+    → units_cmp us vs ≡ ordering_then Equal (units_cmp (drop n us) (drop n vs))
+same_passed us vs n l m same = sym (front_passed us vs n l m same)
+
+pub other_passed : (us vs : List ℕ) (i n : ℕ) (o : Ordering) → i < length us → i < length vs → o ≡ nat_cmp (get_or us i 0) (get_or vs i 0)
+    → (get_or us i 0 ≡ get_or vs i 0 → ⊥) → ((k : ℕ) → k < i → get_or us k 0 ≡ get_or vs k 0)
+    → units_cmp us vs ≡ ordering_then o (units_cmp (drop n us) (drop n vs))
+other_passed us vs i n o l m e d same = first_other us vs i n o l m (sym e) (λ h. d (cmp_equal (get_or us i 0) (get_or vs i 0) (sym e ∙ h)))
+    (front_passed us vs i (omega arith) (omega arith) same)
 
 narrow_first : (k u : ℕ) (us : List ℕ) → u ≤ 255 → past_latin1 k (u ∷ us) ≡ past_latin1 (k + 1) us
 narrow_first k u us h = cond-false (nat_lt 255 u) (Some k) (past_latin1 (k + 1) us) (le-ltb 255 u h)

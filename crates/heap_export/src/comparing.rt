@@ -118,13 +118,41 @@ pub fn has_same_units<H: HeapRef>(text: &mut Text<H>, a: JsStr, b: JsStr) -> boo
     text.len(b) == size && compare_fronts(text, a, b, size) == Ordering::Equal
 }
 
+// The order of the first `size` units of both strings.
+fn compare_fronts<H: HeapRef>(text: &mut Text<H>, a: JsStr, b: JsStr, size: u32) -> Ordering
+    requires left_known { HasKey (view_of text.old.reader.agent).units a.id }
+    requires left_settled { IsSeenSettled (view_of text.old.reader.agent) a.id }
+    requires left_long { (us : List ℕ) → Has (view_of text.old.reader.agent).units a.id us
+        → size ≤ length us }
+    requires right_known { HasKey (view_of text.old.reader.agent).units b.id }
+    requires right_settled { IsSeenSettled (view_of text.old.reader.agent) b.id }
+    requires right_long { (vs : List ℕ) → Has (view_of text.old.reader.agent).units b.id vs
+        → size ≤ length vs }
+    ensures kept { KeepsText text.old text.new }
+    ensures reads { OnlyLoads (view_of text.old.reader.agent) (view_of text.new.reader.agent) }
+    ensures order { (us vs : List ℕ) → Has (view_of text.old.reader.agent).units a.id us
+        → Has (view_of text.old.reader.agent).units b.id vs
+        → units_cmp us vs ≡ ordering_then result (units_cmp (drop size us) (drop size vs)) }
+{
+    if a.id == b.id {
+        return Ordering::Equal;
+    }
+    let Some(pair) = text.reader.both_windows(a, b) else {
+        return compare_read(text, a, b, size);
+    };
+    if pair.0.wide != pair.1.wide {
+        return compare_read(text, a, b, size);
+    }
+    compare_windows(text, pair.0, pair.1, size)
+}
+
 // Units of a block of short strings, and of long ones.
 const FEW: u32 = 32;
 
 const MANY: u32 = 256;
 
-// The order of the first `size` units of both strings.
-fn compare_fronts<H: HeapRef>(text: &mut Text<H>, a: JsStr, b: JsStr, size: u32) -> Ordering
+// The same by units that are read into blocks.
+fn compare_read<H: HeapRef>(text: &mut Text<H>, a: JsStr, b: JsStr, size: u32) -> Ordering
     requires left_known { HasKey (view_of text.old.reader.agent).units a.id }
     requires left_settled { IsSeenSettled (view_of text.old.reader.agent) a.id }
     requires left_long { (us : List ℕ) → Has (view_of text.old.reader.agent).units a.id us
@@ -147,7 +175,27 @@ fn compare_fronts<H: HeapRef>(text: &mut Text<H>, a: JsStr, b: JsStr, size: u32)
     compare_block(text, a, b, 0, left, right)
 }
 
-// The same by blocks.
+// The order of the first `size` units of two windows.
+fn compare_windows<H: HeapRef>(text: &mut Text<H>, a: Window, b: Window, size: u32) -> Ordering
+    requires left { (us : List ℕ) × IsWindow (view_of text.old.reader.agent) a us }
+    requires right { (vs : List ℕ) × IsWindow (view_of text.old.reader.agent) b vs }
+    requires within { (size ≤ a.len) × (size ≤ b.len) }
+    ensures kept { KeepsText text.old text.new }
+    ensures loads { LoadsWords (view_of text.old.reader.agent) (view_of text.new.reader.agent) }
+    ensures order { (us vs : List ℕ) → IsWindow (view_of text.old.reader.agent) a us
+        → IsWindow (view_of text.old.reader.agent) b vs
+        → units_cmp us vs ≡ ordering_then result (units_cmp (drop size us) (drop size vs)) }
+{
+    let at = text.reader.first_other(a, b, size);
+    if at == size {
+        return Ordering::Equal;
+    }
+    let left = unit(text, a, at);
+    let right = unit(text, b, at);
+    left.cmp(&right)
+}
+
+// The same by blocks of many units.
 fn compare_blocks<H: HeapRef>(text: &mut Text<H>, a: JsStr, b: JsStr, size: u32) -> Ordering
     requires left_known { HasKey (view_of text.old.reader.agent).units a.id }
     requires left_settled { IsSeenSettled (view_of text.old.reader.agent) a.id }

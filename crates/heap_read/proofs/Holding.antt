@@ -63,7 +63,7 @@ holds_front xs ys h r = let n = length-append xs ys in let s = r.within in recor
 }
 
 pub holds_back : (xs ys : List ℕ) (n : ℕ) (h : HeldWord) → length xs ≡ n → HoldsUnits ys h
-  → HoldsUnits (xs ++ ys) (record { word = h.word; wide = h.wide; lane = h.lane; from = n + h.from; count = h.count })
+    → HoldsUnits (xs ++ ys) (record { word = h.word; wide = h.wide; lane = h.lane; from = n + h.from; count = h.count })
 holds_back xs ys n h e r = let m = length-append xs ys in let s = r.within in record {
   lanes = r.lanes;
   within = omega arith;

@@ -18,3 +18,4 @@ pub mod Comparison
 pub mod ShiftedLanes
 pub mod Narrowness
 pub mod LanesAtOnce
+pub mod Fronts

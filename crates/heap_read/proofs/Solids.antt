@@ -3,7 +3,9 @@ use Rattle.std.proofs.Common.{◌≡◌, ◌≤◌, ℕ, Bool, refl, arith}
 use Rattle.js_header.specs.declared.form.Form.{Form}
 use Rattle.js_header.specs.declared.form.Form.TheVariants.{Unborn, Flat, Cons, Sliced, Thin}
 use Rattle.heap_rule.specs.Forms.{IsCons, IsSolid}
-use Rattle.heap_read.specs.Sides.{target_loads}
+use Rattle.heap_rule.specs.declared.view.View.{View}
+use Rattle.heap_table.specs.Known.{KeepsKnown}
+use Rattle.heap_read.specs.Sides.{KnowsSide, target_loads}
 
 pub no_other : (f : Form) → IsSolid f → ((wide : Bool) (start : ℕ) (fixed : Bool) → f ≡ Flat wide start fixed → ⊥) → ((target : ℕ) → f ≡ Thin target → ⊥) → ⊥
 no_other Unborn h a b = h
@@ -26,3 +28,11 @@ one_target (Flat wide start fixed) = omega arith
 one_target (Cons wide left right) = omega arith
 one_target (Sliced wide parent offset) = omega arith
 one_target (Thin target) = omega arith
+
+-- the string that a form names stays known
+pub side_kept : (v w : View) (f : Form) → KeepsKnown v w → KnowsSide v f → KnowsSide w f
+side_kept v w Unborn k h = tt
+side_kept v w (Flat wide start fixed) k h = tt
+side_kept v w (Cons wide left right) k h = k.known left h
+side_kept v w (Sliced wide parent offset) k h = k.known parent h
+side_kept v w (Thin target) k h = k.known target h

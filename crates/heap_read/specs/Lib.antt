@@ -2,6 +2,7 @@ pub mod Readers
 pub mod Reads
 pub mod Sides
 pub mod Windows
+pub mod Parts
 pub mod Sources
 pub mod Written
 pub mod Filling

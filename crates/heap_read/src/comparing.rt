@@ -1,5 +1,5 @@
 // Comparing the units of two windows, a word at a time.
-ghost use Rattle.std.specs.Prelude.{◌≡◌, ◌≢◌, ℕ, List, ◌+◌, ◌<◌, ◌≤◌, ◌^◌};
+ghost use Rattle.std.specs.Prelude.{◌≡◌, ◌≢◌, ℕ, List, ◌+◌, ◌%◌, ◌<◌, ◌≤◌, ◌^◌, slice_index};
 ghost use Rattle.std.specs.Bool.{MatchBool};
 ghost use Rattle.js_units.specs.Lanes.{lane_count};
 ghost use Rattle.heap_read.specs.Frozen.{HasOther, HasUnits, IsLearned};
@@ -12,6 +12,7 @@ use crate::heap_ref::HeapRef;
 use crate::reader::Reader;
 use crate::source::HeldWord;
 use crate::string::Window;
+use js_units::{lanes, word_and_lane};
 
 impl<H: HeapRef> Reader<H> {
     /// Whether the lanes of the window `b` are the units of the window `a`, which is as long. A word of
@@ -39,6 +40,96 @@ impl<H: HeapRef> Reader<H> {
             i += count;
         }
         true
+    }
+
+    /// The least place below `most` at which two windows have different units, or `most` where there is
+    /// none. Words that are the same are passed by one comparison of both.
+    pub fn first_other(&mut self, a: Window, b: Window, most: u32) -> u32
+        requires left { (us : List ℕ) × IsWindow (view_in self.old) a us }
+        requires right { (vs : List ℕ) × IsWindow (view_in self.old) b vs }
+        requires within { (most ≤ a.len) × (most ≤ b.len) }
+        ensures reads { MovesView OnlyLoads self.old self.new }
+        ensures forms { KeepsForms (view_in self.old) (view_in self.new) }
+        ensures most { result ≤ most }
+        ensures same { (us vs : List ℕ) → IsWindow (view_in self.old) a us
+            → IsWindow (view_in self.old) b vs
+            → (k : ℕ) → k < result → slice_index us k ≡ slice_index vs k }
+        ensures other { (us vs : List ℕ) → IsWindow (view_in self.old) a us
+            → IsWindow (view_in self.old) b vs
+            → result < most → slice_index us result ≢ slice_index vs result }
+    {
+        let mut i = self.same_words(a, b, most);
+        while i < most {
+            let left = self.unit_in(a, i);
+            let right = self.unit_in(b, i);
+            if left != right {
+                return i;
+            }
+            i += 1;
+        }
+        i
+    }
+
+    // How many units at the front of two windows are in words that are the same, up to `most`. Where one
+    // doesn't begin with a word, or the lanes of the two are not as wide, none is.
+    fn same_words(&mut self, a: Window, b: Window, most: u32) -> u32
+        requires left { (us : List ℕ) × IsWindow (view_in self.old) a us }
+        requires right { (vs : List ℕ) × IsWindow (view_in self.old) b vs }
+        requires within { (most ≤ a.len) × (most ≤ b.len) }
+        ensures reads { MovesView OnlyLoads self.old self.new }
+        ensures forms { KeepsForms (view_in self.old) (view_in self.new) }
+        ensures most { result ≤ most }
+        ensures same { (us vs : List ℕ) → IsWindow (view_in self.old) a us
+            → IsWindow (view_in self.old) b vs
+            → (k : ℕ) → k < result → slice_index us k ≡ slice_index vs k }
+    {
+        let (_, left) = word_and_lane(a.wide, a.offset);
+        let (_, right) = word_and_lane(b.wide, b.offset);
+        if a.wide != b.wide || left > 0 || right > 0 {
+            return 0;
+        }
+        if a.wide {
+            return self.same_lanes(a, b, true, most);
+        }
+        self.same_lanes(a, b, false, most)
+    }
+
+    // The same with the width of the lanes, so that there is a loop for each of the two.
+    #[inline(always)]
+    fn same_lanes(&mut self, a: Window, b: Window, wide: bool, most: u32) -> u32
+        requires left { (us : List ℕ) × IsWindow (view_in self.old) a us }
+        requires right { (vs : List ℕ) × IsWindow (view_in self.old) b vs }
+        requires within { (most ≤ a.len) × (most ≤ b.len) }
+        requires wide { (wide ≡ a.wide) × (wide ≡ b.wide) }
+        requires lowest { (a.offset % lane_count wide ≡ 0) × (b.offset % lane_count wide ≡ 0) }
+        ensures reads { MovesView OnlyLoads self.old self.new }
+        ensures forms { KeepsForms (view_in self.old) (view_in self.new) }
+        ensures most { result ≤ most }
+        ensures same { (us vs : List ℕ) → IsWindow (view_in self.old) a us
+            → IsWindow (view_in self.old) b vs
+            → (k : ℕ) → k < result → slice_index us k ≡ slice_index vs k }
+    {
+        if most == 0 {
+            return 0;
+        }
+        let first = self.heap.heap().first_content();
+        let size = lanes(wide);
+        let (left_number, _) = word_and_lane(a.wide, a.offset);
+        let (right_number, _) = word_and_lane(b.wide, b.offset);
+        let mut left_at = a.start + left_number;
+        let mut right_at = b.start + right_number;
+        let mut i = 0;
+        while i < most {
+            let left = self.word_from(first, left_at, a, i);
+            let right = self.word_from(first, right_at, b, i);
+            if left != right {
+                return i;
+            }
+            i += size;
+            left_at += 1;
+            right_at += 1;
+        }
+        most
     }
 }
 

@@ -1,6 +1,8 @@
 // Reading and searching the units of a window, a word at a time.
 ghost use Rattle.std.specs.Prelude.{◌≡◌, ℕ, List, ◌+◌, ◌-◌, ◌*◌, ◌/◌, ◌%◌, ◌≤◌, ◌<◌, false, true, length, slice_index, slice_range};
 ghost use Rattle.js_units.specs.Lanes.{lane_count, lane_of, words_over};
+ghost use Rattle.heap_rule.specs.Layout.{content_at};
+ghost use Rattle.heap_table.specs.Agents.{size_of};
 ghost use Rattle.heap_read.specs.Readers.{MovesView, view_in};
 ghost use Rattle.heap_read.specs.Reads.{KeepsForms, OnlyLoads};
 ghost use Rattle.js_units.specs.Units.{IsFirstUnit};
@@ -10,7 +12,7 @@ ghost use Rattle.heap_read.specs.Written.{ShowsFrom, ShowsOn};
 use crate::heap_ref::HeapRef;
 use crate::reader::Reader;
 use crate::string::Window;
-use js_units::{first_from, lanes, lanes_from, word_and_lane};
+use js_units::{first_from, lane, lanes, word_and_lane};
 use std::simd::prelude::*;
 
 impl<H: HeapRef> Reader<H> {
@@ -34,7 +36,7 @@ impl<H: HeapRef> Reader<H> {
             }
             let word = self.word_with(w, i);
             let count = ((size - lane) as usize).min(into.len() - done);
-            put(into, done, &lanes_from(word, w.wide, lane), count);
+            put_lanes(into, done, word, w.wide, lane, count as u32);
             done += count;
         }
     }
@@ -81,12 +83,16 @@ impl<H: HeapRef> Reader<H> {
         ensures inside { (us : List ℕ) → IsWindow (view_in self.old) w us → (k : ℕ) → done ≤ k → k < result
             → slice_index into.new k ≡ slice_index us (from + k) }
     {
+        let first = self.heap.heap().first_content();
         let size = lanes(wide) as usize;
+        let (number, _) = word_and_lane(w.wide, w.offset + (from + done as u32));
+        let mut at = w.start + number;
         let mut next = done;
         while into.len() - next >= size {
-            let word = self.word_with(w, from + next as u32);
+            let word = self.word_from(first, at, w, from + next as u32);
             put_word(into, next, word, wide);
             next += size;
+            at += 1;
         }
         next
     }
@@ -170,17 +176,37 @@ impl<H: HeapRef> Reader<H> {
         let (at, _) = word_and_lane(w.wide, w.offset + i);
         self.agent.load_word(self.heap.heap(), w.start + at)
     }
+
+    // The word with unit `i` of a window, which is content word `at`, by one load from the place of the
+    // heap's first one.
+    #[inline(always)]
+    pub(crate) fn word_from(&mut self, first: usize, at: u32, w: Window, i: u32) -> u64
+        requires frozen { IsFrozenWindow (view_in self.old) w }
+        requires within { i < w.len }
+        requires first { first ≡ content_at (size_of (H.reached self.old.heap)) 0 }
+        requires at { at ≡ w.start + (w.offset + i) / lane_count w.wide }
+        ensures reads { MovesView OnlyLoads self.old self.new }
+        ensures forms { KeepsForms (view_in self.old) (view_in self.new) }
+        ensures word { (us : List ℕ) → IsWindow (view_in self.old) w us → ShowsOn w us i result }
+    {
+        self.agent.load_word_from(self.heap.heap(), first, at)
+    }
 }
 
-// Puts the first `count` of some units into a slice, from place `at` on.
+// Puts `count` lanes of a word, from lane `low` on, into a slice, from place `at` on.
 #[inline(always)]
-fn put(into: &mut [u16], at: usize, units: &[u16], count: usize)
+fn put_lanes(into: &mut [u16], at: usize, word: u64, wide: bool, low: u32, count: u32)
     requires room { at + count ≤ length into.old }
-    requires enough { count ≤ length units.now }
+    requires lanes { low + count ≤ lane_count wide }
     ensures before { (k : ℕ) → k < at → slice_index into.new k ≡ slice_index into.old k }
-    ensures inside { (k : ℕ) → k < count → slice_index into.new (at + k) ≡ slice_index units.now k }
+    ensures inside { (k : ℕ) → k < count
+        → slice_index into.new (at + k) ≡ lane_of wide word (low + k) }
 {
-    into[at..at + count].copy_from_slice(&units[..count]);
+    let mut k = 0;
+    while k < count {
+        into[at + k as usize] = lane(word, wide, low + k);
+        k += 1;
+    }
 }
 
 // Puts all lanes of a word into a slice, from place `at` on.

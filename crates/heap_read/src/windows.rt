@@ -1,12 +1,13 @@
 // Finding the content words under a string that is no Cons. They are those of a Flat: the string
 // itself, or the one to which it or its parent forwards.
-ghost use Rattle.std.specs.Prelude.{◌≡◌, ℕ, List, Bool, ◌+◌, true};
+ghost use Rattle.std.specs.Prelude.{◌≡◌, ◌≢◌, ◌⊎◌, ◌↔◌, ℕ, List, Bool, ◌+◌, true, IfSome, IsTrue, None};
 ghost use Rattle.js_header.specs.declared.form.Form.TheVariants.{Flat, Sliced, Thin};
 ghost use Rattle.heap_rule.specs.Forms.{IsSolid};
 ghost use Rattle.heap_rule.specs.Loads.{added_loads};
 ghost use Rattle.heap_rule.specs.Maps.{Has, HasKey};
 ghost use Rattle.heap_rule.specs.Views.{MayUse, IsSeenSettled};
 ghost use Rattle.heap_read.specs.Frozen.{IsFixedBy, IsFixedWindow, IsLearned};
+ghost use Rattle.heap_read.specs.Parts.{IsSeenSliced};
 ghost use Rattle.heap_read.specs.Readers.{MovesView, view_in};
 ghost use Rattle.heap_read.specs.Reads.{HoldsForms, KeepsForms, OnlyLoads};
 ghost use Rattle.heap_read.specs.Sides.{KnowsSide, LoadsFewForms, LoadsForms, target_loads};
@@ -135,6 +136,33 @@ impl<H: HeapRef> Reader<H> {
         self.solid_window(of, form)
     }
 
+    /// Windows on all units of two settled strings, which serve at once. There are none where one of the two
+    /// was cut from another string, whose words may be found elsewhere while the other is looked for.
+    pub fn both_windows(&mut self, a: JsStr, b: JsStr) -> Option<(Window, Window)>
+        requires apart { a.id ≢ b.id }
+        requires left_known { HasKey (view_in self.old).units a.id }
+        requires left_settled { IsSeenSettled (view_in self.old) a.id }
+        requires right_known { HasKey (view_in self.old).units b.id }
+        requires right_settled { IsSeenSettled (view_in self.old) b.id }
+        ensures reads { MovesView OnlyLoads self.old self.new }
+        ensures shows { IfSome result (λ p. ShowsAll (view_in self.old) (view_in self.new) a.id p.0
+            × ShowsAll (view_in self.old) (view_in self.new) b.id p.1) }
+        ensures cut { result ≡ None
+            → IsSeenSliced (view_in self.new) a.id ⊎ IsSeenSliced (view_in self.new) b.id }
+    {
+        let left = self.form_now(a.id);
+        let right = self.form_now(b.id);
+        if is_sliced(left) {
+            return None;
+        }
+        if is_sliced(right) {
+            return None;
+        }
+        let of_left = self.solid_window(a, left);
+        let of_right = self.solid_window(b, right);
+        Some((of_left, of_right))
+    }
+
     /// A window on all units of a fixed Flat, a string that is in a slot of the string table or to
     /// which another forwards. No form that was seen is another one afterwards.
     pub fn fixed_window(&mut self, id: u32) -> Window
@@ -154,5 +182,16 @@ impl<H: HeapRef> Reader<H> {
             },
             _ => unreachable!(),
         }
+    }
+}
+
+// Whether a string of this form was cut from another one.
+fn is_sliced(form: Form) -> bool
+    ensures { IsTrue result
+        ↔ ((wide : Bool) × (parent : ℕ) × (offset : ℕ) × (form ≡ Sliced wide parent offset)) }
+{
+    match form {
+        Form::Sliced { .. } => true,
+        _ => false,
     }
 }

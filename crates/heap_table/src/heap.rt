@@ -1,6 +1,6 @@
 // The table of a heap, and its making.
 ghost use Rattle.std.specs.Prelude.{◌≡◌, ℕ, ◌+◌, ◌*◌, ◌≤◌, ◌<◌, ◌^◌, ◌↔◌, [], IfOk, IsTrue, IsOk, Err};
-ghost use Rattle.heap_rule.specs.Layout.{IsLawfulSize, word_count};
+ghost use Rattle.heap_rule.specs.Layout.{IsLawfulSize, content_at, word_count};
 ghost use Rattle.heap_rule.specs.Agents.{first_view};
 ghost use Rattle.heap_table.specs.MayMake.{MayMake};
 
@@ -67,6 +67,13 @@ impl Heap {
         ensures { result ≡ size_of self.now }
     {
         self.size
+    }
+
+    /// The place of its first content word, by which a loop loads others.
+    pub fn first_content(&self) -> usize
+        ensures { result ≡ content_at (size_of self.now) 0 }
+    {
+        self.size.content_place(0)
     }
 }
 

@@ -4,13 +4,13 @@ ghost use Rattle.std.specs.Prelude.{◌≡◌, ◌≢◌, ℕ, Bool, ◌⊎◌, 
 ghost use Rattle.heap_rule.specs.Forms.{IsCons, IsLater, IsSolid};
 ghost use Rattle.heap_rule.specs.Maps.{Has};
 ghost use Rattle.heap_rule.specs.Views.{MayUse, IsSeenSettled, shown_word};
-ghost use Rattle.heap_rule.specs.Layout.{MAX};
+ghost use Rattle.heap_rule.specs.Layout.{MAX, content_at};
 ghost use Rattle.heap_rule.specs.Loads.{MayLoadWord, loaded_form, loaded_length, loaded_word};
 ghost use Rattle.heap_rule.specs.Learning.{learned_all};
 ghost use Rattle.js_header.specs.Form.{IsInRange, form_of};
 ghost use Rattle.js_header.specs.declared.form.Form.TheVariants.{Unborn, Sliced};
 ghost use Rattle.js_header.specs.declared.form.Form as form;
-ghost use Rattle.heap_table.specs.Agents.{Belongs, view_of};
+ghost use Rattle.heap_table.specs.Agents.{Belongs, size_of, view_of};
 ghost use Rattle.heap_table.specs.Known.{KeepsKnown};
 
 use crate::agent::Agent;
@@ -74,5 +74,23 @@ impl Agent {
         heap.table
             .shared
             .load::<LoadsWord>(&mut self.seat, heap.size.content_place(at))
+    }
+
+    /// The same by the place of the heap's first content word (`Heap::first_content`), which a loop looks
+    /// up once.
+    #[inline(always)]
+    pub fn load_word_from(&mut self, heap: &Heap, first: usize, at: u32) -> u64
+        requires belongs { Belongs self.old heap.now }
+        requires first { first ≡ content_at (size_of heap.now) 0 }
+        requires may { MayLoadWord (view_of self.old) at }
+        ensures belongs { Belongs self.new heap.now }
+        ensures known { KeepsKnown (view_of self.old) (view_of self.new) }
+        ensures view { view_of self.new ≡ learned_all (loaded_word (view_of self.old) at result) }
+        ensures forms { (view_of self.new).forms ≡ (view_of self.old).forms }
+        ensures shown { result ≡ shown_word (view_of self.new) at }
+    {
+        heap.table
+            .shared
+            .load::<LoadsWord>(&mut self.seat, first + at as usize)
     }
 }

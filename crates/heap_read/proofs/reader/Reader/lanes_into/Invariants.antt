@@ -1,4 +1,4 @@
-use Rattle.std.proofs.Common.{◌≡◌, ℕ, ◌+◌, ◌-◌, ◌%◌, ◌<◌, ◌≤◌, List, length, get_or}
+use Rattle.std.proofs.Common.{◌≡◌, ℕ, ◌+◌, ◌-◌, ◌/◌, ◌%◌, ◌<◌, ◌≤◌, List, length, get_or}
 use Rattle.js_units.specs.Lanes.{lane_count}
 use Rattle.heap_read.specs.Readers.{view_in}
 use Rattle.heap_read.specs.Reads.{KeepsForms, OnlyLoads}
@@ -10,6 +10,7 @@ invariant-loop-into g l = record {
   low : l.done ≤ l.next;
   most : l.next ≤ length l.into;
   lowest : (l.w.offset + (l.from + l.next)) % lane_count l.wide ≡ 0;
+  place : l.at ≡ l.w.start + (l.w.offset + (l.from + l.next)) / lane_count l.w.wide;
   before : (k : ℕ) → k < l.done → get_or l.into k 0 ≡ get_or l.fn.into k 0;
   same : (us : List ℕ) → IsWindow (view_in l.fn.self) l.w us → (k : ℕ) → l.done ≤ k → k < l.next → get_or l.into k 0 ≡ get_or us (l.from + k) 0;
   heap : l.self.heap ≡ l.fn.self.heap;

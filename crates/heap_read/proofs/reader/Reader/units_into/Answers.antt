@@ -63,8 +63,8 @@ loop-done-preserved g c =
       most = omega arith;
       same = λ us window.
           let shows = e.word us (window_later v u c.args.w us s.reads s.forms window) in
-          read_more us c.args.from c.loop-done.done c.min-count.result c.loop-done.into c.put.new.into (s.same us window) c.put.ensures.before
-          (λ k l. c.put.ensures.inside k l ∙ (c.lanes_from.ensures k (omega arith) ∙ lane_on c.args.w us i c.word_with-word.result
+          read_more us c.args.from c.loop-done.done c.min-count.result c.loop-done.into c.put_lanes.new.into (s.same us window) c.put_lanes.ensures.before
+          (λ k l. c.put_lanes.ensures.inside k l ∙ (lane_on c.args.w us i c.word_with-word.result
           c.word_and_lane-lane.result.1 shows c.word_and_lane-lane.ensures.1 k (omega arith) (omega arith)));
       heap = e.reads.heap ∙ s.heap;
       reads = reads_trans v u x s.reads e.reads.view;

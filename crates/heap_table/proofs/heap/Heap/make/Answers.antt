@@ -14,9 +14,14 @@ use Rattle.heap_table.proofs.heap.Heap.make.Goals as goal
 pub returns-in-Ok-of_words-clause-belongs : goal.returns-in-Ok-of_words-clause-belongs
 returns-in-Ok-of_words-clause-belongs c = let z = c.args.size in let may : MayMake z c.args.agents = c.may_make.ensures.0 (search rules) in let e = c.in-Ok-of_words.ensures in let m = e.4 in
     let first : View = first_view z c.args.agents in let W : List ℕ = replicate (word_count z) 0 in
-    let kept : IsPossible first = ∣ (z, c.args.agents, W, first ∷ [], 0, keeps_making z c.args.agents may.0 may.1, refl, refl) ∣₁ in
-    (e.2, ap (λ (q : AgentSeat). q.0.sizes) m, ap (λ (q : AgentSeat). q.0.live) m, ap (λ (q : AgentSeat). q.1) m,
-      ap (λ (q : AgentSeat). q.0.share) m, subst (λ (q : AgentSeat). IsPossible q.0) (sym m) kept)
+    let kept : IsPossible first = ∣ (z, c.args.agents, W, first ∷ [], 0, keeps_making z c.args.agents may.0 may.1, refl, refl) ∣₁ in (
+      e.2,
+      ap (λ (q : AgentSeat). q.0.sizes) m,
+      ap (λ (q : AgentSeat). q.0.live) m,
+      ap (λ (q : AgentSeat). q.1) m,
+      ap (λ (q : AgentSeat). q.0.share) m,
+      subst (λ (q : AgentSeat). IsPossible q.0) (sym m) kept,
+    )
 
 pub of_words-requires : goal.of_words-requires
 of_words-requires c = let z = c.args.size in let may : MayMake z c.args.agents = c.may_make.ensures.0 (search rules) in
