@@ -1,6 +1,7 @@
 use Rattle.std.proofs.Common.{◌≡◌, ◌∙◌, length, map, option_map, ap, subst, sym, arith}
 use Rattle.std.proofs.lemmas.List.{length-map}
-use Rattle.run_command.specs.Words.{asked_for, files, request_for}
+use Rattle.run_command.specs.declared.plan.Input.{Input}
+use Rattle.run_command.specs.Words.{IsSomeFiles, asked_for, files, request_for}
 use Rattle.run_sources.specs.Texts.{Named, generated, named_for}
 use Rattle.run_sources.specs.Answers.{source_for, sources_for}
 use Rattle.run_sources.specs.Program.{Program, program_from}
@@ -15,8 +16,10 @@ use Rattle.js_io.specs.Report.{sinks}
 
 pub run_scripts-requires-clause-few : goal.run_scripts-requires-clause-few
 run_scripts-requires-clause-few g c =
+    let some = subst (λ (i : Input). IsSomeFiles (asked_for i)) c.in-Files.is c.requires.files in
     let read = read_length (g.F.Files.state c.args.files.now).held _ _ c.in-Ok.ensures.read.scripts in
-    omega (arith, read, c.requires, length-map c.in-Ok.sources.scripts.items source_for)
+    omega (arith, read, some.1, length-map c.in-Ok.sources.scripts.items source_for, length-map c.in-Files.scripts.items (λ n. n.now),
+    length-map c.deref.result.now (λ n. n.now), ap length c.deref.ensures.value)
 
 pub returns-in-Ok-clause-becomes : goal.returns-in-Ok-clause-becomes
 returns-in-Ok-clause-becomes g c =
