@@ -12,11 +12,11 @@ use Rattle.js_eval.specs.Seen.{bounds_seen}
 use Rattle.heap_read.specs.declared.string.JsStr.{JsStr}
 use Rattle.heap_session.specs.Sessions.{state_in}
 use Rattle.run_program.specs.declared.job.Outcome.{Outcome}
-use Rattle.run_program.specs.Jobs.{means, number}
+use Rattle.run_program.specs.Jobs.{RunsEachJob, means, number}
 use Rattle.run_program.specs.Stages.{HaveRunFrom, job_trees}
-use Rattle.run_program.proofs.Having.{have_behind, have_stopped}
+use Rattle.run_program.proofs.Having.{have_alone, have_behind, have_stopped}
 use Rattle.run_program.proofs.Numbered.{as_many}
-use Rattle.run_program.proofs.stages.run_behind.Goals as goal
+use Rattle.run_program.proofs.stages.run_files.Goals as goal
 
 pub returns-then-not-is_done-clause-ran : goal.returns-then-not-is_done-clause-ran
 returns-then-not-is_done-clause-ran g c = let a = state_in c.args.session.now in let e = c.eval-end in let b = state_in e.new.store in let tree = tree_of c.args.prelude.now in
