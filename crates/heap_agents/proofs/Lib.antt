@@ -3,7 +3,7 @@ pub mod Interned
 pub mod Settled
 pub mod Refusing
 pub mod Searched
-pub mod Noting
+pub mod NotesStay
 pub mod Marks
 pub mod Answered
 pub mod Boarded

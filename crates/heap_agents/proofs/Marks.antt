@@ -31,7 +31,7 @@ use Rattle.heap_agents.specs.Interned.{KeepsCalls}
 use Rattle.heap_agents.specs.Noted.{AreNoted}
 use Rattle.heap_agents.specs.Shared.{IsSameText, IsThere, SharedText, TextLeaves, heap_of, share_if, size_if, view_if}
 use Rattle.heap_agents.proofs.Interned.{continued}
-use Rattle.heap_agents.proofs.Noting.{notes_kept}
+use Rattle.heap_agents.proofs.NotesStay.{notes_kept}
 
 -- what is known and which calls are known stay, so what was marked still may be
 marked_still : (v w : View) (known interned : IdSet) (ids : ℕ) → IsMarked v known interned ids

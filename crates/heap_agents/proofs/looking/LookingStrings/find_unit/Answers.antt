@@ -1,5 +1,5 @@
 use Rattle.heap_session.specs.Sessions.{session_view}
-use Rattle.heap_agents.proofs.Noting.{notes_kept}
+use Rattle.heap_agents.proofs.NotesStay.{notes_kept}
 use Rattle.heap_agents.proofs.looking.LookingStrings.find_unit.Goals as goal
 
 pub invariant_of-self : goal.invariant_of-self
