@@ -1,4 +1,4 @@
-use Rattle.std.proofs.Common.{◌≤◌, ℕ, List, get_or, ap, arith}
+use Rattle.std.proofs.Common.{ℕ, List, get_or, ap, arith}
 use Rattle.heap_table.specs.Agents.{view_of}
 use Rattle.heap_rule.proofs.MapLemmas.{has_key}
 use Rattle.heap_read.proofs.Loaded.{reads_trans}
