@@ -1,10 +1,8 @@
 -- What a window shows after loads of content words.
-use Rattle.std.proofs.Common.{◌≡◌, ◌∙◌, ◌≤◌, ap, sym, subst, refl, ℕ, List, Some, length}
+use Rattle.std.proofs.Common.{◌≡◌, ◌∙◌, ap, sym, refl, ℕ, List, Some, length}
 use Rattle.std.specs.FinMap.{FinMap, get}
 use Rattle.std.specs.Ordering.{nat_cmp}
-use Rattle.heap_rule.specs.Maps.{Has, HasKey}
-use Rattle.heap_rule.proofs.MapLemmas.{has_key}
-use Rattle.heap_table.specs.Known.{KeepsKnown}
+use Rattle.heap_rule.specs.Maps.{Has}
 use Rattle.heap_rule.specs.declared.view.View.{View}
 use Rattle.heap_read.specs.declared.string.Window.{Window}
 use Rattle.heap_read.specs.Sides.{LoadsFewForms}
@@ -36,9 +34,3 @@ few_on u v w n a e = record { times = a.times; few = a.few; loads = λ l j h. e 
 -- the units of a string are one list
 pub one_units : (m : FinMap nat_cmp (List ℕ)) (i j : ℕ) (us vs : List ℕ) → i ≡ j → Has m i us → Has m j vs → us ≡ vs
 one_units m i j us vs e h k = let here : Some us ≡ Some vs = sym h ∙ (ap (get m) e ∙ k) in cc
-
--- what is long enough is so later
-pub long_later : (v w : View) (i size : ℕ) → KeepsKnown v w → HasKey v.units i → ((us : List ℕ) → Has v.units i us → size ≤ length us)
-    → (us : List ℕ) → Has w.units i us → size ≤ length us
-long_later v w i size k key long us h = let p = has_key v.units i key in
-    subst (λ (xs : List ℕ). size ≤ length xs) (one_units w.units i i p.0 us refl (k.units i p.0 p.1) h) (long p.0 p.1)

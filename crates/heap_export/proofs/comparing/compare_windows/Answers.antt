@@ -1,4 +1,4 @@
-use Rattle.std.proofs.Common.{◌≡◌, ◌∙◌, ◌+◌, ◌<◌, ◌≤◌, ℕ, List, length, get_or, sym, subst, arith}
+use Rattle.std.proofs.Common.{◌≡◌, ◌∙◌, ◌<◌, ℕ, get_or, subst, arith}
 use Rattle.std.specs.Ordering.{nat_cmp}
 use Rattle.heap_table.specs.Agents.{view_of}
 use Rattle.heap_export.specs.Points.{LoadsWords}

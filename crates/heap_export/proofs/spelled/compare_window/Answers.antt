@@ -1,4 +1,4 @@
-use Rattle.std.proofs.Common.{◌≡◌, ◌+◌, ◌<◌, ◌≤◌, ◌∙◌, ℕ, List, ap, length, refl, sym, take, arith}
+use Rattle.std.proofs.Common.{◌≡◌, ◌+◌, ◌<◌, ◌≤◌, ◌∙◌, ℕ, length, refl, sym, take, arith}
 use Rattle.js_search.specs.Order.{units_cmp}
 use Rattle.heap_table.specs.Agents.{view_of}
 use Rattle.heap_bytes.specs.Spellings.{spelling_units}
