@@ -54,10 +54,13 @@ pub(crate) fn run_files<R: Threads + Sync, G: Gate + Sync>(
         (job_trees jobs.now) result outcomes.new.items }
 {
     let mut env = Env::new(alloc);
-    let Some(script) = prelude else {
-        let places = outcomes.as_mut_slice();
-        run_all(rt, alloc, session, jobs, places, groups, &env, gate);
-        return None;
+    let script = match prelude {
+        Some(script) => script,
+        None => {
+            let places = outcomes.as_mut_slice();
+            run_all(rt, alloc, session, jobs, places, groups, &env, gate);
+            return None;
+        }
     };
     let mut lines = Lines::new(alloc);
     let end = eval(alloc, script, &mut env, session, &mut lines);

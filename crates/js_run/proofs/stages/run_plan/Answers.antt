@@ -42,16 +42,32 @@ returns-in-Err-clause-becomes g c =
 
 -- generated scripts
 
-pub run_scripts-in-Generated-requires-clause-few : goal.run_scripts-in-Generated-requires-clause-few
-run_scripts-in-Generated-requires-clause-few g c =
+pub returns-in_default-clause-becomes : goal.returns-in_default-clause-becomes
+returns-in_default-clause-becomes g c =
+    let f = g.F.Files.state c.args.files.now in
+    let out = g.O.Sink.state c.args.out.now in
+    let end = c.stopped-in_default in
+    memory_became (request_for c.args.plan.now) f f (ended end.result) (sinks out (g.E.Sink.state c.args.err.now)) (sinks out (g.E.Sink.state end.new.err))
+    (still_quiet f) end.ensures.kept (end.ensures.told out)
+
+pub returns-in_default-made_sources-clause-becomes : goal.returns-in_default-made_sources-clause-becomes
+returns-in_default-made_sources-clause-becomes g c =
+    let f = g.F.Files.state c.args.files.now in
+    let out = g.O.Sink.state c.args.out.now in
+    let end = c.stopped-in_default-made_sources in
+    memory_became (request_for c.args.plan.now) f f (ended end.result) (sinks out (g.E.Sink.state c.args.err.now)) (sinks out (g.E.Sink.state end.new.err))
+    (still_quiet f) end.ensures.kept (end.ensures.told out)
+
+pub run_scripts-requires-in-Generated-clause-few : goal.run_scripts-requires-in-Generated-clause-few
+run_scripts-requires-in-Generated-clause-few g c = λ κs lives.
     let number = c.in-Generated.number in
     let sources = c.in-Ok-made_sources.sources in
     let all : sources_for sources ≡ program_from (generated number) =
-    c.in-Ok-made_sources.ensures.made ∙ (ap (λ l. program_from (map named_for l)) c.deref-made_sources.ensures.value ∙ ap program_from c.in-Ok-texts_from.ensures.made) in
+    c.in-Ok-made_sources.ensures.made ∙ (ap (λ l. program_from (map named_for l)) c.deref-in-Generated.ensures.value ∙ ap program_from c.in-Ok-texts_from.ensures.made) in
     omega (arith, ap (λ p. length p.scripts) all, made_scripts number, length-map sources.scripts.items source_for)
 
-pub returns-in-Generated-clause-becomes : goal.returns-in-Generated-clause-becomes
-returns-in-Generated-clause-becomes g c =
+pub returns-in-Ok-made_sources-clause-becomes : goal.returns-in-Ok-made_sources-clause-becomes
+returns-in-Ok-made_sources-clause-becomes g c =
     let f = g.F.Files.state c.args.files.now in
     let setup = c.setup-setup.result in
     let run = c.run_scripts-in-Generated in
@@ -59,6 +75,6 @@ returns-in-Generated-clause-becomes g c =
     let old = sinks (g.O.Sink.state c.args.out.now) (g.E.Sink.state c.args.err.now) in
     let new = sinks (g.O.Sink.state run.new.out) (g.E.Sink.state run.new.err) in
     let all : sources_for c.in-Ok-made_sources.sources ≡ program_from (generated number) =
-    c.in-Ok-made_sources.ensures.made ∙ (ap (λ l. program_from (map named_for l)) c.deref-made_sources.ensures.value ∙ ap program_from c.in-Ok-texts_from.ensures.made) in
+    c.in-Ok-made_sources.ensures.made ∙ (ap (λ l. program_from (map named_for l)) c.deref-in-Generated.ensures.value ∙ ap program_from c.in-Ok-texts_from.ensures.made) in
     made_became (request_for c.args.plan.now) f f (ended run.result) old new number setup (ap asked_for c.in-Generated.is) c.setup-setup.ensures (still_quiet f)
     (subst (λ (s : Program Named). Becomes (HasCauseOf setup s) (ended run.result) old new) all run.ensures)

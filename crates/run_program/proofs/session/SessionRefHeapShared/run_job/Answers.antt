@@ -11,7 +11,7 @@ use Rattle.heap_session.specs.Sessions.{state_in}
 use Rattle.run_program.specs.Jobs.{number, means}
 use Rattle.run_program.proofs.Copies.{bounds_copy, bounds_fine_copy}
 use Rattle.run_program.proofs.Jobs.{ran_one, ran_not}
-use Rattle.run_program.proofs.session.SessionShared.run_job.Goals as goal
+use Rattle.run_program.proofs.session.SessionRefHeapShared.run_job.Goals as goal
 
 pub eval-outcome-requires : goal.eval-outcome-requires
 eval-outcome-requires c = bounds_fine_copy (state_in c.args.self.now) number c.in-Ok.copy c.args.env.now c.in-Ok.ensures c.requires.env
