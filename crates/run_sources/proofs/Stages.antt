@@ -10,7 +10,7 @@ use Rattle.js_parse.specs.declared.fault.ParseFault.{ParseFault}
 use Rattle.js_parse.specs.declared.fault.ParseFault.TheVariants as fault
 use Rattle.js_parse.specs.declared.fault.Role.{Role}
 use Rattle.js_parse.specs.declared.fault.Role.TheVariants.{Main}
-use Rattle.js_parse.specs.Spells.{Refused, Refuses}
+use Rattle.js_parse.specs.Spells.{Refused, HoldsOfFault}
 use Rattle.std.specs.Borrow.{Bor}
 use Rattle.eval_tree.specs.declared.tree.Script.{Script}
 use Rattle.eval_tree.specs.Tree.{Tree}
@@ -182,7 +182,7 @@ module _ (sources : Program Named) where
   scripts_refused prelude (stop.TooLarge name) spells why = absurd why
 
 -- a source is refused for the fault of its text
-pub text_refused : (r : Role) (outer : List (List ℕ)) (name : Bor (List ℕ)) (text : List ℕ) (f : ParseFault) → Refuses {X = Script} (Err f) (λ x. Refused r outer text x)
+pub text_refused : (r : Role) (outer : List (List ℕ)) (name : Bor (List ℕ)) (text : List ℕ) (f : ParseFault) → HoldsOfFault {X = Script} (Err f) (λ x. Refused r outer text x)
     → RefusesText r outer (record { name = name.now; text = text }) (refusal name f)
 text_refused r outer name text fault.Memory h = tt
 text_refused r outer name text (fault.Lex x) h = (refl, h)
