@@ -167,7 +167,7 @@ leaves_on x t u own held kept c = let heap = ap arc_value kept.heap in record {
 }
 
 pub leaves_reads : (x : Held) (t u : SharedText) → x.text ≡ Some t → IsHeld x → KeepsText t u
-  → OnlyLoads (view_of t.reader.agent) (view_of u.reader.agent) → LeavesStrings x (record x { text = Some u })
+    → OnlyLoads (view_of t.reader.agent) (view_of u.reader.agent) → LeavesStrings x (record x { text = Some u })
 leaves_reads x t u own held kept reads = leaves_on x t u own held kept (continues_reads (view_of t.reader.agent) (view_of u.reader.agent) reads)
 
 -- an id that is known has its place in a set of marks

@@ -37,7 +37,14 @@ fn intern_units_noted_by<L: Ledger, H: HeapRef>(
 {
     let mut steps = Steps::<L>::start(blank);
     let hash = hash_units(0, units);
-    match probe(reader, &Wanted::Units(units), None, hash, hashes, &mut steps) {
+    match probe(
+        reader,
+        &Wanted::Units(units),
+        None,
+        hash,
+        hashes,
+        &mut steps,
+    ) {
         Ok(seat) => Ok(seat.id),
         Err(full) => Err(full),
     }
@@ -81,7 +88,14 @@ fn intern_from_noted_by<L: Ledger, H: HeapRef>(
 {
     let mut steps = Steps::<L>::start(blank);
     let hash = source.hash();
-    match probe(reader, &Wanted::Spelled(*source), None, hash, hashes, &mut steps) {
+    match probe(
+        reader,
+        &Wanted::Spelled(*source),
+        None,
+        hash,
+        hashes,
+        &mut steps,
+    ) {
         Ok(seat) => Ok(seat.id),
         Err(full) => Err(full),
     }

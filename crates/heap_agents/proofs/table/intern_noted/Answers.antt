@@ -15,12 +15,12 @@ intern_noted-requires-clause-seated c = let v = view_of c.in-Some.text.reader.ag
 
 pub intern_noted-requires-clause-hashed : goal.intern_noted-requires-clause-hashed
 intern_noted-requires-clause-hashed c = let v = view_of c.in-Some.text.reader.agent in
-    subst (λ (l : List ℕ). AreHashes v l) (sym c.as_mut_slice-2.ensures.value) (same_hashes v c.args.seats.now.hashes.items c.reach_hashes.new.self.hashes.items (λ k. c.reach_hashes.ensures.hashes k ∙ (λ j. slice_index (c.reach.ensures.hashes j).items k))
+    subst (λ (l : List ℕ). AreHashes v l) (sym c.as_mut_slice-in-Some.ensures.value) (same_hashes v c.args.seats.now.hashes.items c.reach_hashes.new.self.hashes.items (λ k. c.reach_hashes.ensures.hashes k ∙ (λ j. slice_index (c.reach.ensures.hashes j).items k))
     (subst (λ (o : Option SharedText). AreHashes (view_if o) c.args.seats.now.hashes.items) c.in-Some.is c.requires.noted.1))
 
 pub returns-clause-noted : goal.returns-clause-noted
 returns-clause-noted c = let call = c.intern_noted in let len : length call.new.seats ≡ c.reach_hashes.new.self.slots.len = call.ensures.room ∙ c.as_mut_slice.ensures.len in
-    let hash_len : length call.new.hashes ≡ c.reach_hashes.new.self.hashes.len = call.ensures.hash_room ∙ c.as_mut_slice-2.ensures.len in (
+    let hash_len : length call.new.hashes ≡ c.reach_hashes.new.self.hashes.len = call.ensures.hash_room ∙ c.as_mut_slice-in-Some.ensures.len in (
       subst (λ (l : List ℕ). AreSeats (view_of call.new.reader.agent) l) (sym (take_at call.new.seats _ c.reach_hashes.new.self.slots.len len)) call.ensures.seated,
       subst (λ (l : List ℕ). AreHashes (view_of call.new.reader.agent) l) (sym (take_at call.new.hashes _ c.reach_hashes.new.self.hashes.len hash_len)) call.ensures.hashed,
     )
