@@ -8,7 +8,8 @@ use Rattle.heap_text.specs.Settling.{IsBitOf, IsNoRoom, IsSettling}
 use Rattle.heap_text.specs.Texts.{KeepsOwn}
 use Rattle.heap_agents.specs.declared.held.Held.{Held}
 use Rattle.heap_agents.specs.Held.{MarksNothing, MarksOnly, MarksOnlyKey}
-use Rattle.heap_agents.specs.Ready.{HandleLeaves, IsReady, HandleKnows, HandleSearches, giver_in, handle_number}
+use Rattle.heap_agents.specs.Ready.{HandleLeaves, IsReady, HandleKnows, HandleSearches, giver_in}
+use Rattle.heap_agents.specs.Ready.{handle_number}
 use Rattle.heap_agents.specs.Ready.{size_in, handle_view}
 use Rattle.jsstr_c.specs.declared.answer.JsAnswer.{JsAnswer}
 use Rattle.jsstr_c.specs.Reports.{BAD_ARGUMENT, DONE, NO_WORDS, bad_argument, done, text_report}

@@ -18,8 +18,15 @@ pub run_scripts-requires-clause-few : goal.run_scripts-requires-clause-few
 run_scripts-requires-clause-few g c =
     let some = subst (λ (i : Input). IsSomeFiles (asked_for i)) c.in-Files.is c.requires.files in
     let read = read_length (g.F.Files.state c.args.files.now).held _ _ c.in-Ok.ensures.read.scripts in
-    omega (arith, read, some.1, length-map c.in-Ok.sources.scripts.items source_for, length-map c.in-Files.scripts.items (λ n. n.now),
-    length-map c.deref.result.now (λ n. n.now), ap length c.deref.ensures.value)
+    omega (
+      arith,
+      read,
+      some.1,
+      length-map c.in-Ok.sources.scripts.items source_for,
+      length-map c.in-Files.scripts.items (λ n. n.now),
+      length-map c.deref.result.now (λ n. n.now),
+      ap length c.deref.ensures.value,
+    )
 
 pub returns-in-Ok-clause-becomes : goal.returns-in-Ok-clause-becomes
 returns-in-Ok-clause-becomes g c =
