@@ -82,7 +82,8 @@ fn intern_from_noted_by<L: Ledger, H: HeapRef>(
     requires short { length (spelling_units source.now) ≤ MAX }
     requires hashed { AreHashes (view_in reader.old) hashes.old }
     ensures heap { reader.new.heap ≡ reader.old.heap }
-    ensures interns { InternsGiven (view_in reader.old) (view_in reader.new) (spelling_units source.now) result }
+    ensures interns { InternsGiven (view_in reader.old) (view_in reader.new)
+        (spelling_units source.now) result }
     ensures notes { NotesHash (view_in reader.old) (view_in reader.new) (spelling_units source.now)
         (answered result) hashes.old hashes.new }
 {
@@ -111,7 +112,8 @@ pub fn intern_from_noted<H: HeapRef>(
     requires short { length (spelling_units source.now) ≤ MAX }
     requires hashed { AreHashes (view_in reader.old) hashes.old }
     ensures heap { reader.new.heap ≡ reader.old.heap }
-    ensures interns { InternsGiven (view_in reader.old) (view_in reader.new) (spelling_units source.now) result }
+    ensures interns { InternsGiven (view_in reader.old) (view_in reader.new)
+        (spelling_units source.now) result }
     ensures notes { NotesHash (view_in reader.old) (view_in reader.new) (spelling_units source.now)
         (answered result) hashes.old hashes.new }
 {
