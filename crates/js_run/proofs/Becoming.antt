@@ -74,6 +74,10 @@ module _ (request : Request) (before after : FilesState) (ended : Ended) (old ne
   file_stopped prelude scripts stop.NoMemory asked why none end = record { verdict = NoMemory; cause = why; ending = end; kept = none }
   file_stopped prelude scripts (stop.Refused name fault) asked why none end = absurd why
 
+  -- no file was read, and memory was wanting
+  pub memory_became : IsQuiet before after → ended.kept ≡ None → IsEnd (stop_report stop.NoMemory) ended.code old new → Becomes (HasCauseBy (Some request) before after) ended old new
+  memory_became quiet none end = record { verdict = NoMemory; cause = quiet; ending = end; kept = none }
+
   of_texts : (sources : Program Named) → AreTexts request.asked before.held sources → IsQuiet before after → (v : Verdict) → HasCauseOf
       (setup_of request) sources v → HasCauseBy (Some request) before after v
   of_texts sources texts quiet BadWords why = absurd why

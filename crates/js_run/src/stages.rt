@@ -68,39 +68,8 @@ pub(crate) fn stopped<E: Sink>(stop: ScriptsFault<'_>, err: &mut E) -> Status
     }
 }
 
-// Runs the program that sources spell.
+// Parses the sources, runs the program that they spell, and writes what came of it.
 fn run_scripts<R: Threads + Sync, O: Sink, E: Sink, G: Gate + Sync>(
-    rt: &R,
-    alloc: Global,
-    setup: Setup,
-    sources: &Sources<'_>,
-    scripts: Scripts,
-    out: &mut O,
-    err: &mut E,
-    gate: &G,
-) -> Status
-    requires may { MayMake setup.size setup.jobs }
-    requires few { length sources.now.scripts.items ≤ 4294967295 }
-    requires spell { Spell (sources_for sources.now) (trees_for scripts) }
-    ensures { Becomes (HasCauseOf setup (sources_for sources.now)) (ended result)
-        (sinks (O.state out.old) (E.state err.old)) (sinks (O.state out.new) (E.state err.new)) }
-{
-    let Scripts { prelude, scripts } = scripts;
-    match run_program(rt, alloc, prelude.as_ref(), scripts, setup, gate) {
-        Ok(ran) => {
-            let code = tell_ran(sources, &ran, out, err);
-            let Ran { kept, .. } = ran;
-            Status {
-                code,
-                kept: Some(kept),
-            }
-        }
-        Err(_) => stopped(ScriptsFault::NoMemory, err),
-    }
-}
-
-// Parses the sources, and runs the program that they spell.
-fn run_sources<R: Threads + Sync, O: Sink, E: Sink, G: Gate + Sync>(
     rt: &R,
     alloc: Global,
     setup: Setup,
@@ -115,65 +84,23 @@ fn run_sources<R: Threads + Sync, O: Sink, E: Sink, G: Gate + Sync>(
     ensures { Becomes (HasCauseOf setup (sources_for sources.now)) (ended result)
         (sinks (O.state out.old) (E.state err.old)) (sinks (O.state out.new) (E.state err.new)) }
 {
-    match parse_sources(alloc, sources) {
-        Ok(scripts) => run_scripts(rt, alloc, setup, sources, scripts, out, err, gate),
-        Err(stop) => stopped(stop, err),
-    }
-}
-
-// Generates sources from a number, and runs them.
-fn run_made<R: Threads + Sync, O: Sink, E: Sink, G: Gate + Sync>(
-    rt: &R,
-    alloc: Global,
-    setup: Setup,
-    number: u32,
-    out: &mut O,
-    err: &mut E,
-    gate: &G,
-) -> Status
-    requires may { MayMake setup.size setup.jobs }
-    ensures { Becomes (HasCauseOf setup (program_from (generated number))) (ended result)
-        (sinks (O.state out.old) (E.state err.old)) (sinks (O.state out.new) (E.state err.new)) }
-{
-    let texts = match texts_from(alloc, number) {
-        Ok(texts) => texts,
-        Err(_) => return stopped(ScriptsFault::NoMemory, err),
+    let parsed = match parse_sources(alloc, sources) {
+        Ok(parsed) => parsed,
+        Err(stop) => return stopped(stop, err),
     };
-    match made_sources(alloc, &texts) {
-        Ok(sources) => run_sources(rt, alloc, setup, &sources, out, err, gate),
-        Err(_) => stopped(ScriptsFault::NoMemory, err),
+    let Scripts { prelude, scripts } = parsed;
+    let Ok(ran) = run_program(rt, alloc, prelude.as_ref(), scripts, setup, gate) else {
+        return stopped(ScriptsFault::NoMemory, err);
+    };
+    let code = tell_ran(sources, &ran, out, err);
+    let Ran { kept, .. } = ran;
+    Status {
+        code,
+        kept: Some(kept),
     }
 }
 
-// Reads files, and runs them.
-fn run_named_files<R: Threads + Sync, F: Files, O: Sink, E: Sink, G: Gate + Sync>(
-    rt: &R,
-    alloc: Global,
-    setup: Setup,
-    prelude: Option<&str>,
-    scripts: &[&str],
-    files: &mut F,
-    out: &mut O,
-    err: &mut E,
-    gate: &G,
-) -> Status
-    requires may { MayMake setup.size setup.jobs }
-    requires few { length scripts.now ≤ 4096 }
-    ensures keeps { KeepsFiles (F.state files.old) (F.state files.new) }
-    ensures becomes { (request : Request)
-        → request.asked ≡ named_files (names_for prelude.entry scripts.now).prelude
-        (names_for prelude.entry scripts.now).scripts
-        → setup ≡ setup_of request
-        → Becomes (HasCauseBy (Some request) (F.state files.old) (F.state files.new)) (ended result)
-        (sinks (O.state out.old) (E.state err.old)) (sinks (O.state out.new) (E.state err.new)) }
-{
-    match read_sources(alloc, prelude, scripts, files) {
-        Ok(sources) => run_sources(rt, alloc, setup, &sources, out, err, gate),
-        Err(stop) => stopped(stop, err),
-    }
-}
-
-/// What becomes of valid arguments.
+/// What becomes of valid arguments: files are read, or scripts generated, and then they are run.
 pub(crate) fn run_plan<R: Threads + Sync, F: Files, O: Sink, E: Sink, G: Gate + Sync>(
     rt: &R,
     alloc: Global,
@@ -191,9 +118,18 @@ pub(crate) fn run_plan<R: Threads + Sync, F: Files, O: Sink, E: Sink, G: Gate + 
 {
     let setup = setup(plan);
     match &plan.input {
-        Input::Files { prelude, scripts } => {
-            run_named_files(rt, alloc, setup, *prelude, scripts, files, out, err, gate)
+        Input::Files { prelude, scripts } => match read_sources(alloc, *prelude, scripts, files) {
+            Ok(sources) => run_scripts(rt, alloc, setup, &sources, out, err, gate),
+            Err(stop) => stopped(stop, err),
+        },
+        Input::Generated(number) => {
+            let Ok(texts) = texts_from(alloc, *number) else {
+                return stopped(ScriptsFault::NoMemory, err);
+            };
+            let Ok(sources) = made_sources(alloc, &texts) else {
+                return stopped(ScriptsFault::NoMemory, err);
+            };
+            run_scripts(rt, alloc, setup, &sources, out, err, gate)
         }
-        Input::Generated(number) => run_made(rt, alloc, setup, *number, out, err, gate),
     }
 }
