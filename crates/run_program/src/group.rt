@@ -1,5 +1,5 @@
 // Jobs in a row.
-ghost use Rattle.std.specs.Prelude.{◌≡◌, ◌≤◌, ◌<◌, ◌+◌, ℕ, List, length, All, [], ◌∷◌};
+ghost use Rattle.std.specs.Prelude.{◌≡◌, ◌≤◌, length, All};
 ghost use Rattle.eval_scopes.specs.Seen.{bounds_of};
 ghost use Rattle.js_eval.specs.Seen.{BoundsFine};
 ghost use Rattle.run_program.specs.Jobs.{number, HasNoLines, RunsEachJob};
@@ -7,7 +7,7 @@ ghost use Rattle.run_program.specs.Jobs.{number, HasNoLines, RunsEachJob};
 use crate::job::{Job, Outcome};
 use crate::shared::Shared;
 use heap_read::JsStr;
-use js_eval::{End, Env};
+use js_eval::Env;
 use js_io::Gate;
 use std::alloc::Global;
 
@@ -27,28 +27,7 @@ pub(crate) fn run_in_order<S: Shared, G: Gate>(
 {
     for k in 0..jobs.len() {
         gate.enter(jobs[k].index);
-        run_job(alloc, session, &jobs[k], &mut outcomes[k], env);
+        session.run_job(alloc, &jobs[k], env, &mut outcomes[k]);
         gate.leave(jobs[k].index);
     }
-}
-
-// Runs one job. Where no memory is found for the copy it ends so, without lines.
-fn run_job<S: Shared>(
-    alloc: Global,
-    session: &mut S,
-    job: &Job,
-    outcome: &mut Outcome,
-    env: &Env<JsStr>,
-)
-    requires empty { HasNoLines outcome.old }
-    requires env { BoundsFine (S.state session.old) number (bounds_of env.now) }
-    ensures { RunsEachJob (S.state session.old) (S.state session.new) env.now
-        (job.now ∷ []) (outcome.new ∷ []) }
-{
-    outcome.index = job.index;
-    outcome.end = End::Memory;
-    let Ok(mut copy) = env.copy() else {
-        return;
-    };
-    outcome.end = session.run(alloc, &job.script, &mut copy, &mut outcome.lines);
 }

@@ -12,13 +12,12 @@ ghost use Rattle.run_program.specs.Jobs.{HasNoLines};
 ghost use Rattle.run_program.specs.Ran.{IsRan, tree_if, trees_of};
 ghost use Rattle.run_program.specs.Stages.{AreNumbered, IsTold, job_trees};
 
-use crate::job::{Job, Outcome};
 use crate::prepare::{jobs_of, places};
 use crate::ran::{Kept, Ran, Setup};
 use crate::stages::run_files;
 use eval_tree::Script;
 use heap_session::{Session, whole_has_all};
-use heap_table::{Agent, Heap};
+use heap_table::Heap;
 use js_io::Gate;
 use js_units::NoMemory;
 use std::alloc::Global;
@@ -35,46 +34,6 @@ fn count_if(session: &mut Session<&Heap>, count: bool) -> Option<u32>
         return None;
     }
     Some(session.count_interned())
-}
-
-// Runs the files on a heap that was just made. The agent of all is given back.
-fn run_on<R: Threads + Sync, G: Gate + Sync>(
-    rt: &R,
-    alloc: Global,
-    heap: &Heap,
-    agent: Agent,
-    prelude: Option<&Script>,
-    jobs: &[Job],
-    outcomes: &mut Vec<Outcome>,
-    setup: Setup,
-    gate: &G,
-) -> (Option<Outcome>, Option<u32>, Agent)
-    requires some { 1 ≤ setup.jobs }
-    requires belongs { Belongs agent heap.now }
-    requires view { view_of agent ≡ first_view setup.size setup.jobs }
-    requires size { size_of heap.now ≡ setup.size }
-    requires lengths { length outcomes.old.items ≡ length jobs.now }
-    requires empty { All HasNoLines outcomes.old.items }
-    requires numbered { AreNumbered 0 jobs.now }
-    ensures belongs { Belongs result.2 heap.now }
-    ensures told { IsTold setup (state_by (view_of result.2) (limit_units setup.limit) (table_of heap.now))
-        (tree_if prelude.entry) (job_trees jobs.now) result.0 outcomes.new.items result.1 }
-{
-    let mut session = Session::new(heap, agent, setup.limit);
-    let first = run_files(
-        rt,
-        alloc,
-        &mut session,
-        prelude,
-        jobs,
-        outcomes,
-        setup.jobs,
-        gate,
-    );
-    whole_has_all(&session);
-    session.totals();
-    let interned = count_if(&mut session, setup.count);
-    (first, interned, session.into_agent())
 }
 
 /// Runs a prelude, if there is one, from no bindings, and where it ended Done the scripts, each from
@@ -98,17 +57,21 @@ pub fn run_program<R: Threads + Sync, G: Gate + Sync>(
     let Ok((heap, agent)) = Heap::make(alloc, setup.size, setup.jobs) else {
         return Err(NoMemory);
     };
-    let (first, interned, agent) = run_on(
+    let mut session = Session::new(&heap, agent, setup.limit);
+    let first = run_files(
         rt,
         alloc,
-        &heap,
-        agent,
+        &mut session,
         prelude,
         &jobs,
         &mut outcomes,
-        setup,
+        setup.jobs,
         gate,
     );
+    whole_has_all(&session);
+    session.totals();
+    let interned = count_if(&mut session, setup.count);
+    let agent = session.into_agent();
     Ok(Ran {
         prelude: first,
         scripts: outcomes,

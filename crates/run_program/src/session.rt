@@ -1,10 +1,10 @@
 // A session on the heap is split among threads, and joined again.
+use crate::job::{Job, Outcome};
 use crate::shared::Shared;
-use eval_tree::Script;
 use heap_read::JsStr;
 use heap_session::Session;
 use heap_table::Heap;
-use js_eval::{End, Env, Lines, eval};
+use js_eval::{End, Env, eval};
 use std::alloc::Global;
 
 impl<'h> Shared for Session<&'h Heap> {
@@ -20,13 +20,12 @@ impl<'h> Shared for Session<&'h Heap> {
         self.join(other);
     }
 
-    fn run(
-        &mut self,
-        alloc: Global,
-        script: &Script,
-        env: &mut Env<JsStr>,
-        lines: &mut Lines,
-    ) -> End {
-        eval(alloc, script, env, self, lines)
+    fn run_job(&mut self, alloc: Global, job: &Job, env: &Env<JsStr>, outcome: &mut Outcome) {
+        outcome.index = job.index;
+        outcome.end = End::Memory;
+        let Ok(mut copy) = env.copy() else {
+            return;
+        };
+        outcome.end = eval(alloc, &job.script, &mut copy, self, &mut outcome.lines);
     }
 }

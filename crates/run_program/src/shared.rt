@@ -1,18 +1,15 @@
 // A store that is split among threads, and joined again.
-ghost use Rattle.std.specs.Prelude.{◌≡◌, ◌≤◌, ◌<◌};
-ghost use Rattle.js_store.specs.State.{State, Grows};
-ghost use Rattle.eval_tree.specs.Tree.{tree_of};
+ghost use Rattle.std.specs.Prelude.{◌≡◌, ◌≤◌, ◌<◌, [], ◌∷◌};
+ghost use Rattle.js_store.specs.State.{State};
 ghost use Rattle.eval_scopes.specs.Seen.{bounds_of};
-ghost use Rattle.js_eval.specs.Script.{meaning};
-ghost use Rattle.js_eval.specs.Seen.{BoundsFine, bounds_seen};
-ghost use Rattle.js_eval.specs.Evaluates.{Evaluates};
+ghost use Rattle.js_eval.specs.Seen.{BoundsFine};
 ghost use Rattle.heap_session.specs.Sessions.{SessionFrame};
 ghost use Rattle.heap_session.specs.Shares.{IsSessionJoined, MayJoinSession, giver_after, right_by};
-ghost use Rattle.run_program.specs.Jobs.{number};
+ghost use Rattle.run_program.specs.Jobs.{HasNoLines, RunsEachJob, number};
 
-use eval_tree::Script;
+use crate::job::{Job, Outcome};
 use heap_read::JsStr;
-use js_eval::{End, Env, Lines};
+use js_eval::Env;
 use std::alloc::Global;
 
 // What running jobs asks of a session. The calls are generic in it, since proofs about threads are
@@ -34,18 +31,10 @@ pub trait Shared {
         ensures bounded { (state self.new).bounded ≡ (state self.old).bounded }
         ensures sure { (state self.new).sure ≡ (state self.old).sure };
 
-    // Runs a script from the bindings of `env`.
-    fn run(
-        &mut self,
-        alloc: Global,
-        script: &Script,
-        env: &mut Env<JsStr>,
-        lines: &mut Lines,
-    ) -> End
-        requires { BoundsFine (state self.old) number (bounds_of env.old) }
-        ensures grows { Grows (state self.old) (state self.new) }
-        ensures meaning { Evaluates (state self.old) (state self.new) lines.old lines.new
-            (bounds_seen (state self.new) number (bounds_of env.new)) result
-            (meaning (tree_of script.now) (bounds_seen (state self.old) number (bounds_of env.old))
-            (state self.old).limit) };
+    // Runs one job on a copy of the bindings, and puts its outcome in its place. Where no memory is found for
+    // the copy it ends so, without lines.
+    fn run_job(&mut self, alloc: Global, job: &Job, env: &Env<JsStr>, outcome: &mut Outcome)
+        requires empty { HasNoLines outcome.old }
+        requires env { BoundsFine (state self.old) number (bounds_of env.now) }
+        ensures { RunsEachJob (state self.old) (state self.new) env.now (job.now ∷ []) (outcome.new ∷ []) };
 }

@@ -31,70 +31,8 @@ fn is_done(end: End) -> bool
     }
 }
 
-// Runs scripts with no prelude.
-fn run_alone<R: Threads + Sync, G: Gate + Sync>(
-    rt: &R,
-    alloc: Global,
-    session: &mut Session<&Heap>,
-    jobs: &[Job],
-    outcomes: &mut [Outcome],
-    groups: u32,
-    gate: &G,
-)
-    requires some { 1 ≤ groups }
-    requires share { groups ≤ (state_in session.old).frame.share }
-    requires lengths { length outcomes.old ≡ length jobs.now }
-    requires empty { All HasNoLines outcomes.old }
-    requires numbered { AreNumbered 0 jobs.now }
-    requires unused { IsUnused (state_in session.old) }
-    ensures grows { Grows (state_in session.old) (state_in session.new) }
-    ensures ran { HaveRunFrom (state_in session.old) (state_in session.new) None (job_trees jobs.now) None
-        outcomes.new }
-{
-    let env = Env::new(alloc);
-    run_all(rt, alloc, session, jobs, outcomes, groups, &env, gate);
-}
-
-// Runs a prelude, and where it ended Done the scripts from the bindings that it left. Else their
-// places are removed.
-fn run_behind<R: Threads + Sync, G: Gate + Sync>(
-    rt: &R,
-    alloc: Global,
-    session: &mut Session<&Heap>,
-    prelude: &Script,
-    jobs: &[Job],
-    outcomes: &mut Vec<Outcome>,
-    groups: u32,
-    gate: &G,
-) -> Outcome
-    requires some { 1 ≤ groups }
-    requires share { groups ≤ (state_in session.old).frame.share }
-    requires lengths { length outcomes.old.items ≡ length jobs.now }
-    requires empty { All HasNoLines outcomes.old.items }
-    requires numbered { AreNumbered 0 jobs.now }
-    requires unused { IsUnused (state_in session.old) }
-    ensures grows { Grows (state_in session.old) (state_in session.new) }
-    ensures ran { HaveRunFrom (state_in session.old) (state_in session.new) (Some (tree_of prelude.now))
-        (job_trees jobs.now) (Some result) outcomes.new.items }
-{
-    let mut env = Env::new(alloc);
-    let mut lines = Lines::new(alloc);
-    let end = eval(alloc, prelude, &mut env, session, &mut lines);
-    let first = Outcome {
-        index: 0,
-        lines,
-        end,
-    };
-    if !is_done(end) {
-        outcomes.clear();
-        return first;
-    }
-    let places = outcomes.as_mut_slice();
-    run_all(rt, alloc, session, jobs, places, groups, &env, gate);
-    first
-}
-
-// Runs the prelude, if there is one, and the scripts.
+// Runs the prelude, if there is one, and the scripts. Where it ended Done they begin with the bindings that it
+// left, and else none of them runs, and their places are removed.
 pub(crate) fn run_files<R: Threads + Sync, G: Gate + Sync>(
     rt: &R,
     alloc: Global,
@@ -115,22 +53,27 @@ pub(crate) fn run_files<R: Threads + Sync, G: Gate + Sync>(
     ensures ran { HaveRunFrom (state_in session.old) (state_in session.new) (tree_if prelude.entry)
         (job_trees jobs.now) result outcomes.new.items }
 {
-    match prelude {
+    let mut env = Env::new(alloc);
+    let script = match prelude {
+        Some(script) => script,
         None => {
-            run_alone(
-                rt,
-                alloc,
-                session,
-                jobs,
-                outcomes.as_mut_slice(),
-                groups,
-                gate,
-            );
-            None
+            let places = outcomes.as_mut_slice();
+            run_all(rt, alloc, session, jobs, places, groups, &env, gate);
+            return None;
         }
-        Some(script) => {
-            let first = run_behind(rt, alloc, session, script, jobs, outcomes, groups, gate);
-            Some(first)
-        }
+    };
+    let mut lines = Lines::new(alloc);
+    let end = eval(alloc, script, &mut env, session, &mut lines);
+    let first = Outcome {
+        index: 0,
+        lines,
+        end,
+    };
+    if !is_done(end) {
+        outcomes.clear();
+        return Some(first);
     }
+    let places = outcomes.as_mut_slice();
+    run_all(rt, alloc, session, jobs, places, groups, &env, gate);
+    Some(first)
 }

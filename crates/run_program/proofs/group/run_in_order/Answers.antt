@@ -16,9 +16,9 @@ run_job-requires-clause-env g c = bounds_fine_still (g.S.Shared.state c.args.ses
 
 pub loop-k-preserved : goal.loop-k-preserved
 loop-k-preserved g c = let v = c.loop-k.invariant in let s = g.S.Shared.state in let a = s c.args.session.now in record {
-  ran = ran_more (means a c.args.env.now) a (s c.loop-k.session) (s c.run_job.new.session) c.args.jobs.now c.loop-k.outcomes c.loop-k.k c.index-jobs-k-in-loop-k.result c.run_job.new.outcome
+  ran = ran_more (means a c.args.env.now) a (s c.loop-k.session) (s c.run_job.new.self) c.args.jobs.now c.loop-k.outcomes c.loop-k.k c.index-jobs-k-in-loop-k.result c.run_job.new.outcome
       c.loop-k-test.true v.lengths c.index-jobs-k-in-loop-k.is v.ran
-      (runs_still a (s c.loop-k.session) (s c.run_job.new.session) c.args.env.now _ _ v.ran.grows c.requires.env c.run_job.ensures);
+      (runs_still a (s c.loop-k.session) (s c.run_job.new.self) c.args.env.now _ _ v.ran.grows c.requires.env c.run_job.ensures);
   lengths = length-set c.loop-k.outcomes c.loop-k.k c.run_job.new.outcome ∙ v.lengths;
   empty = empty_more c.loop-k.outcomes c.loop-k.k c.run_job.new.outcome v.empty;
 }

@@ -7,24 +7,26 @@ use Rattle.js_item.specs.Seen.{Val}
 use Rattle.js_eval.specs.Script.{meaning}
 use Rattle.js_eval.specs.Seen.{bounds_seen}
 use Rattle.js_eval.specs.Evaluates.{Evaluates}
+use Rattle.heap_session.specs.Sessions.{state_in}
 use Rattle.run_program.specs.Jobs.{number, means}
 use Rattle.run_program.proofs.Copies.{bounds_copy, bounds_fine_copy}
 use Rattle.run_program.proofs.Jobs.{ran_one, ran_not}
-use Rattle.run_program.proofs.group.run_job.Goals as goal
+use Rattle.run_program.proofs.session.SessionRefHeapShared.run_job.Goals as goal
 
-pub run-outcome-requires : goal.run-outcome-requires
-run-outcome-requires g c = bounds_fine_copy (g.S.Shared.state c.args.session.now) number c.in-Ok.copy c.args.env.now c.in-Ok.ensures c.requires.env
+pub eval-outcome-requires : goal.eval-outcome-requires
+eval-outcome-requires c = bounds_fine_copy (state_in c.args.self.now) number c.in-Ok.copy c.args.env.now c.in-Ok.ensures c.requires.env
 
 pub returns-in_default : goal.returns-in_default
-returns-in_default g c = let a = g.S.Shared.state c.args.session.now in
+returns-in_default c = let a = state_in c.args.self.now in
     ran_not (means a c.args.env.now) a a (grows_refl a) c.args.job.now _ refl refl refl c.requires.empty
 
 pub returns : goal.returns
-returns g c = let s = g.S.Shared.state in let a = s c.args.session.now in
-    let e = c.run-outcome in
-    let after : List (Bound Val) = bounds_seen (s e.new.self) number (bounds_of e.new.env) in
-    ran_one (means a c.args.env.now) a (s e.new.self) e.ensures.grows c.args.job.now _ refl after e.result refl
-    (subst (λ (bs : List (Bound Val)). Evaluates a (s e.new.self) [] e.new.lines after e.result
+returns c = let a = state_in c.args.self.now in
+    let e = c.eval-outcome in
+    let b = state_in e.new.store in
+    let after : List (Bound Val) = bounds_seen b number (bounds_of e.new.env) in
+    ran_one (means a c.args.env.now) a b e.ensures.grows c.args.job.now _ refl after e.result refl
+    (subst (λ (bs : List (Bound Val)). Evaluates a b [] e.new.lines after e.result
     (meaning (tree_of c.args.job.now.script) bs a.limit)) (bounds_copy a number c.in-Ok.copy c.args.env.now c.in-Ok.ensures)
-    (subst (λ (x : List ℕ). Evaluates a (s e.new.self) x e.new.lines after e.result
+    (subst (λ (x : List ℕ). Evaluates a b x e.new.lines after e.result
     (meaning (tree_of c.args.job.now.script) (bounds_seen a number (bounds_of c.in-Ok.copy)) a.limit)) c.requires.empty e.ensures.meaning))
