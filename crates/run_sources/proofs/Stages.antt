@@ -1,18 +1,12 @@
 -- What the stages leave, one behind the other.
-use Rattle.std.proofs.Common.{◌≡◌, ◌++◌, ℕ, zero, suc, List, [], ◌∷◌, None, Some, Err, refl, sym, ap, ◌∙◌, subst, arith, option_to_list}
+use Rattle.std.proofs.Common.{◌≡◌, ◌++◌, ℕ, zero, suc, List, [], ◌∷◌, None, Some, refl, sym, ap, ◌∙◌, subst, arith, option_to_list}
 use Rattle.std.specs.declared.option.Option.{Option}
 use Rattle.std.specs.List.{All}
 use Rattle.std.proofs.lemmas.List.Elements.{All-nil}
 use Rattle.run_sources.specs.Texts.{IsSmall, Named}
 use Rattle.js_io.specs.Counts.{next_count}
 use Rattle.js_io.specs.FilesState.{FilesState, IsTooLarge, IsToldAs}
-use Rattle.js_parse.specs.declared.fault.ParseFault.{ParseFault}
-use Rattle.js_parse.specs.declared.fault.ParseFault.TheVariants as fault
-use Rattle.js_parse.specs.declared.fault.Role.{Role}
 use Rattle.js_parse.specs.declared.fault.Role.TheVariants.{Main}
-use Rattle.js_parse.specs.Spells.{Refused, HoldsOfFault}
-use Rattle.std.specs.Borrow.{Bor}
-use Rattle.eval_tree.specs.declared.tree.Script.{Script}
 use Rattle.eval_tree.specs.Tree.{Tree}
 use Rattle.run_sources.specs.declared.stop.ScriptsFault.{ScriptsFault}
 use Rattle.run_sources.specs.declared.stop.ScriptsFault.TheVariants as stop
@@ -21,7 +15,7 @@ use Rattle.run_sources.specs.Reading as reading
 use Rattle.run_sources.specs.Reading.{AreRead, IsLarge, IsPreludeRead, IsQuiet, IsSourceRead, IsUnread, KeepsFiles, Read, ReadUpTo}
 use Rattle.run_sources.specs.Spelling as spelling
 use Rattle.run_sources.specs.Spelling.{AllSpell, FirstAmong, FirstRefused, SpellsPrelude}
-use Rattle.run_sources.specs.Answers.{AreShort, IsPreludeShort, IsShort, RefusesAmong, RefusesFile, RefusesPrelude, RefusesPreludeText, RefusesRead, RefusesScript, RefusesText, refusal}
+use Rattle.run_sources.specs.Answers.{AreShort, IsPreludeShort, IsShort, RefusesAmong, RefusesFile, RefusesPrelude, RefusesPreludeText, RefusesRead, RefusesScript, RefusesText}
 use Rattle.run_sources.proofs.Turns.{read_more, refused_after}
 
 -- ---- files
@@ -180,14 +174,3 @@ module _ (sources : Program Named) where
   scripts_refused prelude stop.NoMemory spells why = tt
   scripts_refused prelude (stop.NotRead name) spells why = absurd why
   scripts_refused prelude (stop.TooLarge name) spells why = absurd why
-
--- a source is refused for the fault of its text
-pub text_refused : (r : Role) (outer : List (List ℕ)) (name : Bor (List ℕ)) (text : List ℕ) (f : ParseFault) → HoldsOfFault {X = Script} (Err f) (λ x. Refused r outer text x)
-    → RefusesText r outer (record { name = name.now; text = text }) (refusal name f)
-text_refused r outer name text fault.Memory h = tt
-text_refused r outer name text (fault.Lex x) h = (refl, h)
-text_refused r outer name text (fault.Unexpected at) h = (refl, h)
-text_refused r outer name text (fault.NotInProfile at) h = (refl, h)
-text_refused r outer name text (fault.TooDeep at) h = (refl, h)
-text_refused r outer name text (fault.Duplicate at) h = (refl, h)
-text_refused r outer name text (fault.LoopName at) h = (refl, h)

@@ -8,8 +8,6 @@ use Rattle.js_io.specs.FilesState.{FilesState, IsTooLarge}
 use Rattle.js_io.specs.declared.files.TheConstants.{FILE_MAX}
 use Rattle.js_parse.specs.declared.fault.Role.{Role}
 use Rattle.js_parse.specs.declared.fault.Role.TheVariants as role
-use Rattle.js_parse.specs.declared.fault.ParseFault.{ParseFault}
-use Rattle.js_parse.specs.declared.fault.ParseFault.TheVariants as fault
 use Rattle.js_parse.specs.Spells as script
 use Rattle.eval_tree.specs.Tree.{Tree, tree_of}
 use Rattle.run_sources.specs.declared.sources.SourceText.{SourceText}
@@ -77,11 +75,6 @@ RefusesRead old new name _ = ⊥
 abbrev pub RefusesPrelude : FilesState → FilesState → Option FileName → ScriptsFault → Type 0
 RefusesPrelude old new None s = ⊥
 RefusesPrelude old new (Some name) s = RefusesRead old new name s
-
--- why the source of this name gives no script: its fault, or that memory ran out
-abbrev pub refusal : Bor (List ℕ) → ParseFault → ScriptsFault
-refusal name fault.Memory = stop.NoMemory
-refusal name f = stop.Refused name f
 
 -- the source is no script, for this fault; or memory ran out
 abbrev pub RefusesText : Role → List (List ℕ) → Named → ScriptsFault → Type 0

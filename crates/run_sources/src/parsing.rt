@@ -6,23 +6,12 @@ ghost use Rattle.js_parse.specs.Spells.{Spells};
 ghost use Rattle.run_sources.specs.Program.{outer_of};
 ghost use Rattle.run_sources.specs.Spelling.{AllSpell, Spell, SpellsPrelude};
 ghost use Rattle.run_sources.specs.Answers.{source_for, sources_for, trees_for, AreShort, IsPreludeShort, IsShort, RefusesAmong, RefusesPreludeText, RefusesScript, RefusesText};
-ghost use Rattle.run_sources.specs.Answers;
 
 use crate::sources::{Scripts, SourceText, Sources};
 use crate::stop::ScriptsFault;
 use eval_tree::{Names, Script};
 use js_parse::{ParseFault, Role, parse};
 use std::alloc::Global;
-
-// Why the source of this name gives no script.
-fn refusal(name: &str, fault: ParseFault) -> ScriptsFault<'_>
-    ensures { result ≡ Answers.refusal name.entry fault }
-{
-    match fault {
-        ParseFault::Memory => ScriptsFault::NoMemory,
-        fault => ScriptsFault::Refused(name, fault),
-    }
-}
 
 // The script that a source spells in a role, after a prelude that declares the outer names.
 fn parse_text<'a>(
@@ -35,9 +24,32 @@ fn parse_text<'a>(
     ensures spells { IfOk result (λ script. Spells role outer.now source.now.bytes.items (tree_of script)) }
     ensures refused { IfErr result (RefusesText role outer.now (source_for source.now)) }
 {
+    let name = source.name;
     match parse(alloc, &source.bytes, role, outer) {
         Ok(script) => Ok(script),
-        Err(fault) => Err(refusal(source.name, fault)),
+        Err(fault) => match fault {
+            ParseFault::Memory => Err(ScriptsFault::NoMemory),
+            ParseFault::Lex(fault) => Err(ScriptsFault::Refused(name, ParseFault::Lex(fault))),
+            ParseFault::Unexpected { at } => Err(ScriptsFault::Refused(
+                name,
+                ParseFault::Unexpected { at },
+            )),
+            ParseFault::NotInProfile { at } => {
+                Err(ScriptsFault::Refused(name, ParseFault::NotInProfile { at }))
+            }
+            ParseFault::TooDeep { at } => Err(ScriptsFault::Refused(
+                name,
+                ParseFault::TooDeep { at },
+            )),
+            ParseFault::Duplicate { at } => Err(ScriptsFault::Refused(
+                name,
+                ParseFault::Duplicate { at },
+            )),
+            ParseFault::LoopName { at } => Err(ScriptsFault::Refused(
+                name,
+                ParseFault::LoopName { at },
+            )),
+        },
     }
 }
 

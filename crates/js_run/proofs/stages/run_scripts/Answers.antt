@@ -22,8 +22,8 @@ run_program-requires-clause-few g c = λ κs lives.
 pub returns-in_default : goal.returns-in_default
 returns-in_default g c =
     let out = g.O.Sink.state c.args.out.now in
-    memory_stopped c.args.setup (sources_for c.args.sources.now) (ended c.stopped-in_default.result) (sinks out (g.E.Sink.state c.args.err.now)) (sinks out (g.E.Sink.state c.stopped-in_default.new.err))
-    c.stopped-in_default.ensures.kept (c.stopped-in_default.ensures.told out)
+    memory_stopped c.args.setup (sources_for c.args.sources.now) (ended c.stopped-in_default.result) (sinks out (g.E.Sink.state c.args.err.now))
+    (sinks out (g.E.Sink.state c.stopped-in_default.new.err)) c.stopped-in_default.ensures.kept (c.stopped-in_default.ensures.told out)
 
 pub tell_ran-code-requires : goal.tell_ran-code-requires
 tell_ran-code-requires g c =
