@@ -4,7 +4,8 @@ use Rattle.std.proofs.Common.{arith, ℕ, ◌+◌, ◌*◌, ◌≤◌, List, [],
 use Rattle.std.specs.Prelude.{◌&&◌}
 use Rattle.std.specs.List.{flat_map}
 use Rattle.js_units.specs.Text.{is_lead, is_trail, pair_value, points, utf16_of}
-use Rattle.js_json.specs.Quoting.{is_escaped, unicode_escape, escaped, letter_of, quoted_point, body, quoted, list_rest, list_text}
+use Rattle.js_json.specs.Quoting.{unicode_escape, escaped, letter_of, quoted, list_rest, list_text}
+use Rattle.js_json.specs.Bodies.{is_escaped, quoted_point, body}
 use Rattle.js_store.specs.State.{State, IsKnown, text}
 use Rattle.js_store.proofs.Laws.{known_has, step_refl}
 use Rattle.js_item.specs.declared.item.Item.{Item}

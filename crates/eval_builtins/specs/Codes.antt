@@ -1,9 +1,8 @@
 -- Strings of numbers: `String.fromCharCode` and `String.fromCodePoint` (ECMA-262,
 -- "Properties of the String Constructor").
-use Rattle.std.specs.Prelude.{ℕ, ◌+◌, List, length, nat_le, if◌then◌else◌, map}
+use Rattle.std.specs.Prelude.{ℕ, ◌+◌, List, length, nat_le, if◌then◌else◌}
 use Rattle.js_number.specs.declared.Num.{Num}
-use Rattle.js_number.specs.Arith.{modulo}
-use Rattle.js_methods.specs.Building.{is_code_point, code_units_of}
+use Rattle.js_methods.specs.Building.{is_code_point}
 use Rattle.eval_values.specs.declared.value.Kind.TheVariants.{RangeError}
 use Rattle.js_item.specs.Seen.{Val}
 use Rattle.js_item.specs.Contents.{text}
@@ -23,15 +22,7 @@ point_out vs n = if is_code_point n then gave n free else throwing (from_row vs 
 -- a call of such a function: each argument in turn as a number, and then the string of these; no source text
 -- spells a call of more than 2^20 arguments
 abbrev pub from_numbers : (Num → Out Num) → (List Num → List ℕ) → ℕ → List Val → Out Val
-from_numbers taken units at vs =
-    if nat_le (length vs) 1048576 then bind (each (λ v. converts (from_row vs 0) (to_number at v) taken) vs)
+from_numbers taken units at vs = if nat_le (length vs) 1048576
+    then bind (each (λ v. converts (from_row vs 0) (to_number at v) taken) vs)
     (λ ns. needing (from_row vs (length (units ns))) (text (units ns)))
     else throwing (from_row vs 0) RangeError
-
--- "String.fromCharCode": each number modulo 2^16
-abbrev pub char_codes_call : ℕ → List Val → Out Val
-char_codes_call at vs = from_numbers (λ n. gave n free) (map (modulo 65536)) at vs
-
--- "String.fromCodePoint": the UTF-16 of the code points
-abbrev pub code_points_call : ℕ → List Val → Out Val
-code_points_call at vs = from_numbers (point_out vs) code_units_of at vs

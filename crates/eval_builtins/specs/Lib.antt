@@ -1,4 +1,5 @@
 pub mod Codes
+pub mod CodeCalls
 pub mod Quoting
 pub mod Symbols
 pub mod Uris

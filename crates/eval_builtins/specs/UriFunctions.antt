@@ -4,7 +4,7 @@ use Rattle.std.specs.Prelude.{List, ℕ}
 use Rattle.js_uri.specs.Outcome.{UriOutcome}
 use Rattle.js_uri.specs.Encoding.{encoded}
 use Rattle.js_uri.specs.Decoding.{decoded}
-use Rattle.js_uri.specs.Sets.{component_keep, uri_keep, no_hold, uri_hold}
+use Rattle.js_uri.specs.Sets.{component_keep, uri_keep, no_hold, is_uri_reserved}
 use Rattle.js_uri.specs.declared.faults.UriFault.{UriFault}
 use Rattle.js_uri.specs.declared.faults.UriFault.TheVariants as fault
 use Rattle.eval_values.specs.declared.value.Kind.TheVariants as kind
@@ -18,7 +18,7 @@ use Rattle.eval_builtins.specs.declared.uris.UriFunction.TheVariants.{DecodeComp
 abbrev pub outcome_of : UriFunction → List ℕ → UriOutcome
 outcome_of Encode us = encoded us uri_keep
 outcome_of EncodeComponent us = encoded us component_keep
-outcome_of Decode us = decoded us uri_hold
+outcome_of Decode us = decoded us is_uri_reserved
 outcome_of DecodeComponent us = decoded us no_hold
 
 -- how a fault of such a function stops an evaluation

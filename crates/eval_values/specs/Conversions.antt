@@ -33,8 +33,7 @@ comma_joined us = joined_list (44 ∷ []) us
 -- the string of an array, unless it is longer than a string may be ("Array.prototype.toString"); where it
 -- throws, the elements count alone
 abbrev pub list_string : ℕ → List (List ℕ) → Out (List ℕ)
-list_string limit us =
-    if nat_le (length (comma_joined us)) limit
+list_string limit us = if nat_le (length (comma_joined us)) limit
     then gave (comma_joined us) (cost (parts (length us) (list_units us + length (comma_joined us))))
     else throwing (parts (length us) (list_units us)) RangeError
 

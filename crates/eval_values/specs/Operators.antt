@@ -35,9 +35,8 @@ difference_in at v w = converts nothing (paired (to_number at v) (to_number at w
 -- two strings joined, unless they are longer together than a string may be; where nothing is joined,
 -- it needs nothing
 abbrev pub concatenated : ℕ → List ℕ → List ℕ → Out Val
-concatenated limit u w =
-    if nat_le (length u + length w) limit then needing joins (text (u ++ w))
-    else throwing nothing RangeError
+concatenated limit u w = if nat_le (length u + length w) limit
+    then needing joins (text (u ++ w)) else throwing nothing RangeError
 
 -- two primitive values as strings, joined
 abbrev pub joined_strings : ℕ → Val → Val → Out Val

@@ -87,18 +87,16 @@ abbrev mutual
   -- the links of a chain, from the value on their left
   pub links_out : Links → EvalContext → Val → Out Val
   links_out no_links s v = gave v free
-  links_out (link at op right rest) s v =
-      bind (if decides op v then gave v free else bind (expr_out right s) (λ w. operated op at s.limit v w))
-      (λ x. links_out rest s x)
+  links_out (link at op right rest) s v = bind (if decides op v then gave v free
+      else bind (expr_out right s) (λ w. operated op at s.limit v w)) (λ x. links_out rest s x)
 
   -- the steps behind a value
   pub steps_out : StepList → EvalContext → Val → Out Val
   steps_out no_steps s v = gave v free
   steps_out (length_step rest) s v = bind (length_property v) (λ x. steps_out rest s x)
   steps_out (description_step rest) s v = bind (description_of v) (λ x. steps_out rest s x)
-  steps_out (call_step at method args rest) s v =
-      bind (bind (present v) (λ _. bind (exprs_out args s) (λ ws. called method at s.limit v ws)))
-      (λ x. steps_out rest s x)
+  steps_out (call_step at method args rest) s v = bind (bind (present v)
+      (λ _. bind (exprs_out args s) (λ ws. called method at s.limit v ws))) (λ x. steps_out rest s x)
   steps_out (index_step at index rest) s v =
       bind (bind (expr_out index s) (λ i. indexed at s.limit v i)) (λ x. steps_out rest s x)
   steps_out (property_step at key rest) s v = bind (property_of at s.limit key v) (λ x. steps_out rest s x)
@@ -107,8 +105,7 @@ abbrev mutual
   -- ("PropertyDefinitionEvaluation")
   pub entries_out : Entries → EvalContext → Fields (List ℕ) → Out (Fields (List ℕ))
   entries_out no_entries s fs = gave fs free
-  entries_out (entry key value rest) s fs =
-      bind (key_interned s.limit key)
+  entries_out (entry key value rest) s fs = bind (key_interned s.limit key)
       (λ k. bind (expr_out value s) (λ v. entries_out rest s (with_property k v fs)))
 
   -- expressions from left to right

@@ -93,24 +93,21 @@ abbrev mutual
   -- what a statement comes to in a scope ("Evaluation" of "StatementListItem")
   pub stmt_flow : StmtTree → EvalContext → Flow
   stmt_flow (block b) s = block_flow b s
-  stmt_flow (let_line at x init) s =
-      on_value (option_map_or (λ e. expr_out e s) init (gave undefined free)) s.bindings
-      (λ v. declares x false s v)
+  stmt_flow (let_line at x init) s = on_value (option_map_or (λ e. expr_out e s) init (gave undefined free))
+      s.bindings (λ v. declares x false s v)
   stmt_flow (const_line at x e) s = on_value (expr_out e s) s.bindings (λ v. declares x true s v)
   stmt_flow (assign at x e) s =
       on_value (expr_out e s) s.bindings (λ v. assigned (meant s.bindings x) x v s.bindings)
   -- `x += e`: what the name means is read first
-  stmt_flow (append at name_at x e) s =
-      on_value
+  stmt_flow (append at name_at x e) s = on_value
       (bind (read_out (meant s.bindings x)) (λ v. bind (expr_out e s) (λ w. operated Plus at s.limit v w)))
       s.bindings (λ v. assigned (meant s.bindings x) x v s.bindings)
   -- the arguments are evaluated from left to right
   stmt_flow (print args) s = on_value (bind (exprs_out args s) (λ vs. line_out s.limit vs)) s.bindings
       (λ l. record { out = gave tt free; lines = l ∷ []; bindings = s.bindings })
   stmt_flow (if_line arms rest) s = arms_flow arms (λ q. block_flow rest q) s
-  stmt_flow (for_line x n b) s =
-      turns (λ i cs. left (block_flow b (with_bindings s (turned x (number (Int (pos i))) cs))))
-      0 n s.bindings
+  stmt_flow (for_line x n b) s = turns
+      (λ i cs. left (block_flow b (with_bindings s (turned x (number (Int (pos i))) cs)))) 0 n s.bindings
 
   -- statements one after another, each in the bindings that those before it left
   pub stmts_flow : Stmts → EvalContext → Flow

@@ -35,14 +35,8 @@ pub record KeyFine (s : KnownStrings) (n : ℕ) : Type 0 where
 -- how deep objects nest
 abbrev mutual
   pub depth_in : {R : Type 0} → Content R → ℕ
-  depth_in undefined = 0
-  depth_in null = 0
-  depth_in (bool b) = 0
-  depth_in (number n) = 0
-  depth_in (text r) = 0
-  depth_in (symbol r) = 0
-  depth_in (list rs) = 0
   depth_in (object fs) = suc (depth fs)
+  depth_in _ = 0
 
   -- of the values of the members
   pub depth : {R : Type 0} → Fields R → ℕ

@@ -40,8 +40,7 @@ begins_number (c ∷ cs) = is_digit c || (c == 46 && begins_with is_digit cs)
 -- the value and what follows, or the fault of the first rule that refuses it, by the byte of the literal; a
 -- letter, _, $ or a backslash may not follow the digits
 abbrev pub number_at : List ℕ → Result (ℕ × List ℕ) (ℕ → NumberFault)
-number_at s =
-    if begins_with (λ c. c == 46) s then Err faults.Fraction else
+number_at s = if begins_with (λ c. c == 46) s then Err faults.Fraction else
     (if has_leading_zero s then Err faults.OtherForm else
     (if begins_with (λ c. c == 46) (after_run is_digit s) then Err faults.Fraction else
     (if begins_with (λ c. is_word_start c || c == 92) (after_run is_digit s) then Err faults.OtherForm else

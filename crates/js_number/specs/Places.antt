@@ -20,15 +20,12 @@ integer_of NegInf = NegInf
 -- the integer or infinity of the number, clamped to 0..high
 abbrev pub clamped : Num → ℕ → ℕ
 clamped (Int (pos n)) high = min n high
-clamped (Int (negsuc n)) high = 0
-clamped NaN high = 0
 clamped PosInf high = high
-clamped NegInf high = 0
+clamped _ high = 0
 
 -- the same with len added to a negative one, which is -(n + 1) for `negsuc n`, clamped to 0..len
 abbrev pub relative : Num → ℕ → ℕ
 relative (Int (pos n)) len = min n len
 relative (Int (negsuc n)) len = len - (n + 1)
-relative NaN len = 0
 relative PosInf len = len
-relative NegInf len = 0
+relative _ len = 0

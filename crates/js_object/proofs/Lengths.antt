@@ -15,7 +15,8 @@ use Rattle.js_item.specs.declared.item.Member.{Member}
 use Rattle.js_item.specs.Views.{content_of}
 use Rattle.js_item.specs.Fine.{strings_of}
 use Rattle.js_object.specs.Readable.{ReadableFields}
-use Rattle.js_object.specs.Keys.{index_of_key, index_in, index_entered, put_off, indexes, others, ordered, key_values, lent_entry}
+use Rattle.js_object.specs.Keys.{index_of_key, index_in, indexes, others, ordered, key_values, lent_entry}
+use Rattle.js_object.specs.Steps.{index_entered, put_off}
 use Rattle.js_object.specs.Json.{is_shown, text_json, json_of, braced}
 use Rattle.js_item.specs.Seen.{says}
 use Rattle.js_object.proofs.Texts.{lent_shown, json_ordered, json_still, lent_fine, EntryFine, drop_all}

@@ -13,7 +13,8 @@ use Rattle.js_item.specs.Contents.{Content, Fields}
 use Rattle.js_item.specs.declared.item.Member.{Member}
 use Rattle.js_item.specs.Views.{fields_of}
 use Rattle.js_item.specs.Fine.{strings_of, KeyFine}
-use Rattle.js_object.specs.Keys.{index_of_key, index_in, index_entered, put_off, indexes, others, ordered, key_values, member_entry}
+use Rattle.js_object.specs.Keys.{index_of_key, index_in, indexes, others, ordered, key_values, member_entry}
+use Rattle.js_object.specs.Steps.{index_entered, put_off}
 
 module _ {Y : Type 0} (index : Y → Option ℕ) where
   indexes_push : (ys : List Y) (y : Y) (es : List (ℕ × Y)) → indexes index (ys ++ y ∷ []) es ≡ index_entered (index y) y (indexes index ys es)

@@ -12,12 +12,13 @@ use Rattle.std.specs.BTreeMap.{insert_entry}
 use Rattle.std.specs.Map.{values_of}
 use Rattle.std.proofs.lemmas.Slice.Eq.{bytes_eq-Decides}
 use Rattle.std.proofs.lemmas.List.{map-id}
-use Rattle.js_object.specs.Keys.{index_of_key, key_index, index_in, index_entered, put_off, indexes, others, ordered, key_values, keys_of, own_keys, unit_keys}
+use Rattle.js_object.specs.Keys.{index_of_key, key_index, index_in, indexes, others, ordered, key_values, keys_of, own_keys, unit_keys}
+use Rattle.js_object.specs.Steps.{index_entered, put_off}
 use Rattle.js_store.specs.State.{State, text}
 use Rattle.js_texts.specs.Texts.{Every}
 use Rattle.js_item.specs.Contents.{Content, Fields, no_fields, field}
 use Rattle.js_item.specs.Fine.{strings_of, NoKey, KeysDiffer}
-use Rattle.js_object.specs.Json.{part_index}
+use Rattle.js_object.specs.Steps.{part_index}
 use Rattle.js_object.specs.Laws.{standing_keys, KeysInOrder, PartsInOrder}
 use Rattle.js_object.proofs.Decimals.{index_means, index_most}
 use Rattle.js_object.proofs.Ordered.{ordered_seen}

@@ -1,9 +1,10 @@
 -- Items and objects as JSON text (ECMA-262, "SerializeJSONProperty", "SerializeJSONObject").
 use Rattle.std.specs.Prelude.{ℕ, Bool, true, false, ◌==◌, if◌then◌else◌, List, [], ◌∷◌, ◌++◌, map, Option}
 use Rattle.std.specs.Prelude.{Some, None, codes}
+use Rattle.std.specs.Option.{option_map_or}
 use Rattle.std.specs.Fmt.{signed_decimal}
 use Rattle.js_number.specs.declared.Num.{Num}
-use Rattle.js_number.specs.declared.Num.TheVariants.{Int, NaN, PosInf, NegInf}
+use Rattle.js_number.specs.declared.Num.TheVariants.{Int}
 use Rattle.js_texts.specs.Delimited.{delimited}
 use Rattle.js_json.specs.Quoting.{quoted, list_text}
 use Rattle.js_item.specs.Contents.{Content, undefined, null, bool, number, text, symbol, list, object}
@@ -13,51 +14,33 @@ use Rattle.js_object.specs.Keys.{index_of_key, ordered}
 -- the digits of a whole number, and null for each other one
 abbrev pub number_json : Num → List ℕ
 number_json (Int z) = signed_decimal z
-number_json NaN = codes "null"
-number_json PosInf = codes "null"
-number_json NegInf = codes "null"
-
-abbrev pub bool_json : Bool → List ℕ
-bool_json true = codes "true"
-bool_json false = codes "false"
+number_json _ = codes "null"
 
 -- undefined and symbols are left out
 abbrev pub is_shown : {R : Type 0} → Content R → Bool
 is_shown undefined = false
-is_shown null = true
-is_shown (bool b) = true
-is_shown (number n) = true
-is_shown (text r) = true
 is_shown (symbol r) = false
-is_shown (list rs) = true
-is_shown (object fs) = true
+is_shown _ = true
 
 -- what a member gives: the units of its key, and the JSON text of its value, where it has one
 abbrev pub JsonMember : Type 0
 JsonMember = List ℕ × Option (List ℕ)
 
-abbrev pub part_index : JsonMember → Option ℕ
-part_index p = index_of_key p.0
-
--- the quoted key, a colon and the value's JSON text
-abbrev pub more_shown : List ℕ → Option (List ℕ) → List (List ℕ) → List (List ℕ)
-more_shown key (Some u) us = (quoted key ++ 0x3A ∷ u) ∷ us
-more_shown key None us = us
-
+-- of each that has one, the quoted key, a colon and the value's JSON text
 abbrev pub shown : List JsonMember → List (List ℕ)
 shown [] = []
-shown (p ∷ ps) = more_shown p.0 p.1 (shown ps)
+shown (p ∷ ps) = option_map_or (λ u. (quoted p.0 ++ 0x3A ∷ u) ∷ shown ps) p.1 (shown ps)
 
 -- braces around the members in their order, with a comma between two
 abbrev pub object_json : List JsonMember → List ℕ
-object_json ps = 0x7B ∷ delimited (λ u. u) 0x2C 0x7D (shown (ordered part_index ps))
+object_json ps = 0x7B ∷ delimited (λ u. u) 0x2C 0x7D (shown (ordered (λ p. index_of_key p.0) ps))
 
 abbrev mutual
   -- the JSON text of an item that is shown, where the units of references are known
   pub text_json : {R : Type 0} → (R → List ℕ) → Content R → List ℕ
   text_json say undefined = []
   text_json say null = codes "null"
-  text_json say (bool b) = bool_json b
+  text_json say (bool b) = if b then codes "true" else codes "false"
   text_json say (number n) = number_json n
   text_json say (text r) = quoted (say r)
   text_json say (symbol r) = []

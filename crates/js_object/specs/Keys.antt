@@ -2,6 +2,7 @@
 -- order is, is defined in `specs/Order.antt`; here is how the list that has it comes about.
 use Rattle.std.specs.Prelude.{ℕ, ◌+◌, ◌-◌, ◌*◌, Bool, false, not, ◌&&◌, ◌||◌, ◌==◌, nat_eq, nat_le}
 use Rattle.std.specs.Prelude.{if◌then◌else◌, List, [], ◌∷◌, ◌++◌, length, Option, Some, None, map}
+use Rattle.std.specs.Option.{option_map_or}
 use Rattle.std.specs.Str.{all_ascii_digits}
 use Rattle.std.specs.Ordering.{nat_cmp}
 use Rattle.std.specs.BTreeMap.{insert_entry}
@@ -28,21 +29,13 @@ abbrev pub index_of_key : List ℕ → Option ℕ
 index_of_key us = if has_form us && nat_le (read_on 0 us) 4294967294 then Some (read_on 0 us) else None
 
 -- an element goes to the place of its index among those with one, or else to the end of the others
-abbrev pub index_entered : {X : Type 0} → Option ℕ → X → List (ℕ × X) → List (ℕ × X)
-index_entered (Some n) x es = insert_entry nat_cmp es n x
-index_entered None x es = es
-
-abbrev pub put_off : {X : Type 0} → Option ℕ → X → List X → List X
-put_off (Some n) x xs = xs
-put_off None x xs = x ∷ xs
-
 abbrev pub indexes : {X : Type 0} → (X → Option ℕ) → List X → List (ℕ × X) → List (ℕ × X)
 indexes index [] es = es
-indexes index (x ∷ xs) es = indexes index xs (index_entered (index x) x es)
+indexes index (x ∷ xs) es = indexes index xs (option_map_or (λ n. insert_entry nat_cmp es n x) (index x) es)
 
 abbrev pub others : {X : Type 0} → (X → Option ℕ) → List X → List X
 others index [] = []
-others index (x ∷ xs) = put_off (index x) x (others index xs)
+others index (x ∷ xs) = option_map_or (λ n. others index xs) (index x) (x ∷ others index xs)
 
 -- the elements in the order of `specs/Order.antt` where indexes differ, and else with the last one of each
 -- index
@@ -76,4 +69,4 @@ own_keys s name fs = keys_of (ordered (index_in s name) (key_values fs))
 
 -- the keys of an object of units
 abbrev pub unit_keys : Fields (List ℕ) → List (List ℕ)
-unit_keys fs = keys_of (ordered (λ e. index_of_key e.0) (key_values fs))
+unit_keys fs = map (λ e. e.0) (ordered (λ e. index_of_key e.0) (key_values fs))

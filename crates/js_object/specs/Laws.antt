@@ -4,7 +4,7 @@ use Rattle.std.specs.List.{IsDistinct}
 use Rattle.js_item.specs.Contents.{Fields}
 use Rattle.js_object.specs.Keys.{index_of_key, ordered, key_values, keys_of, unit_keys}
 use Rattle.js_object.specs.Order.{IsTheOrder}
-use Rattle.js_object.specs.Json.{JsonMember, part_index}
+use Rattle.js_object.specs.Json.{JsonMember}
 
 -- the keys of the members, as they are
 abbrev pub standing_keys : Fields (List ℕ) → List (List ℕ)
@@ -24,4 +24,4 @@ part_keys ps = map (λ p. p.0) ps
 abbrev pub PartsInOrder : Type 0
 PartsInOrder =
     (ps : List JsonMember) → IsDistinct bytes_eq (part_keys ps)
-    → IsTheOrder part_index ps (ordered part_index ps)
+    → IsTheOrder (λ p. index_of_key p.0) ps (ordered (λ p. index_of_key p.0) ps)

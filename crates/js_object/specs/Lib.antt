@@ -1,6 +1,7 @@
 pub mod Readable
 pub mod Keys
 pub mod Json
+pub mod Steps
 pub mod Use
 pub mod Order
 pub mod Laws

@@ -13,12 +13,9 @@ opens_entry t = is_mark OpenBrace t || is_mark Comma t
 
 -- whether the key is __proto__; that of a number has digits alone
 abbrev pub is_proto : TokenTables → GrammarToken → Bool
-is_proto tables t = elim t.kind [
-  | kind.Text n k ↦ bytes_eq (get_or tables.keys n []) (codes "__proto__")
-  | kind.Name n p ↦ bytes_eq (get_or tables.names n []) (codes "__proto__")
-  | kind.Word w n ↦ bytes_eq (get_or tables.names n []) (codes "__proto__")
-  | _ ↦ false
-]
+is_proto tables t = elim t.kind [ kind.Text n k ↦ bytes_eq (get_or tables.keys n []) (codes "__proto__")
+    | kind.Name n p ↦ bytes_eq (get_or tables.names n []) (codes "__proto__")
+    | kind.Word w n ↦ bytes_eq (get_or tables.names n []) (codes "__proto__") | _ ↦ false ]
 
 -- among the tokens such a key is at this place
 pub data HasProtoKey (tables : TokenTables) : List GrammarToken → ℕ → Type 0 where

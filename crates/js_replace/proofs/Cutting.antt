@@ -12,8 +12,10 @@ use Rattle.js_store.proofs.Laws.{step_after, has_text, has_known}
 use Rattle.js_search.specs.Places.{first}
 use Rattle.js_texts.specs.Texts.{known_texts, AllKnown}
 use Rattle.js_texts.proofs.Lists.{drop_at, texts_still, all_known_still}
-use Rattle.js_replace.specs.Matches.{first_matches, and_on, matches, InOrder}
-use Rattle.js_replace.specs.Parts.{pieces, singles, all_parts, parts}
+use Rattle.js_replace.specs.Matches.{first_matches, matches, InOrder}
+use Rattle.js_replace.specs.Fronts.{and_on}
+use Rattle.js_replace.specs.Parts.{pieces, all_parts, parts}
+use Rattle.js_replace.specs.Fronts.{singles}
 use Rattle.js_replace.specs.Use.{copies_words}
 use Rattle.js_search.proofs.Bounds.{first_is}
 

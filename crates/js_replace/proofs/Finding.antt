@@ -3,7 +3,8 @@ use Rattle.std.proofs.Common.{arith, ◌≡◌, ℕ, zero, suc, ◌+◌, ◌-◌
 use Rattle.std.specs.Prelude.{Option, Some, None, unwrap_or}
 use Rattle.js_search.specs.Places.{stands, least, first, IsPartAt}
 use Rattle.js_search.proofs.Bounds.{first_is, tells}
-use Rattle.js_replace.specs.Matches.{first_matches, and_on, matches, AreMatches, InOrder}
+use Rattle.js_replace.specs.Matches.{first_matches, matches, AreMatches, InOrder}
+use Rattle.js_replace.specs.Fronts.{and_on}
 
 -- past the end nothing stands
 pub none_past : (u w : List ℕ) (from : ℕ) → length u < from → None ≡ first u w from

@@ -3,7 +3,8 @@ use Rattle.std.proofs.Common.{◌≡◌, ℕ, ◌+◌, ◌*◌, ◌<◌, ◌≤�
 use Rattle.std.specs.Prelude.{Option, Some, None, slice_get, unwrap_or}
 use Rattle.std.proofs.Math.Nat.{add-mul, one-mul}
 use Rattle.std.proofs.lemmas.Nat.{mul-le}
-use Rattle.js_replace.specs.Substitution.{substituted, front_reference, by_front}
+use Rattle.js_replace.specs.Substitution.{substituted}
+use Rattle.js_replace.specs.Fronts.{front_reference, by_front}
 use Rattle.js_replace.specs.declared.pieces.Piece.{Piece}
 use Rattle.js_replace.specs.Pieces.{piece_text}
 

@@ -1,6 +1,7 @@
 -- Where the matches of a string are that `replaceAll` and `split` find (ECMA-262,
 -- "String.prototype.replaceAll", "String.prototype.split").
-use Rattle.std.specs.Prelude.{◌≡◌, ℕ, zero, suc, ◌+◌, ◌≤◌, max, List, [], ◌∷◌, length, Option, Some, None}
+use Rattle.std.specs.Prelude.{◌≡◌, ℕ, zero, suc, ◌+◌, ◌≤◌, max, List, [], ◌∷◌, length, Some, None}
+use Rattle.std.specs.Option.{option_map_or}
 use Rattle.js_search.specs.Places.{first}
 
 -- the places of the matches of w in u from `from` on: the least place, and after each the least from its end
@@ -11,15 +12,11 @@ AreMatches u w from (k ∷ ks) = (first u w from ≡ Some k) × AreMatches u w (
 
 -- Both as functions, for definitions that go on from the places.
 
--- a place, if there is one, and those that are found from its end on
-abbrev pub and_on : Option ℕ → (ℕ → List ℕ) → List ℕ
-and_on None more = []
-and_on (Some k) more = k ∷ more k
-
 -- the first n of them
 abbrev pub first_matches : ℕ → List ℕ → List ℕ → ℕ → List ℕ
 first_matches zero u w from = []
-first_matches (suc n) u w from = and_on (first u w from) (λ k. first_matches n u w (k + max 1 (length w)))
+first_matches (suc n) u w from =
+    option_map_or (λ k. k ∷ first_matches n u w (k + max 1 (length w))) (first u w from) []
 
 -- all matches: a string has at most one more than it has units
 unfoldable pub matches : List ℕ → List ℕ → List ℕ

@@ -7,14 +7,11 @@ abbrev pub pieces : List ℕ → ℕ → ℕ → List ℕ → List (List ℕ)
 pieces u size from [] = drop from u ∷ []
 pieces u size from (k ∷ ks) = slice_range u from k ∷ pieces u size (k + size) ks
 
--- each unit by itself
-abbrev pub singles : List ℕ → List (List ℕ)
-singles u = map (λ unit. unit ∷ []) u
-
--- all parts
+-- all parts: those between separators, each unit by itself where the separator is empty, and the whole where
+-- there is none
 abbrev pub all_parts : List ℕ → Option (List ℕ) → List (List ℕ)
 all_parts u None = u ∷ []
-all_parts u (Some []) = singles u
+all_parts u (Some []) = map (λ unit. unit ∷ []) u
 all_parts [] (Some (x ∷ w)) = [] ∷ []
 all_parts (y ∷ u) (Some (x ∷ w)) = pieces (y ∷ u) (length (x ∷ w)) 0 (matches (y ∷ u) (x ∷ w))
 

@@ -1,7 +1,8 @@
 // The pieces of a template, and what they expand to at a match.
 ghost use Rattle.std.specs.Prelude.{◌≡◌, ◌+◌, ◌*◌, ◌<◌, ◌≤◌, ◌++◌, ℕ, List, [], length, MatchOption, OnOk};
 ghost use Rattle.std.specs.Option.{option_map};
-ghost use Rattle.js_replace.specs.Substitution.{substituted, front_reference};
+ghost use Rattle.js_replace.specs.Substitution.{substituted};
+ghost use Rattle.js_replace.specs.Fronts.{front_reference};
 ghost use Rattle.js_replace.specs.Pieces.{piece_text, pieces_of, len_of, Measures};
 
 use js_units::{NoMemory, Units};

@@ -1,11 +1,13 @@
 -- Decoding, piece by piece.
 use Rattle.std.proofs.Common.{◌≡◌, ℕ, zero, suc, ◌+◌, ◌-◌, ◌≤◌, List, [], ◌∷◌, ◌++◌, length, drop, length-take, Bool, Some, arith, refl, ap, sym, subst, ◌∙◌, append_assoc}
 use Rattle.std.specs.Prelude.{IsOk}
-use Rattle.js_uri.specs.Outcome.{UriOutcome, uri_after, after_some, measure, units}
+use Rattle.js_uri.specs.Outcome.{UriOutcome, uri_after, measure, units}
+use Rattle.js_uri.specs.Steps.{after_some}
 use Rattle.js_uri.specs.declared.decoding.Piece.{Piece}
 use Rattle.js_uri.specs.declared.decoding.Piece.TheVariants.{Same, Char}
 use Rattle.js_uri.specs.Pieces.{taken_by, length_of, units_given}
-use Rattle.js_uri.specs.Decoding.{DecodedPart, first_part, after_part, decoded_behind, decoded}
+use Rattle.js_uri.specs.Decoding.{DecodedPart, first_part, decoded_behind, decoded}
+use Rattle.js_uri.specs.Steps.{after_part}
 use Rattle.js_uri.proofs.Outcomes.{counted, counted_turn, written_rest, written_units}
 
 drop_none : (n : ℕ) → drop {A = ℕ} n [] ≡ []

@@ -2,7 +2,8 @@
 use Rattle.std.proofs.Common.{◌≡◌, ℕ, ◌+◌, ◌-◌, ◌≤◌, List, [], ◌∷◌, ◌++◌, length, Bool, Some, arith, ap, sym, subst, ◌∙◌, append_assoc}
 use Rattle.std.specs.Prelude.{IsOk, option_map, unwrap_or}
 use Rattle.js_units.specs.Text.{points, utf16_of}
-use Rattle.js_uri.specs.Outcome.{UriOutcome, after_some, measure, units}
+use Rattle.js_uri.specs.Outcome.{UriOutcome, measure, units}
+use Rattle.js_uri.specs.Steps.{after_some}
 use Rattle.js_uri.specs.Encoding.{encoded_point, encoded_points, encoded}
 use Rattle.js_uri.proofs.Outcomes.{counted, counted_turn, written_rest, written_units}
 

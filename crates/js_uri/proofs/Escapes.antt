@@ -4,7 +4,8 @@ use Rattle.std.specs.Prelude.{◌||◌, option_map, encode_utf8, flat_map, if◌
 use Rattle.std.specs.Char.{InScalarRange}
 use Rattle.std.proofs.lemmas.Bool.{and_left, and_right, or_from, lt-leb, le-ltb}
 use Rattle.js_units.specs.Text.{is_lead, is_trail, utf16_of}
-use Rattle.js_uri.specs.Encoding.{escape, escapes, encoded_point}
+use Rattle.js_uri.specs.Encoding.{escape, encoded_point}
+use Rattle.js_uri.specs.Steps.{escapes}
 
 pub length-escapes : (bs : List ℕ) → length (flat_map escape bs) ≡ 3 * length bs
 length-escapes [] = omega arith

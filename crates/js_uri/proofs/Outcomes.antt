@@ -1,7 +1,8 @@
 -- Outcomes from the front, as their lengths are counted and their lists are written.
 use Rattle.std.proofs.Common.{◌≡◌, ℕ, ◌+◌, ◌-◌, List, [], ◌++◌, length, Option, Some, None, Result, Ok, Err, arith, refl, ap, length-append}
 use Rattle.std.specs.Prelude.{IsOk, option_map, unwrap_or}
-use Rattle.js_uri.specs.Outcome.{UriOutcome, after_some, measure, units}
+use Rattle.js_uri.specs.Outcome.{UriOutcome, measure, units}
+use Rattle.js_uri.specs.Steps.{after_some}
 
 -- a length, or a place, behind so many units that gave so many
 abbrev pub counted : ℕ → ℕ → Result ℕ ℕ → Result ℕ ℕ

@@ -7,11 +7,15 @@ use Rattle.std.proofs.lemmas.Bool.{cases_eq, cases_lt, cases_Bool, and_parts, an
 use Rattle.std.proofs.lemmas.Str.{encode_ascii}
 use lib.Pointwise.{bytes_decides}
 use Rattle.js_units.specs.Text.{is_lead, is_trail, pair_value, points, utf16_of}
-use Rattle.js_uri.specs.Outcome.{UriOutcome, uri_after, after_some, uri_and_then}
+use Rattle.js_uri.specs.Outcome.{UriOutcome, uri_after, uri_and_then}
+use Rattle.js_uri.specs.Steps.{after_some}
 use Rattle.js_uri.specs.Sets.{no_hold}
-use Rattle.js_uri.specs.Encoding.{upper_hex, escape, escapes, encoded_point, encoded_points}
-use Rattle.js_uri.specs.Decoding.{DecodedPart, digit, byte_of, escaped_byte, cons_bytes, escaped_bytes, sequence_len, bits, is_scalar, spelled_by, utf8_point}
-use Rattle.js_uri.specs.Decoding.{ascii_part, point_part, escaped_part, after_part, decoded_behind, decoded}
+use Rattle.js_uri.specs.Encoding.{upper_hex, escape, encoded_point, encoded_points}
+use Rattle.js_uri.specs.Steps.{escapes}
+use Rattle.js_uri.specs.Decoding.{DecodedPart, digit, escaped_byte, escaped_bytes, sequence_len, bits, is_scalar, spelled_by}
+use Rattle.js_uri.specs.Steps.{byte_of, cons_bytes, utf8_point}
+use Rattle.js_uri.specs.Decoding.{escaped_part, decoded_behind, decoded}
+use Rattle.js_uri.specs.Steps.{ascii_part, point_part, after_part}
 use Rattle.js_uri.specs.Decoding.{first_part}
 use Rattle.js_uri.specs.Laws.{UndoesEncoding}
 use Rattle.js_uri.proofs.Escapes.{length-escapes}

@@ -4,9 +4,11 @@ use Rattle.std.specs.Prelude.{◌&&◌, ◌||◌, ◌==◌, not, nat_lt, if◌th
 use Rattle.std.specs.List.{list_all}
 use Rattle.std.proofs.lemmas.Bool.{and_parts, and_left, or_from, not-true, ltb-true, lt-ltb, lt-leb, cond-true, cond-false}
 use Rattle.js_units.specs.Text.{is_lead, is_trail, points, pair_value, utf16_of}
-use Rattle.js_uri.specs.Outcome.{after_some, uri_after}
+use Rattle.js_uri.specs.Outcome.{uri_after}
+use Rattle.js_uri.specs.Steps.{after_some}
 use Rattle.js_uri.specs.Encoding.{encoded_point, encoded_points, encoded}
-use Rattle.js_uri.specs.Decoding.{escaped_part, escaped_byte, after_part, decoded_behind, decoded}
+use Rattle.js_uri.specs.Decoding.{escaped_part, escaped_byte, decoded_behind, decoded}
+use Rattle.js_uri.specs.Steps.{after_part}
 
 -- an ASCII character of the set, and a unit other than %
 abbrev pub is_kept : (ℕ → Bool) → ℕ → Bool

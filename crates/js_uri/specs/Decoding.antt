@@ -2,38 +2,27 @@
 use Rattle.std.specs.Prelude.{ℕ, zero, suc, ◌+◌, ◌-◌, ◌*◌, ◌%◌, Bool, nat_lt, nat_le, not, ◌&&◌, ◌||◌, ◌==◌}
 use Rattle.std.specs.Prelude.{if◌then◌else◌, List, [], ◌∷◌, take, drop, length, Option, Some, None, Ok, Err}
 use Rattle.std.specs.Prelude.{encode_utf8, bytes_eq}
+use Rattle.std.specs.Option.{option_map, option_map_or, option_and_then}
 use Rattle.js_units.specs.Text.{is_lead, is_trail, utf16_of}
 use Rattle.js_uri.specs.Outcome.{UriOutcome, uri_after}
 
 -- the value of a hexadecimal digit, of either case
 abbrev pub digit : ℕ → Option ℕ
-digit u =
-    if nat_le 0x30 u && nat_le u 0x39 then Some (u - 0x30)
+digit u = if nat_le 0x30 u && nat_le u 0x39 then Some (u - 0x30)
     else if nat_le 0x41 u && nat_le u 0x46 then Some (u - 0x37)
-    else if nat_le 0x61 u && nat_le u 0x66 then Some (u - 0x57)
-    else None
-
-abbrev pub byte_of : Option ℕ → Option ℕ → Option ℕ
-byte_of (Some x) (Some y) = Some (x * 16 + y)
-byte_of (Some x) None = None
-byte_of None y = None
+    else if nat_le 0x61 u && nat_le u 0x66 then Some (u - 0x57) else None
 
 -- the byte of the escape that the units begin with, which is % and two digits
 abbrev pub escaped_byte : List ℕ → Option ℕ
-escaped_byte [] = None
-escaped_byte (p ∷ []) = None
-escaped_byte (p ∷ x ∷ []) = None
-escaped_byte (p ∷ x ∷ y ∷ us) = if p == 0x25 then byte_of (digit x) (digit y) else None
-
-abbrev pub cons_bytes : Option ℕ → Option (List ℕ) → Option (List ℕ)
-cons_bytes (Some b) (Some bs) = Some (b ∷ bs)
-cons_bytes (Some b) None = None
-cons_bytes None bs = None
+escaped_byte (p ∷ x ∷ y ∷ us) =
+    if p == 0x25 then option_and_then (λ h. option_map (λ l. h * 16 + l) (digit y)) (digit x) else None
+escaped_byte _ = None
 
 -- the bytes of n escapes that the units begin with
 abbrev pub escaped_bytes : ℕ → List ℕ → Option (List ℕ)
 escaped_bytes zero us = Some []
-escaped_bytes (suc n) us = cons_bytes (escaped_byte us) (escaped_bytes n (drop 3 us))
+escaped_bytes (suc n) us =
+    option_and_then (λ b. option_map (λ bs. b ∷ bs) (escaped_bytes n (drop 3 us))) (escaped_byte us)
 
 -- how many bytes UTF-8 asks for where the first is this one of 80 or more, which is as many as it has leading
 -- bits of 1; no sequence begins with one of 80 to BF, or of F8 or more
@@ -62,29 +51,18 @@ is_scalar c = nat_lt c 0x110000 && not (is_lead c || is_trail c)
 abbrev pub spelled_by : List ℕ → ℕ → Option ℕ
 spelled_by bs c = if is_scalar c && bytes_eq (encode_utf8 c) bs then Some c else None
 
-abbrev pub utf8_point : Option (List ℕ) → Option ℕ
-utf8_point None = None
-utf8_point (Some bs) = spelled_by bs (bits bs)
-
 -- units that denote others: the others, and how many units these are
 pub record DecodedPart : Type 0 where
   pub units : List ℕ
   pub taken : ℕ
 
--- the escape of a byte below 80
-abbrev pub ascii_part : (ℕ → Bool) → List ℕ → ℕ → DecodedPart
-ascii_part hold us b = record { units = if hold b then take 3 us else b ∷ []; taken = 3 }
-
--- n escapes
-abbrev pub point_part : ℕ → Option ℕ → Option DecodedPart
-point_part n None = None
-point_part n (Some c) = Some (record { units = utf16_of c; taken = 3 * n })
-
+-- the escape of a byte below 80, or those that spell a code point in UTF-8
 abbrev pub escaped_part : (ℕ → Bool) → List ℕ → Option ℕ → Option DecodedPart
 escaped_part hold us None = None
 escaped_part hold us (Some b) =
-    if nat_lt b 0x80 then Some (ascii_part hold us b)
-    else point_part (sequence_len b) (utf8_point (escaped_bytes (sequence_len b) us))
+    if nat_lt b 0x80 then Some (record { units = if hold b then take 3 us else b ∷ []; taken = 3 })
+    else option_map (λ c. record { units = utf16_of c; taken = 3 * sequence_len b })
+    (option_and_then (λ bs. spelled_by bs (bits bs)) (escaped_bytes (sequence_len b) us))
 
 -- the first part of units; nothing where it is malformed
 abbrev pub first_part : (ℕ → Bool) → List ℕ → Option DecodedPart
@@ -93,15 +71,12 @@ first_part hold (u ∷ us) =
     if u == 0x25 then escaped_part hold (u ∷ us) (escaped_byte (u ∷ us))
     else Some (record { units = u ∷ []; taken = 1 })
 
--- a part, and what the units behind its first come to where so many of them are passed over
-abbrev pub after_part : Option DecodedPart → (ℕ → UriOutcome) → UriOutcome
-after_part None rest = Err 0
-after_part (Some p) rest = uri_after p.taken p.units (rest (p.taken - 1))
-
 -- the units from the front, the first n passed over
 abbrev pub decoded_behind : (ℕ → Bool) → ℕ → List ℕ → UriOutcome
 decoded_behind hold n [] = Ok []
-decoded_behind hold zero (u ∷ us) = after_part (first_part hold (u ∷ us)) (λ n. decoded_behind hold n us)
+decoded_behind hold zero (u ∷ us) =
+    option_map_or (λ p. uri_after p.taken p.units (decoded_behind hold (p.taken - 1) us))
+    (first_part hold (u ∷ us)) (Err 0)
 decoded_behind hold (suc n) (u ∷ us) = decoded_behind hold n us
 
 -- the units decoded; malformed at the % of the first escape that isn't whole, or of the first

@@ -2,6 +2,7 @@ pub mod Sets
 pub mod Outcome
 pub mod Encoding
 pub mod Decoding
+pub mod Steps
 pub mod Pieces
 pub mod Calls
 pub mod Answers

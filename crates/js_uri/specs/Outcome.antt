@@ -1,5 +1,5 @@
 -- What encoding or decoding a list of units comes to: a list, or the place of the unit that is malformed.
-use Rattle.std.specs.Prelude.{ℕ, ◌+◌, List, [], ◌++◌, length, Option, Some, None, Result, Ok, Err}
+use Rattle.std.specs.Prelude.{ℕ, ◌+◌, List, [], ◌++◌, length, Result, Ok, Err}
 
 abbrev pub UriOutcome : Type 0
 UriOutcome = Result (List ℕ) ℕ
@@ -9,11 +9,6 @@ UriOutcome = Result (List ℕ) ℕ
 abbrev pub uri_after : ℕ → List ℕ → UriOutcome → UriOutcome
 uri_after n us (Ok vs) = Ok (us ++ vs)
 uri_after n us (Err at) = Err (n + at)
-
--- the same where the n units denote others only perhaps, and are malformed at the first of them if not
-abbrev pub after_some : ℕ → Option (List ℕ) → UriOutcome → UriOutcome
-after_some n None r = Err 0
-after_some n (Some us) r = uri_after n us r
 
 -- how many units the list has
 abbrev pub measure : UriOutcome → Result ℕ ℕ

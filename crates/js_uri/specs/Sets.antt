@@ -15,8 +15,7 @@ is_uri_mark u = u == 0x2D || u == 0x5F || u == 0x2E || u == 0x21 || u == 0x7E ||
 -- ; / ? : @ & = + $ , #
 abbrev pub is_uri_reserved : ℕ → Bool
 is_uri_reserved u = u == 0x3B || u == 0x2F || u == 0x3F || u == 0x3A || u == 0x40 || u == 0x26 || u == 0x3D
-    || u == 0x2B || u == 0x24
-    || u == 0x2C || u == 0x23
+    || u == 0x2B || u == 0x24 || u == 0x2C || u == 0x23
 
 -- what encodeURIComponent and encodeURI leave as it is
 abbrev pub component_keep : ℕ → Bool
@@ -25,9 +24,6 @@ component_keep u = is_alphanumeric u || is_uri_mark u
 abbrev pub uri_keep : ℕ → Bool
 uri_keep u = component_keep u || is_uri_reserved u
 
--- the characters whose escapes decodeURIComponent and decodeURI leave as they are
+-- the characters whose escapes decodeURIComponent leaves as they are; decodeURI leaves the reserved ones
 abbrev pub no_hold : ℕ → Bool
 no_hold u = false
-
-abbrev pub uri_hold : ℕ → Bool
-uri_hold u = is_uri_reserved u

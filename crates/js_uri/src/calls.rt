@@ -4,7 +4,7 @@ ghost use Rattle.js_store.specs.State.{IsKnown, IsSettled, text};
 ghost use Rattle.js_store.specs.Faults.{Uses};
 ghost use Rattle.js_texts.specs.Use.{settling};
 ghost use Rattle.js_uri.specs.Answers.{HasUriOutcome, ThrowsUriError, uri_full_of, outcome_words};
-ghost use Rattle.js_uri.specs.Sets.{component_keep, uri_keep, no_hold, uri_hold};
+ghost use Rattle.js_uri.specs.Sets.{component_keep, uri_keep, no_hold, is_uri_reserved};
 ghost use Rattle.js_uri.specs.Encoding.{encoded};
 ghost use Rattle.js_uri.specs.Decoding.{decoded};
 
@@ -65,15 +65,15 @@ pub fn decode_uri<S: Strings>(alloc: Global, store: &mut S, s: S::Ref) -> Result
     requires { IsKnown (S.state store.old) (S.number s) }
     ensures value { IfOk result
         (λ r. HasUriOutcome (S.state store.new) (S.number r)
-        (decoded (text (S.state store.old) (S.number s)) uri_hold)) }
+        (decoded (text (S.state store.old) (S.number s)) is_uri_reserved)) }
     ensures known { IfOk result (λ r. IsKnown (S.state store.new) (S.number r)) }
     ensures settled { OnOk result (IsSettled (S.state store.new) (S.number s)) }
     ensures result_settled { IfOk result (λ r. IsSettled (S.state store.new) (S.number r)) }
     ensures throws { ThrowsUriError result (S.state store.old).limit
-        (decoded (text (S.state store.old) (S.number s)) uri_hold) }
+        (decoded (text (S.state store.old) (S.number s)) is_uri_reserved) }
     ensures uses { Uses (S.state store.old) (S.state store.new) (uri_full_of result) 1
         (settling (S.state store.old) (S.number s) + outcome_words (S.state store.old).limit
-        (decoded (text (S.state store.old) (S.number s)) uri_hold)) }
+        (decoded (text (S.state store.old) (S.number s)) is_uri_reserved)) }
 {
     UriCall::Decode(UriPart::Whole).answer(alloc, store, s)
 }

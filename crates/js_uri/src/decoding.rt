@@ -2,7 +2,8 @@
 ghost use Rattle.std.specs.Prelude.{◌≡◌, ℕ, Bool, ◌+◌, ◌*◌, ◌%◌, ◌^◌, ◌<◌, ◌≤◌, ◌++◌, ◌∷◌, [], length, drop, OnOk, IsOk, IfSome, Some, None, MatchOption, option_map, IsTrue, Ok};
 ghost use Rattle.js_uri.specs.Outcome.{measure, units as units_of};
 ghost use Rattle.js_uri.specs.Calls.{hold_of};
-ghost use Rattle.js_uri.specs.Decoding.{escaped_byte, escaped_bytes, utf8_point, spelled_by, sequence_len as asked_len, escaped_part, first_part, decoded};
+ghost use Rattle.js_uri.specs.Decoding.{escaped_byte, escaped_bytes, spelled_by, sequence_len as asked_len, escaped_part, first_part, decoded};
+ghost use Rattle.js_uri.specs.Steps.{utf8_point};
 ghost use Rattle.js_uri.specs.Decoding;
 ghost use Rattle.js_uri.specs.Pieces.{taken_by, length_of, units_given, seen};
 

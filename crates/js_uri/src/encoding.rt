@@ -3,7 +3,8 @@ ghost use Rattle.std.specs.Prelude.{◌≡◌, ◌+◌, ◌*◌, ◌^◌, ◌<�
 ghost use Rattle.js_units.specs.Text.{points, utf16_of};
 ghost use Rattle.js_uri.specs.Outcome.{measure, units as units_of};
 ghost use Rattle.js_uri.specs.Calls.{keep_of};
-ghost use Rattle.js_uri.specs.Encoding.{escape, escapes, encoded_point, encoded};
+ghost use Rattle.js_uri.specs.Encoding.{escape, encoded_point, encoded};
+ghost use Rattle.js_uri.specs.Steps.{escapes};
 ghost use Rattle.js_uri.specs.Encoding;
 
 use crate::sets::UriPart;

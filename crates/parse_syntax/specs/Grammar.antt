@@ -79,10 +79,8 @@ module _ (tables : TokenTables) where
 
   -- an assignment to this name: the offset of +=, which appends, or none for =, and the value
   abbrev pub assign_of : Identifier → Option ℕ × ExprTree → StmtTree
-  assign_of x p = elim p.0 [
-    | None ↦ tree.assign x.at (letters x) p.1
-    | Some at ↦ tree.append at x.at (letters x) p.1
-  ]
+  assign_of x p = elim p.0 [ None ↦ tree.assign x.at (letters x) p.1
+      | Some at ↦ tree.append at x.at (letters x) p.1 ]
 
 -- expressions, over what an expression E and an operand U are where one more is open
 

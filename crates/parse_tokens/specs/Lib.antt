@@ -1,5 +1,6 @@
 pub mod Words
 pub mod Tokens
+pub mod Behind
 pub mod Lengths
 pub mod Seen
 pub mod Steps

@@ -41,10 +41,9 @@ is_reserved letters = list_any (bytes_eq letters) (reserved_words ++ kept_words)
 -- the identifiers that mean something where they are no names: those by which a statement begins or goes on,
 -- and those by which an operand begins
 abbrev pub meant_words : List Word
-meant_words =
-    word.Let ∷ word.Const ∷ word.Print ∷ word.If ∷ word.Else ∷ word.For ∷ word.Undefined ∷ word.Null ∷
-    word.True ∷ word.False ∷ word.NaN ∷ word.Infinity ∷ word.String ∷ word.Symbol ∷ word.Json ∷ word.Object ∷
-    word.EncodeUri ∷ word.EncodeUriComponent ∷ word.DecodeUri ∷ word.DecodeUriComponent ∷ []
+meant_words = word.Let ∷ word.Const ∷ word.Print ∷ word.If ∷ word.Else ∷ word.For ∷ word.Undefined ∷
+    word.Null ∷ word.True ∷ word.False ∷ word.NaN ∷ word.Infinity ∷ word.String ∷ word.Symbol ∷ word.Json ∷
+    word.Object ∷ word.EncodeUri ∷ word.EncodeUriComponent ∷ word.DecodeUri ∷ word.DecodeUriComponent ∷ []
 
 -- what an identifier is where it can't be a name: the identifier itself if it has a meaning here, else
 -- Reserved; None for a name
@@ -54,8 +53,7 @@ word_meant letters = option_or (find (λ w. bytes_eq letters (letters_of w)) mea
 
 -- the names that mean something behind a point, but for the methods
 abbrev pub property_names : List (List ℕ × Property)
-property_names =
-    (codes "length", property.Length) ∷ (codes "description", property.Description) ∷
+property_names = (codes "length", property.Length) ∷ (codes "description", property.Description) ∷
     (codes "fromCharCode", property.FromCharCode) ∷ (codes "fromCodePoint", property.FromCodePoint) ∷
     (codes "keyFor", property.KeyFor) ∷ (codes "stringify", property.Stringify) ∷
     (codes "keys", property.Keys) ∷ []

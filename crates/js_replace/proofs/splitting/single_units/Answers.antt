@@ -4,7 +4,7 @@ use Rattle.std.proofs.lemmas.Result.{err_from_is_err_and}
 use Rattle.js_store.specs.State.{text}
 use Rattle.js_store.proofs.Laws.{text_still}
 use Rattle.js_texts.specs.Texts.{known_texts}
-use Rattle.js_replace.specs.Parts.{singles}
+use Rattle.js_replace.specs.Fronts.{singles}
 use Rattle.js_replace.proofs.Cutting.{refused, answered, more_parts, no_more, range_length, single_turn, singles_end}
 use Rattle.js_replace.proofs.splitting.single_units.Goals as goal
 

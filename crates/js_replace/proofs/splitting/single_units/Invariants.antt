@@ -3,7 +3,7 @@ use Rattle.std.specs.Prelude.{None}
 use Rattle.js_store.specs.State.{text}
 use Rattle.js_store.specs.Faults.{StoreStep}
 use Rattle.js_texts.specs.Texts.{known_texts, AllKnown}
-use Rattle.js_replace.specs.Parts.{singles}
+use Rattle.js_replace.specs.Fronts.{singles}
 use Rattle.js_replace.specs.Use.{copies_words}
 use Rattle.js_replace.proofs.splitting.single_units.Given as goal
 

@@ -1,5 +1,6 @@
 use Rattle.std.proofs.Common.{◌≡◌, arith, ap, sym, ◌∙◌}
-use Rattle.js_uri.specs.Decoding.{escaped_bytes, utf8_point}
+use Rattle.js_uri.specs.Decoding.{escaped_bytes}
+use Rattle.js_uri.specs.Steps.{utf8_point}
 use Rattle.js_uri.proofs.decoding.sequence_char.Goals as goal
 
 pub returns-in_default-clause-value : goal.returns-in_default-clause-value
