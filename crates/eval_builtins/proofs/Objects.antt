@@ -26,7 +26,8 @@ use Rattle.js_item.specs.declared.item.Item.TheVariants as item
 use Rattle.js_item.proofs.Still.{fine_keys}
 use Rattle.js_object.specs.Use.{settle_in, settle_fields}
 use Rattle.js_object.specs.Keys.{ordered, own_keys, unit_keys}
-use Rattle.js_object.specs.Json.{number_json, is_shown, JsonMember, shown, text_json, json_members as parts_of, json_of}
+use Rattle.js_object.specs.Json.{number_json, is_shown, shown, text_json, json_members as parts_of, json_of}
+use Rattle.js_object.specs.Steps.{JsonMember}
 use Rattle.js_object.specs.Steps.{bool_json, part_index, more_shown}
 use Rattle.js_object.proofs.Lengths.{total, ordered_most}
 use Rattle.js_object.proofs.Seen.{own_keys_known}

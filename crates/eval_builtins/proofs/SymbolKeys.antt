@@ -31,7 +31,8 @@ use Rattle.eval_values.specs.Stops.{stop_of}
 use Rattle.eval_values.specs.Ran.{NextShut}
 use Rattle.eval_values.specs.Does.{GivesValue, GivesText}
 use Rattle.eval_values.proofs.Compose.{honest_full, ran_of_step, ran_of_text, did_before, cut_of_full, full_same}
-use Rattle.eval_builtins.specs.Symbols.{shown_symbol, symbol_for}
+use Rattle.eval_builtins.specs.Symbols.{symbol_for}
+use Rattle.eval_builtins.specs.Parts.{shown_symbol}
 use Rattle.eval_values.proofs.TextArguments.{text_converts, text_fails}
 
 pub shown_length : (k : List ℕ) → length (shown_symbol k) ≡ length k + 8

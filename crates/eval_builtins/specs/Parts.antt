@@ -1,6 +1,6 @@
 -- Helpers: no public contract reaches these definitions.
 -- Parts of what built-in functions give, by names, for the contracts of private functions and for proofs.
-use Rattle.std.specs.Prelude.{ℕ, List, length}
+use Rattle.std.specs.Prelude.{ℕ, List, length, codes, ◌++◌}
 use Rattle.js_number.specs.declared.Num.{Num}
 use Rattle.js_item.specs.Contents.{Fields, list, object, symbol, text}
 use Rattle.js_item.specs.Seen.{Val}
@@ -11,7 +11,10 @@ use Rattle.eval_values.specs.Limited.{bounded}
 use Rattle.eval_builtins.specs.Codes.{from_row}
 use Rattle.eval_builtins.specs.Keys.{keys_call}
 use Rattle.eval_builtins.specs.Quoting.{stringify_call}
-use Rattle.eval_builtins.specs.Symbols.{shown_symbol}
+
+-- "SymbolDescriptiveString"
+abbrev pub shown_symbol : List ℕ → List ℕ
+shown_symbol k = codes "Symbol(" ++ (k ++ codes ")")
 
 -- an array of the own keys
 abbrev pub keys_out : Fields (List ℕ) → Out Val

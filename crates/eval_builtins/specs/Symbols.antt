@@ -9,14 +9,10 @@ use Rattle.eval_values.specs.Conversions.{to_string, text_units, string_units}
 use Rattle.eval_values.specs.Limited.{bounded}
 use Rattle.eval_builtins.specs.Quoting.{as_text}
 
--- "SymbolDescriptiveString"
-abbrev pub shown_symbol : List ℕ → List ℕ
-shown_symbol k = codes "Symbol(" ++ (k ++ codes ")")
-
 -- "String ( value )"; `String()` is the empty string
 abbrev pub string_conversion : ℕ → List Val → Out Val
 string_conversion limit [] = needing (reads 0) (text [])
-string_conversion limit (symbol k ∷ vs) = bounded limit (λ r. reads r) (shown_symbol k)
+string_conversion limit (symbol k ∷ vs) = bounded limit (λ r. reads r) (codes "Symbol(" ++ (k ++ codes ")"))
 string_conversion limit (v ∷ vs) = as_text limit v
 
 -- "Symbol.for": the one symbol of a key, which is interned

@@ -15,7 +15,8 @@ ghost use Rattle.eval_values.specs.Seen.{all_seen, AllFine};
 ghost use Rattle.eval_values.specs.Does.{GivesValue};
 ghost use Rattle.eval_values.specs.Settled.{OfFirst, StringsSettled};
 ghost use Rattle.eval_builtins.specs.Settled.{ShownSettled, FirstShownSettled};
-ghost use Rattle.eval_builtins.specs.Symbols.{shown_symbol, string_conversion, symbol_for as symbol_out, key_for as key_out};
+ghost use Rattle.eval_builtins.specs.Symbols.{string_conversion, symbol_for as symbol_out, key_for as key_out};
+ghost use Rattle.eval_builtins.specs.Parts.{shown_symbol};
 
 use crate::quoting::give_text;
 use eval_values::{Kind, Stop, Value, to_text};

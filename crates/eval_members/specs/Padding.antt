@@ -23,7 +23,8 @@ repeat_call limit u n = converts (repeats (length u)) n (λ k. repeated (is_coun
 -- the string u padded to m units, by one space where no filler is given; the filler isn't looked at where u
 -- has as many
 abbrev pub padded : ℕ → (ℕ → List ℕ → List ℕ) → List ℕ → ℕ → Val → Out Val
-padded limit pad u m f = if nat_le m (length u) then bounded limit (λ r. pads (length u + string_units f)) u
+padded limit pad u m f =
+    if nat_le m (length u) then bounded limit (λ r. pads (length u + string_units f)) u
     else converting (pads (length u + string_units f)) (text_or (32 ∷ []) limit f)
     (λ w. bounded limit (λ r. pads (length u + length w)) (pad m w))
 

@@ -1,9 +1,7 @@
 -- Helpers: no public contract reaches these definitions.
 -- Parts of what methods give, by names, for the contracts of private functions and for proofs. The operands
 -- of a call have t units.
-use Rattle.std.specs.Prelude.{ℕ, ◌+◌, List, [], ◌∷◌, length, if◌then◌else◌, Option, Some, None, pos, negsuc}
-use Rattle.js_number.specs.declared.Num.{Num}
-use Rattle.js_number.specs.declared.Num.TheVariants.{Int}
+use Rattle.std.specs.Prelude.{ℕ, ◌+◌, List, [], ◌∷◌, length, if◌then◌else◌}
 use Rattle.js_texts.specs.Joined.{joined as joined_list}
 use Rattle.eval_values.specs.Outcome.{Converted, Out, converting, needing, converts, refuses}
 use Rattle.eval_values.specs.Need.{nothing, reads, joins, parts, pads}
@@ -14,11 +12,6 @@ use Rattle.js_item.specs.Seen.{Val}
 use Rattle.eval_members.specs.Operands.{text_or}
 use Rattle.eval_members.specs.Building.{joined_text}
 use Rattle.eval_members.specs.Properties.{is_inherited, property}
-
--- a place, or -1
-abbrev pub place_number : Option ℕ → Num
-place_number None = Int (negsuc 0)
-place_number (Some k) = Int (pos k)
 
 -- an object that has no own property of the key
 abbrev pub lacking : ℕ → List ℕ → Out Val

@@ -1,7 +1,6 @@
 -- Methods that read single units. The operands of a call have t units.
 use Rattle.eval_values.specs.Conversions.{string_units}
-use Rattle.std.specs.Prelude.{ℕ, ◌+◌, List, Option, pos}
-use Rattle.std.specs.Option.{option_map_or}
+use Rattle.std.specs.Prelude.{ℕ, ◌+◌, List, Option, Some, None, pos}
 use Rattle.js_number.specs.declared.Num.{Num}
 use Rattle.js_number.specs.declared.Num.TheVariants.{Int}
 use Rattle.js_methods.specs.Places.{at_of, char_at_of, char_code_of, code_point_of}
@@ -11,10 +10,12 @@ use Rattle.eval_values.specs.Outcome.{Converted, Out, needing, converts}
 use Rattle.eval_values.specs.Need.{reads}
 
 abbrev pub maybe_text : Option (List ℕ) → Val
-maybe_text u = option_map_or text u undefined
+maybe_text None = undefined
+maybe_text (Some u) = text u
 
 abbrev pub maybe_count : Option ℕ → Val
-maybe_count n = option_map_or (λ k. number (Int (pos k))) n undefined
+maybe_count None = undefined
+maybe_count (Some n) = number (Int (pos n))
 
 -- a value that is read, where the operands have t units
 abbrev pub element : ℕ → Val → Out Val

@@ -1,7 +1,8 @@
 -- The scope: a list of blocks, the innermost first, over the top (ECMA-262, "Declarative Environment
 -- Records"). V is the type of the values.
 use Rattle.std.specs.Prelude.{ℕ, Bool, true, false, List, [], ◌∷◌, ◌++◌, Option, Some, None, is_some}
-use Rattle.std.specs.Prelude.{bytes_eq, if◌then◌else◌, drop}
+use Rattle.std.specs.Prelude.{bytes_eq, find, if◌then◌else◌, drop}
+use Rattle.std.specs.List.{list_any}
 use Rattle.std.specs.Option.{option_or}
 
 -- a name that was declared and evaluated, whether by `const`, and its value
@@ -23,13 +24,11 @@ pub record Bindings (V : Type 0) : Type 0 where
 
 -- the first binding with this name, if there is one
 abbrev pub bound_in : {V : Type 0} → List (Bound V) → List ℕ → Option (Bound V)
-bound_in [] x = None
-bound_in (b ∷ bs) x = if bytes_eq b.name x then Some b else bound_in bs x
+bound_in bs x = find (λ b. bytes_eq b.name x) bs
 
 -- the name is one of these
 abbrev pub is_among : List (List ℕ) → List ℕ → Bool
-is_among [] x = false
-is_among (n ∷ ns) x = if bytes_eq n x then true else is_among ns x
+is_among names x = list_any (λ n. bytes_eq n x) names
 
 -- the innermost block that declares a name has its value, if it was evaluated
 abbrev pub look : {V : Type 0} → List (BlockFrame V) → List (Bound V) → List ℕ → Option (Bound V)

@@ -67,10 +67,9 @@ to_number at undefined = into NaN
 to_number at null = into (Int (pos 0))
 to_number at (bool b) = into (if b then Int (pos 1) else Int (pos 0))
 to_number at (number n) = into n
-to_number at (text u) = fails (unsupported at)
 to_number at (symbol k) = fails (threw TypeError)
-to_number at (list us) = fails (unsupported at)
 to_number at (object fs) = if own_to_string fs then fails (threw TypeError) else fails (unsupported at)
+to_number at _ = fails (unsupported at)
 
 abbrev pub number_truth : Num → Bool
 number_truth (Int (pos n)) = not (nat_eq n 0)

@@ -22,8 +22,12 @@ abbrev pub free : Ledger
 free = record { interned = []; texts = []; ids = 0; words = 0 }
 
 abbrev pub both : Ledger → Ledger → Ledger
-both l m = record { interned = l.interned ++ m.interned; texts = l.texts ++ m.texts;
-    ids = l.ids + m.ids; words = l.words + m.words }
+both l m = record {
+  interned = l.interned ++ m.interned;
+  texts = l.texts ++ m.texts;
+  ids = l.ids + m.ids;
+  words = l.words + m.words;
+}
 
 -- what ends a script early: a throw completion, or a place that the profile leaves out
 pub data Ending : Type 0 where

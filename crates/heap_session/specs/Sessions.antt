@@ -27,10 +27,16 @@ abbrev pub state_by : View → ℕ → TableId → State SessionFrame
 state_by v limit table = record {
   known = λ n. get v.units n;
   settled = λ n. is_settled (get v.forms n);
-  shut = λ u. shut v u v.sizes.slots; history = history v;
-  used_ids = v.used.ids; used_words = v.used.words; low_ids = v.low.ids; low_words = v.low.words;
+  shut = λ u. shut v u v.sizes.slots;
+  history = history v;
+  used_ids = v.used.ids;
+  used_words = v.used.words;
+  low_ids = v.low.ids;
+  low_words = v.low.words;
   sizes = record { ids = v.sizes.ids; words = v.sizes.words; slots = v.sizes.slots };
-  limit = limit; bounded = true; sure = true;
+  limit = limit;
+  bounded = true;
+  sure = true;
   frame = record { table = table; share = v.share; agents = v.agents; seen = v.seen };
 }
 

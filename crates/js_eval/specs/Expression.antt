@@ -26,7 +26,7 @@ use Rattle.eval_members.specs.Members.{length_property, description_of, present,
 use Rattle.eval_members.specs.Arrays.{indexed}
 use Rattle.eval_members.specs.Properties.{property_of}
 use Rattle.eval_builtins.specs.Builtins.{built}
-use Rattle.js_eval.specs.Initializers.{literal_cost, key_interned, with_property, object_out}
+use Rattle.js_eval.specs.Initializers.{literal_cost, interned_out, object_out}
 
 -- the literals, what names mean, and the greatest length of a string
 pub record EvalContext : Type 0 where
@@ -36,8 +36,7 @@ pub record EvalContext : Type 0 where
 
 -- reading what a name means ("GetBindingValue")
 abbrev pub read_out : Option (Bound Val) → Out Val
-read_out (Some b) = needing nothing b.value
-read_out None = throwing nothing ReferenceError
+read_out found = option_map_or (λ b. needing nothing b.value) found (throwing nothing ReferenceError)
 
 -- whether the left side of an operator is its value, so that the right side isn't evaluated ("Binary Logical
 -- Operators")
@@ -52,8 +51,6 @@ truth_of holds o = bind o (λ x. gave (bool (holds x)) free)
 
 -- an operator on the values of both sides
 abbrev pub operated : Op → ℕ → ℕ → Val → Val → Out Val
-operated Or at limit v w = gave w free
-operated And at limit v w = gave w free
 operated Same at limit v w = truth_of (λ b. b) (same_out at v w)
 operated NotSame at limit v w = truth_of not (same_out at v w)
 operated Less at limit v w = truth_of is_less (order_out at limit v w)
@@ -62,6 +59,7 @@ operated LessEq at limit v w = truth_of is_at_most (order_out at limit v w)
 operated GreaterEq at limit v w = truth_of is_at_least (order_out at limit v w)
 operated Plus at limit v w = plus at limit v w
 operated Minus at limit v w = difference_in at v w
+operated _ at limit v w = gave w free
 
 abbrev mutual
   -- what an expression comes to in a scope ("Evaluation" of "Expression"): its value or its end, with what it
@@ -105,8 +103,8 @@ abbrev mutual
   -- ("PropertyDefinitionEvaluation")
   pub entries_out : Entries → EvalContext → Fields (List ℕ) → Out (Fields (List ℕ))
   entries_out no_entries s fs = gave fs free
-  entries_out (entry key value rest) s fs = bind (key_interned s.limit key)
-      (λ k. bind (expr_out value s) (λ v. entries_out rest s (with_property k v fs)))
+  entries_out (entry key value rest) s fs = bind (interned_out s.limit nothing key)
+      (λ k. bind (expr_out value s) (λ v. entries_out rest s (put_by (λ name. bytes_eq name k) k v fs)))
 
   -- expressions from left to right
   pub exprs_out : Exprs → EvalContext → Out (List Val)

@@ -18,6 +18,7 @@ use Rattle.eval_values.specs.Outcome.{cost, ledger_of, interning, throwing, Ledg
 use Rattle.eval_values.specs.Need.{reads, parts, nothing}
 use Rattle.eval_values.specs.Conversions.{to_string, to_boolean, string_units, text_units, all_units}
 use Rattle.eval_values.specs.Conversions.{sum_over}
+use Rattle.js_eval.specs.Initializers.{interned_out}
 use Rattle.js_eval.specs.Expression.{EvalContext, read_out, operated, expr_out, exprs_out}
 
 -- what statements come to: how they end and what they need, the lines that they print, and the bindings that
@@ -128,19 +129,14 @@ abbrev mutual
 abbrev pub turn_flow : List ℕ → BlockTree → EvalContext → ℕ → Bindings Val → Flow
 turn_flow x b s i bs = left (block_flow b (with_bindings s (turned x (number (Int (pos i))) bs)))
 
--- a literal is interned; no source text spells one past the limit
-abbrev pub literal_out : ℕ → List ℕ → Out (List ℕ)
-literal_out limit u =
-    if nat_le (length u) limit then gave u (interning (reads (length u)) u) else throwing nothing RangeError
-
--- the literals first, and then what has them; the bindings are those of the top
+-- the bindings of the top
 abbrev pub with_top : List (Bound Val) → Bindings Val
 with_top top = record { blocks = []; top = top }
 
 -- the meaning of a script that begins with these bindings of the top, where strings have at most `limit`
--- units
+-- units: its literals are interned first (no source text spells one past the limit)
 abbrev pub meaning : Tree → List (Bound Val) → ℕ → Flow
-meaning t top limit = on_value (each (literal_out limit) t.literals) (with_top top)
+meaning t top limit = on_value (each (λ u. interned_out limit (reads (length u)) u) t.literals) (with_top top)
     (λ ls. stmts_flow t.body (record { literals = ls; bindings = with_top top; limit = limit }))
 
 -- what a meaning interns, in order; the strings that its expressions gave; and what it needs of a store at

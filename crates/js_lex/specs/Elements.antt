@@ -14,6 +14,5 @@ is_word_part c = is_word_start c || is_digit c
 
 -- what follows the next */
 abbrev pub after_block : List ℕ → Option (List ℕ)
-after_block [] = None
-after_block (a ∷ []) = None
 after_block (a ∷ b ∷ s) = if a == 42 && b == 47 then Some s else after_block (b ∷ s)
+after_block _ = None

@@ -86,9 +86,9 @@ pub data BreaksLiteral (q : ℕ) : List ℕ → StringFaultKind → Type 0 where
   ended_escape : BreaksLiteral q (92 ∷ []) Unclosed
   raw_line_end : (c : ℕ) (rest : List ℕ) → (c == 10 || c == 13) ≡ true → BreaksLiteral q (c ∷ rest) RawLineEnd
   octal : (c : ℕ) (rest : List ℕ) → (nat_le 49 c && nat_le c 57) ≡ true
-    → BreaksLiteral q (92 ∷ c ∷ rest) LegacyOctal
+      → BreaksLiteral q (92 ∷ c ∷ rest) LegacyOctal
   octal_zero : (rest : List ℕ) → begins_with is_digit rest ≡ true
-    → BreaksLiteral q (92 ∷ 48 ∷ rest) LegacyOctal
+      → BreaksLiteral q (92 ∷ 48 ∷ rest) LegacyOctal
   too_large : (s : List ℕ) → IsCodePointTooLarge s → BreaksLiteral q (92 ∷ s) CodePointTooLarge
   -- x or u, and neither a row of the table nor too large
   bad : (c : ℕ) (rest : List ℕ) → (c == 120 || c == 117) ≡ true

@@ -1,6 +1,7 @@
 -- Number literals, on characters: decimal integers without a leading zero, up to 2^53 - 1 (ECMA-262, "Numeric
 -- Literals", "DecimalIntegerLiteral"). Every other form of the standard is refused, by the first rule that
 -- applies.
+use Rattle.std.specs.Prelude.{fold}
 use Rattle.std.specs.Prelude.{◌≡◌, ℕ, ◌+◌, ◌-◌, ◌*◌, ◌<◌, List, [], ◌∷◌, Bool, true, false, nat_lt, nat_le}
 use Rattle.std.specs.Prelude.{◌==◌, ◌&&◌, ◌||◌, if◌then◌else◌, length, slice_index, Result, Ok, Err}
 use Rattle.js_literal.specs.Place.{StandsAt}
@@ -20,8 +21,7 @@ after_run test (c ∷ cs) = if test c then after_run test cs else c ∷ cs
 
 -- the value of digits that follow a number with the value v
 abbrev pub decimal : ℕ → List ℕ → ℕ
-decimal v [] = v
-decimal v (c ∷ cs) = decimal (10 * v + (c - 48)) cs
+decimal v cs = fold (λ n c. 10 * n + (c - 48)) v cs
 
 -- a first digit 0 that a digit follows
 abbrev pub has_leading_zero : List ℕ → Bool

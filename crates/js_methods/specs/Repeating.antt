@@ -11,8 +11,10 @@ use Rattle.js_texts.specs.declared.faults.MethodFault.TheVariants.{RangeError, S
 -- whether the integer or infinity of the number is a count, neither negative nor infinite
 abbrev pub is_count : Num → Bool
 is_count (Int (pos n)) = true
+is_count (Int (negsuc n)) = false
 is_count NaN = true
-is_count _ = false
+is_count PosInf = false
+is_count NegInf = false
 
 -- how many copies a count asks for
 abbrev pub copies : Num → ℕ

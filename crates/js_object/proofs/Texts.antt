@@ -16,7 +16,8 @@ use Rattle.js_item.specs.Views.{content_of}
 use Rattle.js_item.specs.Fine.{KnownStrings, strings_of, KeyFine}
 use Rattle.js_object.specs.Readable.{Readable, ReadableFields}
 use Rattle.js_object.specs.Keys.{index_of_key, index_in, ordered, key_values, lent_entry}
-use Rattle.js_object.specs.Json.{JsonMember, is_shown, shown, object_json, text_json, json_members, json_of, braced, closed}
+use Rattle.js_object.specs.Json.{is_shown, shown, object_json, text_json, json_members, json_of, braced, closed}
+use Rattle.js_object.specs.Steps.{JsonMember}
 use Rattle.js_object.specs.Steps.{part_index}
 use Rattle.js_item.specs.Seen.{says}
 use Rattle.js_object.proofs.Ordered.{ordered_seen, every_ordered}

@@ -22,17 +22,15 @@ is_shown undefined = false
 is_shown (symbol r) = false
 is_shown _ = true
 
--- what a member gives: the units of its key, and the JSON text of its value, where it has one
-abbrev pub JsonMember : Type 0
-JsonMember = List ℕ × Option (List ℕ)
+-- A member gives the units of its key, and the JSON text of its value, where it has one.
 
 -- of each that has one, the quoted key, a colon and the value's JSON text
-abbrev pub shown : List JsonMember → List (List ℕ)
+abbrev pub shown : List (List ℕ × Option (List ℕ)) → List (List ℕ)
 shown [] = []
 shown (p ∷ ps) = option_map_or (λ u. (quoted p.0 ++ 0x3A ∷ u) ∷ shown ps) p.1 (shown ps)
 
 -- braces around the members in their order, with a comma between two
-abbrev pub object_json : List JsonMember → List ℕ
+abbrev pub object_json : List (List ℕ × Option (List ℕ)) → List ℕ
 object_json ps = 0x7B ∷ delimited (λ u. u) 0x2C 0x7D (shown (ordered (λ p. index_of_key p.0) ps))
 
 abbrev mutual
@@ -48,7 +46,7 @@ abbrev mutual
   text_json say (object fs) = object_json (json_members say fs)
 
   -- one part for each member, in the order of the members
-  pub json_members : {R : Type 0} → (R → List ℕ) → Fields R → List JsonMember
+  pub json_members : {R : Type 0} → (R → List ℕ) → Fields R → List (List ℕ × Option (List ℕ))
   json_members say no_fields = []
   json_members say (field key value rest) =
       (say key, if is_shown value then Some (text_json say value) else None) ∷ json_members say rest

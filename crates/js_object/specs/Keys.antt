@@ -1,7 +1,7 @@
 -- Array indexes, and the keys of an object in their order (ECMA-262, "OrdinaryOwnPropertyKeys"). What that
 -- order is, is defined in `specs/Order.antt`; here is how the list that has it comes about.
 use Rattle.std.specs.Prelude.{ℕ, ◌+◌, ◌-◌, ◌*◌, Bool, false, not, ◌&&◌, ◌||◌, ◌==◌, nat_eq, nat_le}
-use Rattle.std.specs.Prelude.{if◌then◌else◌, List, [], ◌∷◌, ◌++◌, length, Option, Some, None, map}
+use Rattle.std.specs.Prelude.{if◌then◌else◌, List, [], ◌∷◌, ◌++◌, length, Option, Some, None, map, fold}
 use Rattle.std.specs.Option.{option_map_or}
 use Rattle.std.specs.Str.{all_ascii_digits}
 use Rattle.std.specs.Ordering.{nat_cmp}
@@ -15,8 +15,7 @@ use Rattle.js_item.specs.Views.{content_of}
 
 -- the number that digits denote, behind one that was read
 abbrev pub read_on : ℕ → List ℕ → ℕ
-read_on n [] = n
-read_on n (u ∷ us) = read_on (n * 10 + (u - 48)) us
+read_on n us = fold (λ m u. m * 10 + (u - 48)) n us
 
 -- one to ten decimal digits, with no zero in front of others
 abbrev pub has_form : List ℕ → Bool

@@ -5,7 +5,6 @@ use Rattle.std.specs.Ordering.{nat_cmp}
 use Rattle.std.specs.BTreeMap.{insert_entry}
 use Rattle.js_json.specs.Quoting.{quoted}
 use Rattle.js_object.specs.Keys.{index_of_key}
-use Rattle.js_object.specs.Json.{JsonMember}
 
 -- an element with an index goes to its place among those with one
 abbrev pub index_entered : {X : Type 0} → Option ℕ → X → List (ℕ × X) → List (ℕ × X)
@@ -20,6 +19,9 @@ put_off None x xs = x ∷ xs
 abbrev pub bool_json : Bool → List ℕ
 bool_json true = codes "true"
 bool_json false = codes "false"
+
+abbrev pub JsonMember : Type 0
+JsonMember = List ℕ × Option (List ℕ)
 
 abbrev pub part_index : JsonMember → Option ℕ
 part_index p = index_of_key p.0

@@ -8,7 +8,8 @@ use Rattle.std.specs.Option.{option_map_or}
 -- after it. Without captures a digit or `<` makes none.
 abbrev pub reference : ℕ → List ℕ → ℕ → List ℕ → Option (List ℕ)
 reference unit u at w = if unit == 0x24 then Some (0x24 ∷ []) else if unit == 0x26 then Some w
-    else if unit == 0x60 then Some (take at u) else if unit == 0x27 then Some (drop (at + length w) u) else None
+    else if unit == 0x60 then Some (take at u)
+    else if unit == 0x27 then Some (drop (at + length w) u) else None
 
 -- the template t at the match w, which occurs in u at `at`: each reference expanded, each other unit itself
 abbrev pub substituted : List ℕ → List ℕ → ℕ → List ℕ → List ℕ

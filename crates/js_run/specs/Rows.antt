@@ -194,8 +194,7 @@ pub record IsRanTo (request : Request) (names : Program FileName) (trees : Progr
   pub end : IsEnd (report_of (WasRun names ran)) ended.code old.sinks new.sinks
   pub kept : ended.kept ≡ Some ran.kept
   pub complete : Fits (setup_sizes (setup_of request)) (all_flows request trees)
-      → Every (λ e. e ≡ Memory → ⊥) (ends_of ran)
-      → report_of (WasRun names ran)
+      → Every (λ e. e ≡ Memory → ⊥) (ends_of ran) → report_of (WasRun names ran)
       ≡ Printed (status_meant request trees) (out_meant request trees ran.interned)
       (end_lines (in_order names) (ends_meant (all_flows request trees)))
 

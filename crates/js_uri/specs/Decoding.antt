@@ -1,7 +1,7 @@
 -- Units with each escape as what it denotes (ECMA-262, "Decode").
 use Rattle.std.specs.Prelude.{ℕ, zero, suc, ◌+◌, ◌-◌, ◌*◌, ◌%◌, Bool, nat_lt, nat_le, not, ◌&&◌, ◌||◌, ◌==◌}
 use Rattle.std.specs.Prelude.{if◌then◌else◌, List, [], ◌∷◌, take, drop, length, Option, Some, None, Ok, Err}
-use Rattle.std.specs.Prelude.{encode_utf8, bytes_eq}
+use Rattle.std.specs.Prelude.{encode_utf8, bytes_eq, fold}
 use Rattle.std.specs.Option.{option_map, option_map_or, option_and_then}
 use Rattle.js_units.specs.Text.{is_lead, is_trail, utf16_of}
 use Rattle.js_uri.specs.Outcome.{UriOutcome, uri_after}
@@ -29,18 +29,14 @@ escaped_bytes (suc n) us =
 abbrev pub sequence_len : ℕ → ℕ
 sequence_len b = if nat_lt b 0xC0 then 1 else if nat_lt b 0xE0 then 2 else if nat_lt b 0xF0 then 3 else 4
 
--- the bits of a code point that its first byte holds in a sequence of n bytes, and those of the others,
--- six in each
+-- the bits of a code point that its first byte holds in a sequence of n bytes
 abbrev pub first_bits : ℕ → ℕ → ℕ
 first_bits n b = if nat_lt n 3 then b % 32 else if nat_lt n 4 then b % 16 else b % 8
 
-abbrev pub with_bits : ℕ → List ℕ → ℕ
-with_bits c [] = c
-with_bits c (b ∷ bs) = with_bits (c * 64 + b % 64) bs
-
+-- those of all its bytes, of which each other one holds six
 abbrev pub bits : List ℕ → ℕ
 bits [] = 0
-bits (b ∷ bs) = with_bits (first_bits (length (b ∷ bs)) b) bs
+bits (b ∷ bs) = fold (λ c d. c * 64 + d % 64) (first_bits (length (b ∷ bs)) b) bs
 
 -- Unicode's scalar values
 abbrev pub is_scalar : ℕ → Bool
@@ -67,16 +63,14 @@ escaped_part hold us (Some b) =
 -- the first part of units; nothing where it is malformed
 abbrev pub first_part : (ℕ → Bool) → List ℕ → Option DecodedPart
 first_part hold [] = None
-first_part hold (u ∷ us) =
-    if u == 0x25 then escaped_part hold (u ∷ us) (escaped_byte (u ∷ us))
+first_part hold (u ∷ us) = if u == 0x25 then escaped_part hold (u ∷ us) (escaped_byte (u ∷ us))
     else Some (record { units = u ∷ []; taken = 1 })
 
 -- the units from the front, the first n passed over
 abbrev pub decoded_behind : (ℕ → Bool) → ℕ → List ℕ → UriOutcome
 decoded_behind hold n [] = Ok []
-decoded_behind hold zero (u ∷ us) =
-    option_map_or (λ p. uri_after p.taken p.units (decoded_behind hold (p.taken - 1) us))
-    (first_part hold (u ∷ us)) (Err 0)
+decoded_behind hold zero (u ∷ us) = option_map_or
+    (λ p. uri_after p.taken p.units (decoded_behind hold (p.taken - 1) us)) (first_part hold (u ∷ us)) (Err 0)
 decoded_behind hold (suc n) (u ∷ us) = decoded_behind hold n us
 
 -- the units decoded; malformed at the % of the first escape that isn't whole, or of the first

@@ -108,8 +108,11 @@ the_name m t = elim t.kind [ kind.Name n p ↦ then_some (nat_eq n m) tt | _ ↦
 
 -- the identifier length or description behind a point: the read that it is
 abbrev pub member_word : GrammarToken → Option StepTree
-member_word t = elim t.kind [ kind.Name n property.Length ↦ Some tree.of_length
-    | kind.Name n property.Description ↦ Some tree.of_description | _ ↦ None ]
+member_word t = elim t.kind [
+  | kind.Name n property.Length ↦ Some tree.of_length
+  | kind.Name n property.Description ↦ Some tree.of_description
+  | _ ↦ None
+]
 
 -- an identifier that is the name of a method: its offset, the method and its letters
 abbrev pub method : TokenTables → GrammarToken → Option ((ℕ × Method) × List ℕ)
@@ -119,22 +122,32 @@ method tables t =
 -- any other identifier behind a point, reserved words among them: the read of the property of that name
 -- ("EvaluatePropertyAccessWithIdentifierKey")
 abbrev pub property_word : TokenTables → GrammarToken → Option StepTree
-property_word tables t = elim t.kind [ kind.Name n property.Length ↦ None
-    | kind.Name n property.Description ↦ None | kind.Name n (property.Method m) ↦ None
-    | kind.Name n p ↦ Some (tree.of_property t.at (get_or tables.names n []))
-    | kind.Word w n ↦ Some (tree.of_property t.at (get_or tables.names n [])) | _ ↦ None ]
+property_word tables t = elim t.kind [
+  | kind.Name n property.Length ↦ None
+  | kind.Name n property.Description ↦ None
+  | kind.Name n (property.Method m) ↦ None
+  | kind.Name n p ↦ Some (tree.of_property t.at (get_or tables.names n []))
+  | kind.Word w n ↦ Some (tree.of_property t.at (get_or tables.names n []))
+  | _ ↦ None
+]
 
 -- the identifier fromCharCode or fromCodePoint behind String and a point: the function ("Properties of the
 -- String Constructor")
 abbrev pub from_word : GrammarToken → Option Builtin
-from_word t = elim t.kind [ kind.Name n property.FromCharCode ↦ Some builtin.FromCharCode
-    | kind.Name n property.FromCodePoint ↦ Some builtin.FromCodePoint | _ ↦ None ]
+from_word t = elim t.kind [
+  | kind.Name n property.FromCharCode ↦ Some builtin.FromCharCode
+  | kind.Name n property.FromCodePoint ↦ Some builtin.FromCodePoint
+  | _ ↦ None
+]
 
 -- the identifier for or keyFor behind Symbol and a point:
 -- the function ("Properties of the Symbol Constructor")
 abbrev pub symbol_function : GrammarToken → Option Builtin
-symbol_function t = elim t.kind [ kind.Word words.For n ↦ Some builtin.SymbolFor
-    | kind.Name n property.KeyFor ↦ Some builtin.KeyFor | _ ↦ None ]
+symbol_function t = elim t.kind [
+  | kind.Word words.For n ↦ Some builtin.SymbolFor
+  | kind.Name n property.KeyFor ↦ Some builtin.KeyFor
+  | _ ↦ None
+]
 
 -- the identifier stringify behind JSON and a point: the function ("JSON.stringify")
 abbrev pub stringify_word : GrammarToken → Option Builtin
@@ -147,9 +160,13 @@ keys_word t = elim t.kind [ kind.Name n property.Keys ↦ Some builtin.Keys | _ 
 -- the key of a member of an object literal (ECMA-262, "LiteralPropertyName"): the letters of any identifier,
 -- the units of a string, or the decimal digits of a number
 abbrev pub key : TokenTables → GrammarToken → Option (List ℕ)
-key tables t = elim t.kind [ kind.Text n k ↦ Some (get_or tables.keys n []) | kind.Number n ↦ Some (decimal n)
-    | kind.Name n p ↦ Some (get_or tables.names n [])
-    | kind.Word w n ↦ Some (get_or tables.names n []) | _ ↦ None ]
+key tables t = elim t.kind [
+  | kind.Text n k ↦ Some (get_or tables.keys n [])
+  | kind.Number n ↦ Some (decimal n)
+  | kind.Name n p ↦ Some (get_or tables.names n [])
+  | kind.Word w n ↦ Some (get_or tables.names n [])
+  | _ ↦ None
+]
 
 -- numbers
 
@@ -174,9 +191,13 @@ constant _ = None
 -- a token that is an expression alone. So is each string: whether it is a key shows only at the token behind
 -- it, and in a whole script a key precedes the colon of a member alone
 abbrev pub simple : TokenTables → GrammarToken → Option ExprTree
-simple tables t = elim t.kind [ kind.Text n k ↦ Some (tree.literal n) | kind.Number n ↦ Some (tree.number n)
-    | kind.Name n p ↦ Some (tree.variable (get_or tables.names n []))
-    | kind.Word w n ↦ constant w | _ ↦ None ]
+simple tables t = elim t.kind [
+  | kind.Text n k ↦ Some (tree.literal n)
+  | kind.Number n ↦ Some (tree.number n)
+  | kind.Name n p ↦ Some (tree.variable (get_or tables.names n []))
+  | kind.Word w n ↦ constant w
+  | _ ↦ None
+]
 
 -- whether a token that isn't allowed at its place is an identifier
 abbrev pub is_word_token : GrammarToken → Bool

@@ -9,8 +9,7 @@ use Rattle.js_lex.specs.declared.token.TokenKind.TheVariants as kinds
 use Rattle.js_lex.specs.declared.token.LexFault.{LexFault}
 use Rattle.js_lex.specs.declared.token.LexFault.TheVariants as faults
 use Rattle.parse_syntax.specs.declared.token.GrammarToken.{GrammarToken}
-use Rattle.parse_tokens.specs.Tokens.{Before, opens_member, grammar_token, before_next, tokens_from, after_all, texts_with, with_name, place_in, is_use_strict}
-use Rattle.parse_tokens.specs.Behind.{literals_after, keys_after, table_after}
+use Rattle.parse_tokens.specs.Tokens.{Before, opens_member, grammar_token, before_next, tokens_from, after_all, literals_after, keys_after, table_after, texts_with, with_name, place_in, is_use_strict}
 use Rattle.parse_tokens.specs.Steps.{Goes, Whole, TellsKey, before_at, is_empty}
 
 pub goes_start : (text : List ℕ) (tokens : List GrammarToken) (texts names keys : List (List ℕ)) → tokens ≡ [] → texts ≡ [] → names ≡ [] →

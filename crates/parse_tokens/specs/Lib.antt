@@ -1,6 +1,6 @@
 pub mod Words
+pub mod Reserved
 pub mod Tokens
-pub mod Behind
 pub mod Lengths
 pub mod Seen
 pub mod Steps

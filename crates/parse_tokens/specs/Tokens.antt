@@ -89,6 +89,20 @@ grammar_kind_of before source key (kinds.Text units) =
 grammar_kind_of before source key (kinds.Number value) = kind.Number value
 grammar_kind_of before source key (kinds.Mark mark) = kind.Mark mark
 
+-- the table of names behind a token: an identifier is in it
+abbrev pub table_after : Before → List ℕ → TokenKind → List (List ℕ)
+table_after before source k = elim k [ kinds.Word ↦ with_name before.names source | _ ↦ before.names ]
+
+-- the literals behind a token, which is a key or not
+abbrev pub literals_after : Bool → Before → List ℕ → TokenKind → List (List ℕ)
+literals_after key before source k =
+    elim k [ kinds.Text units ↦ texts_with key before.first before.texts source units | _ ↦ before.texts ]
+
+-- the keys behind a token: the units of a string that is one come last
+abbrev pub keys_after : Bool → Before → TokenKind → List (List ℕ)
+keys_after key before k =
+    elim k [ kinds.Text units ↦ (if key then before.keys ++ units ∷ [] else before.keys) | _ ↦ before.keys ]
+
 -- the grammar's token for a token of the text, which is a key or not, where this precedes it
 abbrev pub grammar_token : List ℕ → Before → Bool → Lexed → GrammarToken
 grammar_token bytes before key t = record {
@@ -97,16 +111,14 @@ grammar_token bytes before key t = record {
   kind = grammar_kind_of before (slice bytes t.from t.to) key t.kind;
 }
 
--- what precedes the token that follows this one, which is a key or not: the table of names has an identifier,
--- and the units of a string come last among the keys or the literals
+-- what precedes the token that follows this one
 abbrev pub before_next : List ℕ → Before → Bool → Lexed → Before
 before_next bytes before key t = record {
-  first = false; end = t.to;
-  names = elim t.kind [ kinds.Word ↦ with_name before.names (slice bytes t.from t.to) | _ ↦ before.names ];
-  texts = elim t.kind [ kinds.Text units
-      ↦ texts_with key before.first before.texts (slice bytes t.from t.to) units | _ ↦ before.texts ];
-  keys = elim t.kind [ kinds.Text units
-      ↦ (if key then before.keys ++ units ∷ [] else before.keys) | _ ↦ before.keys ];
+  first = false;
+  end = t.to;
+  names = table_after before (slice bytes t.from t.to) t.kind;
+  texts = literals_after key before (slice bytes t.from t.to) t.kind;
+  keys = keys_after key before t.kind;
 }
 
 -- the tokens, where { or a comma precedes them or not

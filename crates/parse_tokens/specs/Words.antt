@@ -34,10 +34,6 @@ kept_words = parted (codes "await print String Symbol JSON undefined NaN Infinit
     ++ codes "isPrototypeOf propertyIsEnumerable toLocaleString toString valueOf __proto__ __defineGetter__ "
     ++ codes "__defineSetter__ __lookupGetter__ __lookupSetter__")
 
--- whether an identifier can't be a name
-abbrev pub is_reserved : List ℕ → Bool
-is_reserved letters = list_any (bytes_eq letters) (reserved_words ++ kept_words)
-
 -- the identifiers that mean something where they are no names: those by which a statement begins or goes on,
 -- and those by which an operand begins
 abbrev pub meant_words : List Word
@@ -49,7 +45,7 @@ meant_words = word.Let ∷ word.Const ∷ word.Print ∷ word.If ∷ word.Else �
 -- Reserved; None for a name
 abbrev pub word_meant : List ℕ → Option Word
 word_meant letters = option_or (find (λ w. bytes_eq letters (letters_of w)) meant_words)
-    (if is_reserved letters then Some word.Reserved else None)
+    (if list_any (bytes_eq letters) (reserved_words ++ kept_words) then Some word.Reserved else None)
 
 -- the names that mean something behind a point, but for the methods
 abbrev pub property_names : List (List ℕ × Property)

@@ -7,7 +7,6 @@ ghost use Rattle.js_lex.specs.declared.token.Token.{Token as Lexed};
 ghost use Rattle.js_lex.specs.declared.token.LexFault.{LexFault};
 ghost use Rattle.js_lex.specs.declared.token.LexFault.TheVariants.{Memory};
 ghost use Rattle.parse_tokens.specs.Tokens as definition;
-ghost use Rattle.parse_tokens.specs.Behind as pieces;
 ghost use Rattle.parse_tokens.specs.Tokens.{HasTokens, place_in, with_name, begins_colon, grammar_token, before_next};
 ghost use Rattle.parse_tokens.specs.Words as words;
 ghost use Rattle.parse_syntax.specs.declared.token.GrammarToken.{GrammarToken};
@@ -183,11 +182,11 @@ fn next_kind(
     ensures kind { IfOk result (λ found. found
         ≡ definition.grammar_kind_of (before_of script.old 0) source.now key kind) }
     ensures literals { OnOk result (script.new.literals.items
-        ≡ pieces.literals_after key (before_of script.old 0) source.now kind) }
+        ≡ definition.literals_after key (before_of script.old 0) source.now kind) }
     ensures keys { OnOk result (script.new.keys.items
-        ≡ pieces.keys_after key (before_of script.old 0) kind) }
+        ≡ definition.keys_after key (before_of script.old 0) kind) }
     ensures names { OnOk result (script.new.names.items
-        ≡ pieces.table_after (before_of script.old 0) source.now kind) }
+        ≡ definition.table_after (before_of script.old 0) source.now kind) }
     ensures agrees { OnOk result (Agrees numbers.new script.new.names.items) }
 {
     match kind {

@@ -62,8 +62,7 @@ most_together = 536870912
 
 -- the three sizes, where each has a number and they are not too much together
 abbrev pub sizes_by : Option ℕ → Option ℕ → Option ℕ → Option Sizes
-sizes_by (Some ids) (Some heap_words) (Some slots) =
-    if nat_le (ids + heap_words + slots) most_together
+sizes_by (Some ids) (Some heap_words) (Some slots) = if nat_le (ids + heap_words + slots) most_together
     then Some (record { ids = ids; heap_words = heap_words; slots = slots }) else None
 sizes_by _ _ _ = None
 
@@ -95,9 +94,8 @@ named_in rows = if nat_le 1 (length (files_in rows)) && nat_le (length (files_in
 
 -- the number of `--generate`, and neither a prelude nor a file
 abbrev pub generated_in : List Row → Option Asked
-generated_in rows =
-    if is_some (first_of (codes "prelude") rows) || not (is_empty (files_in rows)) then None
-    else option_map made_from (option_number 0 4294967295 (codes "generate") rows)
+generated_in rows = if is_some (first_of (codes "prelude") rows) || not (is_empty (files_in rows))
+    then None else option_map made_from (option_number 0 4294967295 (codes "generate") rows)
 
 -- files; or `--generate` with its number
 abbrev pub asked_in : List Row → Option Asked

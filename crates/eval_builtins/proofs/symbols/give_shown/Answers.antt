@@ -4,7 +4,7 @@ use Rattle.std.proofs.lemmas.Result.{err_from_is_err_and}
 use Rattle.js_store.specs.State.{text}
 use Rattle.js_store.specs.Rows.{wide_words, flat_words}
 use Rattle.js_store.proofs.Laws.{flat_words_most}
-use Rattle.eval_builtins.specs.Symbols.{shown_symbol}
+use Rattle.eval_builtins.specs.Parts.{shown_symbol}
 use Rattle.eval_values.proofs.Limited.{within_given}
 use Rattle.eval_builtins.proofs.SymbolKeys.{shown_length, shown_stops}
 use Rattle.eval_builtins.proofs.symbols.give_shown.Goals as goal
