@@ -1,6 +1,6 @@
 -- The scope: a list of blocks, the innermost first, over the top (ECMA-262, "Declarative Environment
 -- Records"). V is the type of the values.
-use Rattle.std.specs.Prelude.{ℕ, Bool, true, false, List, [], ◌∷◌, ◌++◌, Option, Some, None, is_some}
+use Rattle.std.specs.Prelude.{ℕ, Bool, false, List, [], ◌∷◌, ◌++◌, Option, None, is_some}
 use Rattle.std.specs.Prelude.{bytes_eq, find, if◌then◌else◌, drop}
 use Rattle.std.specs.List.{list_any}
 use Rattle.std.specs.Option.{option_or}

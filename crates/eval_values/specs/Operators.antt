@@ -1,5 +1,5 @@
 -- Operators on values.
-use Rattle.std.specs.Prelude.{ℕ, ◌+◌, List, ◌++◌, length, Option, Some, None, nat_le, if◌then◌else◌, Bool}
+use Rattle.std.specs.Prelude.{ℕ, ◌+◌, List, ◌++◌, length, Option, nat_le, if◌then◌else◌, Bool}
 use Rattle.std.specs.Prelude.{true, false, not, ◌||◌}
 use Rattle.std.specs.Option.{option_map_or}
 use Rattle.js_number.specs.declared.Num.{Num}

@@ -1,6 +1,9 @@
 -- What an expression means in a scope, by recursion over its tree.
-use Rattle.std.specs.Prelude.{ℕ, List, [], ◌∷◌, slice_get, Bool, false, not, if◌then◌else◌, Option, Some}
-use Rattle.std.specs.Prelude.{None}
+use Rattle.std.specs.Prelude.{ℕ, List, [], ◌∷◌, slice_get, Bool, false, not, if◌then◌else◌, Option}
+use Rattle.std.specs.Option.{option_map_or}
+use Rattle.std.specs.Str.{bytes_eq}
+use Rattle.js_item.specs.Puts.{put_by}
+
 use Rattle.js_number.specs.declared.Num.TheVariants.{NaN, PosInf}
 use Rattle.eval_tree.specs.declared.tree.Op.{Op}
 use Rattle.eval_tree.specs.declared.tree.Op.TheVariants.{Or, And, Same, NotSame, Less, Greater, LessEq}

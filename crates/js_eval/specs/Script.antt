@@ -14,8 +14,8 @@ use Rattle.eval_values.specs.declared.value.Kind.TheVariants.{RangeError, TypeEr
 use Rattle.js_item.specs.Seen.{Val}
 use Rattle.js_item.specs.Contents.{undefined, number}
 use Rattle.eval_values.specs.Outcome.{Out, gave, ended, threw, after_ledger, bind, converting, each, free}
-use Rattle.eval_values.specs.Outcome.{cost, ledger_of, interning, throwing, Ledger}
-use Rattle.eval_values.specs.Need.{reads, parts, nothing}
+use Rattle.eval_values.specs.Outcome.{cost, ledger_of, interning, Ledger}
+use Rattle.eval_values.specs.Need.{reads, parts}
 use Rattle.eval_values.specs.Conversions.{to_string, to_boolean, string_units, text_units, all_units}
 use Rattle.eval_values.specs.Conversions.{sum_over}
 use Rattle.js_eval.specs.Initializers.{interned_out}

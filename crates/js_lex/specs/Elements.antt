@@ -1,6 +1,6 @@
 -- Blanks, comments and identifiers, on characters (ECMA-262, "White Space", "Line Terminators", "Comments",
 -- "Names and Keywords").
-use Rattle.std.specs.Prelude.{ℕ, List, [], ◌∷◌, Bool, Option, Some, None, ◌==◌, ◌&&◌, ◌||◌, if◌then◌else◌}
+use Rattle.std.specs.Prelude.{ℕ, List, ◌∷◌, Bool, Option, Some, None, ◌==◌, ◌&&◌, ◌||◌, if◌then◌else◌}
 use Rattle.js_literal.specs.Literal.{is_digit}
 use Rattle.js_literal.specs.Number.{is_word_start}
 

@@ -1,5 +1,5 @@
 -- The grammar of scripts, one line a production.
-use Rattle.std.specs.Prelude.{ℕ, zero, suc, Bool, true, false, List, [], ◌∷◌, ◌++◌, Option, Some, None}
+use Rattle.std.specs.Prelude.{ℕ, zero, suc, Bool, true, false, List, [], ◌∷◌, Option, Some, None}
 use Rattle.std.specs.Prelude.{get_or, flat_map}
 use Rattle.parse_syntax.specs.Lang.{Lang, One, Then, Bind, Mapped, Nothing, ◌¦◌, Many, Never, if_room}
 use Rattle.parse_syntax.specs.Lang.{◌▸◌, ◌◂◌}

@@ -1,5 +1,5 @@
 -- Identifiers (ECMA-262, "Keywords and Reserved Words"), and the names that mean something behind a point.
-use Rattle.std.specs.Prelude.{ℕ, List, [], ◌∷◌, ◌++◌, ◌==◌, codes, Bool, true, false, find, Option, Some}
+use Rattle.std.specs.Prelude.{ℕ, List, [], ◌∷◌, ◌++◌, ◌==◌, codes, true, false, find, Option, Some}
 use Rattle.std.specs.Prelude.{None, if◌then◌else◌, option_map, unwrap_or}
 use Rattle.std.specs.List.{list_any, slice_split}
 use Rattle.std.specs.Option.{option_or}
