@@ -136,7 +136,7 @@ module _ {F : Type 0} where
   ran_before a b c x y r bs cs l (ended e m) go h w = record { did = did_after a b c (λ s v. v) (λ s v. Unit {0}) l r (ended e m) h w.did; wrote = w.wrote; leaves = w.leaves }
 
   cut_before : {A : Type 0} {a b : State F} {f : StoreFault} (bs : Bindings Val) (l : Ledger) (o : Out A) (go : A → Flow)
-      → EndsInPart a b f l → EndsInPart a b f (ledger_of (on_value (after_ledger l o) bs go).out)
+    → EndsInPart a b f l → EndsInPart a b f (ledger_of (on_value (after_ledger l o) bs go).out)
   cut_before bs l (gave q m) go c = cut_after (both l m) (go q).out (cut_more m c)
   cut_before bs l (ended e m) go c = cut_more m c
 
