@@ -1,8 +1,7 @@
 -- The scope: a list of blocks, the innermost first, over the top (ECMA-262, "Declarative Environment
 -- Records"). V is the type of the values.
-use Rattle.std.specs.Prelude.{ℕ, Bool, false, List, [], ◌∷◌, ◌++◌, Option, None, is_some}
+use Rattle.std.specs.Prelude.{ℕ, Bool, true, false, List, [], ◌∷◌, ◌++◌, Option, None, is_some}
 use Rattle.std.specs.Prelude.{bytes_eq, find, if◌then◌else◌, drop}
-use Rattle.std.specs.List.{list_any}
 use Rattle.std.specs.Option.{option_or}
 
 -- a name that was declared and evaluated, whether by `const`, and its value
@@ -28,7 +27,8 @@ bound_in bs x = find (λ b. bytes_eq b.name x) bs
 
 -- the name is one of these
 abbrev pub is_among : List (List ℕ) → List ℕ → Bool
-is_among names x = list_any (λ n. bytes_eq n x) names
+is_among [] x = false
+is_among (n ∷ ns) x = if bytes_eq n x then true else is_among ns x
 
 -- the innermost block that declares a name has its value, if it was evaluated
 abbrev pub look : {V : Type 0} → List (BlockFrame V) → List (Bound V) → List ℕ → Option (Bound V)
