@@ -1,7 +1,7 @@
 -- What statements and a script mean: how they end, the lines that they print, and the bindings that they
 -- leave.
 use Rattle.std.specs.Option.{option_map_or}
-use Rattle.std.specs.Prelude.{ℕ, zero, suc, ◌+◌, Bool, true, false, List, [], ◌∷◌, ◌++◌, length, nat_le}
+use Rattle.std.specs.Prelude.{ℕ, zero, suc, ◌+◌, Bool, true, false, List, [], ◌∷◌, ◌++◌, length}
 use Rattle.std.specs.Prelude.{if◌then◌else◌, Option, Some, None, pos}
 use Rattle.js_number.specs.declared.Num.TheVariants.{Int}
 use Rattle.js_json.specs.Printing.{line}
@@ -10,11 +10,11 @@ use Rattle.eval_tree.specs.Tree.{StmtTree, block, let_line, const_line, assign, 
 use Rattle.eval_tree.specs.Tree.{for_line, Stmts, no_stmts, stmt, BlockTree, block_of, Arms, no_arms, arm}
 use Rattle.eval_tree.specs.Tree.{Tree}
 use Rattle.eval_scopes.specs.Bindings.{Bound, Bindings, meant, written, declared, entered, turned, outer}
-use Rattle.eval_values.specs.declared.value.Kind.TheVariants.{RangeError, TypeError, ReferenceError}
+use Rattle.eval_values.specs.declared.value.Kind.TheVariants.{TypeError, ReferenceError}
 use Rattle.js_item.specs.Seen.{Val}
 use Rattle.js_item.specs.Contents.{undefined, number}
 use Rattle.eval_values.specs.Outcome.{Out, gave, ended, threw, after_ledger, bind, converting, each, free}
-use Rattle.eval_values.specs.Outcome.{cost, ledger_of, interning, Ledger}
+use Rattle.eval_values.specs.Outcome.{cost, ledger_of, Ledger}
 use Rattle.eval_values.specs.Need.{reads, parts}
 use Rattle.eval_values.specs.Conversions.{to_string, to_boolean, string_units, text_units, all_units}
 use Rattle.eval_values.specs.Conversions.{sum_over}
