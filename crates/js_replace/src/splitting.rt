@@ -7,6 +7,7 @@ ghost use Rattle.js_store.specs.Rows.{copy_words};
 ghost use Rattle.js_texts.specs.Answers.{NeverThrows, full_of};
 ghost use Rattle.js_texts.specs.Texts.{known_texts, AllKnown, full_fault_of};
 ghost use Rattle.js_replace.specs.Matches.{InOrder};
+ghost use Rattle.js_replace.specs.Fronts;
 ghost use Rattle.js_replace.specs.Parts;
 ghost use Rattle.js_replace.specs.Parts.{pieces};
 ghost use Rattle.js_texts.specs.Use.{settling};
@@ -141,11 +142,11 @@ fn single_units<S: Strings>(
     requires settled { IsSettled (S.state store.old) (S.number s) }
     ensures value { IfOk result
         (λ v. known_texts (S.state store.new) S.number v.items
-        ≡ take limit (Parts.singles (text (S.state store.old) (S.number s)))) }
+        ≡ take limit (Fronts.singles (text (S.state store.old) (S.number s)))) }
     ensures known { IfOk result (λ v. AllKnown (S.state store.new) S.number v.items) }
     ensures uses { Uses (S.state store.old) (S.state store.new) (full_fault_of result)
-        (length (take limit (Parts.singles (text (S.state store.old) (S.number s)))))
-        (copies_words (take limit (Parts.singles (text (S.state store.old) (S.number s))))) }
+        (length (take limit (Fronts.singles (text (S.state store.old) (S.number s)))))
+        (copies_words (take limit (Fronts.singles (text (S.state store.old) (S.number s))))) }
 {
     let most = store.len(s).min(limit);
     let mut parts = Vec::new(alloc);
