@@ -53,3 +53,7 @@ returns-clause-right_settled g c =
     let f = c.compare_primitives.ensures in
     on_ok_weaker c.compare_primitives.result (λ h. primitive_read g.S.Strings.number (state c.to_primitive-2.new.store)
     (state c.compare_primitives.new.store) f.grows c.args.right.now c.in_ok-second.second e.own e.read h) f.right_settled
+
+pub compare_primitives-requires-clause-left : goal.compare_primitives-requires-clause-left
+compare_primitives-requires-clause-left g c = fine_still (g.S.Strings.state c.to_primitive.new.store) (g.S.Strings.state c.to_primitive-2.new.store)
+    g.S.Strings.number c.in_ok-second.ensures.grows c.in_ok-first.first c.in_ok-first.ensures.fine

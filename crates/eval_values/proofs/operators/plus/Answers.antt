@@ -55,3 +55,7 @@ returns-clause-right_read g c =
     let d = state c.plus_primitives.new.store in
     on_ok_always c.plus_primitives.result (ElementsSettled d number c.args.right.now)
     (elements_still number (state c.to_primitive-2.new.store) d c.plus_primitives.ensures.grows c.args.right.now c.in_ok-second.ensures.read)
+
+pub plus_primitives-requires-clause-left : goal.plus_primitives-requires-clause-left
+plus_primitives-requires-clause-left g c = fine_still (g.S.Strings.state c.to_primitive.new.store) (g.S.Strings.state c.to_primitive-2.new.store)
+    g.S.Strings.number c.in_ok-second.ensures.grows c.in_ok-first.first c.in_ok-first.ensures.fine
