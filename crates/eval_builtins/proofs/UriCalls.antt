@@ -51,7 +51,7 @@ module _ {F : Type 0} {a b : State F} (limit t : ℕ) where
   uri_cut us f {k = k} s h n q = go (nat_le (length us) limit) refl
     where
       go : (v : Bool) → nat_le (length us) limit ≡ v
-        → EndsInPart a b f (ledger_of (if v then gives (text_value us) row_ids (row_words (t + length us)) else throws RangeError row_ids (row_words (t + 0))))
+          → EndsInPart a b f (ledger_of (if v then gives (text_value us) row_ids (row_words (t + length us)) else throws RangeError row_ids (row_words (t + 0))))
       go true e = cut_of_full f _ s h n (omega arith) (omega (arith, q, made_most limit us))
       go false e = cut_of_full f _ s h n (omega arith) (let l : limit < length us = grind (arith, e) in omega (arith, q, made_none limit us l))
 
