@@ -1,24 +1,18 @@
-// Elements of values, and methods of arrays (ECMA-262, "Property Accessors", "Properties of the
-// Array Prototype Object").
-ghost use Rattle.eval_members.specs.Parts.{joined_with};
-ghost use Rattle.std.specs.Prelude.{◌≡◌, ℕ, ◌+◌, ◌≤◌, ◌∷◌, [], length, slice_get, IfOk, OnOk, Some};
+// Elements of values (ECMA-262, "Property Accessors").
+ghost use Rattle.std.specs.Prelude.{◌≡◌, length, slice_get, IfOk, OnOk, Some};
 ghost use Rattle.js_number.specs.Places.{IsLawful};
-ghost use Rattle.js_store.specs.State.{Grows, IsKnown, IsSettled, text};
-ghost use Rattle.js_texts.specs.Texts.{known_texts as texts_seen, AllKnown, AllSettled};
-ghost use Rattle.eval_values.specs.Conversions.{list_units};
-ghost use Rattle.eval_members.specs.Arrays.{unit_at, element_at, indexed, join_call, list_call};
-ghost use Rattle.eval_members.specs.Reading.{maybe_text, element as read_element};
-ghost use Rattle.eval_members.specs.Settled.{as_number, IndexSettles, KeySettled, ListSettled, ListOperandsSettled, UnitSettled};
+ghost use Rattle.js_store.specs.State.{Grows, IsKnown, text};
+ghost use Rattle.js_texts.specs.Texts.{known_texts as texts_seen, AllKnown};
+ghost use Rattle.eval_members.specs.Arrays.{unit_at, element_at, indexed};
+ghost use Rattle.eval_members.specs.Places.{maybe_text, element as read_element};
+ghost use Rattle.eval_members.specs.Settled.{as_number, IndexSettles, KeySettled, UnitSettled};
 ghost use Rattle.js_item.specs.Contents;
 ghost use Rattle.js_item.specs.Seen.{seen};
 ghost use Rattle.js_item.specs.Fine.{IsFine};
-ghost use Rattle.eval_values.specs.Seen.{all_seen, AllFine};
 ghost use Rattle.eval_values.specs.Does.{GivesValue};
-ghost use Rattle.eval_values.specs.Settled.{OfFirst, StringsSettled};
 
 use crate::properties::read_indexed;
-use eval_tree::Method;
-use eval_values::{Kind, Stop, Value, first_is_missing, first_text, joined_by_commas};
+use eval_values::{Kind, Stop, Value};
 use js_number::Num;
 use js_store::Strings;
 use std::alloc::Global;
@@ -160,105 +154,4 @@ fn nth<S: Strings>(_store: &S, list: &[S::Ref], place: u64) -> Value<S::Ref>
         Some(s) => Value::Text(*s),
         None => Value::Undefined,
     }
-}
-
-/// A method that was called on an array with all its arguments; `at` is the byte offset of its
-/// identifier.
-pub fn call_list<S: Strings>(
-    alloc: Global,
-    store: &mut S,
-    at: u32,
-    method: Method,
-    list: &[S::Ref],
-    args: &[Value<S::Ref>],
-) -> Result<Value<S::Ref>, Stop>
-    requires known { AllKnown (S.state store.old) S.number list.now }
-    requires args { AllFine (S.state store.old) S.number args.now }
-    ensures grows { Grows (S.state store.old) (S.state store.new) }
-    ensures fine { IfOk result (λ v. IsFine (S.state store.new) S.number v) }
-    ensures settled { OnOk result (ListSettled method (S.state store.new) S.number list.now) }
-    ensures operands_settled { OnOk result
-        (ListOperandsSettled method (S.state store.new) S.number args.now) }
-    ensures did { (t : ℕ) → GivesValue S.number (S.state store.old) (S.state store.new) result
-        (list_call method at (S.state store.old).limit t (texts_seen (S.state store.old) S.number list.now)
-        (all_seen (S.state store.old) S.number args.now)) }
-{
-    match method {
-        Method::Join => call_join(alloc, store, list, args),
-        Method::At
-        | Method::Concat
-        | Method::Includes
-        | Method::IndexOf
-        | Method::LastIndexOf
-        | Method::Slice => Err(Stop::Unsupported { at }),
-        _ => Err(Stop::Threw(Kind::TypeError)),
-    }
-}
-
-// `join`.
-fn call_join<S: Strings>(
-    alloc: Global,
-    store: &mut S,
-    list: &[S::Ref],
-    args: &[Value<S::Ref>],
-) -> Result<Value<S::Ref>, Stop>
-    requires known { AllKnown (S.state store.old) S.number list.now }
-    requires args { AllFine (S.state store.old) S.number args.now }
-    ensures grows { Grows (S.state store.old) (S.state store.new) }
-    ensures fine { IfOk result (λ v. IsFine (S.state store.new) S.number v) }
-    ensures settled { OnOk result (AllSettled (S.state store.new) S.number list.now) }
-    ensures separator_settled { OnOk result
-        (OfFirst (λ v. StringsSettled (S.state store.new) S.number v) args.now) }
-    ensures did { GivesValue S.number (S.state store.old) (S.state store.new) result
-        (join_call (S.state store.old).limit (texts_seen (S.state store.old) S.number list.now)
-        (all_seen (S.state store.old) S.number args.now)) }
-{
-    if first_is_missing(store, args) {
-        return join_with_commas(alloc, store, list);
-    }
-    let sep = first_text(alloc, store, args)?;
-    join_with(alloc, store, list, sep)
-}
-
-fn join_with_commas<S: Strings>(
-    alloc: Global,
-    store: &mut S,
-    list: &[S::Ref],
-) -> Result<Value<S::Ref>, Stop>
-    requires known { AllKnown (S.state store.old) S.number list.now }
-    ensures grows { Grows (S.state store.old) (S.state store.new) }
-    ensures fine { IfOk result (λ v. IsFine (S.state store.new) S.number v) }
-    ensures settled { OnOk result (AllSettled (S.state store.new) S.number list.now) }
-    ensures did { (t : ℕ) → list_units (texts_seen (S.state store.old) S.number list.now) ≤ t
-        → GivesValue S.number
-        (S.state store.old) (S.state store.new) result
-        (joined_with (S.state store.old).limit t (texts_seen (S.state store.old) S.number list.now)
-        (44 ∷ [])) }
-{
-    let r = joined_by_commas(alloc, store, list)?;
-    Ok(Value::Text(r))
-}
-
-// The strings with a separator between two, where the operands of the call have t units, and the
-// separator at most 40 more.
-fn join_with<S: Strings>(
-    alloc: Global,
-    store: &mut S,
-    list: &[S::Ref],
-    sep: S::Ref,
-) -> Result<Value<S::Ref>, Stop>
-    requires known { AllKnown (S.state store.old) S.number list.now }
-    requires separator_known { IsKnown (S.state store.old) (S.number sep) }
-    ensures grows { Grows (S.state store.old) (S.state store.new) }
-    ensures fine { IfOk result (λ v. IsFine (S.state store.new) S.number v) }
-    ensures settled { OnOk result (AllSettled (S.state store.new) S.number list.now) }
-    ensures separator_settled { OnOk result (IsSettled (S.state store.new) (S.number sep)) }
-    ensures did { (t : ℕ) → list_units (texts_seen (S.state store.old) S.number list.now)
-        + length (text (S.state store.old) (S.number sep)) ≤ t + 40 → GivesValue S.number (S.state store.old)
-        (S.state store.new) result
-        (joined_with (S.state store.old).limit t (texts_seen (S.state store.old) S.number list.now)
-        (text (S.state store.old) (S.number sep))) }
-{
-    let r = js_texts::join(alloc, store, list, sep)?;
-    Ok(Value::Text(r))
 }

@@ -12,7 +12,7 @@ ghost use Rattle.js_item.specs.Views.{content_of};
 ghost use Rattle.eval_values.specs.Conversions.{to_number, all_units, first_text_units};
 ghost use Rattle.eval_values.specs.Arguments.{first_of, second_of, end_in};
 ghost use Rattle.eval_members.specs.Searching.{place_number, search_call};
-ghost use Rattle.eval_members.specs.Members.{search_of};
+ghost use Rattle.eval_members.specs.Methods.{search_of};
 ghost use Rattle.eval_values.specs.Stops.{converted_of};
 ghost use Rattle.js_item.specs.Seen.{seen};
 ghost use Rattle.js_item.specs.Fine.{IsFine};

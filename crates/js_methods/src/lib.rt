@@ -12,20 +12,18 @@
 #![tactic(auto)]
 
 mod building;
-mod cuts;
-mod padding;
+mod cutting;
 mod places;
-mod repeating;
 mod searching;
+mod testing;
 mod trimming;
-mod well_formed;
 
-pub use building::{from_char_code, from_code_point, to_well_formed};
-pub use cuts::{concat, slice, substr, substring};
+pub use building::{
+    concat, from_char_code, from_code_point, pad_end, pad_start, repeat, to_well_formed,
+};
+pub use cutting::{slice, substr, substring};
 pub use js_texts::{Cause, MethodFault};
-pub use padding::{pad_end, pad_start};
 pub use places::{at, char_at, char_code_at, code_point_at};
-pub use repeating::repeat;
 pub use searching::{ends_with, includes, index_of, last_index_of, starts_with};
+pub use testing::is_well_formed;
 pub use trimming::{trim, trim_end, trim_start};
-pub use well_formed::is_well_formed;

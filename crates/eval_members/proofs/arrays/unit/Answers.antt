@@ -4,7 +4,7 @@ use Rattle.std.proofs.lemmas.Result.{err_from_is_err_and}
 use Rattle.js_store.specs.State.{text}
 use Rattle.eval_values.specs.Conversions.{string_units}
 use Rattle.eval_values.proofs.Limited.{row_stops}
-use Rattle.eval_members.specs.Reading.{maybe_text}
+use Rattle.eval_members.specs.Places.{maybe_text}
 use Rattle.eval_members.specs.Arrays.{unit_at}
 use Rattle.eval_members.proofs.arrays.unit.Goals as goal
 
