@@ -16,6 +16,8 @@ use Rattle.eval_tree.specs.declared.tree.Method.TheVariants.{Join, LastIndexOf, 
 use Rattle.eval_tree.specs.declared.tree.Method.TheVariants.{Replace, ReplaceAll, Slice, Split, StartsWith}
 use Rattle.eval_tree.specs.declared.tree.Method.TheVariants.{Substr, Substring, ToWellFormed, Trim, TrimEnd}
 use Rattle.eval_tree.specs.declared.tree.Method.TheVariants.{TrimStart}
+use Rattle.eval_members.specs.declared.places.Place.{Place}
+use Rattle.eval_members.specs.declared.places.Place.TheVariants as place
 use Rattle.eval_members.specs.declared.cutting.Cut.{Cut}
 use Rattle.eval_members.specs.declared.cutting.Cut.TheVariants as cut
 use Rattle.eval_members.specs.declared.trimming.Trim.{Trim as Trims}
@@ -28,12 +30,12 @@ use Rattle.eval_members.specs.declared.replacing.Replace.{Replace as Replaces}
 use Rattle.eval_members.specs.declared.replacing.Replace.TheVariants as replace
 use Rattle.eval_values.specs.declared.value.Kind.TheVariants.{TypeError}
 use Rattle.js_item.specs.Seen.{Val}
-use Rattle.js_item.specs.Contents.{bool}
+use Rattle.js_item.specs.Contents.{bool, number, text}
 use Rattle.eval_values.specs.Outcome.{Out, needing, throwing, Converted, refuses, into, fails}
 use Rattle.eval_values.specs.Need.{reads}
 use Rattle.eval_values.specs.Conversions.{to_number, first_text_units}
 use Rattle.eval_values.specs.Arguments.{first_of, second_of, end_in, is_undefined, second_units}
-use Rattle.eval_members.specs.Places.{at_call, char_at_call, char_code_call, code_point_call}
+use Rattle.eval_members.specs.Places.{maybe_text, maybe_count, place_call}
 use Rattle.eval_values.specs.Limited.{limited}
 use Rattle.eval_members.specs.Cutting.{cut_call}
 use Rattle.eval_members.specs.Searching.{place_value, search_call}
@@ -41,7 +43,8 @@ use Rattle.eval_members.specs.Building.{concat_call, repeat_call, pad_call}
 use Rattle.eval_members.specs.Replacing.{two_text_units, replace_call}
 use Rattle.eval_members.specs.Splitting.{split_call, join_call}
 use Rattle.js_number.specs.Arith.{length_of}
-use Rattle.js_methods.specs.Places.{relative_place, exact_place}
+use Rattle.js_methods.specs.Places.{relative_place, exact_place, at_of, char_at_of, char_code_of}
+use Rattle.js_methods.specs.Places.{code_point_of}
 use Rattle.js_store.specs.State.{State, IsSettled}
 use Rattle.js_texts.specs.Texts.{AllSettled, Every}
 use Rattle.js_item.specs.declared.item.Item.{Item}
@@ -51,10 +54,12 @@ use Rattle.eval_values.specs.Settled.{ElementsSettled, StringsSettled, OfFirst, 
 -- a method of a string, where the operands of the call have t units (ECMA-262,
 -- "Properties of the String Prototype Object")
 abbrev pub string_call : Method → ℕ → ℕ → ℕ → List ℕ → List Val → Out Val
-string_call At at limit t u vs = at_call t u (to_number at (first_of vs))
-string_call CharAt at limit t u vs = char_at_call t u (to_number at (first_of vs))
-string_call CharCodeAt at limit t u vs = char_code_call t u (to_number at (first_of vs))
-string_call CodePointAt at limit t u vs = code_point_call t u (to_number at (first_of vs))
+string_call At at limit t u vs = place_call t (λ n. maybe_text (at_of u n)) (to_number at (first_of vs))
+string_call CharAt at limit t u vs = place_call t (λ n. text (char_at_of u n)) (to_number at (first_of vs))
+string_call CharCodeAt at limit t u vs =
+    place_call t (λ n. number (char_code_of u n)) (to_number at (first_of vs))
+string_call CodePointAt at limit t u vs =
+    place_call t (λ n. maybe_count (code_point_of u n)) (to_number at (first_of vs))
 string_call EndsWith at limit t u vs = search_call limit t (length u + first_text_units vs)
     (λ w e. bool (ends_at u w e)) (first_of vs) (end_in at (second_of vs))
 string_call Includes at limit t u vs = search_call limit t (length u + first_text_units vs)
@@ -103,6 +108,12 @@ list_call Join at limit t us vs = join_call limit us vs
 list_call _ at limit t us vs = throwing (reads t) TypeError
 
 -- methods that differ in one definition alone, by the code's names of them
+abbrev pub read_of : Place → List ℕ → Num → Val
+read_of place.At u n = maybe_text (at_of u n)
+read_of place.CharAt u n = text (char_at_of u n)
+read_of place.CharCodeAt u n = number (char_code_of u n)
+read_of place.CodePointAt u n = maybe_count (code_point_of u n)
+
 abbrev pub part_of : Cut → List ℕ → Num → Option Num → List ℕ
 part_of cut.Slice u a b = slice_of u a b
 part_of cut.Substring u a b = substring_of u a b
@@ -135,6 +146,11 @@ match_count replace.All u w = length (matches u w)
 abbrev pub NamesPlace : (Num → ℕ → Option ℕ) → List ℕ → Converted Num → Type 0
 NamesPlace place u (into n) = IsSome (place n (length u))
 NamesPlace place u (fails e) = ⊥
+
+-- which place a number names
+abbrev pub named_place : Place → Num → ℕ → Option ℕ
+named_place place.At = relative_place
+named_place _ = exact_place
 
 -- The string n that a method was called on, by its units u and the arguments vs. A method that reads one unit
 -- reads the string where there is such a place, and `split` where a separator is given; `concat`, `repeat`

@@ -96,7 +96,7 @@ fn unit<S: Strings>(store: &mut S, s: S::Ref, index: Num) -> Result<Value<S::Ref
         (maybe_text (unit_at (text (S.state store.old) (S.number s)) index))) }
 {
     match index {
-        Num::Int(k) if k >= 0 => match js_methods::at(store, s, Num::Int(k))? {
+        Num::Int(k) if k >= 0 => match js_methods::places::at(store, s, Num::Int(k))? {
             Some(r) => Ok(Value::Text(r)),
             None => Ok(Value::Undefined),
         },

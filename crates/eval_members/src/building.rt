@@ -78,7 +78,7 @@ fn append<S: Strings>(store: &mut S, s: S::Ref, w: S::Ref) -> Result<S::Ref, Sto
         (joined_text (S.state store.old).limit (text (S.state store.old) (S.number s))
         (text (S.state store.old) (S.number w))) }
 {
-    Ok(js_methods::concat(store, s, w)?)
+    Ok(js_methods::building::concat(store, s, w)?)
 }
 
 /// The string itself, unless it is longer than a string may be.
@@ -275,8 +275,8 @@ fn padded_with<S: Strings>(
         (methods.pad_used_words (length (text (S.state store.old) (S.number w)))) }
 {
     match pad {
-        Pad::Start => js_methods::pad_start(store, s, max, w),
-        Pad::End => js_methods::pad_end(store, s, max, w),
+        Pad::Start => js_methods::building::pad_start(store, s, max, w),
+        Pad::End => js_methods::building::pad_end(store, s, max, w),
     }
 }
 
@@ -296,7 +296,7 @@ pub fn call_repeat<S: Strings>(
         (to_number at (first_of (all_seen (S.state store.old) S.number args.now)))) }
 {
     let n = first_number(store, at, args)?;
-    let r = js_methods::repeat(store, s, n)?;
+    let r = js_methods::building::repeat(store, s, n)?;
     Ok(Value::Text(r))
 }
 
@@ -314,6 +314,6 @@ pub fn call_to_well_formed<S: Strings>(
         (S.state store.old) (S.state store.new) result
         (limited (S.state store.old).limit t (well (text (S.state store.old) (S.number s)))) }
 {
-    let r = js_methods::to_well_formed(alloc, store, s)?;
+    let r = js_methods::building::to_well_formed(alloc, store, s)?;
     Ok(Value::Text(r))
 }

@@ -96,8 +96,8 @@ fn part<S: Strings>(
         1 (2 * wide_words (length (text (S.state store.old) (S.number s))) + 3) }
 {
     match cut {
-        Cut::Slice => js_methods::slice(store, s, start, end),
-        Cut::Substring => js_methods::substring(store, s, start, end),
-        Cut::Substr => js_methods::substr(store, s, start, end),
+        Cut::Slice => js_methods::cutting::slice(store, s, start, end),
+        Cut::Substring => js_methods::cutting::substring(store, s, start, end),
+        Cut::Substr => js_methods::cutting::substr(store, s, start, end),
     }
 }

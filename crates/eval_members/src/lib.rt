@@ -2,7 +2,7 @@
 //! arguments (ECMA-262, "Properties of the String Prototype Object", "Property Accessors"), over any
 //! store of strings. A read of a property of an object interns its key.
 //!
-//! What each call means is defined in `specs/Members.antt`, a line for each method, and what it cites.
+//! What each call means is defined in `specs/Methods.antt`, a row for each method, and what it cites.
 #![tactic(auto)]
 
 mod arrays;

@@ -15,7 +15,7 @@ ghost use Rattle.js_texts.specs.Texts.{known_texts as texts_seen, AllKnown};
 use crate::building::{Pad, call_concat, call_pad, call_repeat, call_to_well_formed};
 use crate::cutting::{Cut, call_cut};
 use crate::operands::operands;
-use crate::places::{call_at, call_char_at, call_char_code_at, call_code_point_at};
+use crate::places::{Place, call_place};
 use crate::replacing::{Replace, call_replace};
 use crate::searching::{Search, call_ends_with, call_search};
 use crate::splitting::{call_join, call_split};
@@ -83,31 +83,31 @@ fn call_string<S: Strings>(
         (text (S.state store.old) (S.number s)) (all_seen (S.state store.old) S.number args.now)) }
 {
     match method {
-        Method::At => call_at(store, at, s, args),
-        Method::CharAt => call_char_at(store, at, s, args),
-        Method::CharCodeAt => call_char_code_at(store, at, s, args),
-        Method::CodePointAt => call_code_point_at(store, at, s, args),
-        Method::Concat => call_concat(alloc, store, s, args),
+        Method::At => call_place(store, at, Place::At, s, args),
+        Method::CharAt => call_place(store, at, Place::CharAt, s, args),
+        Method::CharCodeAt => call_place(store, at, Place::CharCodeAt, s, args),
+        Method::CodePointAt => call_place(store, at, Place::CodePointAt, s, args),
         Method::EndsWith => call_ends_with(alloc, store, at, s, args),
         Method::Includes => call_search(alloc, store, at, Search::Includes, s, args),
         Method::IndexOf => call_search(alloc, store, at, Search::IndexOf, s, args),
-        Method::IsWellFormed => call_is_well_formed(store, s),
-        Method::Join => Err(Stop::Threw(Kind::TypeError)),
         Method::LastIndexOf => call_search(alloc, store, at, Search::LastIndexOf, s, args),
-        Method::PadEnd => call_pad(alloc, store, at, Pad::End, s, args),
-        Method::PadStart => call_pad(alloc, store, at, Pad::Start, s, args),
-        Method::Repeat => call_repeat(store, at, s, args),
-        Method::Replace => call_replace(alloc, store, Replace::First, s, args),
-        Method::ReplaceAll => call_replace(alloc, store, Replace::All, s, args),
-        Method::Slice => call_cut(store, at, Cut::Slice, s, args),
-        Method::Split => call_split(alloc, store, at, s, args),
         Method::StartsWith => call_search(alloc, store, at, Search::StartsWith, s, args),
+        Method::Slice => call_cut(store, at, Cut::Slice, s, args),
         Method::Substr => call_cut(store, at, Cut::Substr, s, args),
         Method::Substring => call_cut(store, at, Cut::Substring, s, args),
-        Method::ToWellFormed => call_to_well_formed(alloc, store, s),
         Method::Trim => call_trim(store, Trim::Both, s),
         Method::TrimEnd => call_trim(store, Trim::End, s),
         Method::TrimStart => call_trim(store, Trim::Start, s),
+        Method::Concat => call_concat(alloc, store, s, args),
+        Method::PadEnd => call_pad(alloc, store, at, Pad::End, s, args),
+        Method::PadStart => call_pad(alloc, store, at, Pad::Start, s, args),
+        Method::Repeat => call_repeat(store, at, s, args),
+        Method::ToWellFormed => call_to_well_formed(alloc, store, s),
+        Method::Replace => call_replace(alloc, store, Replace::First, s, args),
+        Method::ReplaceAll => call_replace(alloc, store, Replace::All, s, args),
+        Method::Split => call_split(alloc, store, at, s, args),
+        Method::Join => Err(Stop::Threw(Kind::TypeError)),
+        Method::IsWellFormed => call_is_well_formed(store, s),
     }
 }
 
@@ -133,13 +133,13 @@ fn call_list<S: Strings>(
         (all_seen (S.state store.old) S.number args.now)) }
 {
     match method {
-        Method::Join => call_join(alloc, store, list, args),
         Method::At
-        | Method::Concat
         | Method::Includes
         | Method::IndexOf
         | Method::LastIndexOf
-        | Method::Slice => Err(Stop::Unsupported { at }),
+        | Method::Slice
+        | Method::Concat => Err(Stop::Unsupported { at }),
+        Method::Join => call_join(alloc, store, list, args),
         _ => Err(Stop::Threw(Kind::TypeError)),
     }
 }

@@ -1,11 +1,15 @@
 // Methods that read at one place.
-ghost use Rattle.std.specs.Prelude.{◌+◌, length, IfOk, OnOk};
+ghost use Rattle.std.specs.Prelude.{◌≡◌, ◌+◌, length, IfOk, OnOk, IsSome};
+ghost use Rattle.js_number.specs.Places.{IsLawful};
 ghost use Rattle.js_store.specs.State.{Grows, IsKnown, IsSettled, text};
-ghost use Rattle.js_methods.specs.Places.{relative_place, exact_place};
+ghost use Rattle.js_store.specs.Rows.{wide_words};
+ghost use Rattle.js_store.specs.Faults.{Uses};
+ghost use Rattle.js_texts.specs.Answers.{method_fault_of, NeverThrows};
 ghost use Rattle.eval_values.specs.Conversions.{to_number, all_units};
 ghost use Rattle.eval_values.specs.Arguments.{first_of};
-ghost use Rattle.eval_members.specs.Places.{at_call, char_at_call, char_code_call, code_point_call};
-ghost use Rattle.eval_members.specs.Methods.{NamesPlace};
+ghost use Rattle.eval_members.specs.Places.{place_call};
+ghost use Rattle.eval_members.specs.Methods.{read_of, named_place, NamesPlace};
+ghost use Rattle.js_item.specs.Seen.{seen};
 ghost use Rattle.js_item.specs.Fine.{IsFine};
 ghost use Rattle.eval_values.specs.Seen.{all_seen, AllFine};
 ghost use Rattle.eval_values.specs.Does.{GivesValue};
@@ -13,38 +17,22 @@ ghost use Rattle.eval_values.specs.Does.{GivesValue};
 use eval_values::{Stop, Value, first_number};
 use js_number::Num;
 use js_store::Strings;
+use js_texts::MethodFault;
 
-/// `at`, of which `at` is the byte offset.
-pub fn call_at<S: Strings>(
-    store: &mut S,
-    at: u32,
-    s: S::Ref,
-    args: &[Value<S::Ref>],
-) -> Result<Value<S::Ref>, Stop>
-    requires known { IsKnown (S.state store.old) (S.number s) }
-    requires args { AllFine (S.state store.old) S.number args.now }
-    ensures grows { Grows (S.state store.old) (S.state store.new) }
-    ensures fine { IfOk result (λ v. IsFine (S.state store.new) S.number v) }
-    ensures settled { OnOk result (NamesPlace relative_place (text (S.state store.old) (S.number s))
-        (to_number at (first_of (all_seen (S.state store.old) S.number args.now)))
-        → IsSettled (S.state store.new) (S.number s)) }
-    ensures did { GivesValue S.number (S.state store.old) (S.state store.new) result
-        (at_call (length (text (S.state store.old) (S.number s))
-        + all_units (all_seen (S.state store.old) S.number args.now))
-        (text (S.state store.old) (S.number s))
-        (to_number at (first_of (all_seen (S.state store.old) S.number args.now)))) }
-{
-    let n = first_number(store, at, args)?;
-    match js_methods::at(store, s, n)? {
-        Some(r) => Ok(Value::Text(r)),
-        None => Ok(Value::Undefined),
-    }
+/// A method that reads at one place.
+#[derive(Clone, Copy, Debug, PartialEq, Eq)]
+pub enum Place {
+    At,
+    CharAt,
+    CharCodeAt,
+    CodePointAt,
 }
 
-/// `charAt`.
-pub fn call_char_at<S: Strings>(
+/// `at`, `charAt`, `charCodeAt` or `codePointAt`; `at` is the byte offset.
+pub fn call_place<S: Strings>(
     store: &mut S,
     at: u32,
+    place: Place,
     s: S::Ref,
     args: &[Value<S::Ref>],
 ) -> Result<Value<S::Ref>, Stop>
@@ -52,71 +40,49 @@ pub fn call_char_at<S: Strings>(
     requires args { AllFine (S.state store.old) S.number args.now }
     ensures grows { Grows (S.state store.old) (S.state store.new) }
     ensures fine { IfOk result (λ v. IsFine (S.state store.new) S.number v) }
-    ensures settled { OnOk result (NamesPlace exact_place (text (S.state store.old) (S.number s))
+    ensures settled { OnOk result (NamesPlace (named_place place) (text (S.state store.old) (S.number s))
         (to_number at (first_of (all_seen (S.state store.old) S.number args.now)))
         → IsSettled (S.state store.new) (S.number s)) }
     ensures did { GivesValue S.number (S.state store.old) (S.state store.new) result
-        (char_at_call
+        (place_call
         (length (text (S.state store.old) (S.number s))
         + all_units (all_seen (S.state store.old) S.number args.now))
-        (text (S.state store.old) (S.number s))
+        (read_of place (text (S.state store.old) (S.number s)))
         (to_number at (first_of (all_seen (S.state store.old) S.number args.now)))) }
 {
     let n = first_number(store, at, args)?;
-    let r = js_methods::char_at(store, s, n)?;
-    Ok(Value::Text(r))
+    let value = read_place(store, place, s, n)?;
+    Ok(value)
 }
 
-/// `charCodeAt`.
-pub fn call_char_code_at<S: Strings>(
+// What a number gives of a string.
+fn read_place<S: Strings>(
     store: &mut S,
-    at: u32,
+    place: Place,
     s: S::Ref,
-    args: &[Value<S::Ref>],
-) -> Result<Value<S::Ref>, Stop>
+    n: Num,
+) -> Result<Value<S::Ref>, MethodFault>
     requires known { IsKnown (S.state store.old) (S.number s) }
-    requires args { AllFine (S.state store.old) S.number args.now }
-    ensures grows { Grows (S.state store.old) (S.state store.new) }
+    requires lawful { IsLawful n }
+    ensures value { IfOk result
+        (λ v. seen (S.state store.new) S.number v ≡ read_of place (text (S.state store.old) (S.number s)) n) }
     ensures fine { IfOk result (λ v. IsFine (S.state store.new) S.number v) }
-    ensures settled { OnOk result (NamesPlace exact_place (text (S.state store.old) (S.number s))
-        (to_number at (first_of (all_seen (S.state store.old) S.number args.now)))
-        → IsSettled (S.state store.new) (S.number s)) }
-    ensures did { GivesValue S.number (S.state store.old) (S.state store.new) result
-        (char_code_call
-        (length (text (S.state store.old) (S.number s))
-        + all_units (all_seen (S.state store.old) S.number args.now))
-        (text (S.state store.old) (S.number s))
-        (to_number at (first_of (all_seen (S.state store.old) S.number args.now)))) }
+    ensures settled { IsSome (named_place place n (length (text (S.state store.old) (S.number s))))
+        → OnOk result (IsSettled (S.state store.new) (S.number s)) }
+    ensures throws { NeverThrows result }
+    ensures uses { Uses (S.state store.old) (S.state store.new) (method_fault_of result)
+        1 (wide_words (length (text (S.state store.old) (S.number s))) + 3) }
 {
-    let n = first_number(store, at, args)?;
-    let code = js_methods::char_code_at(store, s, n)?;
-    Ok(Value::Number(code))
-}
-
-/// `codePointAt`.
-pub fn call_code_point_at<S: Strings>(
-    store: &mut S,
-    at: u32,
-    s: S::Ref,
-    args: &[Value<S::Ref>],
-) -> Result<Value<S::Ref>, Stop>
-    requires known { IsKnown (S.state store.old) (S.number s) }
-    requires args { AllFine (S.state store.old) S.number args.now }
-    ensures grows { Grows (S.state store.old) (S.state store.new) }
-    ensures fine { IfOk result (λ v. IsFine (S.state store.new) S.number v) }
-    ensures settled { OnOk result (NamesPlace exact_place (text (S.state store.old) (S.number s))
-        (to_number at (first_of (all_seen (S.state store.old) S.number args.now)))
-        → IsSettled (S.state store.new) (S.number s)) }
-    ensures did { GivesValue S.number (S.state store.old) (S.state store.new) result
-        (code_point_call
-        (length (text (S.state store.old) (S.number s))
-        + all_units (all_seen (S.state store.old) S.number args.now))
-        (text (S.state store.old) (S.number s))
-        (to_number at (first_of (all_seen (S.state store.old) S.number args.now)))) }
-{
-    let n = first_number(store, at, args)?;
-    match js_methods::code_point_at(store, s, n)? {
-        Some(point) => Ok(Value::Number(Num::Int(i64::from(point)))),
-        None => Ok(Value::Undefined),
+    match place {
+        Place::At => match js_methods::places::at(store, s, n)? {
+            Some(r) => Ok(Value::Text(r)),
+            None => Ok(Value::Undefined),
+        },
+        Place::CharAt => Ok(Value::Text(js_methods::places::char_at(store, s, n)?)),
+        Place::CharCodeAt => Ok(Value::Number(js_methods::places::char_code_at(store, s, n)?)),
+        Place::CodePointAt => match js_methods::places::code_point_at(store, s, n)? {
+            Some(point) => Ok(Value::Number(Num::Int(i64::from(point)))),
+            None => Ok(Value::Undefined),
+        },
     }
 }

@@ -21,6 +21,6 @@ pub fn call_is_well_formed<S: Strings>(store: &mut S, s: S::Ref) -> Result<Value
         (S.state store.old) (S.state store.new) result
         (needing (reads t) (Contents.bool (all_paired (text (S.state store.old) (S.number s))))) }
 {
-    let holds = js_methods::is_well_formed(store, s)?;
+    let holds = js_methods::testing::is_well_formed(store, s)?;
     Ok(Value::Bool(holds))
 }

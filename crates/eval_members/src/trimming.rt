@@ -47,8 +47,8 @@ fn trimmed<S: Strings>(store: &mut S, trim: Trim, s: S::Ref) -> Result<S::Ref, M
         1 (2 * wide_words (length (text (S.state store.old) (S.number s))) + 3) }
 {
     match trim {
-        Trim::Both => js_methods::trim(store, s),
-        Trim::Start => js_methods::trim_start(store, s),
-        Trim::End => js_methods::trim_end(store, s),
+        Trim::Both => js_methods::trimming::trim(store, s),
+        Trim::Start => js_methods::trimming::trim_start(store, s),
+        Trim::End => js_methods::trimming::trim_end(store, s),
     }
 }
