@@ -16,8 +16,8 @@ use Rattle.eval_tree.specs.declared.tree.Method.TheVariants.{Join, LastIndexOf, 
 use Rattle.eval_tree.specs.declared.tree.Method.TheVariants.{Replace, ReplaceAll, Slice, Split, StartsWith}
 use Rattle.eval_tree.specs.declared.tree.Method.TheVariants.{Substr, Substring, ToWellFormed, Trim, TrimEnd}
 use Rattle.eval_tree.specs.declared.tree.Method.TheVariants.{TrimStart}
-use Rattle.eval_members.specs.declared.places.Place.{Place}
-use Rattle.eval_members.specs.declared.places.Place.TheVariants as place
+use Rattle.eval_members.specs.declared.places.Access.{Access}
+use Rattle.eval_members.specs.declared.places.Access.TheVariants as access
 use Rattle.eval_members.specs.declared.cutting.Cut.{Cut}
 use Rattle.eval_members.specs.declared.cutting.Cut.TheVariants as cut
 use Rattle.eval_members.specs.declared.trimming.Trim.{Trim as Trims}
@@ -35,7 +35,7 @@ use Rattle.eval_values.specs.Outcome.{Out, needing, throwing, Converted, refuses
 use Rattle.eval_values.specs.Need.{reads}
 use Rattle.eval_values.specs.Conversions.{to_number, first_text_units}
 use Rattle.eval_values.specs.Arguments.{first_of, second_of, end_in, is_undefined, second_units}
-use Rattle.eval_members.specs.Places.{maybe_text, maybe_count, place_call}
+use Rattle.eval_members.specs.Places.{maybe_text, maybe_count, access_call}
 use Rattle.eval_values.specs.Limited.{limited}
 use Rattle.eval_members.specs.Cutting.{cut_call}
 use Rattle.eval_members.specs.Searching.{place_value, search_call}
@@ -54,12 +54,12 @@ use Rattle.eval_values.specs.Settled.{ElementsSettled, StringsSettled, OfFirst, 
 -- a method of a string, where the operands of the call have t units (ECMA-262,
 -- "Properties of the String Prototype Object")
 abbrev pub string_call : Method → ℕ → ℕ → ℕ → List ℕ → List Val → Out Val
-string_call At at limit t u vs = place_call t (λ n. maybe_text (at_of u n)) (to_number at (first_of vs))
-string_call CharAt at limit t u vs = place_call t (λ n. text (char_at_of u n)) (to_number at (first_of vs))
+string_call At at limit t u vs = access_call t (λ n. maybe_text (at_of u n)) (to_number at (first_of vs))
+string_call CharAt at limit t u vs = access_call t (λ n. text (char_at_of u n)) (to_number at (first_of vs))
 string_call CharCodeAt at limit t u vs =
-    place_call t (λ n. number (char_code_of u n)) (to_number at (first_of vs))
+    access_call t (λ n. number (char_code_of u n)) (to_number at (first_of vs))
 string_call CodePointAt at limit t u vs =
-    place_call t (λ n. maybe_count (code_point_of u n)) (to_number at (first_of vs))
+    access_call t (λ n. maybe_count (code_point_of u n)) (to_number at (first_of vs))
 string_call EndsWith at limit t u vs = search_call limit t (length u + first_text_units vs)
     (λ w e. bool (ends_at u w e)) (first_of vs) (end_in at (second_of vs))
 string_call Includes at limit t u vs = search_call limit t (length u + first_text_units vs)
@@ -108,11 +108,11 @@ list_call Join at limit t us vs = join_call limit us vs
 list_call _ at limit t us vs = throwing (reads t) TypeError
 
 -- methods that differ in one definition alone, by the code's names of them
-abbrev pub read_of : Place → List ℕ → Num → Val
-read_of place.At u n = maybe_text (at_of u n)
-read_of place.CharAt u n = text (char_at_of u n)
-read_of place.CharCodeAt u n = number (char_code_of u n)
-read_of place.CodePointAt u n = maybe_count (code_point_of u n)
+abbrev pub access_of : Access → List ℕ → Num → Val
+access_of access.At u n = maybe_text (at_of u n)
+access_of access.CharAt u n = text (char_at_of u n)
+access_of access.CharCodeAt u n = number (char_code_of u n)
+access_of access.CodePointAt u n = maybe_count (code_point_of u n)
 
 abbrev pub part_of : Cut → List ℕ → Num → Option Num → List ℕ
 part_of cut.Slice u a b = slice_of u a b
@@ -148,8 +148,8 @@ NamesPlace place u (into n) = IsSome (place n (length u))
 NamesPlace place u (fails e) = ⊥
 
 -- which place a number names
-abbrev pub named_place : Place → Num → ℕ → Option ℕ
-named_place place.At = relative_place
+abbrev pub named_place : Access → Num → ℕ → Option ℕ
+named_place access.At = relative_place
 named_place _ = exact_place
 
 -- The string n that a method was called on, by its units u and the arguments vs. A method that reads one unit

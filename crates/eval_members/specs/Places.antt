@@ -22,5 +22,5 @@ element t v = needing (reads (t + string_units v)) v
 
 -- what a number gives of a string: "String.prototype.at", "String.prototype.charAt",
 -- "String.prototype.charCodeAt", "String.prototype.codePointAt"
-abbrev pub place_call : ℕ → (Num → Val) → Converted Num → Out Val
-place_call t answer n = converts (reads t) n (λ k. element t (answer k))
+abbrev pub access_call : ℕ → (Num → Val) → Converted Num → Out Val
+access_call t answer n = converts (reads t) n (λ k. element t (answer k))

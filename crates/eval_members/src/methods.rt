@@ -15,7 +15,7 @@ ghost use Rattle.js_texts.specs.Texts.{known_texts as texts_seen, AllKnown};
 use crate::building::{Pad, call_concat, call_pad, call_repeat, call_to_well_formed};
 use crate::cutting::{Cut, call_cut};
 use crate::operands::operands;
-use crate::places::{Place, call_place};
+use crate::places::{Access, call_access};
 use crate::replacing::{Replace, call_replace};
 use crate::searching::{Search, call_ends_with, call_search};
 use crate::splitting::{call_join, call_split};
@@ -83,10 +83,10 @@ fn call_string<S: Strings>(
         (text (S.state store.old) (S.number s)) (all_seen (S.state store.old) S.number args.now)) }
 {
     match method {
-        Method::At => call_place(store, at, Place::At, s, args),
-        Method::CharAt => call_place(store, at, Place::CharAt, s, args),
-        Method::CharCodeAt => call_place(store, at, Place::CharCodeAt, s, args),
-        Method::CodePointAt => call_place(store, at, Place::CodePointAt, s, args),
+        Method::At => call_access(store, at, Access::At, s, args),
+        Method::CharAt => call_access(store, at, Access::CharAt, s, args),
+        Method::CharCodeAt => call_access(store, at, Access::CharCodeAt, s, args),
+        Method::CodePointAt => call_access(store, at, Access::CodePointAt, s, args),
         Method::EndsWith => call_ends_with(alloc, store, at, s, args),
         Method::Includes => call_search(alloc, store, at, Search::Includes, s, args),
         Method::IndexOf => call_search(alloc, store, at, Search::IndexOf, s, args),
