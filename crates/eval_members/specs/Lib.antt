@@ -6,7 +6,7 @@ pub mod Building
 pub mod Replacing
 pub mod Splitting
 pub mod Properties
-pub mod Arrays
+pub mod Indexing
 pub mod Methods
 pub mod Members
 pub mod Settled

@@ -114,6 +114,12 @@ access_of access.CharAt u n = text (char_at_of u n)
 access_of access.CharCodeAt u n = number (char_code_of u n)
 access_of access.CodePointAt u n = maybe_count (code_point_of u n)
 
+abbrev pub search_of : Search → List ℕ → List ℕ → Num → Val
+search_of sought.Includes u w n = bool (includes_from u w n)
+search_of sought.IndexOf u w n = place_value (index_from u w n)
+search_of sought.LastIndexOf u w n = place_value (last_index_up_to u w n)
+search_of sought.StartsWith u w n = bool (starts_at u w n)
+
 abbrev pub part_of : Cut → List ℕ → Num → Option Num → List ℕ
 part_of cut.Slice u a b = slice_of u a b
 part_of cut.Substring u a b = substring_of u a b
@@ -123,12 +129,6 @@ abbrev pub trimmed_of : Trims → List ℕ → List ℕ
 trimmed_of trim.Both u = trimmed u
 trimmed_of trim.Start u = trimmed_start u
 trimmed_of trim.End u = trimmed_end u
-
-abbrev pub search_of : Search → List ℕ → List ℕ → Num → Val
-search_of sought.Includes u w n = bool (includes_from u w n)
-search_of sought.IndexOf u w n = place_value (index_from u w n)
-search_of sought.LastIndexOf u w n = place_value (last_index_up_to u w n)
-search_of sought.StartsWith u w n = bool (starts_at u w n)
 
 abbrev pub padded_of : Pad → List ℕ → ℕ → List ℕ → List ℕ
 padded_of pad.Start u m w = pad_start_of u m w

@@ -9,7 +9,7 @@ use Rattle.js_item.specs.Seen.{Val}
 use Rattle.eval_tree.specs.declared.tree.Method.{Method}
 use Rattle.eval_values.specs.Settled.{StringsSettled}
 use Rattle.eval_members.specs.Operands.{operands}
-use Rattle.eval_members.specs.Arrays.{unit_at}
+use Rattle.eval_members.specs.Indexing.{unit_at}
 use Rattle.eval_members.specs.Methods.{StringSettled, ListSettled, StringOperandsSettled}
 use Rattle.eval_members.specs.Methods.{ListOperandsSettled}
 

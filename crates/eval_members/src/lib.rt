@@ -5,9 +5,9 @@
 //! What each call means is defined in `specs/Methods.antt`, a row for each method, and what it cites.
 #![tactic(auto)]
 
-mod arrays;
 mod building;
 mod cutting;
+mod indexing;
 mod members;
 mod methods;
 mod operands;
@@ -19,7 +19,7 @@ mod splitting;
 mod testing;
 mod trimming;
 
-pub use arrays::read_index;
+pub use indexing::read_index;
 pub use members::{present, read_description, read_length};
 pub use methods::call;
 pub use properties::read_property;

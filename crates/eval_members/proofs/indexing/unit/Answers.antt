@@ -5,8 +5,8 @@ use Rattle.js_store.specs.State.{text}
 use Rattle.eval_values.specs.Conversions.{string_units}
 use Rattle.eval_values.proofs.Limited.{row_stops}
 use Rattle.eval_members.specs.Places.{maybe_text}
-use Rattle.eval_members.specs.Arrays.{unit_at}
-use Rattle.eval_members.proofs.arrays.unit.Goals as goal
+use Rattle.eval_members.specs.Indexing.{unit_at}
+use Rattle.eval_members.proofs.indexing.unit.Goals as goal
 
 pub returns-in_err-r-in-Int-clause-did : goal.returns-in_err-r-in-Int-clause-did
 returns-in_err-r-in-Int-clause-did g c =

@@ -3,7 +3,7 @@ ghost use Rattle.std.specs.Prelude.{◌≡◌, length, slice_get, IfOk, OnOk, So
 ghost use Rattle.js_number.specs.Places.{IsLawful};
 ghost use Rattle.js_store.specs.State.{Grows, IsKnown, text};
 ghost use Rattle.js_texts.specs.Texts.{known_texts as texts_seen, AllKnown};
-ghost use Rattle.eval_members.specs.Arrays.{unit_at, element_at, indexed};
+ghost use Rattle.eval_members.specs.Indexing.{unit_at, element_at, indexed};
 ghost use Rattle.eval_members.specs.Places.{maybe_text, element as read_element};
 ghost use Rattle.eval_members.specs.Settled.{as_number, IndexSettles, KeySettled, UnitSettled};
 ghost use Rattle.js_item.specs.Contents;
