@@ -65,7 +65,8 @@ fn accessed<S: Strings>(
     requires known { IsKnown (S.state store.old) (S.number s) }
     requires lawful { IsLawful n }
     ensures value { IfOk result
-        (λ v. seen (S.state store.new) S.number v ≡ access_of access (text (S.state store.old) (S.number s)) n) }
+        (λ v. seen (S.state store.new) S.number v
+        ≡ access_of access (text (S.state store.old) (S.number s)) n) }
     ensures fine { IfOk result (λ v. IsFine (S.state store.new) S.number v) }
     ensures settled { IsSome (named_place access n (length (text (S.state store.old) (S.number s))))
         → OnOk result (IsSettled (S.state store.new) (S.number s)) }
