@@ -24,9 +24,9 @@ use Rattle.eval_values.specs.Need.{nothing}
 use Rattle.eval_values.specs.Conversions.{to_boolean}
 use Rattle.eval_values.specs.Operators.{plus, difference_in, unary_out}
 use Rattle.eval_values.specs.Comparing.{same_out, order_out, is_less, is_greater, is_at_most, is_at_least}
-use Rattle.eval_members.specs.Reading.{maybe_text}
+use Rattle.eval_members.specs.Places.{maybe_text}
 use Rattle.eval_members.specs.Members.{length_property, description_of, present, called}
-use Rattle.eval_members.specs.Arrays.{indexed}
+use Rattle.eval_members.specs.Indexing.{indexed}
 use Rattle.eval_members.specs.Properties.{property_of}
 use Rattle.eval_builtins.specs.Builtins.{built}
 use Rattle.js_eval.specs.Initializers.{literal_cost, interned_out, object_out}
