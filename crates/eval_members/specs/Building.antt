@@ -1,5 +1,5 @@
 -- Methods that build another string.
-use Rattle.std.specs.Prelude.{ℕ, ◌+◌, List, [], ◌∷◌, ◌++◌, length, nat_le, if◌then◌else◌, Bool, true, false}
+use Rattle.std.specs.Prelude.{ℕ, ◌+◌, List, [], ◌∷◌, ◌++◌, length, nat_le, if◌then◌else◌}
 use Rattle.eval_values.specs.declared.value.Kind.TheVariants.{RangeError}
 use Rattle.js_item.specs.Seen.{Val}
 use Rattle.eval_values.specs.Outcome.{Out, gave, bind, converting, cost, throwing, Converted, converts}
@@ -25,8 +25,7 @@ concat_call limit u (v ∷ vs) = bind (converting joins (to_string limit v) (λ 
 -- the string u padded to m units, by one space where no filler is given; the filler isn't looked at where u
 -- has as many
 abbrev pub padded : ℕ → (ℕ → List ℕ → List ℕ) → List ℕ → ℕ → Val → Out Val
-padded limit pad u m f =
-    if nat_le m (length u) then bounded limit (λ r. pads (length u + string_units f)) u
+padded limit pad u m f = if nat_le m (length u) then bounded limit (λ r. pads (length u + string_units f)) u
     else converting (pads (length u + string_units f)) (text_or (32 ∷ []) limit f)
     (λ w. bounded limit (λ r. pads (length u + length w)) (pad m w))
 
@@ -35,11 +34,7 @@ abbrev pub pad_call : ℕ → (ℕ → List ℕ → List ℕ) → List ℕ → C
 pad_call limit pad u n f =
     converts (pads (length u + string_units f)) n (λ k. padded limit pad u (length_of k) f)
 
--- so many copies of a string, where the number is a count
-abbrev pub repeated : Bool → ℕ → List ℕ → Num → Out Val
-repeated true limit u n = bounded limit (λ r. repeats (length u)) (repeat_of u n)
-repeated false limit u n = throwing (repeats (length u)) RangeError
-
--- "String.prototype.repeat"
+-- "String.prototype.repeat": so many copies of a string, where the number is a count
 abbrev pub repeat_call : ℕ → List ℕ → Converted Num → Out Val
-repeat_call limit u n = converts (repeats (length u)) n (λ k. repeated (is_count k) limit u k)
+repeat_call limit u n = converts (repeats (length u)) n (λ k. if is_count k
+    then bounded limit (λ r. repeats (length u)) (repeat_of u k) else throwing (repeats (length u)) RangeError)

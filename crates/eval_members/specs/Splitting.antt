@@ -16,9 +16,8 @@ use Rattle.eval_values.specs.Limited.{bounded}
 
 -- the parts of a string, of operands with t units
 abbrev pub split_into : ℕ → List ℕ → ℕ → Option (List ℕ) → Out Val
-split_into t u most sep =
-    needing (parts (length (parts_of u sep most)) (t + list_units (parts_of u sep most)))
-    (list (parts_of u sep most))
+split_into t u most sep = needing (parts (length (parts_of u sep most))
+    (t + list_units (parts_of u sep most))) (list (parts_of u sep most))
 
 -- a separator that isn't given is none
 abbrev pub split_most : ℕ → List ℕ → List Val → ℕ → Out Val

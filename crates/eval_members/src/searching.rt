@@ -1,5 +1,5 @@
 // Methods that look for one string in another.
-ghost use Rattle.eval_members.specs.Parts.{search_answer};
+ghost use Rattle.eval_members.specs.Parts.{place_number, search_answer};
 ghost use Rattle.std.specs.Prelude.{◌≡◌, ℕ, ◌+◌, ◌≤◌, length, IfOk, OnOk};
 ghost use Rattle.js_number.specs.Places.{IsLawful};
 ghost use Rattle.js_store.specs.State.{Grows, IsKnown, IsSettled, text};
@@ -11,7 +11,7 @@ ghost use Rattle.js_item.specs.Contents;
 ghost use Rattle.js_item.specs.Views.{content_of};
 ghost use Rattle.eval_values.specs.Conversions.{to_number, all_units, first_text_units};
 ghost use Rattle.eval_values.specs.Arguments.{first_of, second_of, end_in};
-ghost use Rattle.eval_members.specs.Searching.{place_number, search_call};
+ghost use Rattle.eval_members.specs.Searching.{search_call};
 ghost use Rattle.eval_members.specs.Methods.{search_of};
 ghost use Rattle.eval_values.specs.Stops.{converted_of};
 ghost use Rattle.js_item.specs.Seen.{seen};

@@ -3,7 +3,6 @@ use Rattle.std.specs.Prelude.{ℕ, List, [], ◌∷◌, slice_get, Bool, false, 
 use Rattle.std.specs.Option.{option_map_or}
 use Rattle.std.specs.Str.{bytes_eq}
 use Rattle.js_item.specs.Puts.{put_by}
-
 use Rattle.js_number.specs.declared.Num.TheVariants.{NaN, PosInf}
 use Rattle.eval_tree.specs.declared.tree.Op.{Op}
 use Rattle.eval_tree.specs.declared.tree.Op.TheVariants.{Or, And, Same, NotSame, Less, Greater, LessEq}
@@ -19,8 +18,8 @@ use Rattle.eval_values.specs.declared.value.Kind.TheVariants.{ReferenceError}
 use Rattle.js_item.specs.Seen.{Val}
 use Rattle.js_item.specs.Contents.{Fields, no_fields, undefined, null, bool, number}
 use Rattle.eval_values.specs.Outcome.{Out, gave, after_ledger, bind, mapped, free, number_of, needing}
-use Rattle.eval_values.specs.Outcome.{throwing}
-use Rattle.eval_values.specs.Need.{nothing}
+use Rattle.eval_values.specs.Outcome.{throwing, cost}
+use Rattle.eval_values.specs.Need.{nothing, parts}
 use Rattle.eval_values.specs.Conversions.{to_boolean}
 use Rattle.eval_values.specs.Operators.{plus, difference_in, unary_out}
 use Rattle.eval_values.specs.Comparing.{same_out, order_out, is_less, is_greater, is_at_most, is_at_least}
@@ -29,7 +28,7 @@ use Rattle.eval_members.specs.Members.{length_property, description_of, present,
 use Rattle.eval_members.specs.Indexing.{indexed}
 use Rattle.eval_members.specs.Properties.{property_of}
 use Rattle.eval_builtins.specs.Builtins.{built}
-use Rattle.js_eval.specs.Initializers.{literal_cost, interned_out, object_out}
+use Rattle.js_eval.specs.Initializers.{members_in, key_units, interned_out, object_out}
 
 -- the literals, what names mean, and the greatest length of a string
 pub record EvalContext : Type 0 where
@@ -52,7 +51,7 @@ decides _ v = false
 abbrev pub truth_of : {A : Type 0} → (A → Bool) → Out A → Out Val
 truth_of holds o = bind o (λ x. gave (bool (holds x)) free)
 
--- an operator on the values of both sides
+-- an operator on the values of both sides; `||` and `&&` give the right one, where it is evaluated
 abbrev pub operated : Op → ℕ → ℕ → Val → Val → Out Val
 operated Same at limit v w = truth_of (λ b. b) (same_out at v w)
 operated NotSame at limit v w = truth_of not (same_out at v w)
@@ -82,8 +81,9 @@ abbrev mutual
       bind (expr_out test s) (λ v. if to_boolean v then expr_out first s else expr_out second s)
   expr_out (tree.post of steps) s = bind (expr_out of s) (λ v. steps_out steps s v)
   expr_out (tree.builtin at which args) s = bind (exprs_out args s) (λ vs. built which at s.limit vs)
-  expr_out (tree.object at members) s =
-      after_ledger (literal_cost members) (bind (entries_out members s no_fields) (λ fs. object_out at fs))
+  -- an object literal needs something for its members, beside their values
+  expr_out (tree.object at members) s = after_ledger (cost (parts (members_in members) (key_units members)))
+      (bind (entries_out members s no_fields) (λ fs. object_out at fs))
 
   -- the links of a chain, from the value on their left
   pub links_out : Links → EvalContext → Val → Out Val

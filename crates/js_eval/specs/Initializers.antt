@@ -5,8 +5,8 @@ use Rattle.js_item.specs.Contents.{Fields, object, count}
 use Rattle.js_item.specs.Fine.{depth}
 use Rattle.js_item.specs.Seen.{Val}
 use Rattle.eval_values.specs.declared.value.Kind.TheVariants.{RangeError}
-use Rattle.eval_values.specs.Outcome.{Ledger, Out, gave, free, cost, refuses, interning, throwing}
-use Rattle.eval_values.specs.Need.{Row, parts, nothing}
+use Rattle.eval_values.specs.Outcome.{Out, gave, free, refuses, interning, throwing}
+use Rattle.eval_values.specs.Need.{Row, nothing}
 
 -- how many members a literal has, and the units of its keys
 abbrev pub members_in : Entries → ℕ
@@ -17,10 +17,6 @@ members_in (entry key value rest) = members_in rest + 1
 abbrev pub key_units : Entries → ℕ
 key_units no_entries = 0
 key_units (entry key value rest) = length key + key_units rest
-
--- what a literal needs, beside its values
-abbrev pub literal_cost : Entries → Ledger
-literal_cost members = cost (parts (members_in members) (key_units members))
 
 -- a literal or a key is interned, unless it is longer than a string may be
 abbrev pub interned_out : ℕ → Row → List ℕ → Out (List ℕ)

@@ -1,10 +1,10 @@
 -- What the methods give that build another string, and what they use of a store.
 use Rattle.std.specs.Prelude.{◌≡◌, ℕ, Bool, true, false, nat_le, List, [], pos, Option, Some, None, Result}
-use Rattle.std.specs.Prelude.{Ok, Err, ◌+◌, ◌-◌, ◌*◌, ◌%◌, ◌≤◌, length, take, ◌++◌, ◌<◌, negsuc}
+use Rattle.std.specs.Prelude.{Ok, Err, ◌+◌, ◌-◌, ◌*◌, ◌%◌, ◌≤◌, length, take, ◌++◌, ◌<◌}
 use Rattle.std.specs.List.{flat_map, list_all, repeat}
 use Rattle.js_units.specs.Text.{utf16_of}
 use Rattle.js_number.specs.declared.Num.{Num}
-use Rattle.js_number.specs.declared.Num.TheVariants.{Int, NaN, PosInf, NegInf}
+use Rattle.js_number.specs.declared.Num.TheVariants.{Int, NaN}
 use Rattle.js_texts.specs.declared.faults.Cause.TheVariants.{BadCodePoint, BadCount, TooLong as Length}
 use Rattle.js_texts.specs.declared.faults.MethodFault.{MethodFault}
 use Rattle.js_texts.specs.declared.faults.MethodFault.TheVariants.{RangeError, Store}
@@ -36,10 +36,8 @@ pad_used_words m = 2 * m + 1000
 -- whether the integer or infinity of the number is a count, neither negative nor infinite
 abbrev pub is_count : Num → Bool
 is_count (Int (pos n)) = true
-is_count (Int (negsuc n)) = false
 is_count NaN = true
-is_count PosInf = false
-is_count NegInf = false
+is_count _ = false
 
 -- how many copies a count asks for
 abbrev pub copies : Num → ℕ

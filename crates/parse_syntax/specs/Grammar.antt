@@ -1,6 +1,7 @@
 -- The grammar of scripts, one line a production.
 use Rattle.std.specs.Prelude.{ℕ, zero, suc, Bool, true, false, List, [], ◌∷◌, Option, Some, None}
 use Rattle.std.specs.Prelude.{get_or, flat_map}
+use Rattle.std.specs.Option.{option_map_or}
 use Rattle.parse_syntax.specs.Lang.{Lang, One, Then, Bind, Mapped, Nothing, ◌¦◌, Many, Never, if_room}
 use Rattle.parse_syntax.specs.Lang.{◌▸◌, ◌◂◌}
 use Rattle.js_lex.specs.declared.token.Mark.{Mark}
@@ -78,10 +79,8 @@ module _ (tables : TokenTables) where
 
   -- an assignment to this name: the offset of +=, which appends, or none for =, and the value
   abbrev pub assign_of : Identifier → Option ℕ × ExprTree → StmtTree
-  assign_of x p = elim p.0 [
-    | None ↦ tree.assign x.at (letters x) p.1
-    | Some at ↦ tree.append at x.at (letters x) p.1
-  ]
+  assign_of x p = option_map_or (λ at. tree.append at x.at (letters x) p.1) p.0
+      (tree.assign x.at (letters x) p.1)
 
 -- expressions, over what an expression E and an operand U are where one more is open
 

@@ -73,9 +73,8 @@ sizes_in rows = sizes_by (option_number 1 most_size (codes "ids") rows)
 
 -- the limit of the length of strings, as `--limit` gives it: 32 or 64
 abbrev pub limit_in : List Row → Option Limit
-limit_in rows = option_and_then
-    (λ bits. if bits == 32 then Some Bits32 else (if bits == 64 then Some Bits64 else None))
-    (option_number 32 64 (codes "limit") rows)
+limit_in rows = option_and_then (λ bits. if bits == 32 then Some Bits32
+    else (if bits == 64 then Some Bits64 else None)) (option_number 32 64 (codes "limit") rows)
 
 -- `--summary` was given
 abbrev pub summary_in : List Row → Bool
@@ -109,14 +108,10 @@ request_by asked (Some jobs) (Some sizes) (Some limit) summary =
     Some (record { asked = asked; jobs = jobs; sizes = sizes; summary = summary; limit = limit })
 request_by asked _ _ _ summary = None
 
--- the request of what is to be run and of the options, with the number of `--jobs`, 1 to 64
-abbrev pub request_with : Asked → List Row → Option Request
-request_with asked rows = request_by asked (option_number 1 most_jobs (codes "jobs") rows) (sizes_in rows)
-    (limit_in rows) (summary_in rows)
-
--- the request of the command's matches
+-- the request of the command's matches: what is to be run, and the options, with the number of `--jobs`
 abbrev pub request_in : List Row → Option Request
-request_in rows = option_and_then (λ asked. request_with asked rows) (asked_in rows)
+request_in rows = option_and_then (λ asked. request_by asked (option_number 1 most_jobs (codes "jobs") rows)
+    (sizes_in rows) (limit_in rows) (summary_in rows)) (asked_in rows)
 
 -- valid arguments: the command gives matches for them, each number is in its range, the limit is 32 or 64,
 -- the three sizes are not too much together, and either files are named, one or more but not too many, or
