@@ -36,5 +36,5 @@ pad_call limit pad u n f =
 
 -- "String.prototype.repeat": so many copies of a string, where the number is a count
 abbrev pub repeat_call : ℕ → List ℕ → Converted Num → Out Val
-repeat_call limit u n = converts (repeats (length u)) n (λ k. if is_count k
-    then bounded limit (λ r. repeats (length u)) (repeat_of u k) else throwing (repeats (length u)) RangeError)
+repeat_call limit u n = converts (repeats (length u)) n (λ k. if is_count k then
+    bounded limit (λ r. repeats (length u)) (repeat_of u k) else throwing (repeats (length u)) RangeError)
