@@ -8,31 +8,39 @@ import collections
 Method = collections.namedtuple("Method", "name takes gives of_array", defaults=("nothing",))
 
 METHODS = [
+    # places
     Method("at", "n", "text", "left out"),
     Method("charAt", "n", "text"),
     Method("charCodeAt", "n", "number"),
     Method("codePointAt", "n", "number"),
-    Method("concat", "ta", "text", "left out"),
+    # searching
     Method("endsWith", "tn", "truth"),
     Method("includes", "tn", "truth", "left out"),
     Method("indexOf", "tn", "number", "left out"),
-    Method("isWellFormed", "", "truth"),
-    Method("join", "t", "text", "its own"),
     Method("lastIndexOf", "tn", "number", "left out"),
-    Method("padEnd", "st", "text"),
-    Method("padStart", "st", "text"),
-    Method("repeat", "s", "text"),
-    Method("replace", "tp", "text"),
-    Method("replaceAll", "tp", "text"),
-    Method("slice", "nn", "text", "left out"),
-    Method("split", "tn", "list"),
     Method("startsWith", "tn", "truth"),
+    # cutting
+    Method("slice", "nn", "text", "left out"),
     Method("substr", "nn", "text"),
     Method("substring", "nn", "text"),
-    Method("toWellFormed", "", "text"),
+    # trimming
     Method("trim", "", "text"),
     Method("trimEnd", "", "text"),
     Method("trimStart", "", "text"),
+    # building
+    Method("concat", "ta", "text", "left out"),
+    Method("padEnd", "st", "text"),
+    Method("padStart", "st", "text"),
+    Method("repeat", "s", "text"),
+    Method("toWellFormed", "", "text"),
+    # replacing
+    Method("replace", "tp", "text"),
+    Method("replaceAll", "tp", "text"),
+    # splitting
+    Method("split", "tn", "list"),
+    Method("join", "t", "text", "its own"),
+    # testing
+    Method("isWellFormed", "", "truth"),
 ]
 URI_FUNCTIONS = ["encodeURI", "encodeURIComponent", "decodeURI", "decodeURIComponent"]
 OF_STRINGS = [it for it in METHODS if it.of_array != "its own"]

@@ -3,7 +3,7 @@ ghost use Rattle.std.specs.Prelude.{◌≡◌, ◌<◌, ◌≤◌, length, IfOk}
 ghost use Rattle.js_store.specs.State.{IsKnown, IsSettled, text};
 
 use crate::measures::NoRoom;
-use js_methods::repeat;
+use js_methods::building::repeat;
 use js_number::Num;
 use js_search::index_of;
 use js_store::Strings;

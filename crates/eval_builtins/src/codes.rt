@@ -138,7 +138,7 @@ fn from_char_codes<S: Strings>(
     ensures did { (vs : List Val) → GivesValue S.number (S.state store.old) (S.state store.new) result
         (made_out vs (map (modulo 65536) codes.now)) }
 {
-    let r = js_methods::from_char_code(alloc, store, codes)?;
+    let r = js_methods::building::from_char_code(alloc, store, codes)?;
     Ok(Value::Text(r))
 }
 
@@ -154,6 +154,6 @@ fn from_code_points<S: Strings>(
     ensures did { (vs : List Val) → GivesValue S.number (S.state store.old) (S.state store.new) result
         (made_out vs (code_units_of points.now)) }
 {
-    let r = js_methods::from_code_point(alloc, store, points)?;
+    let r = js_methods::building::from_code_point(alloc, store, points)?;
     Ok(Value::Text(r))
 }

@@ -14,7 +14,7 @@ use Rattle.js_item.specs.Fine.{IsFine}
 use Rattle.eval_values.specs.Need.{parts}
 use Rattle.eval_values.specs.Conversions.{to_string, list_units, all_units, first_text_units}
 use Rattle.eval_values.specs.Arguments.{first_of, is_undefined}
-use Rattle.eval_members.specs.Arrays.{join_call}
+use Rattle.eval_members.specs.Splitting.{join_call}
 use Rattle.eval_values.specs.Does.{GivesValue, GivesText}
 use Rattle.eval_values.specs.Outcome.{free}
 use Rattle.eval_values.proofs.Compose.{did_after, ran_free}

@@ -4,7 +4,7 @@ use Rattle.std.specs.Prelude.{OnOk, if◌then◌else◌}
 use Rattle.std.proofs.lemmas.Result.{on_ok_weaker}
 use Rattle.js_store.specs.State.{State, Grows, IsSettled, text}
 use Rattle.js_texts.specs.Texts.{known_texts}
-use Rattle.js_methods.specs.Padding.{CutsFiller}
+use Rattle.js_methods.specs.Building.{CutsFiller}
 use Rattle.js_item.specs.declared.item.Item.{Item}
 use Rattle.js_item.specs.declared.item.Item.TheVariants as item
 use Rattle.eval_values.specs.declared.value.Kind.TheVariants.{RangeError}
@@ -16,7 +16,7 @@ use Rattle.eval_values.specs.Seen.{all_seen}
 use Rattle.eval_values.specs.Does.{GivesText}
 use Rattle.eval_values.specs.Settled.{IsTextOf, IsSecondText, StringsSettled, OfSecond}
 use Rattle.eval_values.proofs.Settled.{on_ok_always, strings_read, second_elements, second_missing_read, second_missing_elements}
-use Rattle.eval_members.specs.Settled.{FillerSettled}
+use Rattle.eval_members.specs.Methods.{FillerSettled}
 
 -- nothing is missing
 no_cut : (m : ℕ) → CutsFiller 0 m → ⊥

@@ -1,5 +1,5 @@
 -- Methods that repeat a string or a filler.
-use Rattle.eval_members.specs.Parts.{filled}
+use Rattle.eval_members.specs.Parts.{filled, repeated}
 use Rattle.eval_values.specs.Within.{within}
 use Rattle.eval_values.specs.RowNames.{repeat_ids, repeat_words, pad_ids, pad_words}
 use Rattle.std.proofs.Common.{arith, ◌≡◌, ℕ, ◌+◌, ◌<◌, ◌≤◌, List, length, refl, subst, Bool, true, false, nat_le, Some, None, Result, Ok, Err}
@@ -12,7 +12,7 @@ use Rattle.js_texts.specs.declared.faults.MethodFault.TheVariants as method
 use Rattle.js_store.specs.declared.faults.StoreFault.{StoreFault}
 use Rattle.js_texts.specs.declared.faults.Cause.{Cause}
 use Rattle.js_store.proofs.Laws.{text_still}
-use Rattle.js_methods.specs.Repeating.{is_count, repeat_of, IsCountFault, IsRepeatFault}
+use Rattle.js_methods.specs.Building.{is_count, repeat_of, IsCountFault, IsRepeatFault}
 use Rattle.js_item.specs.declared.item.Item.{Item}
 use Rattle.eval_values.specs.declared.value.Kind.TheVariants.{RangeError}
 use Rattle.eval_values.specs.declared.value.Stop.{Stop}
@@ -24,7 +24,7 @@ use Rattle.eval_values.specs.Arguments.{is_undefined, second_of}
 use Rattle.eval_values.proofs.Still.{values_still}
 use Rattle.eval_values.specs.Stops.{stop_of}
 use Rattle.eval_values.specs.Need.{pads}
-use Rattle.eval_members.specs.Padding.{repeated, padded}
+use Rattle.eval_members.specs.Building.{padded}
 use Rattle.js_item.specs.Fine.{IsFine}
 use Rattle.eval_values.specs.Seen.{all_seen, AllFine}
 use Rattle.eval_values.specs.Ran.{EndsInPart}

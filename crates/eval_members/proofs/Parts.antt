@@ -25,7 +25,7 @@ use Rattle.eval_values.specs.Outcome.{ledger_of}
 use Rattle.eval_values.specs.Need.{reads, some_parts}
 use Rattle.eval_values.specs.Conversions.{list_units, to_string, all_units, first_text_units}
 use Rattle.eval_values.specs.Arguments.{first_of, is_undefined}
-use Rattle.eval_members.specs.Arrays.{split_into, split_most}
+use Rattle.eval_members.specs.Splitting.{split_into, split_most}
 use Rattle.eval_values.specs.Ran.{MeetsLedger, EndsInPart}
 use Rattle.eval_values.specs.Does.{GivesValue, GivesText}
 use Rattle.eval_values.proofs.Compose.{cut_of_full, full_same}

@@ -1,5 +1,4 @@
--- Methods that give a part of a string, or the string with units replaced.
--- The operands of a call have t units.
+-- Methods that cut a part out of a string. The operands of a call have t units.
 use Rattle.std.specs.Prelude.{ℕ, List, Option}
 use Rattle.js_number.specs.declared.Num.{Num}
 use Rattle.js_item.specs.Seen.{Val}

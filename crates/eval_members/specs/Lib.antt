@@ -1,12 +1,13 @@
 pub mod Operands
-pub mod Reading
-pub mod Cutting
+pub mod Places
 pub mod Searching
+pub mod Cutting
 pub mod Building
-pub mod Padding
 pub mod Replacing
+pub mod Splitting
 pub mod Properties
-pub mod Arrays
+pub mod Indexing
+pub mod Methods
 pub mod Members
 pub mod Settled
 pub mod Parts

@@ -1,10 +1,15 @@
 -- Helpers: no public contract reaches these definitions.
 -- Parts of what methods give, by names, for the contracts of private functions and for proofs. The operands
 -- of a call have t units.
-use Rattle.std.specs.Prelude.{ℕ, ◌+◌, List, [], ◌∷◌, length, if◌then◌else◌}
+use Rattle.std.specs.Prelude.{ℕ, ◌+◌, List, [], ◌∷◌, length, Bool, Option, pos, negsuc, if◌then◌else◌}
+use Rattle.std.specs.Option.{option_map_or}
+use Rattle.js_number.specs.declared.Num.{Num}
+use Rattle.js_number.specs.declared.Num.TheVariants.{Int}
+use Rattle.js_methods.specs.Building.{repeat_of}
+use Rattle.eval_values.specs.declared.value.Kind.TheVariants.{RangeError}
 use Rattle.js_texts.specs.Joined.{joined as joined_list}
-use Rattle.eval_values.specs.Outcome.{Converted, Out, converting, needing, converts, refuses}
-use Rattle.eval_values.specs.Need.{nothing, reads, joins, parts, pads}
+use Rattle.eval_values.specs.Outcome.{Converted, Out, converting, needing, converts, refuses, throwing}
+use Rattle.eval_values.specs.Need.{nothing, reads, joins, parts, repeats, pads}
 use Rattle.eval_values.specs.Conversions.{to_string, string_units}
 use Rattle.eval_values.specs.Limited.{bounded}
 use Rattle.js_item.specs.Contents.{Fields, undefined}
@@ -41,3 +46,12 @@ search_answer t answer n = converts (reads t) n (λ k. needing (reads t) (answer
 -- one more argument, as a string, behind what was joined so far
 abbrev pub one_joined : ℕ → List ℕ → Val → Out (List ℕ)
 one_joined limit u v = converting joins (to_string limit v) (λ w. joined_text limit u w)
+
+-- so many copies of a string, where the number is a count
+abbrev pub repeated : Bool → ℕ → List ℕ → Num → Out Val
+repeated counts limit u n = if counts
+    then bounded limit (λ r. repeats (length u)) (repeat_of u n) else throwing (repeats (length u)) RangeError
+
+-- a place, or -1
+abbrev pub place_number : Option ℕ → Num
+place_number place = option_map_or (λ k. Int (pos k)) place (Int (negsuc 0))

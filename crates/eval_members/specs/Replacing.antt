@@ -15,7 +15,6 @@ two_text_units (v ∷ vs) = text_units v + first_text_units vs
 -- the searched string and the template as strings, in this order, and then what they give, where no match
 -- counts as one: "String.prototype.replace", "String.prototype.replaceAll"
 abbrev pub replace_call : ℕ → ℕ → ℕ → ℕ → (List ℕ → ℕ) → (List ℕ → List ℕ → List ℕ) → Val → Val → Out Val
-replace_call limit o m t count replaced w template =
-    converting (reads o) (to_string limit w) (λ x.
-    converting (reads m) (to_string limit template)
+replace_call limit o m t count replaced w template = converting (reads o) (to_string limit w)
+    (λ x. converting (reads m) (to_string limit template)
     (λ y. bounded limit (λ n. parts (count x) (t + n)) (replaced x y)))

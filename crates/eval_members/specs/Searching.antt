@@ -1,7 +1,7 @@
 -- Methods that look for one string in another. The operands of a call have o units as they are, and t where
 -- the first one was converted.
-use Rattle.std.specs.Prelude.{ℕ, List, Option, Some, None, pos, negsuc}
-use Rattle.js_number.specs.declared.Num.{Num}
+use Rattle.std.specs.Prelude.{ℕ, List, Option, pos, negsuc}
+use Rattle.std.specs.Option.{option_map_or}
 use Rattle.js_number.specs.declared.Num.TheVariants.{Int}
 use Rattle.js_item.specs.Seen.{Val}
 use Rattle.js_item.specs.Contents.{number}
@@ -10,12 +10,8 @@ use Rattle.eval_values.specs.Need.{reads}
 use Rattle.eval_values.specs.Conversions.{to_string}
 
 -- a place, or -1
-abbrev pub place_number : Option ℕ → Num
-place_number None = Int (negsuc 0)
-place_number (Some k) = Int (pos k)
-
 abbrev pub place_value : Option ℕ → Val
-place_value k = number (place_number k)
+place_value place = number (option_map_or (λ k. Int (pos k)) place (Int (negsuc 0)))
 
 -- the first argument as a string, and then what it and a number give: "String.prototype.includes",
 -- "String.prototype.indexOf", "String.prototype.lastIndexOf", "String.prototype.startsWith", and

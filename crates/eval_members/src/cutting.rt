@@ -1,7 +1,6 @@
-// Methods that give a part of a string, or the string with units replaced.
-ghost use Rattle.std.specs.Prelude.{◌≡◌, ℕ, ◌+◌, ◌*◌, ◌≤◌, length, IfOk, OnOk, IfSome};
+// Methods that cut a part out of a string.
+ghost use Rattle.std.specs.Prelude.{ℕ, ◌+◌, ◌*◌, ◌≤◌, length, IfOk, OnOk, IfSome};
 ghost use Rattle.js_number.specs.Places.{IsLawful};
-ghost use Rattle.js_units.specs.Text.{well};
 ghost use Rattle.js_store.specs.State.{NamesUnits, Grows, IsKnown, IsSettled, text};
 ghost use Rattle.js_store.specs.Rows.{wide_words};
 ghost use Rattle.js_store.specs.Faults.{Uses};
@@ -10,7 +9,7 @@ ghost use Rattle.eval_values.specs.Conversions.{to_number, all_units};
 ghost use Rattle.eval_values.specs.Arguments.{first_of, second_of, end_in};
 ghost use Rattle.eval_values.specs.Limited.{limited};
 ghost use Rattle.eval_members.specs.Cutting.{cut_call};
-ghost use Rattle.eval_members.specs.Members.{part_of, trimmed_of};
+ghost use Rattle.eval_members.specs.Methods.{part_of};
 ghost use Rattle.js_item.specs.Fine.{IsFine};
 ghost use Rattle.eval_values.specs.Seen.{all_seen, AllFine};
 ghost use Rattle.eval_values.specs.Does.{GivesValue};
@@ -19,7 +18,6 @@ use eval_values::{Stop, Value, first_number, second_or_none};
 use js_number::Num;
 use js_store::Strings;
 use js_texts::MethodFault;
-use std::alloc::Global;
 
 /// A method that gives the part between two numbers.
 #[derive(Clone, Copy, Debug, PartialEq, Eq)]
@@ -27,14 +25,6 @@ pub enum Cut {
     Slice,
     Substring,
     Substr,
-}
-
-/// A method that trims white space.
-#[derive(Clone, Copy, Debug, PartialEq, Eq)]
-pub enum Trim {
-    Both,
-    Start,
-    End,
 }
 
 /// `slice`, `substring` or `substr`.
@@ -106,58 +96,8 @@ fn part<S: Strings>(
         1 (2 * wide_words (length (text (S.state store.old) (S.number s))) + 3) }
 {
     match cut {
-        Cut::Slice => js_methods::slice(store, s, start, end),
-        Cut::Substring => js_methods::substring(store, s, start, end),
-        Cut::Substr => js_methods::substr(store, s, start, end),
+        Cut::Slice => js_methods::cutting::slice(store, s, start, end),
+        Cut::Substring => js_methods::cutting::substring(store, s, start, end),
+        Cut::Substr => js_methods::cutting::substr(store, s, start, end),
     }
-}
-
-/// `trim`, `trimStart` or `trimEnd`.
-pub fn call_trim<S: Strings>(store: &mut S, trim: Trim, s: S::Ref) -> Result<Value<S::Ref>, Stop>
-    requires known { IsKnown (S.state store.old) (S.number s) }
-    ensures grows { Grows (S.state store.old) (S.state store.new) }
-    ensures fine { IfOk result (λ v. IsFine (S.state store.new) S.number v) }
-    ensures settled { OnOk result (IsSettled (S.state store.new) (S.number s)) }
-    ensures did { (t : ℕ) → length (text (S.state store.old) (S.number s)) ≤ t → GivesValue S.number
-        (S.state store.old) (S.state store.new) result
-        (limited (S.state store.old).limit t (trimmed_of trim (text (S.state store.old) (S.number s)))) }
-{
-    let r = trimmed(store, trim, s)?;
-    Ok(Value::Text(r))
-}
-
-fn trimmed<S: Strings>(store: &mut S, trim: Trim, s: S::Ref) -> Result<S::Ref, MethodFault>
-    requires known { IsKnown (S.state store.old) (S.number s) }
-    ensures value { IfOk result
-        (λ r. NamesUnits (S.state store.new) (S.number r)
-        (trimmed_of trim (text (S.state store.old) (S.number s)))) }
-    ensures settled { OnOk result (IsSettled (S.state store.new) (S.number s)) }
-    ensures throws { ThrowsLong result (S.state store.old).limit
-        (length (trimmed_of trim (text (S.state store.old) (S.number s)))) }
-    ensures uses { Uses (S.state store.old) (S.state store.new) (method_fault_of result)
-        1 (2 * wide_words (length (text (S.state store.old) (S.number s))) + 3) }
-{
-    match trim {
-        Trim::Both => js_methods::trim(store, s),
-        Trim::Start => js_methods::trim_start(store, s),
-        Trim::End => js_methods::trim_end(store, s),
-    }
-}
-
-/// `toWellFormed`.
-pub fn call_to_well_formed<S: Strings>(
-    alloc: Global,
-    store: &mut S,
-    s: S::Ref,
-) -> Result<Value<S::Ref>, Stop>
-    requires known { IsKnown (S.state store.old) (S.number s) }
-    ensures grows { Grows (S.state store.old) (S.state store.new) }
-    ensures fine { IfOk result (λ v. IsFine (S.state store.new) S.number v) }
-    ensures settled { OnOk result (IsSettled (S.state store.new) (S.number s)) }
-    ensures did { (t : ℕ) → length (text (S.state store.old) (S.number s)) ≤ t → GivesValue S.number
-        (S.state store.old) (S.state store.new) result
-        (limited (S.state store.old).limit t (well (text (S.state store.old) (S.number s)))) }
-{
-    let r = js_methods::to_well_formed(alloc, store, s)?;
-    Ok(Value::Text(r))
 }

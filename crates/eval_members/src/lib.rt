@@ -2,21 +2,24 @@
 //! arguments (ECMA-262, "Properties of the String Prototype Object", "Property Accessors"), over any
 //! store of strings. A read of a property of an object interns its key.
 //!
-//! What each call means is defined in `specs/Members.antt`, a line for each method, and what it cites.
+//! What each call means is defined in `specs/Methods.antt`, a row for each method, and what it cites.
 #![tactic(auto)]
 
-mod arrays;
 mod building;
 mod cutting;
+mod indexing;
 mod members;
+mod methods;
 mod operands;
-mod padding;
+mod places;
 mod properties;
-mod reading;
 mod replacing;
 mod searching;
 mod splitting;
+mod testing;
+mod trimming;
 
-pub use arrays::read_index;
-pub use members::{call, present, read_description, read_length};
+pub use indexing::read_index;
+pub use members::{present, read_description, read_length};
+pub use methods::call;
 pub use properties::read_property;

@@ -8,7 +8,7 @@ ghost use Rattle.js_texts.specs.Use.{settling, made_words};
 ghost use Rattle.eval_values.specs.Conversions.{text_units, all_units, first_text_units};
 ghost use Rattle.eval_values.specs.Arguments.{first_of, second_of};
 ghost use Rattle.eval_members.specs.Replacing.{two_text_units, replace_call};
-ghost use Rattle.eval_members.specs.Members.{replaced_of, match_count};
+ghost use Rattle.eval_members.specs.Methods.{replaced_of, match_count};
 ghost use Rattle.js_item.specs.Seen.{seen};
 ghost use Rattle.js_item.specs.Fine.{IsFine};
 ghost use Rattle.eval_values.specs.Seen.{all_seen, AllFine};

@@ -1,5 +1,5 @@
 // Methods that look for one string in another.
-ghost use Rattle.eval_members.specs.Parts.{search_answer};
+ghost use Rattle.eval_members.specs.Parts.{place_number, search_answer};
 ghost use Rattle.std.specs.Prelude.{◌≡◌, ℕ, ◌+◌, ◌≤◌, length, IfOk, OnOk};
 ghost use Rattle.js_number.specs.Places.{IsLawful};
 ghost use Rattle.js_store.specs.State.{Grows, IsKnown, IsSettled, text};
@@ -11,8 +11,8 @@ ghost use Rattle.js_item.specs.Contents;
 ghost use Rattle.js_item.specs.Views.{content_of};
 ghost use Rattle.eval_values.specs.Conversions.{to_number, all_units, first_text_units};
 ghost use Rattle.eval_values.specs.Arguments.{first_of, second_of, end_in};
-ghost use Rattle.eval_members.specs.Searching.{place_number, search_call};
-ghost use Rattle.eval_members.specs.Members.{search_of};
+ghost use Rattle.eval_members.specs.Searching.{search_call};
+ghost use Rattle.eval_members.specs.Methods.{search_of};
 ghost use Rattle.eval_values.specs.Stops.{converted_of};
 ghost use Rattle.js_item.specs.Seen.{seen};
 ghost use Rattle.js_item.specs.Fine.{IsFine};
@@ -113,10 +113,12 @@ fn searched<S: Strings>(
         + wide_words (length (text (S.state store.old) (S.number w)))) }
 {
     match search {
-        Search::Includes => Ok(Value::Bool(js_methods::includes(store, s, w, n)?)),
-        Search::IndexOf => Ok(place_value(js_methods::index_of(store, s, w, n)?)),
-        Search::LastIndexOf => Ok(place_value(js_methods::last_index_of(store, s, w, n)?)),
-        Search::StartsWith => Ok(Value::Bool(js_methods::starts_with(store, s, w, n)?)),
+        Search::Includes => Ok(Value::Bool(js_methods::searching::includes(store, s, w, n)?)),
+        Search::IndexOf => Ok(place_value(js_methods::searching::index_of(store, s, w, n)?)),
+        Search::LastIndexOf => Ok(place_value(js_methods::searching::last_index_of(
+            store, s, w, n,
+        )?)),
+        Search::StartsWith => Ok(Value::Bool(js_methods::searching::starts_with(store, s, w, n)?)),
     }
 }
 
@@ -182,6 +184,6 @@ fn find_end<S: Strings>(
         (converted_of end)) }
 {
     let end = end?;
-    let ends = js_methods::ends_with(store, s, w, end)?;
+    let ends = js_methods::searching::ends_with(store, s, w, end)?;
     Ok(Value::Bool(ends))
 }

@@ -5,7 +5,8 @@ use Rattle.std.specs.Prelude.{OnOk, OnErr, Result, Ok, Err, is_some}
 use Rattle.std.proofs.lemmas.List.{map-append, reverse-append}
 use Rattle.eval_scopes.specs.declared.blocks.Blocks.{Blocks}
 use Rattle.eval_scopes.specs.declared.frames.Frame.{Frame as CodeFrame}
-use Rattle.eval_scopes.specs.Bindings.{Bound, BlockFrame, Bindings, bound_in, changed, is_among, inner_first, look, write, inside, declare}
+use Rattle.eval_scopes.specs.Bindings.{Bound, BlockFrame, Bindings, bound_in, changed, is_among, look, write, inside, declare}
+use Rattle.eval_scopes.specs.Blocks.{inner_first}
 use Rattle.eval_scopes.specs.Seen.{frame_of, frames_of, outsides_of, hollows, with_hollows, stacked, blocks_of}
 
 abbrev pub hollowed : {T : Type 0} → ℕ → Bindings T → Bindings T

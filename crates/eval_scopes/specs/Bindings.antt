@@ -1,7 +1,8 @@
 -- The scope: a list of blocks, the innermost first, over the top (ECMA-262, "Declarative Environment
 -- Records"). V is the type of the values.
-use Rattle.std.specs.Prelude.{ℕ, Bool, true, false, List, [], ◌∷◌, ◌++◌, Option, Some, None, is_some}
-use Rattle.std.specs.Prelude.{bytes_eq, if◌then◌else◌, drop}
+use Rattle.std.specs.Prelude.{ℕ, Bool, true, false, List, [], ◌∷◌, ◌++◌, Option, None, is_some}
+use Rattle.std.specs.Prelude.{bytes_eq, find, if◌then◌else◌, drop}
+use Rattle.std.specs.Option.{option_or}
 
 -- a name that was declared and evaluated, whether by `const`, and its value
 pub record Bound (V : Type 0) : Type 0 where
@@ -22,23 +23,17 @@ pub record Bindings (V : Type 0) : Type 0 where
 
 -- the first binding with this name, if there is one
 abbrev pub bound_in : {V : Type 0} → List (Bound V) → List ℕ → Option (Bound V)
-bound_in [] x = None
-bound_in (b ∷ bs) x = if bytes_eq b.name x then Some b else bound_in bs x
+bound_in bs x = find (λ b. bytes_eq b.name x) bs
 
 -- the name is one of these
 abbrev pub is_among : List (List ℕ) → List ℕ → Bool
 is_among [] x = false
 is_among (n ∷ ns) x = if bytes_eq n x then true else is_among ns x
 
--- what a block says of a name: its value, or that it has none yet, or what is said further out
-abbrev pub inner_first : {V : Type 0} → Option (Bound V) → Bool → Option (Bound V) → Option (Bound V)
-inner_first (Some b) declared outer = Some b
-inner_first None declared outer = if declared then None else outer
-
 -- the innermost block that declares a name has its value, if it was evaluated
 abbrev pub look : {V : Type 0} → List (BlockFrame V) → List (Bound V) → List ℕ → Option (Bound V)
 look [] top x = bound_in top x
-look (f ∷ fs) top x = inner_first (bound_in f.bound x) (is_among f.names x) (look fs top x)
+look (f ∷ fs) top x = option_or (bound_in f.bound x) (if is_among f.names x then None else look fs top x)
 
 -- what a name means ("ResolveBinding"); None where reading it is a ReferenceError
 abbrev pub meant : {V : Type 0} → Bindings V → List ℕ → Option (Bound V)
@@ -57,8 +52,7 @@ inside f bs = record { blocks = f ∷ bs.blocks; top = bs.top }
 -- bound
 abbrev pub write : {V : Type 0} → List (BlockFrame V) → List (Bound V) → List ℕ → V → Bindings V
 write [] top x v = record { blocks = []; top = changed top x v }
-write (f ∷ fs) top x v =
-    if is_some (bound_in f.bound x)
+write (f ∷ fs) top x v = if is_some (bound_in f.bound x)
     then record { blocks = record f { bound = changed f.bound x v } ∷ fs; top = top }
     else inside f (write fs top x v)
 

@@ -1,4 +1,5 @@
 pub mod Bindings
+pub mod Blocks
 pub mod Changes
 pub mod Seen
 pub mod Index

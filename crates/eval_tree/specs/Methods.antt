@@ -9,33 +9,35 @@ abbrev pub named : {A : Type 0} → List (List ℕ × A) → List ℕ → Option
 named [] letters = None
 named (row ∷ rows) letters = if bytes_eq letters row.0 then Some row.1 else named rows letters
 
--- the methods by their names: those that give or look at single units, that search, that cut, and that build
--- another string
+-- the methods by their names, those of one kind beside one another: places, searching, cutting, trimming,
+-- building, replacing, splitting, testing
 abbrev pub method_names : List (List ℕ × Method)
 method_names =
     (codes "at", method.At) ∷ (codes "charAt", method.CharAt) ∷ (codes "charCodeAt", method.CharCodeAt) ∷
-    (codes "codePointAt", method.CodePointAt) ∷ (codes "isWellFormed", method.IsWellFormed) ∷
-    (codes "toWellFormed", method.ToWellFormed) ∷ (codes "endsWith", method.EndsWith) ∷
-    (codes "includes", method.Includes) ∷ (codes "indexOf", method.IndexOf) ∷
-    (codes "lastIndexOf", method.LastIndexOf) ∷ (codes "startsWith", method.StartsWith) ∷
-    (codes "slice", method.Slice) ∷ (codes "split", method.Split) ∷ (codes "substr", method.Substr) ∷
-    (codes "substring", method.Substring) ∷ (codes "trim", method.Trim) ∷ (codes "trimEnd", method.TrimEnd) ∷
-    (codes "trimStart", method.TrimStart) ∷ (codes "concat", method.Concat) ∷ (codes "join", method.Join) ∷
-    (codes "padEnd", method.PadEnd) ∷ (codes "padStart", method.PadStart) ∷ (codes "repeat", method.Repeat) ∷
-    (codes "replace", method.Replace) ∷ (codes "replaceAll", method.ReplaceAll) ∷ []
+    (codes "codePointAt", method.CodePointAt) ∷
+    (codes "endsWith", method.EndsWith) ∷ (codes "includes", method.Includes) ∷
+    (codes "indexOf", method.IndexOf) ∷ (codes "lastIndexOf", method.LastIndexOf) ∷
+    (codes "startsWith", method.StartsWith) ∷
+    (codes "slice", method.Slice) ∷ (codes "substr", method.Substr) ∷ (codes "substring", method.Substring) ∷
+    (codes "trim", method.Trim) ∷ (codes "trimEnd", method.TrimEnd) ∷ (codes "trimStart", method.TrimStart) ∷
+    (codes "concat", method.Concat) ∷ (codes "padEnd", method.PadEnd) ∷ (codes "padStart", method.PadStart) ∷
+    (codes "repeat", method.Repeat) ∷ (codes "toWellFormed", method.ToWellFormed) ∷
+    (codes "replace", method.Replace) ∷ (codes "replaceAll", method.ReplaceAll) ∷
+    (codes "split", method.Split) ∷ (codes "join", method.Join) ∷
+    (codes "isWellFormed", method.IsWellFormed) ∷ []
 
 -- how many of n arguments a method uses at most
 abbrev pub most_taken : Method → ℕ → ℕ
 most_taken method.Concat n = n
-most_taken method.IsWellFormed n = 0
-most_taken method.ToWellFormed n = 0
 most_taken method.Trim n = 0
 most_taken method.TrimEnd n = 0
 most_taken method.TrimStart n = 0
+most_taken method.ToWellFormed n = 0
+most_taken method.IsWellFormed n = 0
 most_taken method.At n = 1
 most_taken method.CharAt n = 1
 most_taken method.CharCodeAt n = 1
 most_taken method.CodePointAt n = 1
-most_taken method.Join n = 1
 most_taken method.Repeat n = 1
+most_taken method.Join n = 1
 most_taken _ n = 2

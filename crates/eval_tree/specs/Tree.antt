@@ -21,11 +21,9 @@ mutual
     literal : (number : ℕ) → ExprTree
     number : (value : ℕ) → ExprTree
     variable : (name : List ℕ) → ExprTree
-    undefined : ExprTree
-    null : ExprTree
+    undefined null : ExprTree
     bool : (value : Bool) → ExprTree
-    nan : ExprTree
-    infinity : ExprTree
+    nan infinity : ExprTree
     unary : (at : ℕ) (minus : Bool) (of : ExprTree) → ExprTree
     chain : (first : ExprTree) (rest : Links) → ExprTree
     conditional : (test yes no : ExprTree) → ExprTree
@@ -41,8 +39,7 @@ mutual
   -- what follows an operand, from left to right: reads of properties, calls of methods, and indexes
   pub data StepList : Type 0 where
     no_steps : StepList
-    length_step : (rest : StepList) → StepList
-    description_step : (rest : StepList) → StepList
+    length_step description_step : (rest : StepList) → StepList
     call_step : (at : ℕ) (method : Method) (args : Exprs) (rest : StepList) → StepList
     index_step : (at : ℕ) (index : ExprTree) (rest : StepList) → StepList
     property_step : (at : ℕ) (key : List ℕ) (rest : StepList) → StepList
@@ -66,8 +63,7 @@ pub record LinkTree : Type 0 where
 -- a step as a plain value: a read of length or description, a call of a method, an index, or a read of
 -- another property
 pub data StepTree : Type 0 where
-  of_length : StepTree
-  of_description : StepTree
+  of_length of_description : StepTree
   of_call : (at : ℕ) (method : Method) (args : Exprs) → StepTree
   of_index : (at : ℕ) (index : ExprTree) → StepTree
   of_property : (at : ℕ) (key : List ℕ) → StepTree

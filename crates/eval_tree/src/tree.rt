@@ -182,31 +182,39 @@ pub enum Op {
 /// A method of `String.prototype`, or `join` of `Array.prototype`.
 #[derive(Clone, Copy, Debug, PartialEq, Eq)]
 pub enum Method {
+    // places
     At,
     CharAt,
     CharCodeAt,
     CodePointAt,
-    Concat,
+    // searching
     EndsWith,
     Includes,
     IndexOf,
-    IsWellFormed,
-    Join,
     LastIndexOf,
-    PadEnd,
-    PadStart,
-    Repeat,
-    Replace,
-    ReplaceAll,
-    Slice,
-    Split,
     StartsWith,
+    // cutting
+    Slice,
     Substr,
     Substring,
-    ToWellFormed,
+    // trimming
     Trim,
     TrimEnd,
     TrimStart,
+    // building
+    Concat,
+    PadEnd,
+    PadStart,
+    Repeat,
+    ToWellFormed,
+    // replacing
+    Replace,
+    ReplaceAll,
+    // splitting
+    Split,
+    Join,
+    // testing
+    IsWellFormed,
 }
 
 impl Method {
@@ -222,12 +230,8 @@ impl Method {
             Some(Method::CharCodeAt)
         } else if letters == b"codePointAt".as_slice() {
             Some(Method::CodePointAt)
-        } else if letters == b"isWellFormed".as_slice() {
-            Some(Method::IsWellFormed)
-        } else if letters == b"toWellFormed".as_slice() {
-            Some(Method::ToWellFormed)
         } else {
-            search_method(letters)
+            searching_method(letters)
         }
     }
 
@@ -237,25 +241,25 @@ impl Method {
     {
         match self {
             Method::Concat => count,
-            Method::IsWellFormed
-            | Method::ToWellFormed
-            | Method::Trim
+            Method::Trim
             | Method::TrimEnd
-            | Method::TrimStart => 0,
+            | Method::TrimStart
+            | Method::ToWellFormed
+            | Method::IsWellFormed => 0,
             Method::At
             | Method::CharAt
             | Method::CharCodeAt
             | Method::CodePointAt
-            | Method::Join
-            | Method::Repeat => 1,
+            | Method::Repeat
+            | Method::Join => 1,
             _ => 2,
         }
     }
 }
 
-// A method that searches, cuts or builds another string.
-fn search_method(letters: &[u8]) -> Option<Method>
-    ensures { result ≡ named (drop 6 method_names) letters.now }
+// A method that searches, or one of a kind behind these.
+fn searching_method(letters: &[u8]) -> Option<Method>
+    ensures { result ≡ named (drop 4 method_names) letters.now }
 {
     if letters == b"endsWith".as_slice() {
         Some(Method::EndsWith)
@@ -268,23 +272,30 @@ fn search_method(letters: &[u8]) -> Option<Method>
     } else if letters == b"startsWith".as_slice() {
         Some(Method::StartsWith)
     } else {
-        part_method(letters)
+        cutting_method(letters)
     }
 }
 
-// A method that cuts or builds another string.
-fn part_method(letters: &[u8]) -> Option<Method>
-    ensures { result ≡ named (drop 11 method_names) letters.now }
+// A method that cuts a part out, or one of a kind behind these.
+fn cutting_method(letters: &[u8]) -> Option<Method>
+    ensures { result ≡ named (drop 9 method_names) letters.now }
 {
     if letters == b"slice".as_slice() {
         Some(Method::Slice)
-    } else if letters == b"split".as_slice() {
-        Some(Method::Split)
     } else if letters == b"substr".as_slice() {
         Some(Method::Substr)
     } else if letters == b"substring".as_slice() {
         Some(Method::Substring)
-    } else if letters == b"trim".as_slice() {
+    } else {
+        trimming_method(letters)
+    }
+}
+
+// A method that trims white space, or one of a kind behind these.
+fn trimming_method(letters: &[u8]) -> Option<Method>
+    ensures { result ≡ named (drop 12 method_names) letters.now }
+{
+    if letters == b"trim".as_slice() {
         Some(Method::Trim)
     } else if letters == b"trimEnd".as_slice() {
         Some(Method::TrimEnd)
@@ -295,24 +306,57 @@ fn part_method(letters: &[u8]) -> Option<Method>
     }
 }
 
-// A method that builds another string.
+// A method that builds another string, or one of a kind behind these.
 fn building_method(letters: &[u8]) -> Option<Method>
-    ensures { result ≡ named (drop 18 method_names) letters.now }
+    ensures { result ≡ named (drop 15 method_names) letters.now }
 {
     if letters == b"concat".as_slice() {
         Some(Method::Concat)
-    } else if letters == b"join".as_slice() {
-        Some(Method::Join)
     } else if letters == b"padEnd".as_slice() {
         Some(Method::PadEnd)
     } else if letters == b"padStart".as_slice() {
         Some(Method::PadStart)
     } else if letters == b"repeat".as_slice() {
         Some(Method::Repeat)
-    } else if letters == b"replace".as_slice() {
+    } else if letters == b"toWellFormed".as_slice() {
+        Some(Method::ToWellFormed)
+    } else {
+        replacing_method(letters)
+    }
+}
+
+// A method that replaces matches, or one of a kind behind these.
+fn replacing_method(letters: &[u8]) -> Option<Method>
+    ensures { result ≡ named (drop 20 method_names) letters.now }
+{
+    if letters == b"replace".as_slice() {
         Some(Method::Replace)
     } else if letters == b"replaceAll".as_slice() {
         Some(Method::ReplaceAll)
+    } else {
+        splitting_method(letters)
+    }
+}
+
+// A method that splits, or joins, or one of a kind behind these.
+fn splitting_method(letters: &[u8]) -> Option<Method>
+    ensures { result ≡ named (drop 22 method_names) letters.now }
+{
+    if letters == b"split".as_slice() {
+        Some(Method::Split)
+    } else if letters == b"join".as_slice() {
+        Some(Method::Join)
+    } else {
+        testing_method(letters)
+    }
+}
+
+// A method that tests a string.
+fn testing_method(letters: &[u8]) -> Option<Method>
+    ensures { result ≡ named (drop 24 method_names) letters.now }
+{
+    if letters == b"isWellFormed".as_slice() {
+        Some(Method::IsWellFormed)
     } else {
         None
     }

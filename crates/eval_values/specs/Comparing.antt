@@ -55,8 +55,7 @@ order_primitives at v w =
 -- arrays and objects become strings before anything else, from left to right; what ends there has needed its
 -- conversions alone
 abbrev pub order_out : ℕ → ℕ → Val → Val → Out (Option Ordering)
-order_out at limit v w =
-    bind (primitive limit v) (λ x. bind (primitive limit w) (λ y. order_primitives at x y))
+order_out at limit v w = bind (primitive limit v) (λ x. bind (primitive limit w) (order_primitives at x))
 
 -- what each operator says of an order; all are false where one side is NaN
 abbrev pub is_less : Option Ordering → Bool

@@ -33,8 +33,7 @@ comma_joined us = joined_list (44 ∷ []) us
 -- the string of an array, unless it is longer than a string may be ("Array.prototype.toString"); where it
 -- throws, the elements count alone
 abbrev pub list_string : ℕ → List (List ℕ) → Out (List ℕ)
-list_string limit us =
-    if nat_le (length (comma_joined us)) limit
+list_string limit us = if nat_le (length (comma_joined us)) limit
     then gave (comma_joined us) (cost (parts (length us) (list_units us + length (comma_joined us))))
     else throwing (parts (length us) (list_units us)) RangeError
 
@@ -68,10 +67,9 @@ to_number at undefined = into NaN
 to_number at null = into (Int (pos 0))
 to_number at (bool b) = into (if b then Int (pos 1) else Int (pos 0))
 to_number at (number n) = into n
-to_number at (text u) = fails (unsupported at)
 to_number at (symbol k) = fails (threw TypeError)
-to_number at (list us) = fails (unsupported at)
 to_number at (object fs) = if own_to_string fs then fails (threw TypeError) else fails (unsupported at)
+to_number at _ = fails (unsupported at)
 
 abbrev pub number_truth : Num → Bool
 number_truth (Int (pos n)) = not (nat_eq n 0)

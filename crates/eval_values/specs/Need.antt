@@ -11,8 +11,7 @@ pub data Row : Type 0 where
   reads : ℕ → Row
   joins : Row
   parts : ℕ → ℕ → Row
-  repeats : ℕ → Row
-  pads : ℕ → Row
+  repeats pads : ℕ → Row
 
 -- no parts count as one
 abbrev pub some_parts : ℕ → ℕ

@@ -1,6 +1,7 @@
 -- Operators on values.
-use Rattle.std.specs.Prelude.{ℕ, ◌+◌, List, ◌++◌, length, Option, Some, None, nat_le, if◌then◌else◌, Bool}
+use Rattle.std.specs.Prelude.{ℕ, ◌+◌, List, ◌++◌, length, Option, nat_le, if◌then◌else◌, Bool}
 use Rattle.std.specs.Prelude.{true, false, not, ◌||◌}
+use Rattle.std.specs.Option.{option_map_or}
 use Rattle.js_number.specs.declared.Num.{Num}
 use Rattle.js_number.specs.Arith.{sum, difference, negative}
 use Rattle.eval_values.specs.declared.value.Kind.TheVariants.{RangeError}
@@ -13,8 +14,7 @@ use Rattle.eval_values.specs.Conversions.{to_string, to_number, to_boolean, is_t
 
 -- a number of the profile, or none, which ends the script at the operator
 abbrev pub in_profile : ℕ → Option Num → Out Val
-in_profile at None = refuses at
-in_profile at (Some n) = needing nothing (number n)
+in_profile at n = option_map_or (λ m. needing nothing (number m)) n (refuses at)
 
 -- the sum of two values that are no strings, of which the left one is converted first
 abbrev pub sum_in : ℕ → Val → Val → Out Val
@@ -35,14 +35,12 @@ difference_in at v w = converts nothing (paired (to_number at v) (to_number at w
 -- two strings joined, unless they are longer together than a string may be; where nothing is joined,
 -- it needs nothing
 abbrev pub concatenated : ℕ → List ℕ → List ℕ → Out Val
-concatenated limit u w =
-    if nat_le (length u + length w) limit then needing joins (text (u ++ w))
-    else throwing nothing RangeError
+concatenated limit u w = if nat_le (length u + length w) limit
+    then needing joins (text (u ++ w)) else throwing nothing RangeError
 
 -- two primitive values as strings, joined
 abbrev pub joined_strings : ℕ → Val → Val → Out Val
-joined_strings limit v w = bind (to_string limit v)
-    (λ u. bind (to_string limit w) (λ x. concatenated limit u x))
+joined_strings limit v w = bind (to_string limit v) (λ u. bind (to_string limit w) (concatenated limit u))
 
 -- the primitive value of a value: an array or an object becomes its string (ECMA-262, "ToPrimitive")
 abbrev pub primitive : ℕ → Val → Out Val
@@ -56,8 +54,7 @@ plus_primitives at limit v w = if is_text v || is_text w then joined_strings lim
 
 -- arrays and objects become strings before anything else; what ends early has needed its conversions alone
 abbrev pub plus : ℕ → ℕ → Val → Val → Out Val
-plus at limit v w =
-    bind (primitive limit v) (λ x. bind (primitive limit w) (λ y. plus_primitives at limit x y))
+plus at limit v w = bind (primitive limit v) (λ x. bind (primitive limit w) (plus_primitives at limit x))
 
 -- unary minus, or else `!`
 abbrev pub unary_out : Bool → ℕ → Val → Out Val

@@ -6,8 +6,5 @@ use Rattle.js_header.specs.declared.form.Form.TheVariants.{Unborn, Flat, Cons, S
 -- the form was seen, and is no Cons
 abbrev pub is_settled : Option Form → Bool
 is_settled None = false
-is_settled (Some Unborn) = true
-is_settled (Some (Flat wide start fixed)) = true
 is_settled (Some (Cons wide left right)) = false
-is_settled (Some (Sliced wide parent offset)) = true
-is_settled (Some (Thin target)) = true
+is_settled (Some _) = true

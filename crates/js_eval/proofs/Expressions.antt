@@ -26,7 +26,7 @@ use Rattle.js_item.specs.Views.{content_of}
 use Rattle.eval_values.specs.Operators.{unary_out}
 use Rattle.eval_values.specs.Conversions.{to_boolean}
 use Rattle.eval_members.specs.Members.{present, called}
-use Rattle.eval_members.specs.Arrays.{indexed}
+use Rattle.eval_members.specs.Indexing.{indexed}
 use Rattle.eval_builtins.specs.Builtins.{built}
 use Rattle.js_eval.specs.Expression.{EvalContext, decides, operated, read_out, expr_out, links_out, link_out, steps_out, step_out, call_out, index_out, exprs_out}
 use Rattle.js_item.specs.Fine.{IsFine}

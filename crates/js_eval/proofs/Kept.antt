@@ -5,7 +5,8 @@ use Rattle.js_store.specs.State.{State}
 use Rattle.js_texts.specs.Texts.{Every}
 use Rattle.js_item.specs.declared.item.Item.{Item}
 use Rattle.js_item.specs.Fine.{IsFine}
-use Rattle.eval_scopes.specs.Bindings.{Bound, BlockFrame, Bindings, bound_in, is_among, inner_first, look, meant, changed, inside, write, written, declare, declared, entered, turned, outer}
+use Rattle.eval_scopes.specs.Bindings.{Bound, BlockFrame, Bindings, bound_in, is_among, look, meant, changed, inside, write, written, declare, declared, entered, turned, outer}
+use Rattle.eval_scopes.specs.Blocks.{inner_first}
 use Rattle.js_eval.specs.Seen.{BoundsFine, BindingsFine}
 
 module _ {F R : Type 0} (s : State F) (name : R → ℕ) where

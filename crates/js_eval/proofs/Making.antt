@@ -25,7 +25,8 @@ use Rattle.eval_values.specs.Does.{GivesValue}
 use Rattle.eval_values.proofs.Compose.{did_bind, did_stop, ran_free, ran_of_step, cut_of_memory}
 use Rattle.js_eval.specs.declared.context.Context.{Context}
 use Rattle.js_eval.specs.Seen.{ContextFine, scope_of}
-use Rattle.js_eval.specs.Initializers.{with_property, object_out}
+use Rattle.js_eval.specs.Initializers.{object_out}
+use Rattle.js_eval.specs.Properties.{with_property}
 use Rattle.js_eval.specs.Expression.{EvalContext, expr_out}
 use Rattle.js_eval.specs.Paid.{key_paid, entry_paid, entries_paid, GivesKey, Makes}
 use Rattle.js_eval.proofs.Stays.{scope_still}

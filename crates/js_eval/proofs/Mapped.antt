@@ -2,7 +2,8 @@
 use Rattle.eval_scopes.specs.Changes.{with_value, with_bound}
 use Rattle.std.proofs.Common.{◌≡◌, ℕ, List, [], ◌∷◌, map, refl, ap, sym, Bool, true, false, Option, Some, None, option_map, is_some, bytes_eq, if◌then◌else◌}
 use Rattle.std.proofs.lemmas.List.{map-append}
-use Rattle.eval_scopes.specs.Bindings.{Bound, BlockFrame, Bindings, bound_in, is_among, inner_first, look, meant, changed, inside, write, written, declare, declared, entered, turned, outer}
+use Rattle.eval_scopes.specs.Bindings.{Bound, BlockFrame, Bindings, bound_in, is_among, look, meant, changed, inside, write, written, declare, declared, entered, turned, outer}
+use Rattle.eval_scopes.specs.Blocks.{inner_first}
 
 abbrev pub bound_by : {T V : Type 0} → (T → V) → Bound T → Bound V
 bound_by see b = record { name = b.name; constant = b.constant; value = see b.value }

@@ -14,7 +14,8 @@ use Rattle.eval_values.specs.Outcome.{Ledger, Out, gave, ended, threw, unsupport
 use Rattle.eval_values.specs.Ran.{InternsLists, InternsSome, MeetsLedger, EndsInPart, ComesTo}
 use Rattle.eval_values.proofs.Needs.{some_most}
 use Rattle.eval_values.proofs.Each.{bind_same}
-use Rattle.js_eval.specs.Initializers.{members_in, key_units, literal_cost, key_interned, with_property, object_out}
+use Rattle.js_eval.specs.Initializers.{members_in, key_units, object_out}
+use Rattle.js_eval.specs.Properties.{key_interned, literal_cost, with_property}
 use Rattle.js_eval.specs.Expression.{EvalContext, expr_out, entries_out}
 use Rattle.js_eval.specs.Paid.{key_paid, entry_paid, entries_paid}
 

@@ -12,7 +12,8 @@ use Rattle.eval_scopes.specs.Bindings.{Bound, Bindings}
 use Rattle.eval_scopes.specs.Seen.{bindings_of}
 use Rattle.js_eval.specs.declared.context.Context.{Context}
 use Rattle.js_eval.specs.Expression.{EvalContext}
-use Rattle.js_eval.specs.Script.{literal_out, with_top, stmts_flow, meaning}
+use Rattle.js_eval.specs.Script.{with_top, stmts_flow, meaning}
+use Rattle.js_eval.specs.Pieces.{literal_out}
 use Rattle.js_eval.specs.Seen.{BoundsFine, bounds_seen, bindings_seen, scope_of}
 use Rattle.js_eval.specs.Flows.{FollowsFlow, WentTop}
 use Rattle.js_eval.proofs.Stays.{bounds_still}

@@ -1,6 +1,8 @@
 -- What an expression means in a scope, by recursion over its tree.
-use Rattle.std.specs.Prelude.{ℕ, List, [], ◌∷◌, slice_get, Bool, false, not, if◌then◌else◌, Option, Some}
-use Rattle.std.specs.Prelude.{None}
+use Rattle.std.specs.Prelude.{ℕ, List, [], ◌∷◌, slice_get, Bool, false, not, if◌then◌else◌, Option}
+use Rattle.std.specs.Option.{option_map_or}
+use Rattle.std.specs.Str.{bytes_eq}
+use Rattle.js_item.specs.Puts.{put_by}
 use Rattle.js_number.specs.declared.Num.TheVariants.{NaN, PosInf}
 use Rattle.eval_tree.specs.declared.tree.Op.{Op}
 use Rattle.eval_tree.specs.declared.tree.Op.TheVariants.{Or, And, Same, NotSame, Less, Greater, LessEq}
@@ -16,17 +18,17 @@ use Rattle.eval_values.specs.declared.value.Kind.TheVariants.{ReferenceError}
 use Rattle.js_item.specs.Seen.{Val}
 use Rattle.js_item.specs.Contents.{Fields, no_fields, undefined, null, bool, number}
 use Rattle.eval_values.specs.Outcome.{Out, gave, after_ledger, bind, mapped, free, number_of, needing}
-use Rattle.eval_values.specs.Outcome.{throwing}
-use Rattle.eval_values.specs.Need.{nothing}
+use Rattle.eval_values.specs.Outcome.{throwing, cost}
+use Rattle.eval_values.specs.Need.{nothing, parts}
 use Rattle.eval_values.specs.Conversions.{to_boolean}
 use Rattle.eval_values.specs.Operators.{plus, difference_in, unary_out}
 use Rattle.eval_values.specs.Comparing.{same_out, order_out, is_less, is_greater, is_at_most, is_at_least}
-use Rattle.eval_members.specs.Reading.{maybe_text}
+use Rattle.eval_members.specs.Places.{maybe_text}
 use Rattle.eval_members.specs.Members.{length_property, description_of, present, called}
-use Rattle.eval_members.specs.Arrays.{indexed}
+use Rattle.eval_members.specs.Indexing.{indexed}
 use Rattle.eval_members.specs.Properties.{property_of}
 use Rattle.eval_builtins.specs.Builtins.{built}
-use Rattle.js_eval.specs.Initializers.{literal_cost, key_interned, with_property, object_out}
+use Rattle.js_eval.specs.Initializers.{members_in, key_units, interned_out, object_out}
 
 -- the literals, what names mean, and the greatest length of a string
 pub record EvalContext : Type 0 where
@@ -36,8 +38,7 @@ pub record EvalContext : Type 0 where
 
 -- reading what a name means ("GetBindingValue")
 abbrev pub read_out : Option (Bound Val) → Out Val
-read_out (Some b) = needing nothing b.value
-read_out None = throwing nothing ReferenceError
+read_out found = option_map_or (λ b. needing nothing b.value) found (throwing nothing ReferenceError)
 
 -- whether the left side of an operator is its value, so that the right side isn't evaluated ("Binary Logical
 -- Operators")
@@ -50,10 +51,8 @@ decides _ v = false
 abbrev pub truth_of : {A : Type 0} → (A → Bool) → Out A → Out Val
 truth_of holds o = bind o (λ x. gave (bool (holds x)) free)
 
--- an operator on the values of both sides
+-- an operator on the values of both sides; `||` and `&&` give the right one, where it is evaluated
 abbrev pub operated : Op → ℕ → ℕ → Val → Val → Out Val
-operated Or at limit v w = gave w free
-operated And at limit v w = gave w free
 operated Same at limit v w = truth_of (λ b. b) (same_out at v w)
 operated NotSame at limit v w = truth_of not (same_out at v w)
 operated Less at limit v w = truth_of is_less (order_out at limit v w)
@@ -62,6 +61,7 @@ operated LessEq at limit v w = truth_of is_at_most (order_out at limit v w)
 operated GreaterEq at limit v w = truth_of is_at_least (order_out at limit v w)
 operated Plus at limit v w = plus at limit v w
 operated Minus at limit v w = difference_in at v w
+operated _ at limit v w = gave w free
 
 abbrev mutual
   -- what an expression comes to in a scope ("Evaluation" of "Expression"): its value or its end, with what it
@@ -81,24 +81,23 @@ abbrev mutual
       bind (expr_out test s) (λ v. if to_boolean v then expr_out first s else expr_out second s)
   expr_out (tree.post of steps) s = bind (expr_out of s) (λ v. steps_out steps s v)
   expr_out (tree.builtin at which args) s = bind (exprs_out args s) (λ vs. built which at s.limit vs)
-  expr_out (tree.object at members) s =
-      after_ledger (literal_cost members) (bind (entries_out members s no_fields) (λ fs. object_out at fs))
+  -- an object literal needs something for its members, beside their values
+  expr_out (tree.object at members) s = after_ledger (cost (parts (members_in members) (key_units members)))
+      (bind (entries_out members s no_fields) (λ fs. object_out at fs))
 
   -- the links of a chain, from the value on their left
   pub links_out : Links → EvalContext → Val → Out Val
   links_out no_links s v = gave v free
-  links_out (link at op right rest) s v =
-      bind (if decides op v then gave v free else bind (expr_out right s) (λ w. operated op at s.limit v w))
-      (λ x. links_out rest s x)
+  links_out (link at op right rest) s v = bind (if decides op v then gave v free
+      else bind (expr_out right s) (λ w. operated op at s.limit v w)) (λ x. links_out rest s x)
 
   -- the steps behind a value
   pub steps_out : StepList → EvalContext → Val → Out Val
   steps_out no_steps s v = gave v free
   steps_out (length_step rest) s v = bind (length_property v) (λ x. steps_out rest s x)
   steps_out (description_step rest) s v = bind (description_of v) (λ x. steps_out rest s x)
-  steps_out (call_step at method args rest) s v =
-      bind (bind (present v) (λ _. bind (exprs_out args s) (λ ws. called method at s.limit v ws)))
-      (λ x. steps_out rest s x)
+  steps_out (call_step at method args rest) s v = bind (bind (present v)
+      (λ _. bind (exprs_out args s) (λ ws. called method at s.limit v ws))) (λ x. steps_out rest s x)
   steps_out (index_step at index rest) s v =
       bind (bind (expr_out index s) (λ i. indexed at s.limit v i)) (λ x. steps_out rest s x)
   steps_out (property_step at key rest) s v = bind (property_of at s.limit key v) (λ x. steps_out rest s x)
@@ -107,9 +106,8 @@ abbrev mutual
   -- ("PropertyDefinitionEvaluation")
   pub entries_out : Entries → EvalContext → Fields (List ℕ) → Out (Fields (List ℕ))
   entries_out no_entries s fs = gave fs free
-  entries_out (entry key value rest) s fs =
-      bind (key_interned s.limit key)
-      (λ k. bind (expr_out value s) (λ v. entries_out rest s (with_property k v fs)))
+  entries_out (entry key value rest) s fs = bind (interned_out s.limit nothing key)
+      (λ k. bind (expr_out value s) (λ v. entries_out rest s (put_by (λ name. bytes_eq name k) k v fs)))
 
   -- expressions from left to right
   pub exprs_out : Exprs → EvalContext → Out (List Val)

@@ -1,13 +1,12 @@
 -- Object literals (ECMA-262, "Object Initializer").
-use Rattle.std.specs.Prelude.{ℕ, suc, ◌+◌, List, length, nat_le, ◌&&◌, if◌then◌else◌, bytes_eq}
+use Rattle.std.specs.Prelude.{ℕ, suc, ◌+◌, List, length, nat_le, ◌&&◌, if◌then◌else◌}
 use Rattle.eval_tree.specs.Tree.{Entries, no_entries, entry}
 use Rattle.js_item.specs.Contents.{Fields, object, count}
 use Rattle.js_item.specs.Fine.{depth}
-use Rattle.js_item.specs.Puts.{put_by}
 use Rattle.js_item.specs.Seen.{Val}
 use Rattle.eval_values.specs.declared.value.Kind.TheVariants.{RangeError}
-use Rattle.eval_values.specs.Outcome.{Ledger, Out, gave, free, cost, refuses, interning, throwing}
-use Rattle.eval_values.specs.Need.{parts, nothing}
+use Rattle.eval_values.specs.Outcome.{Out, gave, free, refuses, interning, throwing}
+use Rattle.eval_values.specs.Need.{Row, nothing}
 
 -- how many members a literal has, and the units of its keys
 abbrev pub members_in : Entries → ℕ
@@ -19,19 +18,10 @@ abbrev pub key_units : Entries → ℕ
 key_units no_entries = 0
 key_units (entry key value rest) = length key + key_units rest
 
--- what a literal needs, beside its values
-abbrev pub literal_cost : Entries → Ledger
-literal_cost members = cost (parts (members_in members) (key_units members))
-
--- a key is interned, unless it is longer than a string may be
-abbrev pub key_interned : ℕ → List ℕ → Out (List ℕ)
-key_interned limit key =
-    if nat_le (length key) limit then gave key (interning nothing key) else throwing nothing RangeError
-
--- a property of the object gets a value, in its place where there is one of this key
--- ("CreateDataPropertyOrThrow")
-abbrev pub with_property : List ℕ → Val → Fields (List ℕ) → Fields (List ℕ)
-with_property key value fs = put_by (λ k. bytes_eq k key) key value fs
+-- a literal or a key is interned, unless it is longer than a string may be
+abbrev pub interned_out : ℕ → Row → List ℕ → Out (List ℕ)
+interned_out limit row u =
+    if nat_le (length u) limit then gave u (interning row u) else throwing nothing RangeError
 
 -- the object, where it is nested at most 200 deep and has at most 65,536 members in all its levels
 abbrev pub object_out : ℕ → Fields (List ℕ) → Out Val

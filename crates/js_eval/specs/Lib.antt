@@ -1,4 +1,5 @@
 pub mod Initializers
+pub mod Properties
 pub mod Expression
 pub mod Paid
 pub mod Script

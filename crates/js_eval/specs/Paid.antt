@@ -12,7 +12,7 @@ use Rattle.eval_values.specs.declared.value.Kind.TheVariants.{RangeError}
 use Rattle.eval_values.specs.declared.value.Stop.{Stop}
 use Rattle.eval_values.specs.Outcome.{Out, gave, ended, threw, free, bind}
 use Rattle.eval_values.specs.Ran.{ComesTo}
-use Rattle.js_eval.specs.Initializers.{with_property}
+use Rattle.js_eval.specs.Properties.{with_property}
 use Rattle.js_eval.specs.Expression.{EvalContext, expr_out}
 
 abbrev pub key_paid : ℕ → List ℕ → Out (List ℕ)

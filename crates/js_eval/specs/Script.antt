@@ -1,7 +1,7 @@
 -- What statements and a script mean: how they end, the lines that they print, and the bindings that they
 -- leave.
 use Rattle.std.specs.Option.{option_map_or}
-use Rattle.std.specs.Prelude.{ℕ, zero, suc, ◌+◌, Bool, true, false, List, [], ◌∷◌, ◌++◌, length, nat_le}
+use Rattle.std.specs.Prelude.{ℕ, zero, suc, ◌+◌, Bool, true, false, List, [], ◌∷◌, ◌++◌, length}
 use Rattle.std.specs.Prelude.{if◌then◌else◌, Option, Some, None, pos}
 use Rattle.js_number.specs.declared.Num.TheVariants.{Int}
 use Rattle.js_json.specs.Printing.{line}
@@ -10,14 +10,15 @@ use Rattle.eval_tree.specs.Tree.{StmtTree, block, let_line, const_line, assign, 
 use Rattle.eval_tree.specs.Tree.{for_line, Stmts, no_stmts, stmt, BlockTree, block_of, Arms, no_arms, arm}
 use Rattle.eval_tree.specs.Tree.{Tree}
 use Rattle.eval_scopes.specs.Bindings.{Bound, Bindings, meant, written, declared, entered, turned, outer}
-use Rattle.eval_values.specs.declared.value.Kind.TheVariants.{RangeError, TypeError, ReferenceError}
+use Rattle.eval_values.specs.declared.value.Kind.TheVariants.{TypeError, ReferenceError}
 use Rattle.js_item.specs.Seen.{Val}
 use Rattle.js_item.specs.Contents.{undefined, number}
 use Rattle.eval_values.specs.Outcome.{Out, gave, ended, threw, after_ledger, bind, converting, each, free}
-use Rattle.eval_values.specs.Outcome.{cost, ledger_of, interning, throwing, Ledger}
-use Rattle.eval_values.specs.Need.{reads, parts, nothing}
+use Rattle.eval_values.specs.Outcome.{cost, ledger_of, Ledger}
+use Rattle.eval_values.specs.Need.{reads, parts}
 use Rattle.eval_values.specs.Conversions.{to_string, to_boolean, string_units, text_units, all_units}
 use Rattle.eval_values.specs.Conversions.{sum_over}
+use Rattle.js_eval.specs.Initializers.{interned_out}
 use Rattle.js_eval.specs.Expression.{EvalContext, read_out, operated, expr_out, exprs_out}
 
 -- what statements come to: how they end and what they need, the lines that they print, and the bindings that
@@ -93,24 +94,21 @@ abbrev mutual
   -- what a statement comes to in a scope ("Evaluation" of "StatementListItem")
   pub stmt_flow : StmtTree → EvalContext → Flow
   stmt_flow (block b) s = block_flow b s
-  stmt_flow (let_line at x init) s =
-      on_value (option_map_or (λ e. expr_out e s) init (gave undefined free)) s.bindings
-      (λ v. declares x false s v)
+  stmt_flow (let_line at x init) s = on_value (option_map_or (λ e. expr_out e s) init (gave undefined free))
+      s.bindings (λ v. declares x false s v)
   stmt_flow (const_line at x e) s = on_value (expr_out e s) s.bindings (λ v. declares x true s v)
   stmt_flow (assign at x e) s =
       on_value (expr_out e s) s.bindings (λ v. assigned (meant s.bindings x) x v s.bindings)
   -- `x += e`: what the name means is read first
-  stmt_flow (append at name_at x e) s =
-      on_value
+  stmt_flow (append at name_at x e) s = on_value
       (bind (read_out (meant s.bindings x)) (λ v. bind (expr_out e s) (λ w. operated Plus at s.limit v w)))
       s.bindings (λ v. assigned (meant s.bindings x) x v s.bindings)
   -- the arguments are evaluated from left to right
   stmt_flow (print args) s = on_value (bind (exprs_out args s) (λ vs. line_out s.limit vs)) s.bindings
       (λ l. record { out = gave tt free; lines = l ∷ []; bindings = s.bindings })
   stmt_flow (if_line arms rest) s = arms_flow arms (λ q. block_flow rest q) s
-  stmt_flow (for_line x n b) s =
-      turns (λ i cs. left (block_flow b (with_bindings s (turned x (number (Int (pos i))) cs))))
-      0 n s.bindings
+  stmt_flow (for_line x n b) s = turns
+      (λ i cs. left (block_flow b (with_bindings s (turned x (number (Int (pos i))) cs)))) 0 n s.bindings
 
   -- statements one after another, each in the bindings that those before it left
   pub stmts_flow : Stmts → EvalContext → Flow
@@ -131,19 +129,14 @@ abbrev mutual
 abbrev pub turn_flow : List ℕ → BlockTree → EvalContext → ℕ → Bindings Val → Flow
 turn_flow x b s i bs = left (block_flow b (with_bindings s (turned x (number (Int (pos i))) bs)))
 
--- a literal is interned; no source text spells one past the limit
-abbrev pub literal_out : ℕ → List ℕ → Out (List ℕ)
-literal_out limit u =
-    if nat_le (length u) limit then gave u (interning (reads (length u)) u) else throwing nothing RangeError
-
--- the literals first, and then what has them; the bindings are those of the top
+-- the bindings of the top
 abbrev pub with_top : List (Bound Val) → Bindings Val
 with_top top = record { blocks = []; top = top }
 
 -- the meaning of a script that begins with these bindings of the top, where strings have at most `limit`
--- units
+-- units: its literals are interned first (no source text spells one past the limit)
 abbrev pub meaning : Tree → List (Bound Val) → ℕ → Flow
-meaning t top limit = on_value (each (literal_out limit) t.literals) (with_top top)
+meaning t top limit = on_value (each (λ u. interned_out limit (reads (length u)) u) t.literals) (with_top top)
     (λ ls. stmts_flow t.body (record { literals = ls; bindings = with_top top; limit = limit }))
 
 -- what a meaning interns, in order; the strings that its expressions gave; and what it needs of a store at

@@ -2,9 +2,9 @@
 ghost use Rattle.std.specs.Prelude.{◌≡◌, [], slice_get, IfOk};
 ghost use Rattle.js_store.specs.State.{Grows, IsKnown};
 ghost use Rattle.eval_values.specs.Outcome.{each};
-ghost use Rattle.eval_members.specs.Reading.{maybe_text};
+ghost use Rattle.eval_members.specs.Places.{maybe_text};
 ghost use Rattle.js_texts.specs.Texts.{AllKnown};
-ghost use Rattle.js_eval.specs.Script.{literal_out};
+ghost use Rattle.js_eval.specs.Pieces.{literal_out};
 ghost use Rattle.js_item.specs.Seen.{seen};
 ghost use Rattle.js_item.specs.Fine.{IsFine};
 ghost use Rattle.js_eval.specs.Seen.{ContextFine, scope_of};

@@ -5,7 +5,8 @@ ghost use Rattle.js_item.specs.Fine.{IsFine, KeyFine, FineFields, strings_of};
 ghost use Rattle.js_item.specs.Seen.{seen, says, fields_mapped};
 ghost use Rattle.eval_values.specs.Outcome.{gave, free};
 ghost use Rattle.eval_values.specs.Does.{GivesValue};
-ghost use Rattle.js_eval.specs.Initializers.{with_property, object_out};
+ghost use Rattle.js_eval.specs.Initializers.{object_out};
+ghost use Rattle.js_eval.specs.Properties.{with_property};
 ghost use Rattle.js_eval.specs.Seen.{ContextFine};
 ghost use Rattle.js_eval.specs.Paid.{key_paid, GivesKey, Makes};
 

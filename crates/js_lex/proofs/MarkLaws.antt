@@ -4,7 +4,8 @@ use Rattle.js_lex.specs.declared.token.Mark.{Mark}
 use Rattle.js_lex.specs.declared.token.Mark.TheVariants.{StrictEqual, StrictUnequal, AtMost, AtLeast, And, Or, AddAssign, Increment, Decrement, OpenBrace}
 use Rattle.js_lex.specs.declared.token.Mark.TheVariants.{CloseBrace, OpenParen, CloseParen, OpenBracket, CloseBracket, Point, Semicolon, Comma, Less, Greater}
 use Rattle.js_lex.specs.declared.token.Mark.TheVariants.{Plus, Minus, Not, Question, Colon, Assign}
-use Rattle.js_lex.specs.Marks.{spelling, IsLongest, HasNoMark}
+use Rattle.js_lex.specs.Marks.{spelling, IsLongest}
+use Rattle.js_lex.specs.MarkReader.{HasNoMark}
 use Rattle.js_lex.specs.MarkReader.{mark_front}
 use Rattle.js_lex.proofs.LongestMark.{no_longer, none_stands}
 use Rattle.js_lex.proofs.SpelledMark.{stands}

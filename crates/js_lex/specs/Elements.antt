@@ -1,6 +1,6 @@
 -- Blanks, comments and identifiers, on characters (ECMA-262, "White Space", "Line Terminators", "Comments",
 -- "Names and Keywords").
-use Rattle.std.specs.Prelude.{ℕ, List, [], ◌∷◌, Bool, Option, Some, None, ◌==◌, ◌&&◌, ◌||◌, if◌then◌else◌}
+use Rattle.std.specs.Prelude.{ℕ, List, ◌∷◌, Bool, Option, Some, None, ◌==◌, ◌&&◌, ◌||◌, if◌then◌else◌}
 use Rattle.js_literal.specs.Literal.{is_digit}
 use Rattle.js_literal.specs.Number.{is_word_start}
 
@@ -14,6 +14,5 @@ is_word_part c = is_word_start c || is_digit c
 
 -- what follows the next */
 abbrev pub after_block : List ℕ → Option (List ℕ)
-after_block [] = None
-after_block (a ∷ []) = None
 after_block (a ∷ b ∷ s) = if a == 42 && b == 47 then Some s else after_block (b ∷ s)
+after_block _ = None

@@ -1,7 +1,8 @@
 -- Helpers: no public contract reaches these definitions.
 -- How the code finds the longest mark, for the contracts of private functions.
 use Rattle.std.specs.Prelude.{ℕ, List, [], ◌∷◌, Option, Some, None, ◌==◌, Bool, ◌&&◌, ◌||◌, if◌then◌else◌}
-use Rattle.std.specs.Prelude.{option_map}
+use Rattle.std.specs.Prelude.{option_map, ◌≡◌, ◌++◌}
+use Rattle.js_lex.specs.Marks.{spelling}
 use Rattle.std.specs.Str.{chars}
 use Rattle.js_lex.specs.declared.token.Mark.{Mark}
 use Rattle.js_lex.specs.declared.token.Mark.TheVariants.{StrictEqual, StrictUnequal, AtMost, AtLeast, And}
@@ -67,3 +68,7 @@ mark_front s = or_else (three_front s) (or_else (two_front s) (one_front s))
 
 abbrev pub taken : Mark → List ℕ → Mark × List ℕ
 taken m text = (m, chars text)
+
+-- no mark is in front
+abbrev pub HasNoMark : List ℕ → Type 0
+HasNoMark s = (m : Mark) (rest : List ℕ) → s ≡ spelling m ++ rest → ⊥

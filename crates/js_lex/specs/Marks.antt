@@ -42,7 +42,3 @@ pub record IsLongest (s : List ℕ) (m : Mark) (rest : List ℕ) : Type 0 where
   pub stands : s ≡ spelling m ++ rest
   pub longest : (n : Mark) (other : List ℕ) → s ≡ spelling n ++ other
       → length (spelling n) ≤ length (spelling m)
-
--- no mark is in front
-abbrev pub HasNoMark : List ℕ → Type 0
-HasNoMark s = (m : Mark) (rest : List ℕ) → s ≡ spelling m ++ rest → ⊥

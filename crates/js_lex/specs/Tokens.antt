@@ -1,6 +1,7 @@
 -- The tokens of a text and its first lexical fault (ECMA-262, "Lexical Grammar": from the left, each element
 -- as long as possible).
-use Rattle.std.specs.Prelude.{◌≡◌, ℕ, List, [], ◌∷◌, true, false, Some, None, ◌==◌, ◌&&◌, ◌||◌, not, IsUtf8}
+use Rattle.std.specs.Prelude.{◌≡◌, ℕ, List, [], ◌∷◌, ◌++◌, true, false, Some, None, ◌==◌, ◌&&◌, ◌||◌, not}
+use Rattle.std.specs.Prelude.{IsUtf8}
 use Rattle.std.specs.Str.Lossy.{utf8_valid_len}
 use Rattle.js_literal.specs.Place.{StandsAt}
 use Rattle.js_literal.specs.Literal.{is_quote, begins_with, LiteralOf, LiteralFaultOf}
@@ -8,7 +9,7 @@ use Rattle.js_literal.specs.Number.{is_word_start, begins_number, after_run, Num
 use Rattle.js_literal.specs.declared.fault.LiteralFault.{LiteralFault}
 use Rattle.js_literal.specs.declared.fault.NumberFault.{NumberFault}
 use Rattle.js_lex.specs.Elements.{is_line_end, is_word_part, after_block}
-use Rattle.js_lex.specs.Marks.{IsLongest, HasNoMark}
+use Rattle.js_lex.specs.Marks.{spelling, IsLongest}
 use Rattle.js_lex.specs.declared.token.Mark.{Mark}
 use Rattle.js_lex.specs.declared.token.Token.{Token}
 use Rattle.js_lex.specs.declared.token.TokenKind.{TokenKind}
@@ -26,9 +27,9 @@ pub data Element : Type 0 where
 
 -- neither a blank, nor a comment, nor what a token begins with
 abbrev pub IsBad : ℕ → List ℕ → Type 0
-IsBad c s =
-    (is_blank c ≡ false) × (is_word_start c ≡ false) × (is_quote c ≡ false) × (begins_number (c ∷ s) ≡ false)
-    × ((c == 47 && begins_with (λ d. d == 47 || d == 42) s) ≡ false) × HasNoMark (c ∷ s)
+IsBad c s = (is_blank c ≡ false) × (is_word_start c ≡ false) × (is_quote c ≡ false)
+    × (begins_number (c ∷ s) ≡ false) × ((c == 47 && begins_with (λ d. d == 47 || d == 42) s) ≡ false)
+    × ((m : Mark) (rest : List ℕ) → c ∷ s ≡ spelling m ++ rest → ⊥)
 
 -- what is at byte at of the text ("InputElementDiv", and the faults)
 pub data ElementAt (text : List ℕ) (at : ℕ) : Element → Type 0 where

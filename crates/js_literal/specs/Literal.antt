@@ -18,8 +18,7 @@ is_digit c = nat_le 48 c && nat_le c 57
 
 -- the value of a hexadecimal digit
 abbrev pub hex_value : ℕ → Option ℕ
-hex_value c = if is_digit c then Some (c - 48) else
-    (if nat_le 65 c && nat_le c 70 then Some (c - 55) else
+hex_value c = if is_digit c then Some (c - 48) else (if nat_le 65 c && nat_le c 70 then Some (c - 55) else
     (if nat_le 97 c && nat_le c 102 then Some (c - 87) else None))
 
 -- the value of hexadecimal digits that follow a number with the value v
@@ -94,8 +93,7 @@ pub data BreaksLiteral (q : ℕ) : List ℕ → StringFaultKind → Type 0 where
   -- x or u, and neither a row of the table nor too large
   bad : (c : ℕ) (rest : List ℕ) → (c == 120 || c == 117) ≡ true
       → ((us after : List ℕ) → LiteralPiece q (92 ∷ c ∷ rest) us after → ⊥)
-      → (IsCodePointTooLarge (c ∷ rest) → ⊥)
-      → BreaksLiteral q (92 ∷ c ∷ rest) BadEscape
+      → (IsCodePointTooLarge (c ∷ rest) → ⊥) → BreaksLiteral q (92 ∷ c ∷ rest) BadEscape
 
 -- the first fault, and what is left where it shows
 pub data IsBroken (q : ℕ) : List ℕ → StringFaultKind → List ℕ → Type 0 where

@@ -1,6 +1,7 @@
 -- Number literals, on characters: decimal integers without a leading zero, up to 2^53 - 1 (ECMA-262, "Numeric
 -- Literals", "DecimalIntegerLiteral"). Every other form of the standard is refused, by the first rule that
 -- applies.
+use Rattle.std.specs.Prelude.{fold}
 use Rattle.std.specs.Prelude.{◌≡◌, ℕ, ◌+◌, ◌-◌, ◌*◌, ◌<◌, List, [], ◌∷◌, Bool, true, false, nat_lt, nat_le}
 use Rattle.std.specs.Prelude.{◌==◌, ◌&&◌, ◌||◌, if◌then◌else◌, length, slice_index, Result, Ok, Err}
 use Rattle.js_literal.specs.Place.{StandsAt}
@@ -20,8 +21,7 @@ after_run test (c ∷ cs) = if test c then after_run test cs else c ∷ cs
 
 -- the value of digits that follow a number with the value v
 abbrev pub decimal : ℕ → List ℕ → ℕ
-decimal v [] = v
-decimal v (c ∷ cs) = decimal (10 * v + (c - 48)) cs
+decimal v cs = fold (λ n c. 10 * n + (c - 48)) v cs
 
 -- a first digit 0 that a digit follows
 abbrev pub has_leading_zero : List ℕ → Bool
@@ -40,8 +40,7 @@ begins_number (c ∷ cs) = is_digit c || (c == 46 && begins_with is_digit cs)
 -- the value and what follows, or the fault of the first rule that refuses it, by the byte of the literal; a
 -- letter, _, $ or a backslash may not follow the digits
 abbrev pub number_at : List ℕ → Result (ℕ × List ℕ) (ℕ → NumberFault)
-number_at s =
-    if begins_with (λ c. c == 46) s then Err faults.Fraction else
+number_at s = if begins_with (λ c. c == 46) s then Err faults.Fraction else
     (if has_leading_zero s then Err faults.OtherForm else
     (if begins_with (λ c. c == 46) (after_run is_digit s) then Err faults.Fraction else
     (if begins_with (λ c. is_word_start c || c == 92) (after_run is_digit s) then Err faults.OtherForm else

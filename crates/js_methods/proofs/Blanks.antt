@@ -3,7 +3,7 @@ use Rattle.std.proofs.Common.{◌≡◌, ℕ, ◌+◌, ◌-◌, ◌<◌, ◌≤�
 use Rattle.std.proofs.lemmas.List.{get_or-reverse, get_or-drop, length-drop, length-reverse, drop_more}
 use Rattle.std.proofs.lemmas.List.Sums.{prefix_len-le-length}
 use Rattle.js_units.specs.Text.{is_blank}
-use Rattle.js_methods.specs.Trimming.{blanks}
+use Rattle.js_methods.specs.Blanks.{blanks}
 
 by_blank : (b : Bool) (x : ℕ) (xs : List ℕ) → is_blank x ≡ b → blanks (x ∷ xs) ≡ cond b (1 + blanks xs) 0
 by_blank b x xs h = ap (λ c. cond c (1 + blanks xs) 0) h

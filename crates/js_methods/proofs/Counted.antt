@@ -9,7 +9,7 @@ use Rattle.js_store.specs.Faults.{Uses}
 use Rattle.js_store.specs.declared.faults.StoreFault.{StoreFault}
 use Rattle.js_texts.specs.declared.faults.Cause.TheVariants.{TooLong as Length}
 use Rattle.js_store.proofs.Laws.{has_still, known_has, text_still}
-use Rattle.js_methods.specs.Repeating.{is_count, copies, repeat_of, IsCountFault, repeat_used_ids, repeat_used_words}
+use Rattle.js_methods.specs.Building.{is_count, copies, repeat_of, IsCountFault, repeat_used_ids, repeat_used_words}
 use Rattle.js_methods.proofs.Copies.{length-copies}
 use Rattle.js_methods.proofs.Uses.{uses_after}
 

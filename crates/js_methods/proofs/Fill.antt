@@ -10,7 +10,7 @@ use Rattle.js_store.specs.Faults.{Uses}
 use Rattle.js_store.specs.Rows.{wide_words}
 use Rattle.js_store.specs.declared.faults.StoreFault.{StoreFault}
 use Rattle.js_store.proofs.Laws.{has_text, has_still, text_still, known_still}
-use Rattle.js_methods.specs.Padding.{filling}
+use Rattle.js_methods.specs.Building.{filling}
 use Rattle.js_methods.proofs.Copies.{repeat-add, length-copies}
 use Rattle.js_methods.proofs.Uses.{uses_within, uses_after}
 

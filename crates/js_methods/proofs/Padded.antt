@@ -8,7 +8,7 @@ use Rattle.js_store.specs.Faults.{Uses}
 use Rattle.js_store.specs.Rows.{wide_words}
 use Rattle.js_store.specs.declared.faults.StoreFault.{StoreFault}
 use Rattle.js_store.proofs.Laws.{has_text, text_still, known_still}
-use Rattle.js_methods.specs.Padding.{CutsFiller, filling, pad_start_of, pad_end_of, pad_used_ids, pad_used_words}
+use Rattle.js_methods.specs.Building.{CutsFiller, filling, pad_start_of, pad_end_of, pad_used_ids, pad_used_words}
 use Rattle.js_methods.proofs.Copies.{length-copies}
 use Rattle.js_methods.proofs.Fill.{length-filling}
 use Rattle.js_methods.proofs.Uses.{uses_after}

@@ -2,7 +2,7 @@
 use Rattle.std.proofs.Common.{◌≡◌, ℕ, List, [], ◌∷◌, Bool, true, false, refl, ap, sym, ◌∙◌}
 use Rattle.std.specs.Prelude.{not, ◌&&◌, if◌then◌else◌, IsTrue, ◌↔◌}
 use Rattle.js_units.specs.Text.{is_lead, is_trail, alone, well}
-use Rattle.js_methods.specs.WellFormed.{all_paired, is_surrogate}
+use Rattle.js_methods.specs.Testing.{all_paired, is_surrogate}
 
 -- whether what is left of a list is in pairs, where a leading surrogate before it may wait for its trailing one
 abbrev pub paired_after : Bool → List ℕ → Bool

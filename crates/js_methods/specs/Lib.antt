@@ -1,9 +1,8 @@
 pub mod Places
-pub mod Cuts
 pub mod Searching
+pub mod Cutting
 pub mod Trimming
-pub mod WellFormed
+pub mod Blanks
 pub mod Building
+pub mod Testing
 pub mod Waiting
-pub mod Repeating
-pub mod Padding

@@ -4,15 +4,14 @@ use Rattle.std.specs.Prelude.{Option, Some, None, slice_index, slice_range}
 use Rattle.std.specs.Option.{option_map, option_map_or}
 use Rattle.js_units.specs.Text.{is_lead, is_trail, pair_value}
 use Rattle.js_number.specs.declared.Num.{Num}
-use Rattle.js_number.specs.declared.Num.TheVariants.{Int, NaN, PosInf, NegInf}
+use Rattle.js_number.specs.declared.Num.TheVariants.{Int, NaN}
 
 -- the place of n that the number names, where a negative one, which is -(k + 1) for `negsuc k`, has n added
 abbrev pub relative_place : Num → ℕ → Option ℕ
 relative_place (Int (pos k)) n = if nat_lt k n then Some k else None
 relative_place (Int (negsuc k)) n = if nat_lt k n then Some (n - (k + 1)) else None
 relative_place NaN n = if nat_lt 0 n then Some 0 else None
-relative_place PosInf n = None
-relative_place NegInf n = None
+relative_place _ n = None
 
 -- "String.prototype.at": the one unit at that place, if there is one
 abbrev pub at_of : List ℕ → Num → Option (List ℕ)
@@ -21,10 +20,8 @@ at_of u i = option_map (λ k. slice_range u k (k + 1)) (relative_place i (length
 -- the place of n that the number names without a conversion
 abbrev pub exact_place : Num → ℕ → Option ℕ
 exact_place (Int (pos k)) n = if nat_lt k n then Some k else None
-exact_place (Int (negsuc k)) n = None
 exact_place NaN n = if nat_lt 0 n then Some 0 else None
-exact_place PosInf n = None
-exact_place NegInf n = None
+exact_place _ n = None
 
 -- "String.prototype.charAt": the one unit at that place, or the empty string
 abbrev pub char_at_of : List ℕ → Num → List ℕ

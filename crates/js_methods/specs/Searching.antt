@@ -1,9 +1,10 @@
 -- What the methods give that look for one string in another.
-use Rattle.std.specs.Prelude.{ℕ, ◌-◌, Bool, ◌&&◌, nat_le, List, length, Option, Some, None, is_some}
+use Rattle.std.specs.Prelude.{ℕ, ◌-◌, Bool, ◌&&◌, nat_le, List, length, Option, is_some}
 use Rattle.js_number.specs.declared.Num.{Num}
 use Rattle.js_number.specs.declared.Num.TheVariants.{NaN}
 use Rattle.js_number.specs.Places.{clamped}
 use Rattle.js_search.specs.Places.{stands, first, last}
+use Rattle.js_methods.specs.Cutting.{clamped_end}
 
 -- "String.prototype.indexOf": the least place, from the one that the number names on, at which w occurs
 abbrev pub index_from : List ℕ → List ℕ → Num → Option ℕ
@@ -26,14 +27,7 @@ last_index_up_to u w limit = last u w (limit_of limit (length u))
 abbrev pub starts_at : List ℕ → List ℕ → Num → Bool
 starts_at u w from = stands u w (clamped from (length u))
 
--- an end that isn't given is that of the string
-abbrev pub end_at : Option Num → ℕ → ℕ
-end_at None n = n
-end_at (Some e) n = clamped e n
-
 -- "String.prototype.endsWith": whether w ends at the place that the number names
-abbrev pub stands_before : List ℕ → List ℕ → ℕ → Bool
-stands_before u w end = nat_le (length w) end && stands u w (end - length w)
-
 abbrev pub ends_at : List ℕ → List ℕ → Option Num → Bool
-ends_at u w end = stands_before u w (end_at end (length u))
+ends_at u w end = nat_le (length w) (clamped_end end (length u))
+    && stands u w (clamped_end end (length u) - length w)

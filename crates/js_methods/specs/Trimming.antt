@@ -3,17 +3,13 @@ use Rattle.std.specs.Prelude.{ℕ, ◌-◌, List, length, take, drop, reverse}
 use Rattle.std.specs.List.{prefix_len}
 use Rattle.js_units.specs.Text.{is_blank}
 
--- how many of the first units are blank
-abbrev pub blanks : List ℕ → ℕ
-blanks u = prefix_len is_blank u
-
 -- "String.prototype.trimStart": without the blank units at the start
 abbrev pub trimmed_start : List ℕ → List ℕ
-trimmed_start u = drop (blanks u) u
+trimmed_start u = drop (prefix_len is_blank u) u
 
 -- "String.prototype.trimEnd": without the blank units at the end
 abbrev pub trimmed_end : List ℕ → List ℕ
-trimmed_end u = take (length u - blanks (reverse u)) u
+trimmed_end u = take (length u - prefix_len is_blank (reverse u)) u
 
 -- "String.prototype.trim": without both
 abbrev pub trimmed : List ℕ → List ℕ

@@ -8,24 +8,14 @@
 //! store is at most its row, on a full store with what was requested besides.
 //!
 //! A method at a place reads its string where there is such a place, and a pad reads its filler
-//! where the last copy is cut. [`concat`] and [`repeat`] read nothing.
+//! where the last copy is cut. [`building::concat`] and [`building::repeat`] read nothing.
 #![tactic(auto)]
 
-mod building;
-mod cuts;
-mod padding;
-mod places;
-mod repeating;
-mod searching;
-mod trimming;
-mod well_formed;
+pub mod building;
+pub mod cutting;
+pub mod places;
+pub mod searching;
+pub mod testing;
+pub mod trimming;
 
-pub use building::{from_char_code, from_code_point, to_well_formed};
-pub use cuts::{concat, slice, substr, substring};
 pub use js_texts::{Cause, MethodFault};
-pub use padding::{pad_end, pad_start};
-pub use places::{at, char_at, char_code_at, code_point_at};
-pub use repeating::repeat;
-pub use searching::{ends_with, includes, index_of, last_index_of, starts_with};
-pub use trimming::{trim, trim_end, trim_start};
-pub use well_formed::is_well_formed;

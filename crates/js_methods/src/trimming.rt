@@ -4,7 +4,8 @@ ghost use Rattle.js_store.specs.State.{NamesUnits, IsKnown, IsSettled, text};
 ghost use Rattle.js_store.specs.Rows.{wide_words, cut_ids, cut_words};
 ghost use Rattle.js_store.specs.Faults.{Uses};
 ghost use Rattle.js_texts.specs.Answers.{method_fault_of, ThrowsLong};
-ghost use Rattle.js_methods.specs.Trimming.{blanks, trimmed, trimmed_start, trimmed_end};
+ghost use Rattle.js_methods.specs.Trimming.{trimmed, trimmed_start, trimmed_end};
+ghost use Rattle.js_methods.specs.Blanks.{blanks};
 
 use js_store::Strings;
 use js_texts::{Cause, MethodFault};

@@ -32,12 +32,10 @@ abbrev pub sum : Num → Num → Option Num
 sum (Int a) (Int b) = whole (a +ℤ b)
 sum (Int a) n = Some n
 sum NaN n = Some NaN
-sum PosInf (Int b) = Some PosInf
+sum m (Int b) = Some m
 sum PosInf PosInf = Some PosInf
-sum PosInf n = Some NaN
-sum NegInf (Int b) = Some NegInf
 sum NegInf NegInf = Some NegInf
-sum NegInf n = Some NaN
+sum _ _ = Some NaN
 
 -- "Number::subtract"
 abbrev pub difference : Num → Num → Option Num
@@ -47,14 +45,11 @@ difference m n = sum m (negative n)
 abbrev pub below : Num → Num → Option Bool
 below NaN n = None
 below (Int a) (Int b) = Some (int_lt a b)
-below (Int a) NaN = None
-below (Int a) PosInf = Some true
-below (Int a) NegInf = Some false
-below PosInf NaN = None
+below m NaN = None
 below PosInf n = Some false
-below NegInf NaN = None
-below NegInf NegInf = Some false
-below NegInf n = Some true
+below m PosInf = Some true
+below NegInf (Int b) = Some true
+below _ _ = Some false
 
 -- "Number::toString" with radix 10
 abbrev pub text_of : Num → List ℕ

@@ -6,10 +6,10 @@ use Rattle.eval_tree.specs.Tree.{Tree}
 use Rattle.parse_syntax.specs.declared.token.GrammarToken.{GrammarToken}
 use Rattle.parse_syntax.specs.Tables.{TokenTables}
 use Rattle.js_parse.specs.Names.{Declaring, NameFault, Duplicate, LoopName, ProtoKey}
-use Rattle.js_parse.specs.ProtoKeys.{HasProtoKey, here, later, opens_entry, is_proto}
+use Rattle.js_parse.specs.ProtoKeys.{HasProtoKey, here, later, is_proto}
 use Rattle.js_parse.specs.declared.name_fault.NameFault.{NameFault as Told}
 use Rattle.js_parse.specs.FirstFault.{fault_rank, HasNameFault, of_name, of_key, IsFirstFault, fault_of, TellsFirst}
-use Rattle.js_parse.specs.NameFaults.{faults_of, key_first, proto_fault, proto_behind, proto_faults, earlier, least, offers}
+use Rattle.js_parse.specs.NameFaults.{faults_of, key_first, opens_entry, proto_fault, proto_behind, proto_faults, earlier, least, offers}
 use Rattle.js_parse.proofs.Faults.{In, in_left, in_right, apart, either, sound_among, complete_among}
 use Rattle.js_lex.specs.declared.token.Mark.TheVariants.{Colon}
 use Rattle.parse_syntax.specs.Terminals.{is_mark}

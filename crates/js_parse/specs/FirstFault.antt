@@ -1,9 +1,9 @@
 -- The first fault of the names and keys of a script.
-use Rattle.std.specs.Prelude.{ℕ, ◌+◌, ◌*◌, ◌≤◌, List, Option, Some, None}
+use Rattle.std.specs.Prelude.{ℕ, ◌+◌, ◌*◌, ◌≤◌, List, [], ◌∷◌, Option, Some, None}
 use Rattle.eval_tree.specs.Tree.{Tree}
 use Rattle.parse_syntax.specs.declared.token.GrammarToken.{GrammarToken}
 use Rattle.parse_syntax.specs.Tables.{TokenTables}
-use Rattle.js_parse.specs.Names.{NameFault, Duplicate, LoopName, ProtoKey, HasFault}
+use Rattle.js_parse.specs.Names.{NameFault, Duplicate, LoopName, ProtoKey, Declaring, FaultAmong}
 use Rattle.js_parse.specs.ProtoKeys.{HasProtoKey}
 use Rattle.js_parse.specs.declared.name_fault.NameFault.{NameFault as Told}
 use Rattle.js_parse.specs.declared.name_fault.NameFault.TheVariants as told
@@ -17,7 +17,8 @@ fault_rank (ProtoKey at) = 3 * at + 2
 -- after a prelude that declares the outer names, the script with these tokens and this tree has the fault
 pub data HasNameFault (outer : List (List ℕ)) (tables : TokenTables) (tokens : List GrammarToken)
     (t : Tree) : NameFault → Type 0 where
-  of_name : (f : NameFault) → HasFault outer t f → HasNameFault outer tables tokens t f
+  of_name : (f : NameFault) → FaultAmong (Declaring t.top ∷ []) outer t.body f
+      → HasNameFault outer tables tokens t f
   of_key : (at : ℕ) → HasProtoKey tables tokens at → HasNameFault outer tables tokens t (ProtoKey at)
 
 -- it has this fault, and none before it

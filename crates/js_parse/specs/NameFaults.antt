@@ -1,7 +1,7 @@
 -- Helpers: no public contract reaches these definitions.
 -- All faults of names in source order, as they are read.
 use Rattle.std.specs.Prelude.{ℕ, List, [], ◌∷◌, ◌++◌, Bool, true, false, Option, Some, None, if◌then◌else◌}
-use Rattle.std.specs.Prelude.{nat_lt}
+use Rattle.std.specs.Prelude.{nat_lt, ◌||◌}
 use Rattle.std.specs.List.{list_any}
 use Rattle.std.specs.Str.{bytes_eq}
 use Rattle.eval_tree.specs.Tree as tree
@@ -9,10 +9,14 @@ use Rattle.eval_tree.specs.Tree.{Tree, StmtTree, BlockTree, block_of, Stmts, Arm
 use Rattle.parse_syntax.specs.declared.token.GrammarToken.{GrammarToken}
 use Rattle.parse_syntax.specs.Tables.{TokenTables}
 use Rattle.js_parse.specs.Names.{NameFault, Duplicate, LoopName, ProtoKey}
-use Rattle.js_parse.specs.ProtoKeys.{opens_entry, is_proto}
+use Rattle.js_parse.specs.ProtoKeys.{is_proto}
 use Rattle.js_parse.specs.FirstFault.{fault_rank}
-use Rattle.js_lex.specs.declared.token.Mark.TheVariants.{Colon}
+use Rattle.js_lex.specs.declared.token.Mark.TheVariants.{Colon, Comma, OpenBrace}
 use Rattle.parse_syntax.specs.Terminals.{is_mark}
+
+-- { or a comma, behind which there is a key where a colon follows it
+abbrev pub opens_entry : GrammarToken → Bool
+opens_entry t = is_mark OpenBrace t || is_mark Comma t
 
 -- a set of names, as the test for its members
 abbrev pub NameTest : Type 0

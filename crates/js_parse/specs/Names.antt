@@ -26,9 +26,7 @@ pub data IsLoopName (x : List ℕ) : List NameScope → Type 0 where
 
 -- a fault, with the offset of the name or of the key
 pub data NameFault : Type 0 where
-  Duplicate : ℕ → NameFault
-  LoopName : ℕ → NameFault
-  ProtoKey : ℕ → NameFault
+  Duplicate LoopName ProtoKey : ℕ → NameFault
 
 mutual
   -- within these scopes, a statement has the fault
@@ -71,7 +69,3 @@ mutual
     behind_it : (scopes : List NameScope) (before : List (List ℕ)) (s : StmtTree) (rest : Stmts)
         (f : NameFault) → FaultAmong scopes (own_name s ++ before) rest f
         → FaultAmong scopes before (stmt s rest) f
-
--- after a prelude that declares the outer names, the script has the fault
-abbrev pub HasFault : List (List ℕ) → Tree → NameFault → Type 0
-HasFault outer t f = FaultAmong (Declaring t.top ∷ []) outer t.body f

@@ -7,10 +7,6 @@ use Rattle.parse_syntax.specs.declared.token.GrammarKind.TheVariants as kind
 use Rattle.parse_syntax.specs.Tables.{TokenTables}
 use Rattle.parse_syntax.specs.Terminals.{is_mark}
 
--- { or a comma, behind which there is a key where a colon follows it
-abbrev pub opens_entry : GrammarToken → Bool
-opens_entry t = is_mark OpenBrace t || is_mark Comma t
-
 -- whether the key is __proto__; that of a number has digits alone
 abbrev pub is_proto : TokenTables → GrammarToken → Bool
 is_proto tables t = elim t.kind [
@@ -20,9 +16,9 @@ is_proto tables t = elim t.kind [
   | _ ↦ false
 ]
 
--- among the tokens such a key is at this place
+-- among the tokens such a key is at this place: behind { or a comma, and before a colon
 pub data HasProtoKey (tables : TokenTables) : List GrammarToken → ℕ → Type 0 where
-  here : (b k c : GrammarToken) (ts : List GrammarToken) → opens_entry b ≡ true → is_proto tables k ≡ true
-      → is_mark Colon c ≡ true → HasProtoKey tables (b ∷ k ∷ c ∷ ts) k.at
+  here : (b k c : GrammarToken) (ts : List GrammarToken) → (is_mark OpenBrace b || is_mark Comma b) ≡ true
+      → is_proto tables k ≡ true → is_mark Colon c ≡ true → HasProtoKey tables (b ∷ k ∷ c ∷ ts) k.at
   later : (t : GrammarToken) (ts : List GrammarToken) (at : ℕ) → HasProtoKey tables ts at
       → HasProtoKey tables (t ∷ ts) at

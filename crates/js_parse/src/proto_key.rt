@@ -3,7 +3,7 @@ ghost use Rattle.std.specs.Prelude.{◌≡◌, [], codes, get_or, None, bytes_eq
 ghost use Rattle.parse_syntax.specs.Tables.{tables_of};
 ghost use Rattle.js_lex.specs.declared.token.Mark.TheVariants.{Colon};
 ghost use Rattle.parse_syntax.specs.Terminals.{is_mark};
-ghost use Rattle.js_parse.specs.NameFaults.{offers, proto_behind, proto_faults};
+ghost use Rattle.js_parse.specs.NameFaults.{offers, opens_entry, proto_behind, proto_faults};
 ghost use Rattle.js_parse.specs.NameWalk.{found_of};
 ghost use Rattle.js_parse.specs.ProtoKeys as definition;
 
@@ -13,7 +13,7 @@ use parse_look::next;
 use parse_syntax::{GrammarKind, GrammarToken, Tables};
 
 fn opens_entry(token: GrammarToken) -> bool
-    ensures { result ≡ definition.opens_entry token }
+    ensures { result ≡ opens_entry token }
 {
     matches!(token.kind, GrammarKind::Mark(Mark::OpenBrace | Mark::Comma))
 }

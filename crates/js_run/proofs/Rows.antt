@@ -143,16 +143,16 @@ told_not_large request old new sources name told texts why =
     not_large old.held why.up_to.before why.up_to.after name (in_order (names_of request.asked)) all old.oversize new.oversize read told why.up_to.split why.larger
 
 refused_end : OneScript → NoneRefused → (words : List (List ℕ)) (ended : Ended)
-    (old new : Moment) (told : IsToldRefused words old.files new.files) (v : Verdict) → HasCauseBy (Some told.request) old.files new.files v
+    (old new : Moment) (told : IsToldRefused words old.files new.files) (v : Verdict) → HasCauseBy (Some told.given.request) old.files new.files v
     → IsEnd (report_of v) ended.code old.sinks new.sinks → ended.kept ≡ kept_of v → OrWant 4 ended old new
 refused_end one law words ended old new told BadWords why end kept = absurd why
-refused_end one law words ended old new told (NotRead name) why end kept = absurd (counted old.files.faults new.files.faults why.once told.calm)
-refused_end one law words ended old new told (TooLarge name) why end kept = absurd (told_not_large told.request old.files new.files told.sources name told.told told.texts why)
+refused_end one law words ended old new told (NotRead name) why end kept = absurd (counted old.files.faults new.files.faults why.once told.given.calm)
+refused_end one law words ended old new told (TooLarge name) why end kept = absurd (told_not_large told.given.request old.files new.files told.given.sources name told.given.told told.given.texts why)
 refused_end one law words ended old new told (Refused name fault) why end kept = inl end.status
 refused_end one law words ended old new told NoMemory why end kept = inr (record { told = end; kept = kept })
 refused_end one law words ended old new told (WasRun names ran) why end kept =
-    let same = texts_same old.files.held told.request.asked why.sources told.sources told.told why.texts told.texts in
-    absurd (none_refused one law told.sources why.cause.trees told.name told.fault (subst (λ (x : Program Named). Spell x why.cause.trees) same why.cause.spell) told.first)
+    let same = texts_same old.files.held told.given.request.asked why.sources told.given.sources told.given.told why.texts told.given.texts in
+    absurd (none_refused one law told.given.sources why.cause.trees told.name told.fault (subst (λ (x : Program Named). Spell x why.cause.trees) same why.cause.spell) told.first)
 
 -- what a refusal tells
 
@@ -265,26 +265,26 @@ cut_short words ended old new is r = by r.end
     by (inr cut) = record { run = r.run; cut = cut }
 
 honest_end : OneScript → NoneRefused → (words : List (List ℕ)) (ended : Ended)
-    (old new : Moment) (honest : IsHonest words old.files new.files) (v : Verdict) → HasCauseBy (Some honest.request) old.files new.files v
+    (old new : Moment) (honest : IsHonest words old.files new.files) (v : Verdict) → HasCauseBy (Some honest.given.request) old.files new.files v
     → IsEnd (report_of v) ended.code old.sinks new.sinks → ended.kept ≡ kept_of v → IsDone words ended old new honest
 honest_end one none words ended old new honest BadWords why end kept = absurd why
-honest_end one none words ended old new honest (NotRead name) why end kept = absurd (counted old.files.faults new.files.faults why.once honest.calm)
-honest_end one none words ended old new honest (TooLarge name) why end kept = absurd (told_not_large honest.request old.files new.files honest.sources name honest.told honest.texts why)
+honest_end one none words ended old new honest (NotRead name) why end kept = absurd (counted old.files.faults new.files.faults why.once honest.given.calm)
+honest_end one none words ended old new honest (TooLarge name) why end kept = absurd (told_not_large honest.given.request old.files new.files honest.given.sources name honest.given.told honest.given.texts why)
 honest_end one none words ended old new honest (Refused name fault) why end kept =
-    let same = texts_same old.files.held honest.request.asked why.sources honest.sources honest.told why.texts honest.texts in
-    absurd (none_refused one none honest.sources honest.trees name fault honest.spell (subst (λ (x : Program Named). FirstRefused x name fault) same why.cause))
+    let same = texts_same old.files.held honest.given.request.asked why.sources honest.given.sources honest.given.told why.texts honest.given.texts in
+    absurd (none_refused one none honest.given.sources honest.trees name fault honest.spell (subst (λ (x : Program Named). FirstRefused x name fault) same why.cause))
 honest_end one none words ended old new honest NoMemory why end kept = inr (record { told = end; kept = kept })
 honest_end one none words ended old new honest (WasRun names ran) why end kept =
-    let same = texts_same old.files.held honest.request.asked why.sources honest.sources honest.told why.texts honest.texts in
-    let trees = same_trees one honest.sources why.cause.trees honest.trees (subst (λ (x : Program Named). Spell x why.cause.trees) same why.cause.spell) honest.spell in
-    let program : IsRan (setup_of honest.request) honest.trees.prelude honest.trees.scripts ran = subst
-    (λ (t : Program Tree). IsRan (setup_of honest.request) t.prelude t.scripts ran) trees why.cause.program in
+    let same = texts_same old.files.held honest.given.request.asked why.sources honest.given.sources honest.given.told why.texts honest.given.texts in
+    let trees = same_trees one honest.given.sources why.cause.trees honest.trees (subst (λ (x : Program Named). Spell x why.cause.trees) same why.cause.spell) honest.spell in
+    let program : IsRan (setup_of honest.given.request) honest.trees.prelude honest.trees.scripts ran = subst
+    (λ (t : Program Tree). IsRan (setup_of honest.given.request) t.prelude t.scripts ran) trees why.cause.program in
     inl (record {
       ran = ran;
       program = program;
       end = subst (λ (ns : Program FileName). IsEnd (report_of (WasRun ns ran)) ended.code old.sinks new.sinks) (why.cause.named ∙ ap names_in same) end;
       kept = kept;
-      complete = complete honest.request honest.trees ran program (names_in honest.sources);
+      complete = complete honest.given.request honest.trees ran program (names_in honest.given.sources);
     })
 
 module _ (words : List (List ℕ)) (ended : Ended) (old new : Moment) (one : OneScript) (none : NoneRefused) (o : CallOutcome words ended old new) where
@@ -313,7 +313,7 @@ module _ (words : List (List ℕ)) (ended : Ended) (old new : Moment) (one : One
   script_row is = no_script words old.files new.files o.verdict o.cause (decided _ _ 4 ends is (omega arith))
 
   pub refused_row : IsToldRefused words old.files new.files → OrWant 4 ended old new
-  refused_row told = refused_end one none words ended old new told o.verdict (because (Some told.request) told.lawful) o.ending o.kept
+  refused_row told = refused_end one none words ended old new told o.verdict (because (Some told.given.request) told.given.lawful) o.ending o.kept
 
   pub told_row : HasRefusalStatus ended → IsRefusalTold words ended old new
   told_row is = refusal_told words ended old new o.verdict o.cause o.ending o.kept is
@@ -337,4 +337,4 @@ module _ (words : List (List ℕ)) (ended : Ended) (old new : Moment) (one : One
   write_row is = cut_short words ended old new is (ran_to (inr (inr is)))
 
   pub honest_row : (honest : IsHonest words old.files new.files) → IsDone words ended old new honest
-  honest_row honest = honest_end one none words ended old new honest o.verdict (because (Some honest.request) honest.lawful) o.ending o.kept
+  honest_row honest = honest_end one none words ended old new honest o.verdict (because (Some honest.given.request) honest.given.lawful) o.ending o.kept

@@ -1,6 +1,7 @@
 -- What is meant to be reported: every file ends and prints as ECMA-262 says of it, each script after the
 -- prelude.
-use Rattle.std.specs.Prelude.{ℕ, List, ◌++◌, map, Option, None, Some, flat_map}
+use Rattle.std.specs.Prelude.{ℕ, List, ◌++◌, map, Option, flat_map}
+use Rattle.std.specs.Option.{option_map_or}
 use Rattle.std.specs.List.{concat}
 use Rattle.eval_tree.specs.Tree.{Tree}
 use Rattle.js_eval.specs.declared.ending.End.{End}
@@ -20,8 +21,7 @@ all_flows request trees = all_meant (prelude_meant (limit_units request.limit) t
 
 -- what the scripts mean that are meant to be run: none where the prelude isn't meant to end Done
 abbrev pub run_after : Option Flow → List Flow → List Flow
-run_after None scripts = scripts
-run_after (Some prelude) scripts = after_prelude prelude.out scripts
+run_after prelude scripts = option_map_or (λ p. after_prelude p.out scripts) prelude scripts
 
 -- how files are meant to end
 abbrev pub ends_meant : List Flow → List End

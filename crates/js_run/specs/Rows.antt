@@ -76,18 +76,21 @@ abbrev pub IsNoScript : List (List ℕ) → FilesState → FilesState → Type 0
 IsNoScript words old new = (name : FileName) × (fault : ParseFault)
     × HasCauseBy (request_of words) old new (Refused name fault)
 
--- no read failed, all files are reported and not too large, and one of the sources is the first that spells
--- no script
-pub record IsToldRefused (words : List (List ℕ)) (old new : FilesState) : Type 0 where
+-- the arguments are valid, all files are reported and not too large, and no read failed; the sources
+pub record AreGiven (words : List (List ℕ)) (old new : FilesState) : Type 0 where
   pub request : Request
   pub lawful : request_of words ≡ Some request
   pub sources : Program Named
   pub texts : AreTexts request.asked old.held sources
   pub told : AreTold old.held (in_order (names_of request.asked))
+  pub calm : NoFault old.faults new.faults
+
+-- one of the sources is the first that spells no script
+pub record IsToldRefused (words : List (List ℕ)) (old new : FilesState) : Type 0 where
+  pub given : AreGiven words old new
   pub name : FileName
   pub fault : ParseFault
-  pub first : FirstRefused sources name fault
-  pub calm : NoFault old.faults new.faults
+  pub first : FirstRefused given.sources name fault
 
 -- ---- 2, 3 and 4
 
@@ -173,17 +176,12 @@ pub record IsCutShort (words : List (List ℕ)) (ended : Ended) (old new : Momen
 
 -- ---- honest files
 
--- the arguments are valid, all files are reported and not too large, the sources spell a program,
--- and no read failed
+-- the arguments are valid, all files are reported and not too large, no read failed, and the sources spell a
+-- program
 pub record IsHonest (words : List (List ℕ)) (old new : FilesState) : Type 0 where
-  pub request : Request
-  pub lawful : request_of words ≡ Some request
-  pub sources : Program Named
-  pub texts : AreTexts request.asked old.held sources
-  pub told : AreTold old.held (in_order (names_of request.asked))
+  pub given : AreGiven words old new
   pub trees : Program Tree
-  pub spell : Spell sources trees
-  pub calm : NoFault old.faults new.faults
+  pub spell : Spell given.sources trees
 
 -- The program was run, and all was written, or a write failed. Where the stated needs fit the heap and memory
 -- ran out for no file, what is reported is what is meant.
@@ -194,13 +192,12 @@ pub record IsRanTo (request : Request) (names : Program FileName) (trees : Progr
   pub end : IsEnd (report_of (WasRun names ran)) ended.code old.sinks new.sinks
   pub kept : ended.kept ≡ Some ran.kept
   pub complete : Fits (setup_sizes (setup_of request)) (all_flows request trees)
-      → Every (λ e. e ≡ Memory → ⊥) (ends_of ran)
-      → report_of (WasRun names ran)
+      → Every (λ e. e ≡ Memory → ⊥) (ends_of ran) → report_of (WasRun names ran)
       ≡ Printed (status_meant request trees) (out_meant request trees ran.interned)
       (end_lines (in_order names) (ends_meant (all_flows request trees)))
 
 -- the program was run; or memory ran out before that
 abbrev pub IsDone : (words : List (List ℕ)) (ended : Ended) (old new : Moment)
     → IsHonest words old.files new.files → Type 0
-IsDone words ended old new honest =
-    IsRanTo honest.request (names_in honest.sources) honest.trees ended old new ⊎ IsWant ended old new
+IsDone words ended old new honest = IsRanTo honest.given.request (names_in honest.given.sources) honest.trees
+    ended old new ⊎ IsWant ended old new

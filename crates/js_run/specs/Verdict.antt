@@ -19,8 +19,7 @@ use Rattle.js_parse.specs.Faults.{fault_report}
 -- refused, memory runs out, or files were run
 pub data Verdict : Type 0 where
   BadWords : Verdict
-  NotRead : FileName → Verdict
-  TooLarge : FileName → Verdict
+  NotRead TooLarge : FileName → Verdict
   Refused : FileName → ParseFault → Verdict
   NoMemory : Verdict
   -- files of these names were run
@@ -77,10 +76,9 @@ err_of names ran = end_lines (in_order names) (ends_of ran)
 -- the status of a file that ended so, or that of later files where it ended Done
 abbrev pub status_or : End → ℕ → ℕ
 status_or Done later = later
-status_or (Threw kind) later = 1
-status_or (Unsupported at) later = 1
 status_or (Full report) later = 5
 status_or Memory later = 6
+status_or _ later = 1
 
 -- the status by the ends of all files in their order
 abbrev pub status_of : List End → ℕ

@@ -1,7 +1,8 @@
 -- The grammar of scripts, one line a production.
-use Rattle.std.specs.Prelude.{ℕ, zero, suc, Bool, true, false, List, [], ◌∷◌, ◌++◌, Option, Some, None}
-use Rattle.std.specs.Prelude.{get_or}
-use Rattle.parse_syntax.specs.Lang.{Lang, One, Then, Bind, Mapped, Nothing, Either, Many, Never, if_room}
+use Rattle.std.specs.Prelude.{ℕ, zero, suc, Bool, true, false, List, [], ◌∷◌, Option, Some, None}
+use Rattle.std.specs.Prelude.{get_or, flat_map}
+use Rattle.std.specs.Option.{option_map_or}
+use Rattle.parse_syntax.specs.Lang.{Lang, One, Then, Bind, Mapped, Nothing, ◌¦◌, Many, Never, if_room}
 use Rattle.parse_syntax.specs.Lang.{◌▸◌, ◌◂◌}
 use Rattle.js_lex.specs.declared.token.Mark.{Mark}
 use Rattle.js_lex.specs.declared.token.Mark.TheVariants.{StrictEqual, StrictUnequal, AtMost, AtLeast, And}
@@ -69,8 +70,7 @@ own_name _ = []
 
 -- the names that are declared directly among them
 abbrev pub own_names : List StmtTree → List (List ℕ)
-own_names [] = []
-own_names (s ∷ ss) = own_name s ++ own_names ss
+own_names ss = flat_map own_name ss
 
 module _ (tables : TokenTables) where
   -- the letters of a name
@@ -79,10 +79,8 @@ module _ (tables : TokenTables) where
 
   -- an assignment to this name: the offset of +=, which appends, or none for =, and the value
   abbrev pub assign_of : Identifier → Option ℕ × ExprTree → StmtTree
-  assign_of x p = elim p.0 [
-    | None ↦ tree.assign x.at (letters x) p.1
-    | Some at ↦ tree.append at x.at (letters x) p.1
-  ]
+  assign_of x p = option_map_or (λ at. tree.append at x.at (letters x) p.1) p.0
+      (tree.assign x.at (letters x) p.1)
 
 -- expressions, over what an expression E and an operand U are where one more is open
 
@@ -96,14 +94,12 @@ items E = Then (λ x xs. x ∷ xs) E (Many (One (mark Comma) ▸ E))
 
 -- ( [ E { , E } ] )
 abbrev pub args : Lang GrammarToken ExprTree → Lang GrammarToken (List ExprTree)
-args E = One (mark OpenParen)
-    ▸ Either (Mapped (λ _. []) (One (mark CloseParen))) (items E ◂ One (mark CloseParen))
+args E = One (mark OpenParen) ▸ (Mapped (λ _. []) (One (mark CloseParen)) ¦ items E ◂ One (mark CloseParen))
 
 -- String Args | String . fromCharCode Args | String . fromCodePoint Args
 abbrev pub string_primary : Lang GrammarToken ExprTree → Lang GrammarToken ExprTree
 string_primary E = Then builtin_of (One (at_word String))
-    (Either (One (mark Point) ▸ Then pair_of (One from_word) (args E))
-    (Mapped (λ ts. (builtin.String, ts)) (args E)))
+    (One (mark Point) ▸ Then pair_of (One from_word) (args E) ¦ Mapped (λ ts. (builtin.String, ts)) (args E))
 
 -- an identifier, a point and a function of it, which is called with arguments A: Symbol . for Args
 -- | Symbol . keyFor Args | Object . keys Args | JSON . stringify ( E )
@@ -124,30 +120,25 @@ entry tables E = Then pair_of (One (key tables)) (One (mark Colon) ▸ E)
 -- { [ Key : E { , Key : E } ] }
 abbrev pub object_literal : TokenTables → Lang GrammarToken ExprTree → Lang GrammarToken ExprTree
 object_literal tables E = Then (λ at ms. tree.object at (tree.entries ms)) (One (at_mark OpenBrace))
-    (Either (Mapped (λ _. []) (One (mark CloseBrace))) (items (entry tables E) ◂ One (mark CloseBrace)))
+    (Mapped (λ _. []) (One (mark CloseBrace)) ¦ items (entry tables E) ◂ One (mark CloseBrace))
 
 -- Simple | ( E ) | a call of a built-in function | an object literal ("PrimaryExpression", "CallExpression")
 abbrev pub primary : TokenTables → Bool → Lang GrammarToken ExprTree → Lang GrammarToken ExprTree
-primary tables room E =
-    Either (One (simple tables))
-    (Either (if_room room (parens E))
-    (Either (if_room room (string_primary E))
-    (Either (if_room room (static_call Symbol symbol_function (args E)))
-    (Either (if_room room (static_call Json stringify_word (Mapped (λ e. e ∷ []) (parens E))))
-    (Either (if_room room (uri_primary E))
-    (Either (if_room room (static_call Object keys_word (args E)))
-    (if_room room (object_literal tables E))))))))
+primary tables room E = One (simple tables) ¦ if_room room (parens E) ¦ if_room room (string_primary E)
+    ¦ if_room room (static_call Symbol symbol_function (args E))
+    ¦ if_room room (static_call Json stringify_word (Mapped (λ e. e ∷ []) (parens E)))
+    ¦ if_room room (uri_primary E) ¦ if_room room (static_call Object keys_word (args E))
+    ¦ if_room room (object_literal tables E)
 
 -- . Member | . Property | . Method [ Args ], where a method without arguments is a property
 abbrev pub member : TokenTables → Bool → Lang GrammarToken ExprTree → Lang GrammarToken StepTree
-member tables room E = One (mark Point) ▸ Either (One member_word)
-    (Either (One (property_word tables))
-    (Then method_step (One (method tables)) (Either (if_room room (Mapped Some (args E))) (Nothing None))))
+member tables room E = One (mark Point) ▸ (One member_word ¦ One (property_word tables)
+    ¦ Then method_step (One (method tables)) (if_room room (Mapped Some (args E)) ¦ Nothing None))
 
 -- Member | [ E ], a step behind an expression
 abbrev pub step : TokenTables → Bool → Lang GrammarToken ExprTree → Lang GrammarToken StepTree
-step tables room E = Either (member tables room E)
-    (if_room room (Then tree.of_index (One (at_mark OpenBracket)) (E ◂ One (mark CloseBracket))))
+step tables room E = member tables room E
+    ¦ if_room room (Then tree.of_index (One (at_mark OpenBracket)) (E ◂ One (mark CloseBracket)))
 
 -- Primary { Step }
 abbrev pub post : TokenTables → Bool → Lang GrammarToken ExprTree → Lang GrammarToken ExprTree
@@ -161,8 +152,8 @@ chain os L = Then chain_of L
 module _ (tables : TokenTables) (room : Bool) (E U : Lang GrammarToken ExprTree) where
   -- ( - | ! ) U | Post
   abbrev pub unary : Lang GrammarToken ExprTree
-  unary = Either (if_room room (Then (λ s e. tree.unary s.0 s.1 e)
-      (One (among is_mark ((Minus, true) ∷ (Not, false) ∷ []))) U)) (post tables room E)
+  unary = if_room room (Then (λ s e. tree.unary s.0 s.1 e)
+      (One (among is_mark ((Minus, true) ∷ (Not, false) ∷ []))) U) ¦ post tables room E
 
   -- Unary { ( + | - ) Unary } ("AdditiveExpression")
   abbrev pub additive : Lang GrammarToken ExprTree
@@ -187,8 +178,8 @@ module _ (tables : TokenTables) (room : Bool) (E U : Lang GrammarToken ExprTree)
 
   -- Or [ ? E : E ]
   abbrev pub conditional : Lang GrammarToken ExprTree
-  conditional = Then cond_of disjunction (Either (if_room room
-      (One (mark Question) ▸ Then (λ y n. Some (y, n)) E (One (mark Colon) ▸ E))) (Nothing None))
+  conditional = Then cond_of disjunction (if_room room
+      (One (mark Question) ▸ Then (λ y n. Some (y, n)) E (One (mark Colon) ▸ E)) ¦ Nothing None)
 
 abbrev mutual
   -- an expression in which at most so many are open ("ConditionalExpression")
@@ -212,7 +203,7 @@ block_part S = One (mark OpenBrace)
 -- let Name [ = E ] ; ("LexicalDeclaration")
 abbrev pub let_line : TokenTables → Lang GrammarToken ExprTree → Lang GrammarToken StmtTree
 let_line tables E = One (word Let) ▸ Then (λ x init. tree.let_line x.at (letters tables x) init) (One name)
-    (Either (Mapped Some (One (mark Assign) ▸ E)) (Nothing None)) ◂ One (mark Semicolon)
+    (Mapped Some (One (mark Assign) ▸ E) ¦ Nothing None) ◂ One (mark Semicolon)
 
 -- const Name = E ; ("LexicalDeclaration")
 abbrev pub const_line : TokenTables → Lang GrammarToken ExprTree → Lang GrammarToken StmtTree
@@ -236,7 +227,7 @@ if_arm I S = One (word If) ▸ Then (λ e b. record { test = e; body = b }) (par
 abbrev pub if_statement : Lang GrammarToken ExprTree → Lang GrammarToken StmtTree → Lang GrammarToken StmtTree
 if_statement I S = Then (λ a others. tree.if_line (arms (a ∷ others.0)) others.1) (if_arm I S)
     (Then pair_of (Many (One (word Else) ▸ if_arm I S))
-    (Either (One (word Else) ▸ block_part S) (Nothing (block_of [] tree.no_stmts))))
+    (One (word Else) ▸ block_part S ¦ Nothing (block_of [] tree.no_stmts)))
 
 -- = 0 ; x < Bound ; x ++ ), where x is the name before it
 abbrev pub loop_head : Identifier → Lang GrammarToken ℕ
@@ -246,21 +237,16 @@ loop_head x = One (mark Assign) ▸ One nought ▸ One (mark Semicolon) ▸ One 
 
 -- for ( let x = 0 ; x < Bound ; x ++ ) B ("ForStatement")
 abbrev pub for_statement : TokenTables → Lang GrammarToken StmtTree → Lang GrammarToken StmtTree
-for_statement tables S = Then (λ h b. tree.for_line (letters tables h.0) h.1 b)
-    (One (word For) ▸ One (mark OpenParen) ▸ One (word Let) ▸ Bind pair_of (One name) loop_head)
-    (block_part S)
+for_statement tables S = Then (λ h b. tree.for_line (letters tables h.0) h.1 b) (One (word For)
+    ▸ One (mark OpenParen) ▸ One (word Let) ▸ Bind pair_of (One name) loop_head) (block_part S)
 
 -- with prints, or without
 abbrev pub statement : TokenTables → Bool → Bool → Lang GrammarToken ExprTree → Lang GrammarToken ExprTree
     → Lang GrammarToken StmtTree → Lang GrammarToken StmtTree
-statement tables prints room E I S =
-    Either (if_room room (Mapped tree.block (block_part S)))
-    (Either (let_line tables E)
-    (Either (const_line tables E)
-    (Either (assign_line tables E)
-    (Either (if_room prints (if_room room (print_statement I)))
-    (Either (if_room room (if_statement I S))
-    (if_room room (for_statement tables S)))))))
+statement tables prints room E I S = if_room room (Mapped tree.block (block_part S))
+    ¦ let_line tables E ¦ const_line tables E ¦ assign_line tables E
+    ¦ if_room prints (if_room room (print_statement I))
+    ¦ if_room room (if_statement I S) ¦ if_room room (for_statement tables S)
 
 -- with room for so many that are open
 abbrev pub Statement : TokenTables → Bool → ℕ → Lang GrammarToken StmtTree
@@ -271,7 +257,7 @@ Statement tables prints (suc n) =
 -- [ Directive ; ] { Statement }
 abbrev pub Statements : TokenTables → Bool → ℕ → Lang GrammarToken (List StmtTree)
 Statements tables prints n =
-    Either (One directive ▸ One (mark Semicolon)) (Nothing tt) ▸ Many (Statement tables prints n)
+    (One directive ▸ One (mark Semicolon) ¦ Nothing tt) ▸ Many (Statement tables prints n)
 
 -- so many may be open
 unfoldable pub most : ℕ

@@ -31,6 +31,10 @@ module _ {T : Type 0} where
     left : (a : List T) (x : A) → L a x → Either L M a x
     right : (a : List T) (x : A) → M a x → Either L M a x
 
+  infixr 4 ◌¦◌
+  abbrev pub ◌¦◌ : {A : Type 0} → Lang T A → Lang T A → Lang T A
+  L ¦ M = Either L M
+
   -- any number of times
   pub data Many {A : Type 0} (L : Lang T A) : List T → List A → Type 0 where
     end : Many L [] []

@@ -5,7 +5,8 @@ use Rattle.std.specs.Prelude.{nat_eq, filter, ◌||◌}
 use Rattle.std.specs.List.{list_any}
 use Rattle.std.specs.Str.{bytes_eq}
 use Rattle.std.proofs.lemmas.Slice.Eq.{bytes_eq-Decides}
-use Rattle.parse_tokens.specs.Words.{reserved_words, kept_words, is_reserved}
+use Rattle.parse_tokens.specs.Words.{reserved_words, kept_words}
+use Rattle.parse_tokens.specs.Reserved.{is_reserved}
 use Rattle.parse_tokens.specs.Lengths.{of_length, spaced, all_have}
 
 abbrev is_in : List ℕ → List (List ℕ) → Bool

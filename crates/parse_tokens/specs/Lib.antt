@@ -1,4 +1,5 @@
 pub mod Words
+pub mod Reserved
 pub mod Tokens
 pub mod Lengths
 pub mod Seen

@@ -1,5 +1,5 @@
 -- Identifiers (ECMA-262, "Keywords and Reserved Words"), and the names that mean something behind a point.
-use Rattle.std.specs.Prelude.{ℕ, List, [], ◌∷◌, ◌++◌, ◌==◌, codes, Bool, true, false, find, Option, Some}
+use Rattle.std.specs.Prelude.{ℕ, List, [], ◌∷◌, ◌++◌, ◌==◌, codes, true, false, find, Option, Some}
 use Rattle.std.specs.Prelude.{None, if◌then◌else◌, option_map, unwrap_or}
 use Rattle.std.specs.List.{list_any, slice_split}
 use Rattle.std.specs.Option.{option_or}
@@ -34,28 +34,22 @@ kept_words = parted (codes "await print String Symbol JSON undefined NaN Infinit
     ++ codes "isPrototypeOf propertyIsEnumerable toLocaleString toString valueOf __proto__ __defineGetter__ "
     ++ codes "__defineSetter__ __lookupGetter__ __lookupSetter__")
 
--- whether an identifier can't be a name
-abbrev pub is_reserved : List ℕ → Bool
-is_reserved letters = list_any (bytes_eq letters) (reserved_words ++ kept_words)
-
 -- the identifiers that mean something where they are no names: those by which a statement begins or goes on,
 -- and those by which an operand begins
 abbrev pub meant_words : List Word
-meant_words =
-    word.Let ∷ word.Const ∷ word.Print ∷ word.If ∷ word.Else ∷ word.For ∷ word.Undefined ∷ word.Null ∷
-    word.True ∷ word.False ∷ word.NaN ∷ word.Infinity ∷ word.String ∷ word.Symbol ∷ word.Json ∷ word.Object ∷
-    word.EncodeUri ∷ word.EncodeUriComponent ∷ word.DecodeUri ∷ word.DecodeUriComponent ∷ []
+meant_words = word.Let ∷ word.Const ∷ word.Print ∷ word.If ∷ word.Else ∷ word.For ∷ word.Undefined ∷
+    word.Null ∷ word.True ∷ word.False ∷ word.NaN ∷ word.Infinity ∷ word.String ∷ word.Symbol ∷ word.Json ∷
+    word.Object ∷ word.EncodeUri ∷ word.EncodeUriComponent ∷ word.DecodeUri ∷ word.DecodeUriComponent ∷ []
 
 -- what an identifier is where it can't be a name: the identifier itself if it has a meaning here, else
 -- Reserved; None for a name
 abbrev pub word_meant : List ℕ → Option Word
 word_meant letters = option_or (find (λ w. bytes_eq letters (letters_of w)) meant_words)
-    (if is_reserved letters then Some word.Reserved else None)
+    (if list_any (bytes_eq letters) (reserved_words ++ kept_words) then Some word.Reserved else None)
 
 -- the names that mean something behind a point, but for the methods
 abbrev pub property_names : List (List ℕ × Property)
-property_names =
-    (codes "length", property.Length) ∷ (codes "description", property.Description) ∷
+property_names = (codes "length", property.Length) ∷ (codes "description", property.Description) ∷
     (codes "fromCharCode", property.FromCharCode) ∷ (codes "fromCodePoint", property.FromCodePoint) ∷
     (codes "keyFor", property.KeyFor) ∷ (codes "stringify", property.Stringify) ∷
     (codes "keys", property.Keys) ∷ []

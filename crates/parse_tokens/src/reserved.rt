@@ -2,7 +2,7 @@
 ghost use Rattle.std.specs.Prelude.{◌≡◌, ℕ, List, length, true};
 ghost use Rattle.std.specs.List.{list_any};
 ghost use Rattle.std.specs.Str.{bytes_eq};
-ghost use Rattle.parse_tokens.specs.Words.{is_reserved};
+ghost use Rattle.parse_tokens.specs.Reserved.{is_reserved};
 ghost use Rattle.parse_tokens.specs.Lengths.{of_length, spaced, all_have};
 
 /// Whether the identifier can't be a name.

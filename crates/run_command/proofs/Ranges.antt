@@ -15,7 +15,7 @@ use Rattle.clap.proofs.WalkLemmas.{both}
 use Rattle.js_store.specs.declared.limit.Limit.{Limit}
 use Rattle.run_command.specs.declared.plan.Sizes.{Sizes}
 use Rattle.run_command.specs.Words.{Asked, IsRequestInRange, IsSomeFiles, Request, asked_in, files, files_in, generated_in, limit_in, made_from, named_in}
-use Rattle.run_command.specs.Words.{option_number, request_by, request_in, request_with, sizes_by, sizes_in, summary_in, number_in}
+use Rattle.run_command.specs.Words.{option_number, request_by, request_in, sizes_by, sizes_in, summary_in, number_in}
 
 none≢some : {T : Type 0} (x : T) → ◌≡◌ {A = Option T} None (Some x) → ⊥
 none≢some x is = cc

@@ -1,3 +1,4 @@
 pub mod Command
 pub mod Rules
 pub mod Words
+pub mod Parts

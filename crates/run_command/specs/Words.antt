@@ -62,8 +62,7 @@ most_together = 536870912
 
 -- the three sizes, where each has a number and they are not too much together
 abbrev pub sizes_by : Option ℕ → Option ℕ → Option ℕ → Option Sizes
-sizes_by (Some ids) (Some heap_words) (Some slots) =
-    if nat_le (ids + heap_words + slots) most_together
+sizes_by (Some ids) (Some heap_words) (Some slots) = if nat_le (ids + heap_words + slots) most_together
     then Some (record { ids = ids; heap_words = heap_words; slots = slots }) else None
 sizes_by _ _ _ = None
 
@@ -74,9 +73,8 @@ sizes_in rows = sizes_by (option_number 1 most_size (codes "ids") rows)
 
 -- the limit of the length of strings, as `--limit` gives it: 32 or 64
 abbrev pub limit_in : List Row → Option Limit
-limit_in rows = option_and_then
-    (λ bits. if bits == 32 then Some Bits32 else (if bits == 64 then Some Bits64 else None))
-    (option_number 32 64 (codes "limit") rows)
+limit_in rows = option_and_then (λ bits. if bits == 32 then Some Bits32
+    else (if bits == 64 then Some Bits64 else None)) (option_number 32 64 (codes "limit") rows)
 
 -- `--summary` was given
 abbrev pub summary_in : List Row → Bool
@@ -95,9 +93,8 @@ named_in rows = if nat_le 1 (length (files_in rows)) && nat_le (length (files_in
 
 -- the number of `--generate`, and neither a prelude nor a file
 abbrev pub generated_in : List Row → Option Asked
-generated_in rows =
-    if is_some (first_of (codes "prelude") rows) || not (is_empty (files_in rows)) then None
-    else option_map made_from (option_number 0 4294967295 (codes "generate") rows)
+generated_in rows = if is_some (first_of (codes "prelude") rows) || not (is_empty (files_in rows))
+    then None else option_map made_from (option_number 0 4294967295 (codes "generate") rows)
 
 -- files; or `--generate` with its number
 abbrev pub asked_in : List Row → Option Asked
@@ -111,14 +108,10 @@ request_by asked (Some jobs) (Some sizes) (Some limit) summary =
     Some (record { asked = asked; jobs = jobs; sizes = sizes; summary = summary; limit = limit })
 request_by asked _ _ _ summary = None
 
--- the request of what is to be run and of the options, with the number of `--jobs`, 1 to 64
-abbrev pub request_with : Asked → List Row → Option Request
-request_with asked rows = request_by asked (option_number 1 most_jobs (codes "jobs") rows) (sizes_in rows)
-    (limit_in rows) (summary_in rows)
-
--- the request of the command's matches
+-- the request of the command's matches: what is to be run, and the options, with the number of `--jobs`
 abbrev pub request_in : List Row → Option Request
-request_in rows = option_and_then (λ asked. request_with asked rows) (asked_in rows)
+request_in rows = option_and_then (λ asked. request_by asked (option_number 1 most_jobs (codes "jobs") rows)
+    (sizes_in rows) (limit_in rows) (summary_in rows)) (asked_in rows)
 
 -- valid arguments: the command gives matches for them, each number is in its range, the limit is 32 or 64,
 -- the three sizes are not too much together, and either files are named, one or more but not too many, or

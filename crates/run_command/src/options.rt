@@ -1,7 +1,8 @@
 // What the matches of the command ask for.
 ghost use Rattle.std.specs.Prelude.{◌≡◌, Some, length, option_map, IfOk, IfErr};
 ghost use Rattle.clap.specs.Words.{found_of, rows_of};
-ghost use Rattle.run_command.specs.Words.{made_from, IsRefusal, asked_for, asked_in, files_in, generated_in, limit_in, named_in, option_number, request_for, request_in, request_with, sizes_in, summary_in};
+ghost use Rattle.run_command.specs.Words.{made_from, IsRefusal, asked_for, asked_in, files_in, generated_in, limit_in, named_in, option_number, request_for, request_in, sizes_in, summary_in};
+ghost use Rattle.run_command.specs.Parts.{request_with};
 
 use crate::plan::{Input, Plan, Sizes, WordsFault};
 use clap::ArgMatches;

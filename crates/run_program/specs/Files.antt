@@ -1,15 +1,16 @@
 -- Files that were run on one heap, and what of them is in the heap afterwards.
-use Rattle.std.specs.Prelude.{◌≡◌, ℕ, ◌+◌, ◌≤◌, List, [], ◌∷◌, map, Option, Some, None}
+use Rattle.std.specs.Prelude.{◌≡◌, ℕ, ◌+◌, ◌≤◌, List, [], ◌∷◌, map, flat_map, Option, Some, None}
 use Rattle.js_store.specs.State.{State, StoreSizes}
 use Rattle.js_store.specs.Faults.{ids_wanted, words_wanted}
 use Rattle.js_texts.specs.Texts.{Every}
+use Rattle.eval_values.specs.Conversions.{sum_over}
 use Rattle.js_eval.specs.declared.ending.End.{End}
 use Rattle.js_eval.specs.declared.ending.End.TheVariants.{Done, Full, Memory}
 use Rattle.js_eval.specs.Evaluates.{script_end}
 use Rattle.js_eval.specs.Script.{Flow, flow_ledger}
 use Rattle.run_program.specs.declared.job.Job.{Job}
 use Rattle.run_program.specs.declared.job.Outcome.{Outcome}
-use Rattle.run_program.specs.Jobs.{JobUse, HasJobEnd, fault_in, pairs_of, ids_of, words_of}
+use Rattle.run_program.specs.Jobs.{JobUse, HasJobEnd, fault_in}
 
 -- a file that was run: what it means, how it ended, the bytes of the lines that it printed, and what it did
 -- to the heap
@@ -39,9 +40,9 @@ pub record WasFileRun {F : Type 0} (s : State F) (f : RunFile) : Type 0 where
 pub record AreRun {F : Type 0} (z : StoreSizes) (s : State F) (files : List RunFile) : Type 0 where
   pub sizes : s.sizes ≡ z
   pub each : Every (WasFileRun s) files
-  pub history : s.history ≡ pairs_of (parts_of files)
-  pub used_ids : s.used_ids ≡ ids_of (parts_of files)
-  pub used_words : s.used_words ≡ words_of (parts_of files)
+  pub history : s.history ≡ flat_map (λ p. p.pairs) (parts_of files)
+  pub used_ids : s.used_ids ≡ sum_over (λ p. p.ids) (parts_of files)
+  pub used_words : s.used_words ≡ sum_over (λ p. p.words) (parts_of files)
 
 -- files that are these jobs, in their order
 pub record AreJobs (mean : Job → Flow) (jobs : List Job) (outcomes : List Outcome)

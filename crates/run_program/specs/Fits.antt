@@ -1,6 +1,7 @@
 -- What scripts may ask of a heap by their meanings, and when its sizes are enough for all of them.
 use Rattle.eval_values.specs.Conversions.{sum_over}
-use Rattle.std.specs.Prelude.{ℕ, ◌≤◌, List, [], ◌∷◌, nat_eq, flat_map, Option, Some, None}
+use Rattle.std.specs.Prelude.{ℕ, ◌≤◌, List, [], ◌∷◌, nat_eq, flat_map, Option}
+use Rattle.std.specs.Option.{option_map_or}
 use Rattle.std.specs.Cmp.Lexicographic.{pointwise}
 use Rattle.std.specs.Set.{distinct_count}
 use Rattle.js_store.specs.State.{StoreSizes}
@@ -16,8 +17,7 @@ after_prelude (ended e l) scripts = []
 -- what all files mean that are meant to be run: the prelude, and behind one that is meant to end Done the
 -- scripts
 abbrev pub all_meant : Option Flow → List Flow → List Flow
-all_meant None scripts = scripts
-all_meant (Some prelude) scripts = prelude ∷ after_prelude prelude.out scripts
+all_meant prelude scripts = option_map_or (λ p. p ∷ after_prelude p.out scripts) prelude scripts
 
 -- the ids and the content words that all need together
 abbrev pub ids_needed : List Flow → ℕ

@@ -12,8 +12,7 @@ word_line i letters = codes "const w" ++ (decimal i ++ (codes " = '" ++ (letters
 -- all strings with commas between them
 abbrev pub all_line : List ℕ
 all_line =
-    codes "let all = w0 + ',' + w1 + ',' + w2 + ',' + w3 + ',' + w4 + ',' + w5 + ',' + w6 + ',' + w7"
-    ++
+    codes "let all = w0 + ',' + w1 + ',' + w2 + ',' + w3 + ',' + w4 + ',' + w5 + ',' + w6 + ',' + w7" ++
     codes " + ',' + w8 + ',' + w9 + ',' + w10 + ',' + w11 + ',' + w12 + ',' + w13 + ',' + w14 + ',' + w15;\n"
 
 -- the line of kind k with three numbers, of which not every kind uses each: it finds a string in all of them,

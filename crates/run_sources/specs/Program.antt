@@ -1,6 +1,7 @@
 -- A prelude or none, and scripts: by the names of their files, by their bytes, or by their trees.
 use Rattle.std.specs.Prelude.{ℕ, List, [], ◌∷◌, ◌++◌, Option, None, Some, option_to_list}
 use Rattle.run_sources.specs.Texts.{Named}
+use Rattle.std.specs.Option.{option_map_or}
 use Rattle.eval_tree.specs.Tree.{Tree}
 
 -- an argument that names a file, by its bytes
@@ -23,5 +24,4 @@ program_from (prelude ∷ scripts) = record { prelude = Some prelude; scripts = 
 
 -- the names that the prelude declares at its top; none without a prelude
 abbrev pub outer_of : Option Tree → List (List ℕ)
-outer_of None = []
-outer_of (Some tree) = tree.top
+outer_of prelude = option_map_or (λ tree. tree.top) prelude []

@@ -35,9 +35,8 @@ pub data Read (held : FileName → Option (List ℕ)) : List FileName → List N
 -- the prelude's file, if there is one
 abbrev pub IsPreludeRead : (FileName → Option (List ℕ)) → Option FileName → Option Named → Type 0
 IsPreludeRead held None None = ⊤
-IsPreludeRead held None (Some source) = ⊥
-IsPreludeRead held (Some name) None = ⊥
 IsPreludeRead held (Some name) (Some source) = IsSourceRead held name source
+IsPreludeRead held _ _ = ⊥
 
 -- all files
 pub record AreRead (held : FileName → Option (List ℕ)) (names : Program FileName)

@@ -10,9 +10,8 @@ use Rattle.run_sources.specs.Program.{FileName, Program, outer_of}
 -- the prelude's source spells this prelude; without one there is no tree
 abbrev pub SpellsPrelude : Option Named → Option Tree → Type 0
 SpellsPrelude None None = ⊤
-SpellsPrelude None (Some tree) = ⊥
-SpellsPrelude (Some source) None = ⊥
 SpellsPrelude (Some source) (Some tree) = script.Spells role.Prelude [] source.text tree
+SpellsPrelude _ _ = ⊥
 
 -- after a prelude that declares the outer names, the sources spell these scripts, in order
 pub data AllSpell (outer : List (List ℕ)) : List Named → List Tree → Type 0 where
@@ -30,8 +29,7 @@ pub record Spell (sources : Program Named) (trees : Program Tree) : Type 0 where
 -- this name, for this fault
 pub data FirstAmong (outer : List (List ℕ)) (name : FileName) (fault : ParseFault) : List Named → Type 0 where
   here : (source : Named) (sources : List Named) → source.name ≡ name
-      → script.Refused role.Main outer source.text fault
-      → FirstAmong outer name fault (source ∷ sources)
+      → script.Refused role.Main outer source.text fault → FirstAmong outer name fault (source ∷ sources)
   later : (source : Named) (sources : List Named) (tree : Tree)
       → script.Spells role.Main outer source.text tree
       → FirstAmong outer name fault sources → FirstAmong outer name fault (source ∷ sources)
@@ -40,8 +38,6 @@ pub data FirstAmong (outer : List (List ℕ)) (name : FileName) (fault : ParseFa
 -- name, for this fault
 pub data FirstRefused (sources : Program Named) (name : FileName) (fault : ParseFault) : Type 0 where
   of_prelude : (source : Named) → sources.prelude ≡ Some source → source.name ≡ name
-      → script.Refused role.Prelude [] source.text fault
-      → FirstRefused sources name fault
+      → script.Refused role.Prelude [] source.text fault → FirstRefused sources name fault
   of_script : (prelude : Option Tree) → SpellsPrelude sources.prelude prelude
-      → FirstAmong (outer_of prelude) name fault sources.scripts
-      → FirstRefused sources name fault
+      → FirstAmong (outer_of prelude) name fault sources.scripts → FirstRefused sources name fault

@@ -31,8 +31,7 @@ drawn_line x = generated_line (draw x 6) (draw (state_after 1 x) 16) (draw (stat
 
 -- script j, drawn from state x on
 abbrev pub script : ℕ → ℕ → List ℕ
-script j x =
-    codes "let acc = '';\nlet n = 0;\n"
+script j x = codes "let acc = '';\nlet n = 0;\n"
     ++ (joined_up_to (λ l. drawn_line (state_after (4 * l) x)) 32 ++ print_line j)
 
 -- a source with its name

@@ -72,20 +72,6 @@ codepointat_1 : means
 unfolding encode digits turns first last matches
 codepointat_1 = refl
 
--- print('a'.concat('b', 1, null));
-concat_1 : means
-    (script
-    (codes "a" ∷ codes "b" ∷ [])
-    (print
-    (exprs
-    (post
-    (literal 0)
-    (steps (of_call 10 method.Concat (exprs (literal 1 ∷ number 1 ∷ null ∷ [])) ∷ [])) ∷ [])) ∷ [])
-    [])
-    ≡ (Done, codes "ab1null\n")
-unfolding encode digits turns first last matches
-concat_1 = refl
-
 -- print('abc'.endsWith('c'), 'abc'.endsWith('b'), 'abc'.endsWith('b', 2));
 endswith_1 : means
     (script
@@ -131,39 +117,6 @@ indexof_1 : means
 unfolding encode digits turns first last matches
 indexof_1 = refl
 
--- print('a\u{1F600}'.isWellFormed(), 'a\ud83d'.isWellFormed());
-iswellformed_1 : means
-    (script
-    ((97 ∷ 55357 ∷ 56832 ∷ []) ∷ (97 ∷ 55357 ∷ []) ∷ [])
-    (print
-    (exprs
-    (post (literal 0) (steps (of_call 19 method.IsWellFormed (exprs []) ∷ [])) ∷
-    post (literal 1) (steps (of_call 45 method.IsWellFormed (exprs []) ∷ [])) ∷ [])) ∷ [])
-    [])
-    ≡ (Done, codes "true false\n")
-unfolding encode digits turns first last matches
-iswellformed_1 = refl
-
--- print('a,b,c'.split(',').join('--'), 'a,b'.split(',').join());
-join_1 : means
-    (script
-    (codes "a,b,c" ∷ codes "," ∷ codes "--" ∷ codes "a,b" ∷ codes "," ∷ [])
-    (print
-    (exprs
-    (post
-    (literal 0)
-    (steps
-    (of_call 14 method.Split (exprs (literal 1 ∷ [])) ∷
-    of_call 25 method.Join (exprs (literal 2 ∷ [])) ∷ [])) ∷
-    post
-    (literal 3)
-    (steps
-    (of_call 43 method.Split (exprs (literal 4 ∷ [])) ∷ of_call 54 method.Join (exprs []) ∷ [])) ∷ [])) ∷ [])
-    [])
-    ≡ (Done, codes "a--b--c a,b\n")
-unfolding encode digits turns first last matches
-join_1 = refl
-
 -- print('abcabc'.lastIndexOf('c'), 'abcabc'.lastIndexOf('c', 4), 'abc'.lastIndexOf('d'));
 lastindexof_1 : means
     (script
@@ -178,81 +131,21 @@ lastindexof_1 : means
 unfolding encode digits turns first last matches
 lastindexof_1 = refl
 
--- print('a'.padEnd(3) + '|', 'a'.padEnd(6, 'xy'), 'abc'.padEnd(2));
-padend_1 : means
+-- print('abc'.startsWith('ab'), 'abc'.startsWith('b'), 'abc'.startsWith('b', 1));
+startswith_1 : means
     (script
-    (codes "a" ∷ codes "|" ∷ codes "a" ∷ codes "xy" ∷ codes "abc" ∷ [])
+    (codes "abc" ∷ codes "ab" ∷ codes "abc" ∷ codes "b" ∷ codes "abc" ∷ codes "b" ∷ [])
     (print
     (exprs
-    (chain
-    (post (literal 0) (steps (of_call 10 method.PadEnd (exprs (number 3 ∷ [])) ∷ [])))
-    (links (to 20 op.Plus (literal 1) ∷ [])) ∷
-    post (literal 2) (steps (of_call 31 method.PadEnd (exprs (number 6 ∷ literal 3 ∷ [])) ∷ [])) ∷
-    post (literal 4) (steps (of_call 54 method.PadEnd (exprs (number 2 ∷ [])) ∷ [])) ∷ [])) ∷ [])
-    [])
-    ≡ (Done, codes "a  | axyxyx abc\n")
-unfolding encode digits turns first last matches
-padend_1 = refl
-
--- print('a'.padStart(3), 'a'.padStart(6, 'xy'));
-padstart_1 : means
-    (script
-    (codes "a" ∷ codes "a" ∷ codes "xy" ∷ [])
-    (print
-    (exprs
-    (post (literal 0) (steps (of_call 10 method.PadStart (exprs (number 3 ∷ [])) ∷ [])) ∷
+    (post (literal 0) (steps (of_call 12 method.StartsWith (exprs (literal 1 ∷ [])) ∷ [])) ∷
+    post (literal 2) (steps (of_call 36 method.StartsWith (exprs (literal 3 ∷ [])) ∷ [])) ∷
     post
-    (literal 1)
-    (steps (of_call 27 method.PadStart (exprs (number 6 ∷ literal 2 ∷ [])) ∷ [])) ∷ [])) ∷ [])
+    (literal 4)
+    (steps (of_call 59 method.StartsWith (exprs (literal 5 ∷ number 1 ∷ [])) ∷ [])) ∷ [])) ∷ [])
     [])
-    ≡ (Done, codes "  a xyxyxa\n")
+    ≡ (Done, codes "true false true\n")
 unfolding encode digits turns first last matches
-padstart_1 = refl
-
--- print('ab'.repeat(3), 'ab'.repeat(0) === '');
-repeat_1 : means
-    (script
-    (codes "ab" ∷ codes "ab" ∷ [] ∷ [])
-    (print
-    (exprs
-    (post (literal 0) (steps (of_call 11 method.Repeat (exprs (number 3 ∷ [])) ∷ [])) ∷
-    chain
-    (post (literal 1) (steps (of_call 27 method.Repeat (exprs (number 0 ∷ [])) ∷ [])))
-    (links (to 37 op.Same (literal 2) ∷ [])) ∷ [])) ∷ [])
-    [])
-    ≡ (Done, codes "ababab true\n")
-unfolding encode digits turns first last matches
-repeat_1 = refl
-
--- print('aXbX'.replace('X', '[$&$$]'), 'abc'.replace('b', "$`$'"));
-replace_1 : means
-    (script
-    (codes "aXbX" ∷ codes "X" ∷ codes "[$&$$]" ∷ codes "abc" ∷ codes "b" ∷ codes "$`$'" ∷ [])
-    (print
-    (exprs
-    (post (literal 0) (steps (of_call 13 method.Replace (exprs (literal 1 ∷ literal 2 ∷ [])) ∷ [])) ∷
-    post
-    (literal 3)
-    (steps (of_call 43 method.Replace (exprs (literal 4 ∷ literal 5 ∷ [])) ∷ [])) ∷ [])) ∷ [])
-    [])
-    ≡ (Done, codes "a[X$]bX aacc\n")
-unfolding encode digits turns first last matches
-replace_1 = refl
-
--- print('aXbX'.replaceAll('X', '--'), 'ab'.replaceAll('', '.'));
-replaceall_1 : means
-    (script
-    (codes "aXbX" ∷ codes "X" ∷ codes "--" ∷ codes "ab" ∷ [] ∷ codes "." ∷ [])
-    (print
-    (exprs
-    (post (literal 0) (steps (of_call 13 method.ReplaceAll (exprs (literal 1 ∷ literal 2 ∷ [])) ∷ [])) ∷
-    post
-    (literal 3)
-    (steps (of_call 41 method.ReplaceAll (exprs (literal 4 ∷ literal 5 ∷ [])) ∷ [])) ∷ [])) ∷ [])
-    [])
-    ≡ (Done, codes "a--b-- .a.b.\n")
-unfolding encode digits turns first last matches
-replaceall_1 = refl
+startswith_1 = refl
 
 -- print('abcdef'.slice(1, 3), 'abcdef'.slice(-3, -1), 'abc'.slice(2));
 slice_1 : means
@@ -270,43 +163,6 @@ slice_1 : means
     ≡ (Done, codes "bc de c\n")
 unfolding encode digits turns first last matches
 slice_1 = refl
-
--- print('a,b,,c'.split(',', 3).join('|'), 'abc'.split('').join('|'));
-split_1 : means
-    (script
-    (codes "a,b,,c" ∷ codes "," ∷ codes "|" ∷ codes "abc" ∷ [] ∷ codes "|" ∷ [])
-    (print
-    (exprs
-    (post
-    (literal 0)
-    (steps
-    (of_call 15 method.Split (exprs (literal 1 ∷ number 3 ∷ [])) ∷
-    of_call 29 method.Join (exprs (literal 2 ∷ [])) ∷ [])) ∷
-    post
-    (literal 3)
-    (steps
-    (of_call 46 method.Split (exprs (literal 4 ∷ [])) ∷
-    of_call 56 method.Join (exprs (literal 5 ∷ [])) ∷ [])) ∷ [])) ∷ [])
-    [])
-    ≡ (Done, codes "a|b| a|b|c\n")
-unfolding encode digits turns first last matches
-split_1 = refl
-
--- print('abc'.startsWith('ab'), 'abc'.startsWith('b'), 'abc'.startsWith('b', 1));
-startswith_1 : means
-    (script
-    (codes "abc" ∷ codes "ab" ∷ codes "abc" ∷ codes "b" ∷ codes "abc" ∷ codes "b" ∷ [])
-    (print
-    (exprs
-    (post (literal 0) (steps (of_call 12 method.StartsWith (exprs (literal 1 ∷ [])) ∷ [])) ∷
-    post (literal 2) (steps (of_call 36 method.StartsWith (exprs (literal 3 ∷ [])) ∷ [])) ∷
-    post
-    (literal 4)
-    (steps (of_call 59 method.StartsWith (exprs (literal 5 ∷ number 1 ∷ [])) ∷ [])) ∷ [])) ∷ [])
-    [])
-    ≡ (Done, codes "true false true\n")
-unfolding encode digits turns first last matches
-startswith_1 = refl
 
 -- print('abcdef'.substr(1, 3), 'abcdef'.substr(-3, 2));
 substr_1 : means
@@ -338,21 +194,6 @@ substring_1 : means
     ≡ (Done, codes "bc bc ab\n")
 unfolding encode digits turns first last matches
 substring_1 = refl
-
--- print('a\ud83d'.toWellFormed() === 'a\ufffd', '\u{1F600}'.toWellFormed().length);
-towellformed_1 : means
-    (script
-    ((97 ∷ 55357 ∷ []) ∷ (97 ∷ 65533 ∷ []) ∷ (55357 ∷ 56832 ∷ []) ∷ [])
-    (print
-    (exprs
-    (chain
-    (post (literal 0) (steps (of_call 16 method.ToWellFormed (exprs []) ∷ [])))
-    (links (to 31 op.Same (literal 1) ∷ [])) ∷
-    post (literal 2) (steps (of_call 58 method.ToWellFormed (exprs []) ∷ of_length ∷ [])) ∷ [])) ∷ [])
-    [])
-    ≡ (Done, codes "true 2\n")
-unfolding encode digits turns first last matches
-towellformed_1 = refl
 
 -- print('[' + ' \t\u2003a b\n'.trim() + ']');
 trim_1 : means
@@ -401,6 +242,165 @@ trimstart_1 : means
     ≡ (Done, codes "[a b ]\n")
 unfolding encode digits turns first last matches
 trimstart_1 = refl
+
+-- print('a'.concat('b', 1, null));
+concat_1 : means
+    (script
+    (codes "a" ∷ codes "b" ∷ [])
+    (print
+    (exprs
+    (post
+    (literal 0)
+    (steps (of_call 10 method.Concat (exprs (literal 1 ∷ number 1 ∷ null ∷ [])) ∷ [])) ∷ [])) ∷ [])
+    [])
+    ≡ (Done, codes "ab1null\n")
+unfolding encode digits turns first last matches
+concat_1 = refl
+
+-- print('a'.padEnd(3) + '|', 'a'.padEnd(6, 'xy'), 'abc'.padEnd(2));
+padend_1 : means
+    (script
+    (codes "a" ∷ codes "|" ∷ codes "a" ∷ codes "xy" ∷ codes "abc" ∷ [])
+    (print
+    (exprs
+    (chain
+    (post (literal 0) (steps (of_call 10 method.PadEnd (exprs (number 3 ∷ [])) ∷ [])))
+    (links (to 20 op.Plus (literal 1) ∷ [])) ∷
+    post (literal 2) (steps (of_call 31 method.PadEnd (exprs (number 6 ∷ literal 3 ∷ [])) ∷ [])) ∷
+    post (literal 4) (steps (of_call 54 method.PadEnd (exprs (number 2 ∷ [])) ∷ [])) ∷ [])) ∷ [])
+    [])
+    ≡ (Done, codes "a  | axyxyx abc\n")
+unfolding encode digits turns first last matches
+padend_1 = refl
+
+-- print('a'.padStart(3), 'a'.padStart(6, 'xy'));
+padstart_1 : means
+    (script
+    (codes "a" ∷ codes "a" ∷ codes "xy" ∷ [])
+    (print
+    (exprs
+    (post (literal 0) (steps (of_call 10 method.PadStart (exprs (number 3 ∷ [])) ∷ [])) ∷
+    post
+    (literal 1)
+    (steps (of_call 27 method.PadStart (exprs (number 6 ∷ literal 2 ∷ [])) ∷ [])) ∷ [])) ∷ [])
+    [])
+    ≡ (Done, codes "  a xyxyxa\n")
+unfolding encode digits turns first last matches
+padstart_1 = refl
+
+-- print('ab'.repeat(3), 'ab'.repeat(0) === '');
+repeat_1 : means
+    (script
+    (codes "ab" ∷ codes "ab" ∷ [] ∷ [])
+    (print
+    (exprs
+    (post (literal 0) (steps (of_call 11 method.Repeat (exprs (number 3 ∷ [])) ∷ [])) ∷
+    chain
+    (post (literal 1) (steps (of_call 27 method.Repeat (exprs (number 0 ∷ [])) ∷ [])))
+    (links (to 37 op.Same (literal 2) ∷ [])) ∷ [])) ∷ [])
+    [])
+    ≡ (Done, codes "ababab true\n")
+unfolding encode digits turns first last matches
+repeat_1 = refl
+
+-- print('a\ud83d'.toWellFormed() === 'a\ufffd', '\u{1F600}'.toWellFormed().length);
+towellformed_1 : means
+    (script
+    ((97 ∷ 55357 ∷ []) ∷ (97 ∷ 65533 ∷ []) ∷ (55357 ∷ 56832 ∷ []) ∷ [])
+    (print
+    (exprs
+    (chain
+    (post (literal 0) (steps (of_call 16 method.ToWellFormed (exprs []) ∷ [])))
+    (links (to 31 op.Same (literal 1) ∷ [])) ∷
+    post (literal 2) (steps (of_call 58 method.ToWellFormed (exprs []) ∷ of_length ∷ [])) ∷ [])) ∷ [])
+    [])
+    ≡ (Done, codes "true 2\n")
+unfolding encode digits turns first last matches
+towellformed_1 = refl
+
+-- print('aXbX'.replace('X', '[$&$$]'), 'abc'.replace('b', "$`$'"));
+replace_1 : means
+    (script
+    (codes "aXbX" ∷ codes "X" ∷ codes "[$&$$]" ∷ codes "abc" ∷ codes "b" ∷ codes "$`$'" ∷ [])
+    (print
+    (exprs
+    (post (literal 0) (steps (of_call 13 method.Replace (exprs (literal 1 ∷ literal 2 ∷ [])) ∷ [])) ∷
+    post
+    (literal 3)
+    (steps (of_call 43 method.Replace (exprs (literal 4 ∷ literal 5 ∷ [])) ∷ [])) ∷ [])) ∷ [])
+    [])
+    ≡ (Done, codes "a[X$]bX aacc\n")
+unfolding encode digits turns first last matches
+replace_1 = refl
+
+-- print('aXbX'.replaceAll('X', '--'), 'ab'.replaceAll('', '.'));
+replaceall_1 : means
+    (script
+    (codes "aXbX" ∷ codes "X" ∷ codes "--" ∷ codes "ab" ∷ [] ∷ codes "." ∷ [])
+    (print
+    (exprs
+    (post (literal 0) (steps (of_call 13 method.ReplaceAll (exprs (literal 1 ∷ literal 2 ∷ [])) ∷ [])) ∷
+    post
+    (literal 3)
+    (steps (of_call 41 method.ReplaceAll (exprs (literal 4 ∷ literal 5 ∷ [])) ∷ [])) ∷ [])) ∷ [])
+    [])
+    ≡ (Done, codes "a--b-- .a.b.\n")
+unfolding encode digits turns first last matches
+replaceall_1 = refl
+
+-- print('a,b,,c'.split(',', 3).join('|'), 'abc'.split('').join('|'));
+split_1 : means
+    (script
+    (codes "a,b,,c" ∷ codes "," ∷ codes "|" ∷ codes "abc" ∷ [] ∷ codes "|" ∷ [])
+    (print
+    (exprs
+    (post
+    (literal 0)
+    (steps
+    (of_call 15 method.Split (exprs (literal 1 ∷ number 3 ∷ [])) ∷
+    of_call 29 method.Join (exprs (literal 2 ∷ [])) ∷ [])) ∷
+    post
+    (literal 3)
+    (steps
+    (of_call 46 method.Split (exprs (literal 4 ∷ [])) ∷
+    of_call 56 method.Join (exprs (literal 5 ∷ [])) ∷ [])) ∷ [])) ∷ [])
+    [])
+    ≡ (Done, codes "a|b| a|b|c\n")
+unfolding encode digits turns first last matches
+split_1 = refl
+
+-- print('a,b,c'.split(',').join('--'), 'a,b'.split(',').join());
+join_1 : means
+    (script
+    (codes "a,b,c" ∷ codes "," ∷ codes "--" ∷ codes "a,b" ∷ codes "," ∷ [])
+    (print
+    (exprs
+    (post
+    (literal 0)
+    (steps
+    (of_call 14 method.Split (exprs (literal 1 ∷ [])) ∷
+    of_call 25 method.Join (exprs (literal 2 ∷ [])) ∷ [])) ∷
+    post
+    (literal 3)
+    (steps
+    (of_call 43 method.Split (exprs (literal 4 ∷ [])) ∷ of_call 54 method.Join (exprs []) ∷ [])) ∷ [])) ∷ [])
+    [])
+    ≡ (Done, codes "a--b--c a,b\n")
+unfolding encode digits turns first last matches
+join_1 = refl
+
+-- print('a\u{1F600}'.isWellFormed(), 'a\ud83d'.isWellFormed());
+iswellformed_1 : means
+    (script
+    ((97 ∷ 55357 ∷ 56832 ∷ []) ∷ (97 ∷ 55357 ∷ []) ∷ [])
+    (print
+    (exprs
+    (post (literal 0) (steps (of_call 19 method.IsWellFormed (exprs []) ∷ [])) ∷
+    post (literal 1) (steps (of_call 45 method.IsWellFormed (exprs []) ∷ [])) ∷ [])) ∷ [])
+    [])
+    ≡ (Done, codes "true false\n")
+unfolding encode digits turns first last matches
+iswellformed_1 = refl
 
 -- print(String() === '', String(true), String(Symbol.for('k')));
 string_1 : means

@@ -2,7 +2,7 @@ use Rattle.eval_values.specs.RowNames.{row_ids, row_words}
 use Rattle.std.proofs.Common.{arith, ◌+◌}
 use Rattle.std.proofs.lemmas.Result.{err_from_is_err_and}
 use Rattle.js_store.specs.State.{text}
-use Rattle.eval_members.specs.Members.{part_of}
+use Rattle.eval_members.specs.Methods.{part_of}
 use Rattle.eval_values.proofs.Limited.{within_stops}
 use Rattle.eval_members.proofs.cutting.give_part.Goals as goal
 

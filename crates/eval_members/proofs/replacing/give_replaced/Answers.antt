@@ -4,7 +4,7 @@ use Rattle.std.proofs.lemmas.Result.{err_from_is_err_and}
 use Rattle.js_store.specs.State.{State, text}
 use Rattle.js_store.proofs.Laws.{settle_words_most}
 use Rattle.js_texts.specs.Use.{settling}
-use Rattle.eval_members.specs.Members.{replaced_of, match_count}
+use Rattle.eval_members.specs.Methods.{replaced_of, match_count}
 use Rattle.eval_values.proofs.Needs.{some_part}
 use Rattle.eval_members.proofs.Made.{parts_stops}
 use Rattle.eval_members.proofs.replacing.give_replaced.Goals as goal

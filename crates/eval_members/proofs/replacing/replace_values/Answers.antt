@@ -1,5 +1,5 @@
 use Rattle.std.proofs.lemmas.Result.{err_from_is_err_and}
-use Rattle.eval_members.specs.Members.{replaced_of, match_count}
+use Rattle.eval_members.specs.Methods.{replaced_of, match_count}
 use Rattle.eval_members.proofs.Replacements.{searched_stops, template_stops, replace_does}
 use Rattle.js_store.proofs.Laws.{grows_trans}
 use Rattle.eval_values.proofs.Still.{fine_still}

@@ -7,7 +7,7 @@ use Rattle.eval_values.specs.Conversions.{to_string, all_units, first_text_units
 use Rattle.eval_values.specs.Need.{reads}
 use Rattle.eval_values.specs.Arguments.{first_of}
 use Rattle.eval_values.specs.Stops.{converted_of}
-use Rattle.eval_members.specs.Members.{search_of}
+use Rattle.eval_members.specs.Methods.{search_of}
 use Rattle.eval_values.specs.Seen.{all_seen}
 use Rattle.eval_values.proofs.TextArguments.{text_fails}
 use Rattle.eval_values.proofs.Still.{values_fine_still}

@@ -2,7 +2,7 @@ use Rattle.eval_values.specs.RowNames.{row_ids, row_words}
 use Rattle.std.proofs.Common.{arith}
 use Rattle.std.proofs.lemmas.Result.{err_from_is_err_and}
 use Rattle.js_store.specs.State.{text}
-use Rattle.eval_members.specs.Members.{search_of}
+use Rattle.eval_members.specs.Methods.{search_of}
 use Rattle.eval_values.proofs.Limited.{row_stops}
 use Rattle.eval_members.proofs.searching.find.Goals as goal
 

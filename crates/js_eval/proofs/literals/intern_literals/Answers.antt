@@ -7,7 +7,7 @@ use Rattle.js_store.proofs.Laws.{grows_refl, grows_trans, known_still, text_stil
 use Rattle.eval_values.specs.declared.value.Stop.TheVariants.{Store}
 use Rattle.eval_values.specs.Outcome.{Out}
 use Rattle.eval_values.specs.Does.{GivesTexts}
-use Rattle.js_eval.specs.Script.{literal_out}
+use Rattle.js_eval.specs.Pieces.{literal_out}
 use Rattle.eval_values.proofs.Compose.{ran_free}
 use Rattle.eval_values.proofs.Each.{each_turn, each_halt, each_full, each_is, fine_turn}
 use Rattle.js_eval.proofs.literals.intern_literals.Goals as goal

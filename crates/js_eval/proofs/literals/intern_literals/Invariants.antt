@@ -3,7 +3,7 @@ use Rattle.js_store.specs.State.{State, Grows}
 use Rattle.eval_values.specs.declared.value.Stop.{Stop}
 use Rattle.eval_values.specs.Outcome.{each}
 use Rattle.js_texts.specs.Texts.{AllKnown, known_texts as texts_seen}
-use Rattle.js_eval.specs.Script.{literal_out}
+use Rattle.js_eval.specs.Pieces.{literal_out}
 use Rattle.eval_values.specs.Does.{GivesTexts}
 use Rattle.eval_values.proofs.Each.{each_behind}
 use Rattle.js_eval.proofs.literals.intern_literals.Given as goal

@@ -2,7 +2,7 @@ use Rattle.std.proofs.Common.{◌≡◌, ◌+◌, ◌-◌, drop, length, reverse
 use Rattle.std.specs.Prelude.{None}
 use Rattle.js_store.specs.State.{text}
 use Rattle.js_store.specs.Faults.{StoreStep}
-use Rattle.js_methods.specs.Trimming.{blanks}
+use Rattle.js_methods.specs.Blanks.{blanks}
 use Rattle.js_methods.proofs.trimming.end_of_rest.Given as goal
 
 abbrev pub invariant-loop-i : goal.invariant-loop-i
