@@ -5,7 +5,7 @@ ghost use Rattle.js_store.specs.Rows.{wide_words};
 ghost use Rattle.js_store.specs.Faults.{fault_of, Uses};
 ghost use Rattle.js_texts.specs.Answers.{method_fault_of, NeverThrows};
 ghost use Rattle.js_number.specs.Places.{IsLawful};
-ghost use Rattle.js_methods.specs.Searching.{index_from, includes_from, last_index_up_to, limit_of, starts_at, ends_at, end_at};
+ghost use Rattle.js_methods.specs.Searching.{index_from, includes_from, last_index_up_to, limit_of, starts_at, ends_at};
 
 use js_number::Num;
 use js_store::{StoreFault, Strings};
