@@ -11,7 +11,7 @@ use Rattle.heap_agents.specs.Interned.{HasEntered, KeepsCalls}
 use Rattle.heap_agents.specs.Keys.{FoundUnits, InternedUnits}
 use Rattle.heap_table.specs.Agents.{view_of}
 use Rattle.heap_agents.specs.Shared.{IsSameText, SharedText, heap_of, view_if}
-use Rattle.heap_agents.proofs.Interned.{agents_found, agents_from, calls_found, calls_from, known_found, known_from}
+use Rattle.heap_agents.proofs.Interned.{agents_found, agents_from, calls_found, calls_from, known_found, known_from, own_found, own_from}
 use Rattle.heap_agents.proofs.Marks.{held_on, kept_marks, same_text, told}
 
 module _ (x y : Held) (m : Option SharedText) (is : y.text ≡ m) (us : List ℕ) (i : ℕ) (held : IsHeld y) (keeps : KeepsMarks (record x { text = m }) y)
@@ -24,7 +24,7 @@ module _ (x y : Held) (m : Option SharedText) (is : y.text ≡ m) (us : List ℕ
   answer = Ok i
 
   marks : KeepsMarks x y
-  marks = record { known = keeps.known; interned = keeps.interned; number = keeps.number; giver = keeps.giver }
+  marks = record { known = keeps.known; interned = keeps.interned; number = keeps.number; giver = keeps.giver; reserve = keeps.reserve }
 
   both : MarksOnlyKey x y i
   both = record { known = marked.known; interned = marked.interned; only = marked.only; only_interned = marked.only_interned }
@@ -64,10 +64,10 @@ module _ (x : Held) (t u : SharedText) (own : x.text ≡ Some t) (heap : heap_of
   w = view_of u.reader.agent
 
   pub held_interned : (r : Result ℕ TableFull) → IsInternAnswer v w us (copy_plan us) r → IsHeld (record x { text = Some u })
-  held_interned r i = held_on x t u own heap limit held (known_from v w us (copy_plan us) r i) (calls_from v w us (copy_plan us) r i) (agents_from v w us (copy_plan us) r i)
+  held_interned r i = held_on x t u own heap limit held (known_from v w us (copy_plan us) r i) (calls_from v w us (copy_plan us) r i) (agents_from v w us (copy_plan us) r i) (own_from v w us (copy_plan us) r i)
 
   pub held_found : (r : Option ℕ) → FindsString v w us r → IsHeld (record x { text = Some u })
-  held_found r i = held_on x t u own heap limit held (known_found v w us r i) (calls_found v w us r i) (agents_found v w us r i)
+  held_found r i = held_on x t u own heap limit held (known_found v w us r i) (calls_found v w us r i) (agents_found v w us r i) (own_found v w us r i)
 
   abbrev pub refusal : TableFull → Result ℕ TableFull
   refusal f = Err f

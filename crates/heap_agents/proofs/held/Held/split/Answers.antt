@@ -1,4 +1,6 @@
-use Rattle.std.proofs.Common.{Some, ap, ◌∙◌}
+use Rattle.std.proofs.Common.{Some, ap, subst, sym, ◌∙◌}
+use Rattle.heap_reserve.specs.declared.reserve.Reserve.{Reserve}
+use Rattle.heap_reserve.specs.Reserves.{IsReserve}
 use Rattle.heap_agents.specs.declared.held.Held.{Held}
 use Rattle.heap_agents.proofs.Marks.{left_held, right_held}
 use Rattle.heap_agents.proofs.held.Held.split.Goals as goal
@@ -14,3 +16,4 @@ returns-clause-other c = let s = c.in_ok-split_text.ensures in let b = c.in_ok-o
     (ap (λ (h : Held). h.known) c.deref_mut-2.ensures.value ∙ ap (λ (h : Held). h.known) c.deref_mut.ensures.value)
     (ap (λ (h : Held). h.interned) c.deref_mut-2.ensures.value ∙ ap (λ (h : Held). h.interned) c.deref_mut.ensures.value)
     (ap (λ (h : Held). h.seats.slots.items) c.deref_mut-2.ensures.value ∙ (ap (λ (h : Held). h.seats.slots.items) c.deref_mut.ensures.value ∙ b.seats))
+    (subst (λ (r : Reserve). IsReserve _ r) (sym (ap (λ (h : Held). h.reserve) c.deref_mut-2.ensures.value ∙ ap (λ (h : Held). h.reserve) c.deref_mut.ensures.value)) (b.reserve _))
