@@ -1,5 +1,5 @@
 -- What is marked, over a call on strings and over a search.
-use Rattle.std.proofs.Common.{ap, ◌∙◌, ◌≡◌, ℕ, List, ◌++◌, ◌-◌, ◌<◌, subst, sym, inl, ⊎_elim, ◌⊎◌, ◌↔◌, [], arith, Option, None, Some}
+use Rattle.std.proofs.Common.{ap, ◌∙◌, ◌≡◌, ℕ, List, ◌++◌, ◌-◌, ◌<◌, ◌^◌, length, subst, sym, inl, ⊎_elim, ◌⊎◌, ◌↔◌, [], arith, Option, None, Some}
 use Rattle.std.specs.Prelude.{slice_index}
 use Rattle.std.specs.List.{Contains}
 use Rattle.std.proofs.lemmas.List.Elements.{Contains-append_cases, Contains-append_left, Contains-append_right}
@@ -10,6 +10,7 @@ use Rattle.heap_rule.specs.Maps.{Has, HasKey}
 use Rattle.heap_rule.specs.Paths.{Calls}
 use Rattle.heap_rule.specs.Views.{history}
 use Rattle.heap_rule.proofs.MapLemmas.{has_key, key_of}
+use Rattle.heap_rule.proofs.Possible.{possible_lawful}
 use Rattle.heap_rule.proofs.Steps.{possible_within}
 use Rattle.heap_table.specs.Agents.{size_of, view_of}
 use Rattle.heap_rule.specs.Claims.{loaded_counter}
@@ -23,8 +24,8 @@ use Rattle.heap_text.specs.Keeping.{KeepsText}
 use Rattle.heap_text.specs.Texts.{KeepsOwn}
 use Rattle.heap_text.proofs.Owned.{own_reads}
 use Rattle.heap_reserve.specs.declared.reserve.Reserve.{Reserve}
-use Rattle.heap_reserve.specs.Reserves.{IsReserve}
-use Rattle.heap_reserve.proofs.Kept.{reserve_kept}
+use Rattle.heap_reserve.specs.Reserves.{IsReserve, kept_ids}
+use Rattle.heap_reserve.proofs.Kept.{ids_few, reserve_kept}
 use Rattle.heap_intern.specs.Seats.{AreSeats, IsSeated}
 use Rattle.heap_intern.proofs.Seats.{seats_kept}
 use Rattle.heap_agents.specs.declared.ids.IdSet.{IdSet}
@@ -312,3 +313,12 @@ share_in_view (Some t) there = t.reader.belongs.4
 
 pub share_is : (x : Held) → IsHeld x → (view_by x).share ≡ share_by x
 share_is x held = share_in_view x.text held.there
+
+-- how many ids are in reserve fits a number of C
+ids_in_reserve : (t : Option SharedText) (r : Reserve) → IsThere t → IsReserve (view_if t) r → length (kept_ids r) < 2 ^ 32
+ids_in_reserve None r there h = absurd there
+ids_in_reserve (Some t) r there h = let v : View = view_of t.reader.agent in let p = t.reader.belongs.5 in let few = ids_few v r v.sizes.ids h (possible_within v p).ids in
+    let law = possible_lawful v p in let most = law.1 in omega (arith, few, most)
+
+pub ids_fit : (x : Held) → IsHeld x → length (kept_ids x.reserve) < 2 ^ 32
+ids_fit x held = ids_in_reserve x.text x.reserve held.there held.reserved

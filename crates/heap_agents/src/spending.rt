@@ -22,17 +22,13 @@ impl Held {
         }
     }
 
-    /// How many ids it has in reserve.
-    pub fn ids_reserved(&self) -> usize
-        ensures { result ≡ length (kept_ids self.now.reserve) }
+    /// How many ids, and how many content words, it has in reserve.
+    pub fn reserved(&self) -> (u32, u32)
+        requires { IsHeld self.now }
+        ensures ids { result.0 ≡ length (kept_ids self.now.reserve) }
+        ensures words { result.1 ≡ words_kept self.now.reserve }
     {
-        self.reserve.ids_left()
-    }
-
-    /// How many content words it has in reserve.
-    pub fn words_reserved(&self) -> u32
-        ensures { result ≡ words_kept self.now.reserve }
-    {
-        self.reserve.words_left()
+        let ids = self.reserve.ids_left();
+        (ids as u32, self.reserve.words_left())
     }
 }

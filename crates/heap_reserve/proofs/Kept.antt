@@ -223,3 +223,13 @@ reserve_over v r s t h own other = let ids = dite (ℕ_discrete (length (kept_id
       ordered = run.0;
       words = run.1;
     }
+
+-- numbers that ascend from `low` on, and stay below n, are at most n - low
+ascending_few : (low n : ℕ) (is : List ℕ) → IsAscending is → All (λ i. low ≤ i) is → All (λ i. i < n) is → low ≤ n → length is + low ≤ n
+ascending_few low n [] up from below le = omega (arith, le)
+ascending_few low n (i ∷ is) up from below le = let f = from 0 0 (omega arith) in let b = below 0 0 (omega arith) in
+    let rest = ascending_few (suc i) n is up.1 (λ k d l. let m = up.0 k d l in omega (arith, m)) (λ k d l. below (suc k) d (omega arith)) (omega (arith, b)) in omega (arith, rest, f)
+
+-- so a reserve has no more ids than the heap
+pub ids_few : (v : View) (r : Reserve) (n : ℕ) → IsReserve v r → ((i : ℕ) → HasKey v.own_ids i → i < n) → length (kept_ids r) ≤ n
+ids_few v r n h below = let few = ascending_few 0 n (kept_ids r) h.ascending (λ k d l. omega arith) (λ k d l. below (get_or (kept_ids r) k d) (h.ids k d l)) (omega arith) in omega (arith, few)
