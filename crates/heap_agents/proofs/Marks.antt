@@ -32,7 +32,7 @@ use Rattle.heap_agents.specs.declared.ids.IdSet.{IdSet}
 use Rattle.heap_agents.specs.declared.seats.Seats.{Seats}
 use Rattle.heap_agents.specs.Sets.{Covers, IsIn}
 use Rattle.heap_agents.specs.declared.held.Held.{Held}
-use Rattle.heap_agents.specs.Held.{IsHeld, IsMarked, IsSame, KeepsMarks, LeavesStrings, Spends, StaysMarked, share_by, held_size, view_by}
+use Rattle.heap_agents.specs.Held.{IsHeld, IsMarked, IsSame, KeepsMarks, LeavesStrings, SpendsReserve, StaysMarked, share_by, held_size, view_by}
 use Rattle.heap_agents.specs.Interned.{KeepsCalls}
 use Rattle.heap_agents.specs.Shared.{IsSameText, IsThere, SharedText, heap_of, share_if, size_if, view_if}
 use Rattle.heap_agents.proofs.Interned.{continued}
@@ -178,7 +178,7 @@ leaves_reads x t u own held kept reads = leaves_on x t u own held kept (continue
 
 -- and one by which the reserve became r
 pub spends_on : (x : Held) (t u : SharedText) → x.text ≡ Some t → IsHeld x → KeepsText t u → Continues (view_of t.reader.agent) (view_of u.reader.agent)
-    → (r : Reserve) → IsReserve (view_of u.reader.agent) r → Spends x (record x { text = Some u; reserve = r })
+    → (r : Reserve) → IsReserve (view_of u.reader.agent) r → SpendsReserve x (record x { text = Some u; reserve = r })
 spends_on x t u own held kept c r reserved = let heap = ap arc_value kept.heap in record {
   held = held_spending x t u own heap kept.limit r held c.known (continued (view_of t.reader.agent) (view_of u.reader.agent) c) c.agents reserved;
   same = same_text x t u own heap kept.limit;

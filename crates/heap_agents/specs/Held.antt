@@ -70,7 +70,7 @@ pub record KeepsMarks (x y : Held) : Type 0 where
   pub reserve : y.reserve ≡ x.reserve
 
 -- what a call on strings leaves that may claim in advance, or take what was
-pub record Spends (x y : Held) : Type 0 where
+pub record SpendsReserve (x y : Held) : Type 0 where
   pub held : IsHeld y
   pub same : IsSame x y
   pub continues : Continues (view_by x) (view_by y)

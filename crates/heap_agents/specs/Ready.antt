@@ -5,7 +5,7 @@ use Rattle.heap_rule.specs.declared.size.HeapSize.{HeapSize}
 use Rattle.heap_rule.specs.declared.view.View.{View}
 use Rattle.heap_agents.specs.Sets.{IsIn}
 use Rattle.heap_agents.specs.declared.held.Held.{Held}
-use Rattle.heap_agents.specs.Held.{IsHeld, IsSame, KeepsMarks, LeavesStrings, LeavesSearched, Spends, StaysMarked, limit_by, share_by, held_size, view_by}
+use Rattle.heap_agents.specs.Held.{IsHeld, IsSame, KeepsMarks, LeavesStrings, LeavesSearched, SpendsReserve, StaysMarked, limit_by, share_by, held_size, view_by}
 
 -- a handle that a call may be made with
 abbrev pub IsReady : Option Held → Type 0
@@ -48,15 +48,15 @@ MarksStay (Some x) None = ⊥
 MarksStay (Some x) (Some y) = KeepsMarks x y
 
 -- what every call leaves of what is marked
-abbrev pub StayMarked : Option Held → Option Held → Type 0
-StayMarked None _ = ⊥
-StayMarked (Some x) None = ⊥
-StayMarked (Some x) (Some y) = StaysMarked x y
+abbrev pub HandleStaysMarked : Option Held → Option Held → Type 0
+HandleStaysMarked None _ = ⊥
+HandleStaysMarked (Some x) None = ⊥
+HandleStaysMarked (Some x) (Some y) = StaysMarked x y
 
 abbrev pub HandleSpends : Option Held → Option Held → Type 0
 HandleSpends None _ = ⊥
 HandleSpends (Some x) None = ⊥
-HandleSpends (Some x) (Some y) = Spends x y
+HandleSpends (Some x) (Some y) = SpendsReserve x y
 
 abbrev pub HandleLeaves : Option Held → Option Held → Type 0
 HandleLeaves None _ = ⊥

@@ -8,8 +8,8 @@ ghost use Rattle.heap_table.specs.Known.{HasAllOf, KeepsKnown};
 ghost use Rattle.heap_table.specs.MayMake.{MayMake};
 ghost use Rattle.heap_text.specs.Keeping.{KeepsText};
 ghost use Rattle.heap_agents.specs.Held.{IsHeld, IsSame, KeepsMarks, StaysMarked, limit_by, share_by, view_by};
-ghost use Rattle.heap_agents.specs.Spending.{IsNothing};
-ghost use Rattle.heap_reserve.specs.Reserves.{IsReserve, TakesOver};
+ghost use Rattle.heap_agents.specs.Spending.{IsEmptyReserve};
+ghost use Rattle.heap_reserve.specs.Reserves.{IsReserve, TakesOverReserve};
 ghost use Rattle.heap_rule.specs.declared.view.View as view;
 ghost use Rattle.heap_agents.specs.Shared.{IsSameText, IsThere, heap_of, share_if, view_if};
 ghost use Rattle.heap_agents.specs.Sets.{Covers, IsIn};
@@ -124,7 +124,7 @@ impl Held {
         ensures held { IfOk result (λ b. IsHeld b.value) }
         ensures view { IfOk result (λ b. view_by b.value ≡ first_view size agents) }
         ensures limit { IfOk result (λ b. limit_by b.value ≡ limit) }
-        ensures nothing { IfOk result (λ b. IsNothing b.value.reserve) }
+        ensures nothing { IfOk result (λ b. IsEmptyReserve b.value.reserve) }
         ensures lawful { OnOk result (MayMake size agents × (limit ≤ MAX)) }
         ensures refused { result ≡ Err MakeFault.Size → ¬ (MayMake size agents × (limit ≤ MAX)) }
     {
@@ -147,7 +147,7 @@ impl Held {
         requires agents { agents ≡ (view_of text.reader.agent).agents }
         ensures held { IfOk result (λ b. IsHeld b.value) }
         ensures text { IfOk result (λ b. b.value.text ≡ Some text) }
-        ensures nothing { IfOk result (λ b. IsNothing b.value.reserve) }
+        ensures nothing { IfOk result (λ b. IsEmptyReserve b.value.reserve) }
     {
         let known = IdSet::new(alloc, ids)?;
         let interned = IdSet::new(alloc, ids)?;
@@ -187,7 +187,7 @@ impl Held {
         ensures known { IfOk result (λ b. (i : ℕ) → IsIn self.old.known i → IsIn b.value.known i) }
         ensures interned { IfOk result (λ b. (i : ℕ) → IsIn self.old.interned i → IsIn b.value.interned i) }
         ensures giver { IfOk result (λ b. b.value.giver ≡ self.old.number) }
-        ensures nothing { IfOk result (λ b. IsNothing b.value.reserve) }
+        ensures nothing { IfOk result (λ b. IsEmptyReserve b.value.reserve) }
         ensures refused { IfErr result (λ e. self.new ≡ self.old) }
     {
         let mut other = self.beside(alloc)?;
@@ -204,7 +204,7 @@ impl Held {
         ensures calls_room { IfOk result
             (λ b. (n : ℕ) → Covers self.now.interned n → Covers b.value.interned n) }
         ensures seats { IfOk result (λ b. b.value.seats.slots.items ≡ []) }
-        ensures nothing { IfOk result (λ b. IsNothing b.value.reserve) }
+        ensures nothing { IfOk result (λ b. IsEmptyReserve b.value.reserve) }
         ensures reserve { IfOk result (λ b. (v : view.View) → IsReserve v b.value.reserve) }
         ensures agents { IfOk result (λ b. b.value.agents ≡ self.now.agents) }
         ensures giver { IfOk result (λ b. b.value.giver ≡ self.now.number) }
@@ -242,7 +242,7 @@ impl Held {
         ensures share { share_by self.new
             ≡ share_by self.old + share_by other }
         ensures marks { StaysMarked self.old self.new }
-        ensures reserve { TakesOver self.old.reserve other.reserve self.new.reserve }
+        ensures reserve { TakesOverReserve self.old.reserve other.reserve self.new.reserve }
         ensures known { (i : ℕ) → IsIn other.known i → IsIn self.new.known i }
         ensures interned { (i : ℕ) → IsIn other.interned i → IsIn self.new.interned i }
     {

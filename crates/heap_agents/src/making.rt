@@ -5,7 +5,7 @@ ghost use Rattle.heap_rule.specs.Layout.{MAX};
 ghost use Rattle.heap_rule.specs.Maps.{Has, HasKey};
 ghost use Rattle.heap_rule.specs.Views.{IsSeenSettled};
 ghost use Rattle.heap_reserve.specs.Making.{IsCutBy, IsJoinedBy, IsMade};
-ghost use Rattle.heap_agents.specs.Held.{IsHeld, MarksMade, Spends, limit_by, held_size, view_by};
+ghost use Rattle.heap_agents.specs.Held.{IsHeld, MarksMade, SpendsReserve, limit_by, held_size, view_by};
 
 use crate::held::Held;
 use heap_text::{JoinFault, JsStr, TextFull};
@@ -16,7 +16,7 @@ impl Held {
     pub fn from_units(&mut self, units: &[u16]) -> Result<JsStr, TextFull>
         requires held { IsHeld self.old }
         requires short { length units.now ≤ MAX }
-        ensures spends { Spends self.old self.new }
+        ensures spends { SpendsReserve self.old self.new }
         ensures marked { MarksMade self.old self.new result }
         ensures units { IfOk result (λ s. Has (view_by self.new).units s.id units.now) }
         ensures settled { IfOk result (λ s. IsSeenSettled (view_by self.new) s.id) }
@@ -38,7 +38,7 @@ impl Held {
         requires held { IsHeld self.old }
         requires known { HasKey (view_by self.old).units a.id
             × HasKey (view_by self.old).units b.id }
-        ensures spends { Spends self.old self.new }
+        ensures spends { SpendsReserve self.old self.new }
         ensures marked { MarksMade self.old self.new result }
         ensures units { IfOk result
             (λ s. (us vs : List ℕ) → Has (view_by self.old).units a.id us
@@ -65,7 +65,7 @@ impl Held {
         requires settled { IsSeenSettled (view_by self.old) s.id }
         requires within { (us : List ℕ) × Has (view_by self.old).units s.id us × (from ≤ to)
             × (to ≤ length us) }
-        ensures spends { Spends self.old self.new }
+        ensures spends { SpendsReserve self.old self.new }
         ensures marked { MarksMade self.old self.new result }
         ensures units { IfOk result
             (λ t. (us : List ℕ) → Has (view_by self.old).units s.id us

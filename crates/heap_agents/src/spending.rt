@@ -1,7 +1,7 @@
 // Ids and content words that an agent claims in advance.
 ghost use Rattle.std.specs.Prelude.{◌≡◌, length};
 ghost use Rattle.heap_agents.specs.Held.{IsHeld};
-ghost use Rattle.heap_agents.specs.Spending.{Reserved};
+ghost use Rattle.heap_agents.specs.Spending.{ClaimsInAdvance};
 ghost use Rattle.heap_reserve.specs.Reserves.{kept_ids, words_kept};
 
 use crate::held::Held;
@@ -14,7 +14,7 @@ impl Held {
     /// words do not begin where those in reserve end, the rest of these is given up.
     pub fn reserve(&mut self, ids: u32, words: u32) -> Result<(), ReserveFault>
         requires held { IsHeld self.old }
-        ensures { Reserved self.old self.new ids words result }
+        ensures { ClaimsInAdvance self.old self.new ids words result }
     {
         match &mut self.text {
             Some(text) => self.reserve.claim(text, ids, words),

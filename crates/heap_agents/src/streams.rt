@@ -8,7 +8,7 @@ ghost use Rattle.heap_rule.specs.Views.{IsSeenSettled};
 ghost use Rattle.heap_read.specs.Reads.{OnlyLoads};
 ghost use Rattle.heap_bytes.specs.Spellings.{IsReadable, spelling_units};
 ghost use Rattle.heap_reserve.specs.Making.{IsMade};
-ghost use Rattle.heap_agents.specs.Held.{IsHeld, LeavesStrings, MarksMade, MarksNothing, Spends, held_size, view_by};
+ghost use Rattle.heap_agents.specs.Held.{IsHeld, LeavesStrings, MarksMade, MarksNothing, SpendsReserve, held_size, view_by};
 ghost use Rattle.heap_agents.specs.Keys.{FoundUnits, InternedUnits};
 
 use crate::held::Held;
@@ -24,7 +24,7 @@ impl Held {
         requires held { IsHeld self.old }
         requires read { IsReadable source.now }
         requires short { length (spelling_units source.now) ≤ MAX }
-        ensures spends { Spends self.old self.new }
+        ensures spends { SpendsReserve self.old self.new }
         ensures marked { MarksMade self.old self.new result }
         ensures units { IfOk result (λ s. Has (view_by self.new).units s.id (spelling_units source.now)) }
         ensures settled { IfOk result (λ s. IsSeenSettled (view_by self.new) s.id) }

@@ -29,7 +29,7 @@ use Rattle.heap_reserve.specs.declared.faults.ReserveFault.{ReserveFault}
 use Rattle.heap_reserve.specs.declared.faults.ReserveFault.TheVariants.{Memory, Full}
 use Rattle.heap_reserve.specs.declared.reserve.Reserve.{Reserve}
 use Rattle.heap_reserve.specs.Claims.{IsClaimAnswer, IsIdRefused}
-use Rattle.heap_reserve.specs.Reserves.{IsAscending, IsClaimed, IsGrown, IsReserve, IsTakenFrom, TakesOver, kept_ids, words_kept}
+use Rattle.heap_reserve.specs.Reserves.{IsAscending, IsClaimed, IsGrown, IsReserve, IsTakenFrom, TakesOverReserve, kept_ids, words_kept}
 
 -- any call that leaves the agent what it owns leaves it what it keeps
 pub reserve_kept : (v w : View) (r : Reserve) → KeepsOwn v w → IsReserve v r → IsReserve w r
@@ -209,7 +209,7 @@ claim_answer v w x z r s t ids words (Err (Full (full.Ids f))) a ok err = refuse
 claim_answer v w x z r s t ids words (Err (Full (full.Words f))) a ok err = absurd err
 
 -- what is taken over is kept, where both reserves are
-pub reserve_over : (v : View) (r s t : Reserve) → TakesOver r s t → IsReserve v r → IsReserve v s → IsReserve v t
+pub reserve_over : (v : View) (r s t : Reserve) → TakesOverReserve r s t → IsReserve v r → IsReserve v s → IsReserve v t
 reserve_over v r s t h own other = let ids = dite (ℕ_discrete (length (kept_ids r)) 0)
     (λ none. let e = h.other_ids none in (subst (λ (is : List ℕ). All (λ i. HasKey v.own_ids i) is) (sym e) other.ids, subst IsAscending (sym e) other.ascending))
     (λ some. let e = h.ids (omega (arith, some)) in (subst (λ (is : List ℕ). All (λ i. HasKey v.own_ids i) is) (sym e) own.ids, subst IsAscending (sym e) own.ascending)) in

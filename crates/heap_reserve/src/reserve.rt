@@ -1,7 +1,7 @@
 // What is kept in advance, and taking from it.
 ghost use Rattle.std.specs.Prelude.{◌≡◌, ◌↔◌, ◌+◌, ◌<◌, ◌≤◌, [], ◌∷◌, IsTrue, length};
 ghost use Rattle.heap_rule.specs.declared.view.View as view;
-ghost use Rattle.heap_reserve.specs.Reserves.{HasAbove, HasEnough, IsReserve, TakesOver, kept_ids, words_kept};
+ghost use Rattle.heap_reserve.specs.Reserves.{HasAbove, HasEnough, IsReserve, TakesOverReserve, kept_ids, words_kept};
 
 use std::alloc::Global;
 use std::collections::VecDeque;
@@ -46,7 +46,7 @@ impl Reserve {
     /// Takes over the ids of another one where it has none itself, and the content words of the other one
     /// where it has none itself. What it does not take is lost: it stays the agent's own, in no string.
     pub fn take_over(&mut self, other: Reserve)
-        ensures takes { TakesOver self.old other self.new }
+        ensures takes { TakesOverReserve self.old other self.new }
         ensures reserve { (v : view.View) → IsReserve v self.old → IsReserve v other → IsReserve v self.new }
     {
         let Reserve { ids, start, end } = other;

@@ -10,7 +10,7 @@ use Rattle.heap_intern.specs.declared.table.faults.TableFull.{TableFull}
 use Rattle.heap_agents.specs.declared.held.Held.{Held}
 use Rattle.heap_agents.specs.Keys.{FindsUnits, InternsUnits}
 use Rattle.heap_agents.specs.Ready.{HandleSpends, HandleKnows, handle_view}
-use Rattle.heap_agents.specs.Spending.{MakesBy}
+use Rattle.heap_agents.specs.Spending.{HandleMakes}
 use Rattle.jsstr_c.specs.declared.answer.JsAnswer.{JsAnswer}
 use Rattle.heap_build.specs.Spelled.{SpellsWtf8, utf8_decoded}
 use Rattle.jsstr_c.specs.Decoded.{IsNoUtf8, IsNoWtf8}
@@ -25,7 +25,7 @@ pub record MakesString (o p : Option Held) (us : List ℕ) (r : JsAnswer) : Type
   pub marked : r.status ≡ DONE → HandleKnows p r.id
   pub units : r.status ≡ DONE → Has (handle_view p).units r.id us
   pub settled : r.status ≡ DONE → IsSeenSettled (handle_view p) r.id
-  pub made : (t : Result JsStr TextFull) × (r ≡ text_answer t) × MakesBy o p us t
+  pub made : (t : Result JsStr TextFull) × (r ≡ text_answer t) × HandleMakes o p us t
 
 -- the units us were interned, with r as the answer
 abbrev pub IsInterning : Option Held → Option Held → List ℕ → JsAnswer → Type 0

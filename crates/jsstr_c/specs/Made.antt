@@ -10,7 +10,7 @@ use Rattle.heap_intern.specs.Answers.{IsForwarded, IsInternAnswer, IsPlan, Heade
 use Rattle.heap_agents.specs.declared.held.Held.{Held}
 use Rattle.heap_agents.specs.Interned.{KeepsCalls}
 use Rattle.heap_agents.specs.Ready.{HandleSpends, IsBeside, MarksStay, handle_view}
-use Rattle.heap_agents.specs.Spending.{CutsBy, JoinsBy}
+use Rattle.heap_agents.specs.Spending.{HandleCuts, HandleJoins}
 use Rattle.jsstr_c.specs.declared.answer.JsAnswer.{JsAnswer}
 use Rattle.jsstr_c.specs.Checked.{MarksResult, MarksKey, MarksNone, RefusesSettling, SettlesString}
 use Rattle.jsstr_c.specs.Reports.{DONE, join_answer, table_answer, text_answer}
@@ -22,14 +22,14 @@ pub record JoinsStrings (o p : Option Held) (a b : ℕ) (r : JsAnswer) : Type 0 
   pub marks : MarksResult o p r
   pub joined : (us vs : List ℕ) → Has (handle_view o).units a us → Has (handle_view o).units b vs
       → (t : Result JsStr JoinFault) × (r ≡ join_answer t)
-      × JoinsBy o p (record { id = a }) (record { id = b }) us vs t
+      × HandleJoins o p (record { id = a }) (record { id = b }) us vs t
 
 -- the settled string s was cut in the same way, with r as the answer
 pub record CutsString (o p : Option Held) (s from to : ℕ) (r : JsAnswer) : Type 0 where
   pub spends : HandleSpends o p
   pub marks : MarksResult o p r
   pub cut : (us : List ℕ) → Has (handle_view o).units s us
-      → (t : Result JsStr TextFull) × (r ≡ text_answer t) × CutsBy o p (record { id = s }) from to us t
+      → (t : Result JsStr TextFull) × (r ≡ text_answer t) × HandleCuts o p (record { id = s }) from to us t
 
 -- the settled string s was interned, with r as the answer
 pub record InternsString (o p : Option Held) (s : ℕ) (r : JsAnswer) : Type 0 where
