@@ -29,9 +29,9 @@
    rope; the calls that need a settled string settle it first, for all agents, and may then be refused with
    JSSTR_NO_WORDS.
 
-   MEMORY. jsstr_make and jsstr_split allocate; a call that appends to a text may; and for its own duration one that
-   copies into another heap; and jsstr_reserve. These alone may answer JSSTR_NO_MEMORY. jsstr_intern may allocate too, and answers the
-   same where it is refused that. That no other call allocates is tested, not proved.
+   MEMORY. jsstr_make, jsstr_split and jsstr_reserve allocate; a call that appends to a text may; and for its own
+   duration one that copies into another heap. These alone may answer JSSTR_NO_MEMORY. jsstr_intern may allocate too,
+   and answers the same where it is refused that. That no other call allocates is tested, not proved.
 
    Link -ljsstr: there is one archive, libjsstr.a, and no shared object. malloc, realloc and free are the C
    library's, and malloc aligns to 16. */
@@ -70,7 +70,8 @@ typedef struct jsstr_size { uint32_t ids, words, slots; } jsstr_size;
 
 enum jsstr_status {
   JSSTR_DONE = 0,
-  JSSTR_NO_MEMORY = 1,   /* malloc answered null; nothing has changed, but that a rope may have been settled */
+  JSSTR_NO_MEMORY = 1,   /* malloc answered null; nothing has changed, but that a rope may have been settled, or that
+                            jsstr_reserve has claimed what it says */
   JSSTR_BAD_SIZE = 2,    /* sizes, number of agents or limit are out of bounds */
   JSSTR_NO_IDS = 3,      /* no id is left: `at` used, `want` requested, `end` in all */
   JSSTR_NO_WORDS = 4,    /* not enough words are left: the same of words */
@@ -132,10 +133,10 @@ uint32_t jsstr_free(jsstr_agent *agent);
 uint32_t jsstr_split(jsstr_agent *agent, uint32_t give, jsstr_agent *out);
 
 /* Takes over the share of another agent, and all that it has and knows; *other is zero afterwards. Of what it
-   reserved (jsstr_reserve) and has left, the ids go over where this agent has none left, and the words where
-   it has none left; the rest is lost. Answers DONE or BAD_ARGUMENT. Condition: `other` was split off from `agent` itself. Tested, not proved: none that was is
-   refused, and any other one is; but one of another heap may not be, if that heap's agents split or join in that
-   moment. */
+   reserved (jsstr_reserve) and has left, the ids go over where this agent has none left, and the words where this
+   agent has none left; the rest is lost. Answers DONE or BAD_ARGUMENT. Condition: `other` was split off from `agent`
+   itself. Tested, not proved: none that was is refused, and any other one is; but one of another heap may not be, if
+   that heap's agents split or join in that moment. */
 uint32_t jsstr_join(jsstr_agent *agent, jsstr_agent *other);
 
 /* How many agents this one may become, itself counted. */
