@@ -98,7 +98,8 @@ static inline const char *jsstr_status_name(uint32_t status) {
 uint32_t jsstr_version(void);
 
 /* Unused fields are 0. After a refusal each string is what it was, and what the call had claimed by then
-   is lost. After NO_IDS, NO_WORDS or NO_SLOTS any later request of that size fails, for every agent. */
+   is lost. After NO_IDS, NO_WORDS or NO_SLOTS any later request of that size fails, for every agent, except where what
+   it reserved suffices. */
 typedef struct jsstr_answer { uint32_t status; jsstr_id id; uint32_t at, want, end; } jsstr_answer;
 typedef struct jsstr_number { uint32_t status, value; } jsstr_number;
 typedef struct jsstr_order { uint32_t status; int32_t order; } jsstr_order;
