@@ -210,7 +210,7 @@ claim_answer v w x z r s t ids words (Err (Full (full.Words f))) a ok err = absu
 
 -- what is taken over is kept, where both reserves are
 pub reserve_over : (v : View) (r s t : Reserve) → TakesOverReserve r s t → IsReserve v r → IsReserve v s → IsReserve v t
-reserve_over v r s t h own other = let ids = dite (ℕ_discrete (length (kept_ids r)) 0)
+reserve_over v r s t h own other = let ids : All (λ i. HasKey v.own_ids i) (kept_ids t) × IsAscending (kept_ids t) = dite (ℕ_discrete (length (kept_ids r)) 0)
     (λ none. let e = h.other_ids none in (subst (λ (is : List ℕ). All (λ i. HasKey v.own_ids i) is) (sym e) other.ids, subst IsAscending (sym e) other.ascending))
     (λ some. let e = h.ids (omega (arith, some)) in (subst (λ (is : List ℕ). All (λ i. HasKey v.own_ids i) is) (sym e) own.ids, subst IsAscending (sym e) own.ascending)) in
     let run : (t.start ≤ t.end) × ((c : ℕ) → t.start ≤ c → c < t.end → Has v.own_words c 0) = dite (ℕ_discrete (words_kept r) 0)
