@@ -64,7 +64,8 @@ module _ (x : Held) (t u : SharedText) (own : x.text ≡ Some t) (heap : heap_of
   w = view_of u.reader.agent
 
   pub held_interned : (r : Result ℕ TableFull) → IsInternAnswer v w us (copy_plan us) r → IsHeld (record x { text = Some u })
-  held_interned r i = held_on x t u own heap limit held (known_from v w us (copy_plan us) r i) (calls_from v w us (copy_plan us) r i) (agents_from v w us (copy_plan us) r i) (own_from v w us (copy_plan us) r i)
+  held_interned r i = held_on x t u own heap limit held (known_from v w us (copy_plan us) r i) (calls_from v w us (copy_plan us) r i) (agents_from v w us (copy_plan us) r i)
+      (own_from v w us (copy_plan us) r i)
 
   pub held_found : (r : Option ℕ) → FindsString v w us r → IsHeld (record x { text = Some u })
   held_found r i = held_on x t u own heap limit held (known_found v w us r i) (calls_found v w us r i) (agents_found v w us r i) (own_found v w us r i)

@@ -71,7 +71,13 @@ module _ (x : Held) (y : Option SharedText) (held : IsHeld x) (there : IsThere y
 
   -- also where other slots are noted
   pub noted : (seats : Seats) → AreSeats (view_if y) seats.slots.items → KeepsOwn (view_by x) (view_if y) → IsHeld (record x { text = y; seats = seats })
-  noted seats seated keeps = record { there = there; agents = held.agents ∙ sym agents; marked = marked_on; seated = seated; reserved = reserve_kept (view_by x) (view_if y) x.reserve keeps held.reserved }
+  noted seats seated keeps = record {
+    there = there;
+    agents = held.agents ∙ sym agents;
+    marked = marked_on;
+    seated = seated;
+    reserved = reserve_kept (view_by x) (view_if y) x.reserve keeps held.reserved;
+  }
 
   pub still : AreSeats (view_if y) x.seats.slots.items → KeepsOwn (view_by x) (view_if y) → IsHeld (record x { text = y })
   still seated keeps = noted x.seats seated keeps
@@ -153,7 +159,8 @@ module _ (x : Held) (t u : SharedText) (own : x.text ≡ Some t) (heap : heap_of
 
   -- the same where the view has become w
   pub held_counted : (w : View) → IsHeld x → view_of u.reader.agent ≡ w → KeepsKnown (view_of t.reader.agent) w
-      → ((us : List ℕ) (i : ℕ) → Contains (history (view_of t.reader.agent)) (us, i) → Contains (history w) (us, i)) → w.agents ≡ (view_of t.reader.agent).agents → KeepsOwn (view_of t.reader.agent) w → IsHeld (record x { text = Some u })
+      → ((us : List ℕ) (i : ℕ) → Contains (history (view_of t.reader.agent)) (us, i) → Contains (history w) (us, i)) → w.agents ≡ (view_of t.reader.agent).agents
+      → KeepsOwn (view_of t.reader.agent) w → IsHeld (record x { text = Some u })
   held_counted w held e known calls agents keeps = still x (Some u) held tt same_text
       (λ i us h. subst (λ (z : View). Has z.units i us) (sym e) (known.units i us (subst (λ (o : Option SharedText). Has (view_if o).units i us) own h)))
       (record { calls = λ us i h. subst (λ (z : View). Contains (history z) (us, i)) (sym e) (calls us i (subst (λ (o : Option SharedText). Contains (history (view_if o)) (us, i)) own h)) })
@@ -172,7 +179,7 @@ leaves_on x t u own held kept c keeps = let heap = ap arc_value kept.heap in rec
 }
 
 pub leaves_reads : (x : Held) (t u : SharedText) → x.text ≡ Some t → IsHeld x → KeepsText t u
-  → OnlyLoads (view_of t.reader.agent) (view_of u.reader.agent) → LeavesStrings x (record x { text = Some u })
+    → OnlyLoads (view_of t.reader.agent) (view_of u.reader.agent) → LeavesStrings x (record x { text = Some u })
 leaves_reads x t u own held kept reads = leaves_on x t u own held kept (continues_reads (view_of t.reader.agent) (view_of u.reader.agent) reads)
     (own_reads (view_of t.reader.agent) (view_of u.reader.agent) reads)
 

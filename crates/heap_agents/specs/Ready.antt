@@ -5,7 +5,8 @@ use Rattle.heap_rule.specs.declared.size.HeapSize.{HeapSize}
 use Rattle.heap_rule.specs.declared.view.View.{View}
 use Rattle.heap_agents.specs.Sets.{IsIn}
 use Rattle.heap_agents.specs.declared.held.Held.{Held}
-use Rattle.heap_agents.specs.Held.{IsHeld, IsSame, KeepsMarks, LeavesStrings, LeavesSearched, SpendsReserve, StaysMarked, limit_by, share_by, held_size, view_by}
+use Rattle.heap_agents.specs.Held.{IsHeld, IsSame, KeepsMarks, LeavesStrings, LeavesSearched, SpendsReserve}
+use Rattle.heap_agents.specs.Held.{StaysMarked, limit_by, share_by, held_size, view_by}
 
 -- a handle that a call may be made with
 abbrev pub IsReady : Option Held → Type 0

@@ -1,5 +1,5 @@
--- What an agent claims in advance, and what strings take of it, as a handle's calls say it, where something lies
--- behind it.
+-- What an agent claims in advance, and what strings take of it, as the calls of a handle say it, where something
+-- lies behind it.
 use Rattle.std.specs.Prelude.{◌≡◌, ℕ, List, [], length, Option, None, Some, Result}
 use Rattle.heap_read.specs.declared.string.JsStr.{JsStr}
 use Rattle.heap_text.specs.declared.faults.JoinFault.{JoinFault}
@@ -30,7 +30,7 @@ abbrev pub HandleReservesNothing : Option Held → Type 0
 HandleReservesNothing None = ⊥
 HandleReservesNothing (Some x) = IsEmptyReserve x.reserve
 
--- So many ids and content words were to be claimed in advance, with r as the answer, and no string was marked.
+-- So many ids and content words were to be claimed in advance, with r as the answer. No string was marked.
 pub record ClaimsInAdvance (x y : Held) (ids words : ℕ) (r : Result (Unit {0}) ReserveFault) : Type 0 where
   pub spends : SpendsReserve x y
   pub own : KeepsOwn (view_by x) (view_by y)

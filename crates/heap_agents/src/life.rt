@@ -88,7 +88,10 @@ fn join_agent(text: &mut Text<Arc<Heap, Global>>, other: Text<Arc<Heap, Global>>
     ensures share { share_of text.new.reader.agent
         ≡ share_of text.old.reader.agent + share_of other.reader.agent }
 {
-    let Text { reader: Reader { agent, .. }, .. } = other;
+    let Text {
+        reader: Reader { agent, .. },
+        ..
+    } = other;
     let reader = &mut text.reader;
     reader.agent.join(reader.heap.heap(), agent);
 }

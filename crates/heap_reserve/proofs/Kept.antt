@@ -215,9 +215,9 @@ reserve_over v r s t h own other = let ids : All (λ i. HasKey v.own_ids i) (kep
     (λ some. let e = h.ids (omega (arith, some)) in (subst (λ (is : List ℕ). All (λ i. HasKey v.own_ids i) is) (sym e) own.ids, subst IsAscending (sym e) own.ascending)) in
     let run : (t.start ≤ t.end) × ((c : ℕ) → t.start ≤ c → c < t.end → Has v.own_words c 0) = dite (ℕ_discrete (words_kept r) 0)
     (λ none. let e = h.other_words none in let up = other.ordered in
-        (omega (arith, e.0, e.1, up), λ c low high. other.words c (omega (arith, low, e.0)) (omega (arith, high, e.1))))
+    (omega (arith, e.0, e.1, up), λ c low high. other.words c (omega (arith, low, e.0)) (omega (arith, high, e.1))))
     (λ some. let e = h.words (omega (arith, some)) in let up = own.ordered in
-        (omega (arith, e.0, e.1, up), λ c low high. own.words c (omega (arith, low, e.0)) (omega (arith, high, e.1)))) in record {
+    (omega (arith, e.0, e.1, up), λ c low high. own.words c (omega (arith, low, e.0)) (omega (arith, high, e.1)))) in record {
       ids = ids.0;
       ascending = ids.1;
       ordered = run.0;

@@ -69,14 +69,14 @@ module _ (v w : View) (r s : Reserve) where
     of_two : m + n ≤ most → 0 < m → 0 < n → Made
     of_two fits some more = dite (dec_le 13 (m + n))
         (λ l. ⊎_elim (λ x. ⊎_elim (λ y. by_rope (fits, some, more, l, x, y)) (λ f. by_neither (λ e. let k = e.3 in absurd (omega (arith, k, l))) (λ e. f e.5)) (above_or r b.id))
-            (λ f. by_neither (λ e. let k = e.3 in absurd (omega (arith, k, l))) (λ e. f e.4)) (above_or r a.id))
+        (λ f. by_neither (λ e. let k = e.3 in absurd (omega (arith, k, l))) (λ e. f e.4)) (above_or r a.id))
         (λ l. ⊎_elim (λ x. by_copy (fits, some, more, omega (arith, l), x)) (λ f. by_neither (λ e. f e.4) (λ e. let k = e.3 in absurd (l k))) (enough_or r (words_holding (us ++ vs))))
 
     pub join_made : Made
     join_made = dite (dec_le (m + n) most)
         (λ fits. dite (dec_le 1 m) (λ some. dite (dec_le 1 n) (λ more. of_two fits (omega (arith, some)) (omega (arith, more)))
-            (λ f. by_neither (λ e. let k = e.2 in f (omega (arith, k))) (λ e. let k = e.2 in f (omega (arith, k)))))
-            (λ f. by_neither (λ e. let k = e.1 in f (omega (arith, k))) (λ e. let k = e.1 in f (omega (arith, k)))))
+        (λ f. by_neither (λ e. let k = e.2 in f (omega (arith, k))) (λ e. let k = e.2 in f (omega (arith, k)))))
+        (λ f. by_neither (λ e. let k = e.1 in f (omega (arith, k))) (λ e. let k = e.1 in f (omega (arith, k)))))
         (λ f. by_neither (λ e. f e.0) (λ e. f e.0))
 
   module _ (p : JsStr) (from to : ℕ) (us : List ℕ) (t : JsStr) (h : TriesCut v w r s p from to us (Some t)) where

@@ -19,7 +19,13 @@ use Rattle.jsstr_c.specs.Given.{TestsGiven}
 use Rattle.jsstr_c.specs.Checked.{ReachesLength}
 
 marks_trans : (x y z : Held) → KeepsMarks x y → KeepsMarks y z → KeepsMarks x z
-marks_trans x y z a b = record { known = λ i h. b.known i (a.known i h); interned = λ i h. b.interned i (a.interned i h); number = b.number ∙ a.number; giver = b.giver ∙ a.giver; reserve = b.reserve ∙ a.reserve }
+marks_trans x y z a b = record {
+  known = λ i h. b.known i (a.known i h);
+  interned = λ i h. b.interned i (a.interned i h);
+  number = b.number ∙ a.number;
+  giver = b.giver ∙ a.giver;
+  reserve = b.reserve ∙ a.reserve;
+}
 
 leaves_trans : (x y z : Held) → LeavesStrings x y → LeavesStrings y z → LeavesStrings x z
 leaves_trans x y z a b = record {

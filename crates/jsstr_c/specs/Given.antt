@@ -14,10 +14,11 @@ use Rattle.heap_agents.specs.Spending.{HandleMakes}
 use Rattle.jsstr_c.specs.declared.answer.JsAnswer.{JsAnswer}
 use Rattle.heap_build.specs.Spelled.{SpellsWtf8, utf8_decoded}
 use Rattle.jsstr_c.specs.Decoded.{IsNoUtf8, IsNoWtf8}
-use Rattle.jsstr_c.specs.Reports.{BAD_ARGUMENT, DONE, NO_MEMORY, bad_argument, done, found_answer, no_memory, table_answer, text_answer}
+use Rattle.jsstr_c.specs.Reports.{BAD_ARGUMENT, DONE, NO_MEMORY, bad_argument, done, found_answer, no_memory}
+use Rattle.jsstr_c.specs.Reports.{table_answer, text_answer}
 
--- The units us were made into a new string, with r as the answer. It takes what it needs from what was reserved,
--- where that suffices.
+-- The units us were made into a new string, with r as the answer. It takes what it needs from what was
+-- reserved, where that suffices.
 pub record MakesString (o p : Option Held) (us : List ℕ) (r : JsAnswer) : Type 0 where
   pub goes : HandleSpends o p
   pub memory : r.status ≢ NO_MEMORY

@@ -11,7 +11,9 @@ mark-requires-clause-known c =
     (subst (λ (t : Option SharedText). HasKey (view_if t).units c.args.a.id × HasKey (view_if t).units c.args.b.id) c.in-Some.is c.requires.known) c.in_ok-s.ensures.units
 
 pub returns-in_err-s-clause-spends : goal.returns-in_err-s-clause-spends
-returns-in_err-s-clause-spends c = let call = c.concat-joined in spends_on c.args.self.now c.in-Some.text call.new.text c.in-Some.is c.requires.held call.ensures.kept call.ensures.continues call.new.self call.ensures.reserve
+returns-in_err-s-clause-spends c = let call = c.concat-joined in
+    spends_on c.args.self.now c.in-Some.text call.new.text c.in-Some.is c.requires.held call.ensures.kept call.ensures.continues call.new.self call.ensures.reserve
 
 pub mark-requires-clause-held : goal.mark-requires-clause-held
-mark-requires-clause-held c = let call = c.concat-joined in (spends_on c.args.self.now c.in-Some.text call.new.text c.in-Some.is c.requires.held call.ensures.kept call.ensures.continues call.new.self call.ensures.reserve).held
+mark-requires-clause-held c = let call = c.concat-joined in
+    (spends_on c.args.self.now c.in-Some.text call.new.text c.in-Some.is c.requires.held call.ensures.kept call.ensures.continues call.new.self call.ensures.reserve).held

@@ -12,7 +12,9 @@ mark-requires-clause-known c = let u = c.requires.within in
     (c.in_ok-t.ensures.units u.0 (subst (λ (t : Option SharedText). Has (view_if t).units c.args.s.id u.0) c.in-Some.is u.1))
 
 pub returns-in_err-t-clause-spends : goal.returns-in_err-t-clause-spends
-returns-in_err-t-clause-spends c = let call = c.slice-cut in spends_on c.args.self.now c.in-Some.text call.new.text c.in-Some.is c.requires.held call.ensures.kept call.ensures.continues call.new.self call.ensures.reserve
+returns-in_err-t-clause-spends c = let call = c.slice-cut in
+    spends_on c.args.self.now c.in-Some.text call.new.text c.in-Some.is c.requires.held call.ensures.kept call.ensures.continues call.new.self call.ensures.reserve
 
 pub mark-requires-clause-held : goal.mark-requires-clause-held
-mark-requires-clause-held c = let call = c.slice-cut in (spends_on c.args.self.now c.in-Some.text call.new.text c.in-Some.is c.requires.held call.ensures.kept call.ensures.continues call.new.self call.ensures.reserve).held
+mark-requires-clause-held c = let call = c.slice-cut in
+    (spends_on c.args.self.now c.in-Some.text call.new.text c.in-Some.is c.requires.held call.ensures.kept call.ensures.continues call.new.self call.ensures.reserve).held

@@ -26,11 +26,13 @@ pub new-requires-clause-belongs : goal.new-requires-clause-belongs
 new-requires-clause-belongs c = let t = c.take_text-reader.result in let made = c.new-store in let left = c.into_agent-agent in let done = c.stands_at-answer in
     belongs (heap_of t) t.reader.agent left.result made.result.session done.new.store.session t.reader.belongs
     (made.ensures.state ∙ (λ i. state_by (view_of t.reader.agent) (limit_units Bits64) (table_of (c.deref.ensures i))))
-    (looked_as (state_in made.result.session) (state_in done.new.store.session) made.result.seats.now done.new.store.seats.now (session_view made.result.session) (session_view done.new.store.session) refl refl done.ensures.uses) left.ensures.belongs
+    (looked_as (state_in made.result.session) (state_in done.new.store.session) made.result.seats.now done.new.store.seats.now
+    (session_view made.result.session) (session_view done.new.store.session) refl refl done.ensures.uses) left.ensures.belongs
 
 pub returns-clause-searched : goal.returns-clause-searched
 returns-clause-searched c = let t = c.take_text-reader.result in let x = c.args.self.now in let made = c.new-store in let left = c.into_agent-agent in let done = c.stands_at-answer in
-    let uses = looked_as (state_in made.result.session) (state_in done.new.store.session) made.result.seats.now done.new.store.seats.now (session_view made.result.session) (session_view done.new.store.session) refl refl done.ensures.uses in
+    let uses = looked_as (state_in made.result.session) (state_in done.new.store.session) made.result.seats.now done.new.store.seats.now
+    (session_view made.result.session) (session_view done.new.store.session) refl refl done.ensures.uses in
     let same : done.new.store.seats.now ≡ x.seats.slots.items = seats_left (state_in made.result.session) (state_in done.new.store.session)
     made.result.seats.now done.new.store.seats.now (session_view made.result.session) (session_view done.new.store.session) done.ensures.uses
     ∙ (made.ensures.seats ∙ (c.as_slice.ensures.value ∙ ap (λ (y : Held). y.seats.slots.items) c.take_text-reader.ensures.rest)) in
@@ -38,4 +40,5 @@ returns-clause-searched c = let t = c.take_text-reader.result in let x = c.args.
     (searched x t made.result.session c.take_text-reader.ensures.text made.ensures.view done.new.store.session c.new.result c.requires.held
     (ap arc_value c.new.ensures.heap) c.new.ensures.limit uses (ap view_of c.new.ensures.agent ∙ left.ensures.view)
     (subst (λ (l : List ℕ). AreSeats (view_of c.new.result.reader.agent) l) same (subst (λ (a : Agent). AreSeats (view_of a) done.new.store.seats.now) (sym c.new.ensures.agent) left.ensures.seated))
-    (own_left (state_in made.result.session) (state_in done.new.store.session) made.result.seats.now done.new.store.seats.now (session_view made.result.session) (session_view done.new.store.session) done.ensures.uses))
+    (own_left (state_in made.result.session) (state_in done.new.store.session) made.result.seats.now done.new.store.seats.now
+    (session_view made.result.session) (session_view done.new.store.session) done.ensures.uses))

@@ -34,4 +34,5 @@ returns-in-None-clause-made g c = let v : View = c.args.text.now.reader.agent.se
     }
 
 pub returns-in-Some-clause-form : goal.returns-in-Some-clause-form
-returns-in-Some-clause-form g c = (flat_made c.args.text.now.reader.agent.seat.me.0 c.copy.new.reader.agent.seat.me.0 c.args.self.now c.copy.new.self (c.args.units.now) c.in-Some.s c.in-Some.ensures.made).form
+returns-in-Some-clause-form g c =
+    (flat_made c.args.text.now.reader.agent.seat.me.0 c.copy.new.reader.agent.seat.me.0 c.args.self.now c.copy.new.self (c.args.units.now) c.in-Some.s c.in-Some.ensures.made).form
