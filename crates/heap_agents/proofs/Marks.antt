@@ -272,7 +272,7 @@ module _ (x : Held) (y : Option SharedText) (give : ℕ) (held : IsHeld x) (ther
 
   pub right_held : view_if y ≡ right_after_split (view_by x) give → (o z : Held) → ((i : ℕ) → IsIn o.known i ↔ IsIn x.known i) → ((i : ℕ) → IsIn o.interned i ↔ IsIn x.interned i)
       → ((n : ℕ) → Covers x.known n → Covers o.known n) → ((n : ℕ) → Covers x.interned n → Covers o.interned n) → z.text ≡ y → z.agents ≡
-      x.agents → z.known ≡ o.known → z.interned ≡ o.interned → z.seats.slots.items ≡ [] → IsReserve (view_by z) z.reserve
+      x.agents → z.known ≡ o.known → z.interned ≡ o.interned → z.seats.slots.items ≡ [] → ((v : View) → IsReserve v z.reserve)
       → IsHeld z × IsSame x z
   right_held e o z known interned room calls_room member agents marks calls seats reserved = (
     record {
@@ -290,7 +290,7 @@ module _ (x : Held) (y : Option SharedText) (give : ℕ) (held : IsHeld x) (ther
             calls_room = calls_room (held_size x).ids held.marked.calls_room;
           }))));
       seated = none_seated (view_by z) z.seats.slots.items seats;
-      reserved = reserved;
+      reserved = reserved (view_by z);
     },
     subst (λ (m : Option SharedText). IsSameText x.text m) (sym member) same,
   )
