@@ -30,8 +30,9 @@
    JSSTR_NO_WORDS.
 
    MEMORY. jsstr_make, jsstr_split and jsstr_reserve allocate; a call that appends to a text may; and for its own
-   duration one that copies into another heap. These alone may answer JSSTR_NO_MEMORY. jsstr_intern may allocate too,
-   and answers the same where it is refused that. That no other call allocates is tested, not proved.
+   duration one that copies into another heap. These alone may answer JSSTR_NO_MEMORY. jsstr_intern and
+   the calls that intern or look for units or bytes may allocate too, and answer the same where they are refused that.
+   That no other call allocates is tested, not proved.
 
    Link -ljsstr: there is one archive, libjsstr.a, and no shared object. malloc, realloc and free are the C
    library's, and malloc aligns to 16. */

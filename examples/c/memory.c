@@ -1,6 +1,7 @@
 /* What memory the calls take. The rows below say which calls allocate, and no other does. Where malloc answers null, at each
-   place in turn, such a call answers JSSTR_NO_MEMORY, has changed nothing, and succeeds when it is made again; but jsstr_intern,
-   which allocates to note a slot, answers what it would, and jsstr_reserve has claimed its words.
+   place in turn, such a call answers JSSTR_NO_MEMORY, has changed nothing, and succeeds when it is made again; but where
+   jsstr_intern notes a slot, and where an agent first interns or looks for units or bytes, the call answers what it would, and
+   jsstr_reserve has claimed its words.
 
    It has a malloc, realloc and free of its own in front of the C library's, so it is linked with -Wl,--wrap=malloc,--wrap=realloc,--wrap=free.
    Prints "ok". */
@@ -14,7 +15,8 @@
 
 /* What a call does for its answer: it allocates nothing; or it does; or it does, and has settled a rope before that; or it
    does beside its answer; or for the ids that it claims after its words.
-   What makes, interns or finds a string of bytes, or compares one with them, is as BYTES says. */
+   What makes, interns or finds a string of bytes, or compares one with them, is as BYTES says,
+   but that the first such call of an agent that interns or finds notes what is in the slots. */
 enum takes { NOTHING, MEMORY, MEMORY_SETTLED, MEMORY_RESERVED, NOTED, BYTES = NOTHING };
 
 /* Two heaps. `one` and `other` are agents of the first, where `plain`, `rope` and `key` are; `far` has a reserve, and `text`
@@ -126,8 +128,12 @@ static const uint8_t latin1[] = "Latin-1 \xE9", utf8[] = "UTF-8 \xC3\xA9 \xF0\x9
   ROW(intern, NOTED, jsstr_intern(&w->one, w->rope)) \
   ROW(intern_again, NOTED, (jsstr_intern(&w->one, w->plain), jsstr_intern(&w->one, w->plain))) \
   ROW(intern_units, NOTHING, jsstr_intern_units(&w->one, UNITS)) \
+  ROW(intern_units_first, NOTED, jsstr_intern_units(&w->far, UNITS)) \
+  ROW(intern_utf8_first, NOTED, jsstr_intern_utf8(&w->far, UTF8)) \
   ROW(intern_many, NOTHING, jsstr_intern_many(&w->one, UNITS, ends, 3, w->ids, 3)) \
   ROW(find_units, NOTHING, jsstr_find_units(&w->one, key_units, 3)) \
+  ROW(find_units_first, NOTED, jsstr_find_units(&w->far, UNITS)) \
+  ROW(find_utf8_first, NOTED, jsstr_find_utf8(&w->far, UTF8)) \
   ROW(slot_of, NOTHING, number(jsstr_slot_of(&w->one, w->key))) \
   ROW(adopt, NOTHING, jsstr_adopt(&w->other, jsstr_slot_of(&w->one, w->key).value)) \
   ROW(is_interned, NOTHING, truth(jsstr_is_interned(&w->one, w->key))) \
