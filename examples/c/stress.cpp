@@ -60,7 +60,7 @@ struct alignas(64) Worker {
     return answered(s, text) ? s.id : UINT32_MAX;
   }
 
-  // A few ids and words for what is made later. What isn't there is told, and less of it is reserved.
+  // A few ids and words for what is made later. What isn't there is reported, and less of it is reserved.
   void reserve() {
     jsstr_used before = jsstr_reserved(&agent);
     uint32_t count = chance(20), size = chance(60);

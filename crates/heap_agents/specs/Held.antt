@@ -1,6 +1,6 @@
 -- What is kept at run time beside an agent: which ids it may use, which of them are answers of the string
--- table, what it notes of that table, what it claimed in advance, and the numbers by which a join is known to be
--- valid.
+-- table, what it notes of that table, what it claimed in advance, and the numbers by which a join is known to
+-- be valid.
 use Rattle.std.specs.Prelude.{◌≡◌, ◌⊎◌, ℕ, ◌<◌, List, Contains, Result, Ok, Err, None}
 use Rattle.heap_rule.specs.Maps.{HasKey}
 use Rattle.heap_rule.specs.Views.{history}

@@ -33,7 +33,8 @@ looking_state s seats v = record {
 }
 
 -- what the trait of stores asks of it
-pub looking_sound : (s : State SessionFrame) (seats : Seats) (v : View) → Sound s → Sound (looking_state s seats v)
+pub looking_sound : (s : State SessionFrame) (seats : Seats) (v : View) → Sound s
+    → Sound (looking_state s seats v)
 looking_sound s seats v p = record {
   one_number = p.one_number;
   one_list = p.one_list;

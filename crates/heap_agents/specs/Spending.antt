@@ -1,5 +1,5 @@
--- What an agent claims in advance, and what strings take of it, as the calls of a handle say it, where something
--- lies behind it.
+-- What an agent claims in advance, and what strings take of it, as the calls of a handle say it, where
+-- something lies behind it.
 use Rattle.std.specs.Prelude.{◌≡◌, ℕ, List, [], length, Option, None, Some, Result}
 use Rattle.heap_read.specs.declared.string.JsStr.{JsStr}
 use Rattle.heap_text.specs.declared.faults.JoinFault.{JoinFault}
@@ -18,13 +18,13 @@ abbrev pub IsEmptyReserve : Reserve → Type 0
 IsEmptyReserve r = (kept_ids r ≡ []) × (words_kept r ≡ 0)
 
 -- how many ids and content words are in reserve
-abbrev pub reserved_ids : Option Held → ℕ
-reserved_ids None = 0
-reserved_ids (Some x) = length (kept_ids x.reserve)
+abbrev pub handle_reserved_ids : Option Held → ℕ
+handle_reserved_ids None = 0
+handle_reserved_ids (Some x) = length (kept_ids x.reserve)
 
-abbrev pub reserved_words : Option Held → ℕ
-reserved_words None = 0
-reserved_words (Some x) = words_kept x.reserve
+abbrev pub handle_reserved_words : Option Held → ℕ
+handle_reserved_words None = 0
+handle_reserved_words (Some x) = words_kept x.reserve
 
 abbrev pub HandleReservesNothing : Option Held → Type 0
 HandleReservesNothing None = ⊥

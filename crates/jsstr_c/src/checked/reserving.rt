@@ -1,7 +1,7 @@
 // Ids and content words that an agent claims in advance.
 ghost use Rattle.std.specs.Prelude.{◌≡◌, ◌≢◌, ◌↔◌};
 ghost use Rattle.heap_agents.specs.Ready.{IsReady};
-ghost use Rattle.heap_agents.specs.Spending.{reserved_ids, reserved_words};
+ghost use Rattle.heap_agents.specs.Spending.{handle_reserved_ids, handle_reserved_words};
 ghost use Rattle.jsstr_c.specs.Handles.{IsHandle};
 ghost use Rattle.jsstr_c.specs.Reports as reports;
 ghost use Rattle.jsstr_c.specs.Reserving.{IsReserving};
@@ -41,8 +41,8 @@ pub extern "C" fn jsstr_reserved(alloc: Global, agent: &mut JsAgent) -> JsTotals
     ensures unchanged { agent.new.at.value ≡ agent.old.at.value }
     ensures bad { result.status ≡ reports.BAD_ARGUMENT ↔ ¬ (IsReady agent.old.at.value) }
     ensures status { result.status ≢ reports.BAD_ARGUMENT → result.status ≡ reports.DONE }
-    ensures ids { result.ids ≡ reserved_ids agent.old.at.value }
-    ensures words { result.words ≡ reserved_words agent.old.at.value }
+    ensures ids { result.ids ≡ handle_reserved_ids agent.old.at.value }
+    ensures words { result.words ≡ handle_reserved_words agent.old.at.value }
 {
     if agent.is_empty() {
         return without_totals(BAD_ARGUMENT);

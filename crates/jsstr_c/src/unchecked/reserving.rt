@@ -1,7 +1,7 @@
 // Ids and content words that an agent claims in advance.
 ghost use Rattle.std.specs.Prelude.{◌≡◌, ◌≢◌};
 ghost use Rattle.heap_agents.specs.Ready.{IsReady};
-ghost use Rattle.heap_agents.specs.Spending.{reserved_ids, reserved_words};
+ghost use Rattle.heap_agents.specs.Spending.{handle_reserved_ids, handle_reserved_words};
 ghost use Rattle.jsstr_c.specs.Handles.{IsHandle};
 ghost use Rattle.jsstr_c.specs.Reports as reports;
 ghost use Rattle.jsstr_c.specs.Reserving.{IsReserving};
@@ -35,8 +35,8 @@ pub extern "C" fn jsstr_reserved_unchecked(alloc: Global, agent: &mut JsAgent) -
     requires ready { IsReady agent.old.at.value }
     ensures handle { IsHandle agent.new }
     ensures same { agent.new.at.value ≡ agent.old.at.value }
-    ensures ids { result.ids ≡ reserved_ids agent.old.at.value }
-    ensures words { result.words ≡ reserved_words agent.old.at.value }
+    ensures ids { result.ids ≡ handle_reserved_ids agent.old.at.value }
+    ensures words { result.words ≡ handle_reserved_words agent.old.at.value }
 {
     let held = agent.take(alloc);
     let (ids, words) = held.reserved();
