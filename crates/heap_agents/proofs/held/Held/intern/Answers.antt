@@ -38,3 +38,9 @@ pub returns-clause-interns : goal.returns-clause-interns
 returns-clause-interns c = let v : View = view_by c.args.self.now in let s : ℕ = c.args.s in let id : ℕ = c.in_ok-id.id in
     subst (λ (o : Option SharedText). (us : List ℕ) → Has v.units s us → (plan : HeaderPlan) × IsPlan v (view_if o) s us plan ×
     IsInternAnswer v (view_if o) us plan (Ok id)) (sym c.mark_interned.ensures.text) c.in_ok-id.ensures.interns
+
+pub returns-in_err-id-clause-held : goal.returns-in_err-id-clause-held
+returns-in_err-id-clause-held c = let x = c.args.self.now in let call = c.intern_noted-answer in let v : View = view_by x in
+    let w : View = view_if call.new.text in let s : ℕ = c.args.s in let e = call.ensures in
+    noted x call.new.text c.requires.held e.there e.same (known_by v w s c.requires.known call.result e.interns).units (calls_by v w s c.requires.known call.result e.interns)
+    (agents_by v w s c.requires.known call.result e.interns) call.new.seats e.noted (own_by v w s c.requires.known call.result e.interns)
