@@ -32,7 +32,7 @@ use Rattle.heap_agents.specs.declared.ids.IdSet.{IdSet}
 use Rattle.heap_agents.specs.declared.seats.Seats.{Seats}
 use Rattle.heap_agents.specs.Sets.{Covers, IsIn}
 use Rattle.heap_agents.specs.declared.held.Held.{Held}
-use Rattle.heap_agents.specs.Held.{IsHeld, IsMarked, IsSame, KeepsMarks, LeavesStrings, SpendsReserve, StaysMarked, share_by, held_size, view_by}
+use Rattle.heap_agents.specs.Held.{IsHeld, IsMarked, IsSame, KeepsMarks, LeavesStrings, SpendsReserve, share_by, held_size, view_by}
 use Rattle.heap_agents.specs.Interned.{KeepsCalls}
 use Rattle.heap_agents.specs.Noted.{AreNoted}
 use Rattle.heap_agents.specs.Shared.{IsSameText, IsThere, SharedText, heap_of, share_if, size_if, view_if}

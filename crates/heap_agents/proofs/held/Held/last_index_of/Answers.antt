@@ -1,4 +1,4 @@
-use Rattle.std.proofs.Common.{◌∙◌, ◌≡◌, ℕ, List, Option, Some, ap, refl, subst, sym}
+use Rattle.std.proofs.Common.{◌∙◌, ◌≡◌, Option, Some, ap, refl, subst, sym}
 use Rattle.std.specs.Arc.{arc_value}
 use Rattle.js_store.specs.declared.limit.Limit.TheVariants.{Bits64}
 use Rattle.js_store.specs.Limits.{limit_units}

@@ -1,5 +1,4 @@
 use Rattle.std.proofs.Common.{Option, Some, ap, subst, sym, ◌∙◌}
-use Rattle.heap_rule.specs.declared.view.View.{View}
 use Rattle.heap_reserve.specs.declared.reserve.Reserve.{Reserve}
 use Rattle.heap_reserve.specs.Reserves.{IsReserve}
 use Rattle.heap_agents.specs.declared.held.Held.{Held}
