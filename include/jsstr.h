@@ -29,9 +29,10 @@
    rope; the calls that need a settled string settle it first, for all agents, and may then be refused with
    JSSTR_NO_WORDS.
 
-   MEMORY. jsstr_make and jsstr_split allocate; a call that appends to a text may; and for its own duration one that
-   copies into another heap. These alone may answer JSSTR_NO_MEMORY. jsstr_intern may allocate too, and answers the
-   same where it is refused that. That no other call allocates is tested, not proved.
+   MEMORY. jsstr_make, jsstr_split and jsstr_reserve allocate; a call that appends to a text may; and for its own
+   duration one that copies into another heap. These alone may answer JSSTR_NO_MEMORY. jsstr_intern and
+   the calls that intern or look for units or bytes may allocate too, and answer the same where they are refused that.
+   That no other call allocates is tested, not proved.
 
    Link -ljsstr: there is one archive, libjsstr.a, and no shared object. malloc, realloc and free are the C
    library's, and malloc aligns to 16. */
@@ -70,7 +71,8 @@ typedef struct jsstr_size { uint32_t ids, words, slots; } jsstr_size;
 
 enum jsstr_status {
   JSSTR_DONE = 0,
-  JSSTR_NO_MEMORY = 1,   /* malloc answered null; nothing has changed, but that a rope may have been settled */
+  JSSTR_NO_MEMORY = 1,   /* malloc answered null; nothing has changed, but that a rope may have been settled, or that
+                            jsstr_reserve has claimed what it says */
   JSSTR_BAD_SIZE = 2,    /* sizes, number of agents or limit are out of bounds */
   JSSTR_NO_IDS = 3,      /* no id is left: `at` used, `want` requested, `end` in all */
   JSSTR_NO_WORDS = 4,    /* not enough words are left: the same of words */
@@ -97,7 +99,8 @@ static inline const char *jsstr_status_name(uint32_t status) {
 uint32_t jsstr_version(void);
 
 /* Unused fields are 0. After a refusal each string is what it was, and what the call had claimed by then
-   is lost. After NO_IDS, NO_WORDS or NO_SLOTS any later request of that size fails, for every agent. */
+   is lost. After NO_IDS, NO_WORDS or NO_SLOTS any later request of that size fails, for every agent, except where what
+   it reserved suffices. */
 typedef struct jsstr_answer { uint32_t status; jsstr_id id; uint32_t at, want, end; } jsstr_answer;
 typedef struct jsstr_number { uint32_t status, value; } jsstr_number;
 typedef struct jsstr_order { uint32_t status; int32_t order; } jsstr_order;
@@ -124,21 +127,34 @@ uint32_t jsstr_make(jsstr_size size, uint32_t agents, uint32_t limit, jsstr_agen
 
 /* Frees an agent, and with the last one the heap (tested, not proved); *agent is zero afterwards. Its share
    doesn't return to the others: none ever has the whole again, as jsstr_share shows, which jsstr_totals and
-   jsstr_count_interned need. Where the heap goes on, join the agent instead. */
+   jsstr_count_interned need, and what it reserved is lost. Where the heap goes on, join the agent instead. */
 uint32_t jsstr_free(jsstr_agent *agent);
 
 /* In `out` an agent of the same heap with `give` of the share, which knows all that this one knows.
    Answers DONE or NO_MEMORY. Condition: 1 <= give < share, and *out is zero. It stays zero where it is refused. */
 uint32_t jsstr_split(jsstr_agent *agent, uint32_t give, jsstr_agent *out);
 
-/* Takes over the share of another agent, and all that it has and knows; *other is zero afterwards. Answers DONE
-   or BAD_ARGUMENT. Condition: `other` was split off from `agent` itself. Tested, not proved: none that was is
-   refused, and any other one is; but one of another heap may not be, if that heap's agents split or join in that
-   moment. */
+/* Takes over the share of another agent, and all that it has and knows; *other is zero afterwards. Of what it
+   reserved (jsstr_reserve) and has left, the ids go over where this agent has none left, and the words where this
+   agent has none left; the rest is lost. Answers DONE or BAD_ARGUMENT. Condition: `other` was split off from `agent`
+   itself. Tested, not proved: none that was is refused, and any other one is; but one of another heap may not be, if
+   that heap's agents split or join in that moment. */
 uint32_t jsstr_join(jsstr_agent *agent, jsstr_agent *other);
 
 /* How many agents this one may become, itself counted. */
 jsstr_number jsstr_share(jsstr_agent *agent);
+
+/* Claims `words` words in one piece, and then `ids` ids, for this agent's later strings: a call that makes, joins,
+   cuts or copies takes from these, where they suffice, and then touches nothing that agents share and uses nothing
+   of the heap. A copy needs an id and its words; a rope or a slice an id above the numbers of the strings that it
+   is made of, and the least id left is tried. Where they do not suffice, the call is as if nothing were reserved.
+   Interning and settling take nothing from these. Answers DONE, with string 0; NO_WORDS, and then nothing was claimed;
+   or NO_IDS or NO_MEMORY, and then the words, and fewer ids, were. What was claimed is used, whether or not a string
+   takes it. Where the new words don't begin where those left end, the words that were left are lost. */
+jsstr_answer jsstr_reserve(jsstr_agent *agent, uint32_t ids, uint32_t words);
+
+/* How many ids and words are reserved, and left. */
+jsstr_used jsstr_reserved(jsstr_agent *agent);
 
 /* A new string with these units, settled. It uses an id, and a word for 8 units, or for 4 where one of
    them is over 255. */
@@ -338,6 +354,8 @@ void jsstr_free_unchecked(jsstr_agent *);
 uint32_t jsstr_split_unchecked(jsstr_agent *, uint32_t, jsstr_agent *);
 void jsstr_join_unchecked(jsstr_agent *, jsstr_agent *);
 uint32_t jsstr_share_unchecked(jsstr_agent *);
+jsstr_answer jsstr_reserve_unchecked(jsstr_agent *, uint32_t, uint32_t);
+jsstr_use jsstr_reserved_unchecked(jsstr_agent *);
 jsstr_answer jsstr_from_units_unchecked(jsstr_agent *, const uint16_t *, size_t);
 jsstr_answer jsstr_from_latin1_unchecked(jsstr_agent *, const uint8_t *, size_t);
 jsstr_answer jsstr_from_utf8_unchecked(jsstr_agent *, const uint8_t *, size_t);

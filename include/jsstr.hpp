@@ -105,7 +105,7 @@ struct size {
   std::uint32_t ids, words, slots;
 };
 
-/// How many ids and words were used, by all agents of a heap.
+/// How many ids and words were used, by all agents of a heap; or are in reserve.
 struct use {
   std::uint32_t ids, words;
 };
@@ -205,6 +205,13 @@ public:
     if (code == JSSTR_DONE) other.line.reset();
     return given(done(code));
   }
+
+  /// Claims words in one piece, and then ids, for later strings of this agent, which then touch nothing that agents
+  /// share. They are used, whether or not a string takes them.
+  answer<nothing> reserve(std::uint32_t ids, std::uint32_t words) { return given(claimed(jsstr_reserve(handle(), ids, words))); }
+
+  /// How many ids and words are reserved, and left.
+  answer<use> reserved() { return given(used(jsstr_reserved(handle()))); }
 
   answer<std::uint32_t> share() { return given(number(jsstr_share(handle()))); }
 
@@ -364,10 +371,7 @@ public:
 
   /// What all agents used, and how many different lists of units were interned: this one must have the whole
   /// share.
-  answer<use> totals() {
-    const jsstr_used found = jsstr_totals(handle());
-    return given(found.status == JSSTR_DONE ? result<use>(use{found.ids, found.words}) : refused<use>(found.status));
-  }
+  answer<use> totals() { return given(used(jsstr_totals(handle()))); }
   answer<std::uint32_t> count_interned() { return given(number(jsstr_count_interned(handle()))); }
 
   /// How full the heap is, also while other agents run.
@@ -421,6 +425,12 @@ private:
   template <class T> static result<T> made(const jsstr_answer &a) {
     if (a.status == JSSTR_DONE) return T(a.id);
     return refusal{static_cast<status>(a.status), a.at, a.want, a.end};
+  }
+  static result<nothing> claimed(const jsstr_answer &a) {
+    return a.status == JSSTR_DONE ? result<nothing>(nothing{}) : result<nothing>(made<string>(a).error());
+  }
+  static result<use> used(const jsstr_used &u) {
+    return u.status == JSSTR_DONE ? result<use>(use{u.ids, u.words}) : refused<use>(u.status);
   }
   static result<std::optional<key>> found(const jsstr_answer &a) {
     using maybe = std::optional<key>;
@@ -524,9 +534,7 @@ public:
 private:
   jsstr_builder text{};
 
-  static result<nothing> did(const jsstr_answer &a) {
-    return a.status == JSSTR_DONE ? result<nothing>(nothing{}) : result<nothing>(agent::made<key>(a).error());
-  }
+  static result<nothing> did(const jsstr_answer &a) { return agent::claimed(a); }
 };
 
 } // inline namespace

@@ -24,6 +24,7 @@ typedef struct agent {
   uint32_t share;
   int number, giver;
   uint8_t known[IDS], interned[IDS];
+  uint32_t ids, words; /* what it reserved, and has left */
 } agent;
 
 static text texts[IDS];
@@ -86,6 +87,42 @@ static void answered(agent *a, jsstr_answer s, const uint16_t *units, uint32_t l
   }
   CHECK(t->len == len && (!len || memcmp(t->units, units, len * 2) == 0));
   a->known[s.id] = 1;
+}
+
+/* What was used before a call for an agent. */
+static jsstr_use used(agent *a) { return a->handle.live ? jsstr_totals_unchecked(&a->handle) : (jsstr_use){0, 0}; }
+
+/* The same before a call that may settle s first; then the words that this takes are not known. */
+static jsstr_use used_settled(agent *a, agent *of, jsstr_id s) {
+  jsstr_use now = used(a);
+  if (knows(of, s) && !jsstr_is_settled(&of->handle, s).holds) now.words = UINT32_MAX;
+  return now;
+}
+
+/* A string of these units was made of what is reserved, where that suffices, and then nothing was used; else
+   nothing is taken of it. */
+static int is_taken(agent *a, jsstr_use before, jsstr_answer s, const uint16_t *units, uint32_t len) {
+  uint32_t lanes = 8;
+  for (uint32_t i = 0; i < len; i++) if (units[i] > 255) lanes = 4;
+  uint32_t words = (len + lanes - 1) / lanes;
+  jsstr_use after = jsstr_totals_unchecked(&a->handle);
+  if (!a->ids || words > a->words) return jsstr_reserved(&a->handle).ids == a->ids;
+  a->ids--, a->words -= words;
+  return s.status == JSSTR_DONE && before.ids == after.ids && (before.words == after.words || before.words == UINT32_MAX);
+}
+
+/* The same of a rope or a slice, which takes an id and no word, if it takes any. */
+static int is_linked(agent *a, jsstr_use before) {
+  jsstr_use after = jsstr_totals_unchecked(&a->handle);
+  if (jsstr_reserved(&a->handle).ids == a->ids) return 1;
+  a->ids--;
+  return before.ids == after.ids;
+}
+
+static int keeps_reserve(agent *a) {
+  jsstr_used kept = jsstr_reserved(&a->handle);
+  if (!a->handle.live) return kept.status == JSSTR_BAD_ARGUMENT && !kept.ids && !kept.words;
+  return kept.status == JSSTR_DONE && kept.ids == a->ids && kept.words == a->words;
 }
 
 static uint32_t some_units(uint16_t *units) {
@@ -154,15 +191,19 @@ static void make(agent *a) {
   given g;
   enum kind kind = (enum kind)chance(KINDS);
   give(&g, kind);
+  jsstr_use before = used(a);
   jsstr_answer s = kind == UNITS ? jsstr_from_units(&a->handle, g.units, g.len) : kind == LATIN1 ? jsstr_from_latin1(&a->handle, g.bytes, g.n)
     : kind == UTF8 ? jsstr_from_utf8(&a->handle, g.bytes, g.n) : jsstr_from_wtf8(&a->handle, g.bytes, g.n);
   if (!a->handle.live) { CHECK(s.status == JSSTR_BAD_ARGUMENT); return; }
   lawful++;
-  if (!is_refused(&g, s)) answered(a, s, g.units, g.len);
+  if (is_refused(&g, s)) return;
+  CHECK(is_taken(a, before, s, g.units, g.len));
+  answered(a, s, g.units, g.len);
 }
 
 static void concat(agent *a) {
   jsstr_id l = some_id(a), r = some_id(a);
+  jsstr_use before = used(a);
   jsstr_answer s = jsstr_concat(&a->handle, l, r);
   if (!knows(a, l) || !knows(a, r)) { CHECK(s.status == JSSTR_BAD_ARGUMENT); return; }
   lawful++;
@@ -171,15 +212,19 @@ static void concat(agent *a) {
   uint16_t units[LIMIT];
   memcpy(units, texts[l].units, m * 2);
   memcpy(units + m, texts[r].units, n * 2);
+  if (m && n) CHECK(m + n < 13 ? is_taken(a, before, s, units, m + n) : is_linked(a, before));
   answered(a, s, units, m + n);
 }
 
 static void slice(agent *a) {
   jsstr_id s = some_id(a);
   uint32_t len = knows(a, s) ? texts[s].len : 9, from = chance(len + 2), to = chance(9) ? from + chance(len + 2 - from) : chance(500);
+  jsstr_use before = used_settled(a, a, s);
   jsstr_answer t = jsstr_slice(&a->handle, s, from, to);
   if (!knows(a, s) || from > to || to > len) { CHECK(t.status == JSSTR_BAD_ARGUMENT); return; }
   lawful++;
+  if (to - from < len && jsstr_is_settled(&a->handle, s).holds)
+    CHECK(to - from < 13 ? is_taken(a, before, t, texts[s].units + from, to - from) : is_linked(a, before));
   answered(a, t, texts[s].units + from, to - from);
 }
 
@@ -229,9 +274,11 @@ static void carry(agent *a, agent *b) {
     CHECK((t.status == JSSTR_BAD_ARGUMENT) == !knows(a, s));
     return;
   }
+  jsstr_use before = used_settled(b, a, s);
   jsstr_answer t = jsstr_copy_into(&a->handle, s, &b->handle);
   if (!knows(a, s) || !b->handle.live) { CHECK(t.status == JSSTR_BAD_ARGUMENT); return; }
   lawful++;
+  if (jsstr_is_settled(&a->handle, s).holds) CHECK(is_taken(b, before, t, texts[s].units, texts[s].len));
   answered(b, t, texts[s].units, texts[s].len);
 }
 
@@ -442,7 +489,9 @@ static void append_string(agent *a) {
 /* A string of the text, here or in a heap that has little room; a refusal leaves the text. */
 static void finish(agent *a) {
   int interns = (int)chance(2), here = chance(9) > 0;
+  jsstr_use before = used(a);
   jsstr_answer s = (interns ? jsstr_built_interned : jsstr_built)(&built.handle, here ? &a->handle : &stranger.handle);
+  if (here && a->handle.live && !interns) CHECK(is_taken(a, before, s, built.units, built.len));
   if (here && !a->handle.live) CHECK(s.status == JSSTR_BAD_ARGUMENT);
   else if (here) (interns ? interned : answered)(a, s, built.units, built.len);
   else CHECK(s.status == JSSTR_DONE || s.status == JSSTR_NO_IDS || s.status == JSSTR_NO_WORDS || s.status == JSSTR_NO_SLOTS);
@@ -507,6 +556,23 @@ static void settle(agent *a) {
   if (!refused_for_room(t.status)) CHECK(t.status == JSSTR_DONE && t.id == s);
 }
 
+/* What is reserved is used, and is what is left of it by the reference; of words, a run that is not gone on with is lost. */
+static void reserve(agent *a) {
+  uint32_t ids = chance(9) ? chance(6) : chance(2 * IDS), words = chance(9) ? chance(20) : chance(2 * WORDS);
+  if (chance(200)) ids %= 6, words %= 20;
+  jsstr_use before = used(a);
+  jsstr_answer s = jsstr_reserve(&a->handle, ids, words);
+  if (!a->handle.live) { CHECK(s.status == JSSTR_BAD_ARGUMENT); return; }
+  lawful++;
+  jsstr_use after = jsstr_totals_unchecked(&a->handle);
+  jsstr_used kept = jsstr_reserved(&a->handle);
+  CHECK(kept.status == JSSTR_DONE && kept.ids - a->ids == after.ids - before.ids);
+  CHECK(s.status == JSSTR_DONE ? !s.id && kept.ids == a->ids + ids : refused_for_room(s.status));
+  CHECK(s.status == JSSTR_NO_WORDS ? after.ids == before.ids && after.words == before.words && kept.words == a->words
+    : after.words == before.words + words && (kept.words == a->words + words || (words && kept.words == words)));
+  a->ids = kept.ids, a->words = kept.words;
+}
+
 static void split(agent *a, agent *b) {
   uint32_t give = chance(AGENTS + 1);
   int ok = a != b && a->handle.live && !b->handle.live && give >= 1 && give < a->share;
@@ -521,6 +587,7 @@ static void split(agent *a, agent *b) {
   b->share = give;
   b->giver = a->number;
   b->number = (int)++numbers;
+  b->ids = b->words = 0;
   a->share -= give;
 }
 
@@ -537,6 +604,8 @@ static void join(agent *a, agent *b) {
   CHECK(!b->handle.live && !b->handle.at);
   for (int i = 0; i < IDS; i++) a->known[i] |= b->known[i], a->interned[i] |= b->interned[i];
   a->share += b->share;
+  if (!a->ids) a->ids = b->ids;
+  if (!a->words) a->words = b->words;
   memset(b, 0, sizeof *b);
 }
 
@@ -548,7 +617,7 @@ int main(int count_of, char **told) {
   for (call = 0; call < calls; call++) {
     agent *a = &agents[chance(AGENTS)], *b = &agents[chance(AGENTS)];
     if (!a->handle.live && chance(3)) a = &agents[0];
-    switch (chance(26)) {
+    switch (chance(27)) {
     case 0: case 1: make(a); break;
     case 2: case 3: concat(a); break;
     case 4: case 5: slice(a); break;
@@ -567,8 +636,10 @@ int main(int count_of, char **told) {
     case 22: adopt(a); break;
     case 23: gauge(a); break;
     case 24: many(a); break;
+    case 25: reserve(a); break;
     default: join(a, b);
     }
+    CHECK(keeps_reserve(a) && keeps_reserve(b));
     if (full > 300) begin();
   }
   for (int i = 0; i < AGENTS; i++)

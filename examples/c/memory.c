@@ -1,6 +1,7 @@
 /* What memory the calls take. The rows below say which calls allocate, and no other does. Where malloc answers null, at each
-   place in turn, such a call answers JSSTR_NO_MEMORY, has changed nothing, and succeeds when it is made again; but jsstr_intern,
-   which allocates to note a slot, answers what it would.
+   place in turn, such a call answers JSSTR_NO_MEMORY, has changed nothing, and succeeds when it is made again; but where
+   jsstr_intern notes a slot, and where an agent first interns or looks for units or bytes, the call answers what it would, and
+   jsstr_reserve has claimed its words.
 
    It has a malloc, realloc and free of its own in front of the C library's, so it is linked with -Wl,--wrap=malloc,--wrap=realloc,--wrap=free.
    Prints "ok". */
@@ -13,11 +14,13 @@
 #define CHECK(c) do { if (!(c)) { printf("line %d: %s\n", __LINE__, #c); exit(1); } } while (0)
 
 /* What a call does for its answer: it allocates nothing; or it does; or it does, and has settled a rope before that; or it
-   does beside its answer.
-   What makes, interns or finds a string of bytes, or compares one with them, is as BYTES says. */
-enum takes { NOTHING, MEMORY, MEMORY_SETTLED, NOTED, BYTES = NOTHING };
+   does beside its answer; or for the ids that it claims after its words.
+   What makes, interns or finds a string of bytes, or compares one with them, is as BYTES says,
+   but that the first such call of an agent that interns or finds notes what is in the slots. */
+enum takes { NOTHING, MEMORY, MEMORY_SETTLED, MEMORY_RESERVED, NOTED, BYTES = NOTHING };
 
-/* Two heaps. `one` and `other` are agents of the first, where `plain`, `rope` and `key` are; `text` has units. */
+/* Two heaps. `one` and `other` are agents of the first, where `plain`, `rope` and `key` are; `far` has a reserve, and `text`
+   units. */
 typedef struct world {
   jsstr_agent one, other, far, out;
   jsstr_builder text, empty;
@@ -42,6 +45,11 @@ static const uint8_t latin1[] = "Latin-1 \xE9", utf8[] = "UTF-8 \xC3\xA9 \xF0\x9
   ROW(make_unchecked, MEMORY, told(jsstr_make_unchecked(size, 2, 100, &w->out))) \
   ROW(split, MEMORY, told(jsstr_split(&w->one, 1, &w->out))) \
   ROW(split_unchecked, MEMORY, told(jsstr_split_unchecked(&w->one, 1, &w->out))) \
+  ROW(reserve, MEMORY_RESERVED, jsstr_reserve(&w->one, 3, 4)) \
+  ROW(reserve_unchecked, MEMORY_RESERVED, jsstr_reserve_unchecked(&w->one, 3, 4)) \
+  ROW(reserve_words, NOTHING, jsstr_reserve(&w->one, 0, 4)) \
+  ROW(from_reserved, NOTHING, jsstr_from_units(&w->far, UNITS)) \
+  ROW(reserved, NOTHING, number((jsstr_number){jsstr_reserved(&w->one).status, jsstr_reserved(&w->one).words})) \
   ROW(from_latin1, BYTES, jsstr_from_latin1(&w->one, LATIN1)) \
   ROW(from_latin1_unchecked, BYTES, jsstr_from_latin1_unchecked(&w->one, LATIN1)) \
   ROW(from_utf8, BYTES, jsstr_from_utf8(&w->one, UTF8)) \
@@ -120,8 +128,12 @@ static const uint8_t latin1[] = "Latin-1 \xE9", utf8[] = "UTF-8 \xC3\xA9 \xF0\x9
   ROW(intern, NOTED, jsstr_intern(&w->one, w->rope)) \
   ROW(intern_again, NOTED, (jsstr_intern(&w->one, w->plain), jsstr_intern(&w->one, w->plain))) \
   ROW(intern_units, NOTHING, jsstr_intern_units(&w->one, UNITS)) \
+  ROW(intern_units_first, NOTED, jsstr_intern_units(&w->far, UNITS)) \
+  ROW(intern_utf8_first, NOTED, jsstr_intern_utf8(&w->far, UTF8)) \
   ROW(intern_many, NOTHING, jsstr_intern_many(&w->one, UNITS, ends, 3, w->ids, 3)) \
   ROW(find_units, NOTHING, jsstr_find_units(&w->one, key_units, 3)) \
+  ROW(find_units_first, NOTED, jsstr_find_units(&w->far, UNITS)) \
+  ROW(find_utf8_first, NOTED, jsstr_find_utf8(&w->far, UTF8)) \
   ROW(slot_of, NOTHING, number(jsstr_slot_of(&w->one, w->key))) \
   ROW(adopt, NOTHING, jsstr_adopt(&w->other, jsstr_slot_of(&w->one, w->key).value)) \
   ROW(is_interned, NOTHING, truth(jsstr_is_interned(&w->one, w->key))) \
@@ -205,6 +217,7 @@ static void begin(world *w) {
   static const uint16_t plain[] = {'a', ' ', 'p', 'l', 'a', 'i', 'n', ' ', 'o', 'n', 'e'};
   memset(w, 0, sizeof *w);
   CHECK(jsstr_make(size, 4, 100, &w->one) == JSSTR_DONE && jsstr_make(size, 1, 100, &w->far) == JSSTR_DONE);
+  CHECK(jsstr_reserve(&w->far, 3, 9).status == JSSTR_DONE);
   w->plain = id_of(jsstr_from_units(&w->one, plain, 11));
   w->rope = id_of(jsstr_concat(&w->one, w->plain, w->plain));
   CHECK(jsstr_split(&w->one, 2, &w->other) == JSSTR_DONE);
@@ -259,6 +272,13 @@ static void refuse(const row *r, long failing, jsstr_answer want) {
     return;
   }
   state after = seen(&w);
+  if (r->takes == MEMORY_RESERVED) {
+    CHECK(is_same(answer, told(JSSTR_NO_MEMORY)) && after.rooms[0].words == before.rooms[0].words + 4);
+    CHECK(after.rooms[0].ids < before.rooms[0].ids + 3 && jsstr_reserved(&w.one).words == 4);
+    CHECK(is_same(r->call(&w), want));
+    end(&w);
+    return;
+  }
   if (r->takes == MEMORY_SETTLED && after.settled) {
     CHECK(after.rooms[0].words > before.rooms[0].words);
     before.settled = 1, before.rooms[0].words = before.rooms[1].words = after.rooms[0].words;

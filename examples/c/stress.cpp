@@ -1,6 +1,6 @@
 // Eight threads, each with an agent, make, join, cut, read and intern strings for some seconds, and compare
 // each answer with std::u16string. They put the slots of keys on a board, from which the others adopt them, and
-// look how full the heap is. In the end all have the same number for the same key.
+// look how full the heap is, and reserve ids and words for later strings. In the end all have the same number for the same key.
 //
 //     stress [SECONDS [THREADS]]
 #include "jsstr.h"
@@ -51,9 +51,26 @@ struct alignas(64) Worker {
     return true;
   }
 
+  // Where what is reserved suffices, it is taken, and the string is never refused.
   jsstr_id made(const Text &text) {
+    jsstr_used before = jsstr_reserved(&agent);
+    bool enough = before.ids && before.words >= (text.size() + 3) / 4;
     jsstr_answer s = jsstr_from_units(&agent, reinterpret_cast<const uint16_t *>(text.data()), text.size());
+    CHECK(!enough || (s.status == JSSTR_DONE && jsstr_reserved(&agent).ids == before.ids - 1));
     return answered(s, text) ? s.id : UINT32_MAX;
+  }
+
+  // A few ids and words for what is made later. What isn't there is reported, and less of it is reserved.
+  void reserve() {
+    jsstr_used before = jsstr_reserved(&agent);
+    uint32_t count = chance(20), size = chance(60);
+    jsstr_answer s = jsstr_reserve(&agent, count, size);
+    jsstr_used after = jsstr_reserved(&agent);
+    if (s.status == JSSTR_DONE) CHECK(!s.id && after.ids == before.ids + count && after.words >= size);
+    else {
+      CHECK((s.status == JSSTR_NO_IDS && after.ids < before.ids + count) || (s.status == JSSTR_NO_WORDS && after.ids == before.ids && after.words == before.words));
+      full = true;
+    }
   }
 
   static Text key(uint32_t number) {
@@ -135,7 +152,7 @@ struct alignas(64) Worker {
   void step() {
     jsstr_id a = ids[chance(uint32_t(ids.size()))], b = ids[chance(uint32_t(ids.size()))];
     const Text left = texts[a], right = texts[b];
-    switch (chance(10)) {
+    switch (chance(11)) {
     case 0: {
       jsstr_answer s = jsstr_concat(&agent, a, b);
       if (left.size() + right.size() > 2000) { CHECK(s.status == JSSTR_TOO_LONG); break; }
@@ -187,6 +204,9 @@ struct alignas(64) Worker {
       break;
     case 8:
       many();
+      break;
+    case 9:
+      reserve();
       break;
     default:
       CHECK(jsstr_length(&agent, UINT32_MAX - chance(9)).status == JSSTR_BAD_ARGUMENT);

@@ -425,6 +425,57 @@ static void intern_row(jsstr_agent *a, const uint16_t *units, uint32_t len, uint
   CHECK(!jsstr_is_interned(a, s).holds && jsstr_equal(a, s, key.id).holds && is_string(jsstr_intern(a, s), key.id));
 }
 
+/* The UTF-8 of a key. */
+static size_t key_bytes(int key, uint8_t *bytes) {
+  uint16_t units[32];
+  size_t n = key_units(key, units), size = 0;
+  for (size_t i = 0; i < n; i++) {
+    if (units[i] == 0x4E16) {
+      memcpy(bytes + size, "\xE4\xB8\x96", 3);
+      size += 3;
+    } else {
+      bytes[size++] = (uint8_t)units[i];
+    }
+  }
+  return size;
+}
+
+/* A key that is in a full table has its number in each call, and one that isn't is refused and not found. */
+static void key_row(jsstr_agent *a, int key, const jsstr_id *ids, uint32_t slots) {
+  uint16_t units[32];
+  uint8_t bytes[64];
+  size_t n = key_units(key, units), size = key_bytes(key, bytes);
+  jsstr_answer all[] = {
+    jsstr_find_units(a, units, n), jsstr_find_utf8(a, bytes, size), jsstr_intern_units(a, units, n), jsstr_intern_utf8(a, bytes, size)};
+  for (int i = 0; i < 4; i++) {
+    if (key < (int)slots) CHECK(is_string(all[i], ids[key]));
+    else if (i < 2) CHECK(is_bare(all[i], JSSTR_NONE));
+    else CHECK(all[i].status == JSSTR_NO_SLOTS && all[i].end == slots);
+  }
+}
+
+/* A table is filled by two agents; then each of them has all its keys, and no other one, twice over. */
+static void fill_table(uint32_t slots) {
+  static jsstr_id ids[KEYS];
+  jsstr_agent one = {0}, other = {0};
+  CHECK(jsstr_make((jsstr_size){slots, 9 * slots, slots}, 2, 100, &one) == JSSTR_DONE && jsstr_split(&one, 1, &other) == JSSTR_DONE);
+  for (int key = 0; key < (int)slots; key++) {
+    uint16_t units[32];
+    uint8_t bytes[64];
+    size_t n = key_units(key, units), size = key_bytes(key, bytes);
+    jsstr_agent *a = key % 5 ? &one : &other;
+    CHECK(is_bare(jsstr_find_units(a, units, n), JSSTR_NONE) && is_bare(jsstr_find_utf8(a, bytes, size), JSSTR_NONE));
+    jsstr_answer s = key % 3 ? jsstr_intern_units(a, units, n) : jsstr_intern_utf8(a, bytes, size);
+    CHECK(is_string(s, s.id));
+    ids[key] = s.id;
+  }
+  for (int round = 0; round < 4; round++) {
+    for (int key = 0; key < 2 * (int)slots; key++) key_row(round % 2 ? &other : &one, key, ids, slots);
+  }
+  CHECK(jsstr_totals(&one).ids == slots && jsstr_count_interned(&other).value == slots);
+  CHECK(jsstr_join(&one, &other) == JSSTR_DONE && jsstr_free(&one) == JSSTR_DONE);
+}
+
 static void intern_units(void) {
   jsstr_agent a = {0};
   static const uint16_t narrow[] = {'n', 'i', 'n', 'e', 'u', 'n', 'i', 't', 's'}, wide[] = {'n', 'i', 'n', 'e', 0x100, 'n', 'i', 't', 0xD800};
@@ -732,6 +783,9 @@ int main(void) {
   refuse_joins();
   refuse_settling();
   intern_units();
+  fill_table(1);
+  fill_table(2);
+  fill_table(400);
   intern_again();
   refuse_keys();
   intern_many();

@@ -106,6 +106,15 @@ static void interns_many() {
   CHECK(agent.intern_many(u"one", {4}).error().why == status::bad_argument && agent.intern_many(u"onenew", {3, 6}).error().why == status::no_ids);
 }
 
+// What is reserved is used at once, and taken by strings later.
+static void reserves() {
+  jsstr::agent agent = jsstr::agent::make({3, 9, 7}).value(), gone = jsstr::agent::make({1, 1, 1}).value(), moved = std::move(gone);
+  CHECK(agent.reserve(2, 4) && agent.reserved().value().ids == 2 && agent.reserved().value().words == 4 && agent.room().value().ids == 2);
+  CHECK(agent.from(u"one"_js) && agent.reserved().value().ids == 1 && agent.reserved().value().words == 3 && agent.room().value().ids == 2);
+  CHECK(agent.reserve(1, 6).error().why == status::no_words && agent.reserve(1, 6).error().want == 6 && agent.reserve(9, 0).error().why == status::no_ids);
+  CHECK(gone.reserve(1, 1).error().why == status::bad_argument && gone.reserved().error().why == status::bad_argument);
+}
+
 // What one agent interned the other adopts by its slot; each sees how full the heap is.
 static void adopts() {
   jsstr::agent one = jsstr::agent::make({16, 32, 7}, 2).value(), other = one.split().value();
@@ -196,6 +205,7 @@ int main() {
   reads_wtf8(agent);
   builds(agent);
   interns_many();
+  reserves();
   adopts();
   carries(agent);
   interns(agent);

@@ -12,7 +12,7 @@ use Rattle.heap_agents.specs.Interned.{HasEntered, KeepsCalls}
 use Rattle.heap_agents.specs.Keys.{FoundUnits, InternedUnits}
 use Rattle.heap_agents.specs.Noted.{AreNoted}
 use Rattle.heap_agents.specs.Shared.{IsSameText, IsThere, SharedText, view_if}
-use Rattle.heap_agents.proofs.Interned.{agents_found, agents_from, calls_found, calls_from, entered_found, entered_from, known_found, known_from}
+use Rattle.heap_agents.proofs.Interned.{agents_found, agents_from, calls_found, calls_from, entered_found, entered_from, known_found, known_from, own_found, own_from}
 use Rattle.heap_agents.proofs.Marks.{noted}
 
 -- a call by which the text of x became m, and what x notes `seats`
@@ -27,13 +27,13 @@ module _ (x : Held) (m : Option SharedText) (seats : Seats) (held : IsHeld x) (t
   left = record x { text = m; seats = seats }
 
   pub held_interned : (r : Result ℕ TableFull) → IsInternAnswer (view_by x) (view_if m) us (copy_plan us) r → IsHeld (record x { text = m; seats = seats })
-  held_interned r i = noted x m held there same (known_from v w us (copy_plan us) r i).units (calls_from v w us (copy_plan us) r i) (agents_from v w us (copy_plan us) r i) seats right
+  held_interned r i = noted x m held there same (known_from v w us (copy_plan us) r i).units (calls_from v w us (copy_plan us) r i) (agents_from v w us (copy_plan us) r i) seats right (own_from v w us (copy_plan us) r i)
 
   pub held_found : (r : Option ℕ) → FindsString (view_by x) (view_if m) us r → IsHeld (record x { text = m; seats = seats })
-  held_found r i = noted x m held there same (known_found v w us r i).units (calls_found v w us r i) (agents_found v w us r i) seats right
+  held_found r i = noted x m held there same (known_found v w us r i).units (calls_found v w us r i) (agents_found v w us r i) seats right (own_found v w us r i)
 
   kept : KeepsMarks x left
-  kept = record { known = λ i h. h; interned = λ i h. h; number = λ i. x.number; giver = λ i. x.giver }
+  kept = record { known = λ i h. h; interned = λ i h. h; number = λ i. x.number; giver = λ i. x.giver; reserve = λ i. x.reserve }
 
   -- no answer is marked
   pub refused_units : (f : TableFull) → InternsGiven (view_by x) (view_if m) us (Err f) → InternedUnits x (record x { text = m; seats = seats }) us (Err f)
@@ -68,7 +68,7 @@ module _ (x : Held) (m : Option SharedText) (seats : Seats) (held : IsHeld x) (t
     at_end P h = subst P (sym is) h
 
     marks : KeepsMarks x y
-    marks = record { known = keeps.known; interned = keeps.interned; number = keeps.number; giver = keeps.giver }
+    marks = record { known = keeps.known; interned = keeps.interned; number = keeps.number; giver = keeps.giver; reserve = keeps.reserve }
 
     both : MarksOnlyKey x y i
     both = record { known = marked.known; interned = marked.interned; only = marked.only; only_interned = marked.only_interned }

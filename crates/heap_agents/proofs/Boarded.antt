@@ -10,7 +10,7 @@ use Rattle.heap_agents.specs.Board.{AdoptedFrom}
 use Rattle.heap_agents.specs.Held.{IsHeld, KeepsMarks, MarksOnlyKey, view_by}
 use Rattle.heap_agents.specs.Interned.{HasEntered, KeepsCalls}
 use Rattle.heap_agents.specs.Shared.{IsSameText, SharedText, heap_of, view_if}
-use Rattle.heap_agents.proofs.Interned.{agents_adopted, calls_adopted, entered_adopted, known_adopted}
+use Rattle.heap_agents.proofs.Interned.{agents_adopted, calls_adopted, entered_adopted, known_adopted, own_adopted}
 use Rattle.heap_agents.proofs.Marks.{held_on, kept_marks, same_text, told}
 
 -- a call by which the text t became u
@@ -22,7 +22,7 @@ module _ (x : Held) (t u : SharedText) (own : x.text ≡ Some t) (heap : heap_of
   w = view_of u.reader.agent
 
   pub held_adopted : (r : Option ℕ) → AdoptsSlot v w k r → IsHeld (record x { text = Some u })
-  held_adopted r a = held_on x t u own heap limit held (known_adopted v w k r a) (calls_adopted v w k r a) (agents_adopted v w k r a)
+  held_adopted r a = held_on x t u own heap limit held (known_adopted v w k r a) (calls_adopted v w k r a) (agents_adopted v w k r a) (own_adopted v w k r a)
 
   -- the string is marked
   pub adopted_marked : (i : ℕ) (y : Held) → y.text ≡ Some u → IsHeld y → KeepsMarks (record x { text = Some u }) y → MarksOnlyKey (record x { text = Some u }) y i → AdoptsSlot v w k (Some i)
@@ -30,7 +30,7 @@ module _ (x : Held) (t u : SharedText) (own : x.text ≡ Some t) (heap : heap_of
   adopted_marked i y is after keeps marked a again loads = let there : (P : Option SharedText → Type 0) → P (Some u) → P y.text = (λ P h. subst P (sym is) h) in record {
     held = after;
     same = there (λ (n : Option SharedText). IsSameText x.text n) (same_text x t u own heap limit);
-    marks = record { known = keeps.known; interned = keeps.interned; number = keeps.number; giver = keeps.giver };
+    marks = record { known = keeps.known; interned = keeps.interned; number = keeps.number; giver = keeps.giver; reserve = keeps.reserve };
     marked = record { known = marked.known; interned = marked.interned; only = marked.only; only_interned = marked.only_interned };
     known = there (λ (n : Option SharedText). KeepsKnown (view_by x) (view_if n)) (told x t u own KeepsKnown (known_adopted v w k (Some i) a));
     calls = there (λ (n : Option SharedText). KeepsCalls (view_by x) (view_if n)) (told x t u own KeepsCalls (calls_adopted v w k (Some i) a));

@@ -1,5 +1,5 @@
 -- What is marked, over a call on strings and over a search.
-use Rattle.std.proofs.Common.{ap, ◌∙◌, ◌≡◌, ℕ, List, ◌++◌, ◌-◌, ◌<◌, subst, sym, inl, ⊎_elim, ◌⊎◌, ◌↔◌, [], arith, Option, None, Some}
+use Rattle.std.proofs.Common.{ap, ◌∙◌, ◌≡◌, ℕ, List, ◌++◌, ◌-◌, ◌<◌, ◌^◌, length, subst, sym, inl, ⊎_elim, ◌⊎◌, ◌↔◌, [], arith, Option, None, Some}
 use Rattle.std.specs.Prelude.{slice_index}
 use Rattle.std.specs.List.{Contains}
 use Rattle.std.proofs.lemmas.List.Elements.{Contains-append_cases, Contains-append_left, Contains-append_right}
@@ -10,26 +10,32 @@ use Rattle.heap_rule.specs.Maps.{Has, HasKey}
 use Rattle.heap_rule.specs.Paths.{Calls}
 use Rattle.heap_rule.specs.Views.{history}
 use Rattle.heap_rule.proofs.MapLemmas.{has_key, key_of}
+use Rattle.heap_rule.proofs.Possible.{possible_lawful}
 use Rattle.heap_rule.proofs.Steps.{possible_within}
 use Rattle.heap_table.specs.Agents.{size_of, view_of}
 use Rattle.heap_rule.specs.Claims.{loaded_counter}
 use Rattle.heap_rule.specs.declared.size.Counter.TheVariants.{Ids, Words}
 use Rattle.heap_rule.specs.Sound.{IsPossible}
-use Rattle.heap_table.specs.Known.{KeepsKnown}
+use Rattle.heap_table.specs.Known.{HasAllOf, KeepsKnown}
 use Rattle.std.specs.Arc.{arc_value}
 use Rattle.heap_read.specs.Reads.{Continues, OnlyLoads}
 use Rattle.heap_read.proofs.Going.{continues_reads}
 use Rattle.heap_text.specs.Keeping.{KeepsText}
 use Rattle.heap_intern.specs.Hashes.{AreHashes, IsHashed}
+use Rattle.heap_text.specs.Texts.{KeepsOwn}
+use Rattle.heap_text.proofs.Owned.{own_reads}
+use Rattle.heap_reserve.specs.declared.reserve.Reserve.{Reserve}
+use Rattle.heap_reserve.specs.Reserves.{IsReserve, kept_ids}
+use Rattle.heap_reserve.proofs.Kept.{ids_few, reserve_kept}
 use Rattle.heap_intern.specs.Seats.{AreSeats, IsSeated}
 use Rattle.heap_agents.specs.declared.ids.IdSet.{IdSet}
 use Rattle.heap_agents.specs.declared.seats.Seats.{Seats}
 use Rattle.heap_agents.specs.Sets.{Covers, IsIn}
 use Rattle.heap_agents.specs.declared.held.Held.{Held}
-use Rattle.heap_agents.specs.Held.{IsHeld, IsMarked, IsSame, KeepsMarks, LeavesStrings, share_by, held_size, view_by}
+use Rattle.heap_agents.specs.Held.{IsHeld, IsMarked, IsSame, KeepsMarks, LeavesStrings, SpendsReserve, share_by, held_size, view_by}
 use Rattle.heap_agents.specs.Interned.{KeepsCalls}
 use Rattle.heap_agents.specs.Noted.{AreNoted}
-use Rattle.heap_agents.specs.Shared.{IsSameText, IsThere, SharedText, TextLeaves, heap_of, share_if, size_if, view_if}
+use Rattle.heap_agents.specs.Shared.{IsSameText, IsThere, SharedText, heap_of, share_if, size_if, view_if}
 use Rattle.heap_agents.proofs.Interned.{continued}
 use Rattle.heap_agents.proofs.NotesStay.{notes_kept}
 
@@ -57,22 +63,30 @@ same_trans (Some r) (Some s) None a b = absurd b
 same_trans (Some r) (Some s) (Some t) a b = (b.0 ∙ a.0, b.1 ∙ a.1)
 
 pub kept_marks : (x : Held) (y : Option SharedText) → KeepsMarks x (record x { text = y })
-kept_marks x y = record { known = λ i h. h; interned = λ i h. h; number = λ i. x.number; giver = λ i. x.giver }
+kept_marks x y = record { known = λ i h. h; interned = λ i h. h; number = λ i. x.number; giver = λ i. x.giver; reserve = λ i. x.reserve }
 
 module _ (x : Held) (y : Option SharedText) (held : IsHeld x) (there : IsThere y) (same : IsSameText x.text y)
     (units : (i : ℕ) (us : List ℕ) → Has (view_by x).units i us → Has (view_if y).units i us) (calls : KeepsCalls (view_by x) (view_if y)) (agents : (view_if y).agents ≡ (view_by x).agents) where
+  marked_on : IsMarked (view_if y) x.known x.interned (size_if y).ids
+  marked_on = subst (λ (n : ℕ). IsMarked (view_if y) x.known x.interned n) (same_ids x.text y same)
+      (marked_still (view_by x) (view_if y) x.known x.interned (held_size x).ids held.marked units calls)
+
   -- also where other slots are noted
-  pub noted : (seats : Seats) → AreNoted (view_if y) seats → IsHeld (record x { text = y; seats = seats })
-  noted seats right = record {
+  pub noted : (seats : Seats) → AreNoted (view_if y) seats → KeepsOwn (view_by x) (view_if y) → IsHeld (record x { text = y; seats = seats })
+  noted seats right keeps = record {
     there = there;
     agents = held.agents ∙ sym agents;
-    marked = subst (λ (n : ℕ). IsMarked (view_if y) x.known x.interned n) (same_ids x.text y same)
-        (marked_still (view_by x) (view_if y) x.known x.interned (held_size x).ids held.marked units calls);
+    marked = marked_on;
     noted = right;
+    reserved = reserve_kept (view_by x) (view_if y) x.reserve keeps held.reserved;
   }
 
-  pub still : AreNoted (view_if y) x.seats → IsHeld (record x { text = y })
-  still right = noted x.seats right
+  pub still : AreNoted (view_if y) x.seats → KeepsOwn (view_by x) (view_if y) → IsHeld (record x { text = y })
+  still right keeps = noted x.seats right keeps
+
+  -- and where something was taken from the reserve, or added to it
+  pub spent_on : (r : Reserve) → AreNoted (view_if y) x.seats → IsReserve (view_if y) r → IsHeld (record x { text = y; reserve = r })
+  spent_on r right reserved = record { there = there; agents = held.agents ∙ sym agents; marked = marked_on; noted = right; reserved = reserved }
 
 possible_in : (t : Option SharedText) → IsThere t → IsPossible (view_if t)
 possible_in None there = absurd there
@@ -118,6 +132,9 @@ counted_known v ids words = record {
   slots = λ k i h. h;
 }
 
+pub counted_own : (v : View) (ids words : ℕ) → KeepsOwn v (loaded_counter (loaded_counter v Ids ids) Words words)
+counted_own v ids words = record { ids = λ i n h. h; words = λ c x h. h }
+
 -- what a call does from the view of the text t to that of the text u, it does from what a handle with t knows to what one with u knows
 module _ (x : Held) (t u : SharedText) (own : x.text ≡ Some t) (P : View → View → Type 0) (p : P (view_of t.reader.agent) (view_of u.reader.agent)) where
   pub told : P (view_by x) (view_of u.reader.agent)
@@ -132,35 +149,38 @@ module _ (x : Held) (t u : SharedText) (own : x.text ≡ Some t) (heap : heap_of
   same_text = subst (λ (o : Option SharedText). IsSameText o (Some u)) (sym own) (heap, limit)
 
   pub held_on : IsHeld x → KeepsKnown (view_of t.reader.agent) (view_of u.reader.agent) → KeepsCalls (view_of t.reader.agent) (view_of u.reader.agent)
-      → (view_of u.reader.agent).agents ≡ (view_of t.reader.agent).agents → IsHeld (record x { text = Some u })
-  held_on held known calls agents = still x (Some u) held tt same_text
+      → (view_of u.reader.agent).agents ≡ (view_of t.reader.agent).agents → KeepsOwn (view_of t.reader.agent) (view_of u.reader.agent) → IsHeld (record x { text = Some u })
+  held_on held known calls agents keeps = still x (Some u) held tt same_text
       (λ i us h. known.units i us (subst (λ (o : Option SharedText). Has (view_if o).units i us) own h))
       (record { calls = λ us i h. calls.calls us i (subst (λ (o : Option SharedText). Contains (history (view_if o)) (us, i)) own h) })
       (agents ∙ sym (ap (λ (o : Option SharedText). (view_if o).agents) own))
-      (seats_still x (Some u) held tt same_text (told x t u own KeepsKnown known))
+      (seats_still x (Some u) held tt same_text (told x t u own KeepsKnown known)) (told x t u own KeepsOwn keeps)
+
+  -- the same where the reserve has become r
+  pub held_spending : (r : Reserve) → IsHeld x → KeepsKnown (view_of t.reader.agent) (view_of u.reader.agent) → KeepsCalls (view_of t.reader.agent) (view_of u.reader.agent)
+      → (view_of u.reader.agent).agents ≡ (view_of t.reader.agent).agents → IsReserve (view_of u.reader.agent) r → IsHeld (record x { text = Some u; reserve = r })
+  held_spending r held known calls agents reserved = spent_on x (Some u) held tt same_text
+      (λ i us h. known.units i us (subst (λ (o : Option SharedText). Has (view_if o).units i us) own h))
+      (record { calls = λ us i h. calls.calls us i (subst (λ (o : Option SharedText). Contains (history (view_if o)) (us, i)) own h) })
+      (agents ∙ sym (ap (λ (o : Option SharedText). (view_if o).agents) own)) r
+      (seats_still x (Some u) held tt same_text (told x t u own KeepsKnown known)) reserved
 
   -- the same where the view has become w
   pub held_counted : (w : View) → IsHeld x → view_of u.reader.agent ≡ w → KeepsKnown (view_of t.reader.agent) w
-      → ((us : List ℕ) (i : ℕ) → Contains (history (view_of t.reader.agent)) (us, i) → Contains (history w) (us, i)) → w.agents ≡ (view_of t.reader.agent).agents → IsHeld (record x { text = Some u })
-  held_counted w held e known calls agents = still x (Some u) held tt same_text
+      → ((us : List ℕ) (i : ℕ) → Contains (history (view_of t.reader.agent)) (us, i) → Contains (history w) (us, i)) → w.agents ≡ (view_of t.reader.agent).agents
+      → KeepsOwn (view_of t.reader.agent) w → IsHeld (record x { text = Some u })
+  held_counted w held e known calls agents keeps = still x (Some u) held tt same_text
       (λ i us h. subst (λ (z : View). Has z.units i us) (sym e) (known.units i us (subst (λ (o : Option SharedText). Has (view_if o).units i us) own h)))
       (record { calls = λ us i h. subst (λ (z : View). Contains (history z) (us, i)) (sym e) (calls us i (subst (λ (o : Option SharedText). Contains (history (view_if o)) (us, i)) own h)) })
       (ap (λ (z : View). z.agents) e ∙ (agents ∙ sym (ap (λ (o : Option SharedText). (view_if o).agents) own)))
       (seats_still x (Some u) held tt same_text (told x t u own KeepsKnown (subst (KeepsKnown (view_of t.reader.agent)) (sym e) known)))
+      (told x t u own KeepsOwn (subst (KeepsOwn (view_of t.reader.agent)) (sym e) keeps))
 
--- a call on strings with the marks left alone
-pub moved : (x : Held) (y : Option SharedText) → IsHeld x → TextLeaves x.text y → LeavesStrings x (record x { text = y })
-moved x y held l = record {
-  held = still x y held l.there l.same l.continues.known.units (continued (view_by x) (view_if y) l.continues) l.continues.agents (seats_still x y held l.there l.same l.continues.known);
-  same = l.same;
-  continues = l.continues;
-  marks = kept_marks x y;
-}
-
--- the same of a call on the text t, which became the text u
-pub leaves_on : (x : Held) (t u : SharedText) → x.text ≡ Some t → IsHeld x → KeepsText t u → Continues (view_of t.reader.agent) (view_of u.reader.agent) → LeavesStrings x (record x { text = Some u })
-leaves_on x t u own held kept c = let heap = ap arc_value kept.heap in record {
-  held = held_on x t u own heap kept.limit held c.known (continued (view_of t.reader.agent) (view_of u.reader.agent) c) c.agents;
+-- a call on strings, by which the text t became the text u, with the marks left alone
+pub leaves_on : (x : Held) (t u : SharedText) → x.text ≡ Some t → IsHeld x → KeepsText t u → Continues (view_of t.reader.agent) (view_of u.reader.agent)
+    → KeepsOwn (view_of t.reader.agent) (view_of u.reader.agent) → LeavesStrings x (record x { text = Some u })
+leaves_on x t u own held kept c keeps = let heap = ap arc_value kept.heap in record {
+  held = held_on x t u own heap kept.limit held c.known (continued (view_of t.reader.agent) (view_of u.reader.agent) c) c.agents keeps;
   same = same_text x t u own heap kept.limit;
   continues = told x t u own Continues c;
   marks = kept_marks x (Some u);
@@ -169,6 +189,17 @@ leaves_on x t u own held kept c = let heap = ap arc_value kept.heap in record {
 pub leaves_reads : (x : Held) (t u : SharedText) → x.text ≡ Some t → IsHeld x → KeepsText t u
     → OnlyLoads (view_of t.reader.agent) (view_of u.reader.agent) → LeavesStrings x (record x { text = Some u })
 leaves_reads x t u own held kept reads = leaves_on x t u own held kept (continues_reads (view_of t.reader.agent) (view_of u.reader.agent) reads)
+    (own_reads (view_of t.reader.agent) (view_of u.reader.agent) reads)
+
+-- and one by which the reserve became r
+pub spends_on : (x : Held) (t u : SharedText) → x.text ≡ Some t → IsHeld x → KeepsText t u → Continues (view_of t.reader.agent) (view_of u.reader.agent)
+    → (r : Reserve) → IsReserve (view_of u.reader.agent) r → SpendsReserve x (record x { text = Some u; reserve = r })
+spends_on x t u own held kept c r reserved = let heap = ap arc_value kept.heap in record {
+  held = held_spending x t u own heap kept.limit r held c.known (continued (view_of t.reader.agent) (view_of u.reader.agent) c) c.agents reserved;
+  same = same_text x t u own heap kept.limit;
+  continues = told x t u own Continues c;
+  marks = record { known = λ i h. h; interned = λ i h. h; number = λ i. x.number; giver = λ i. x.giver };
+}
 
 -- an id that is known has its place in a set of marks
 below_in : (t : Option SharedText) → IsThere t → (i : ℕ) → HasKey (view_if t).units i → i < (size_if t).ids
@@ -182,6 +213,9 @@ below x held i k = below_in x.text held.there i k
 pub joined_known : (v w : View) (a b s : ℕ) → HasKey v.units a × HasKey v.units b
     → ((us vs : List ℕ) → Has v.units a us → Has v.units b vs → Has w.units s (us ++ vs)) → HasKey w.units s
 joined_known v w a b s k f = let u = has_key v.units a k.0 in let t = has_key v.units b k.1 in key_of w.units s (u.0 ++ t.0) (f u.0 t.0 u.1 t.1)
+
+pub has_own : (v w : View) → HasAllOf v w → KeepsOwn v w
+has_own v w h = record { ids = h.own_ids; words = h.own_words }
 
 -- what another agent had marked may be used by the one that takes it over
 taken_over : (v b w : View) → MayJoin v b → history w ≡ history v ++ b.mine → (u : List ℕ) (i : ℕ) → Contains (history b) (u, i) → Contains (history w) (u, i)
@@ -198,8 +232,8 @@ module _ (x o : Held) (y : Option SharedText) (held : IsHeld x) (theirs : IsHeld
     (known interned : IdSet) (room : (n : ℕ) → Covers x.known n → Covers known n) (only : (i : ℕ) → IsIn known i → IsIn x.known i ⊎ IsIn o.known i)
     (calls_room : (n : ℕ) → Covers x.interned n → Covers interned n) (only_calls : (i : ℕ) → IsIn interned i → IsIn x.interned i ⊎ IsIn o.interned i) where
   pub joined_held : (view_if y).agents ≡ (view_by x).agents → ((i : ℕ) → IsIn x.known i → IsIn known i) → ((i : ℕ) → IsIn o.known i → IsIn
-      known i) → IsHeld (record x { text = y; known = known; interned = interned })
-  joined_held agents ours_in theirs_in = record {
+      known i) → (r : Reserve) → IsReserve (view_if y) r → IsHeld (record x { text = y; known = known; interned = interned; reserve = r })
+  joined_held agents ours_in theirs_in r reserved = record {
     there = there;
     agents = held.agents ∙ sym agents;
     marked = subst (λ (n : ℕ). IsMarked (view_if y) known interned n) (same_ids x.text y same) (record {
@@ -216,6 +250,7 @@ module _ (x o : Held) (y : Option SharedText) (held : IsHeld x) (theirs : IsHeld
       calls_room = calls_room (held_size x).ids held.marked.calls_room;
     });
     noted = seats_still x y held there same ours;
+    reserved = reserved;
   }
 
 -- what another agent may use is among what was added
@@ -241,12 +276,13 @@ module _ (x : Held) (y : Option SharedText) (give : ℕ) (held : IsHeld x) (ther
   left_held e = still x y held there same (λ i us h. subst (λ (v : View). Has v.units i us) (sym e) h)
       (record { calls = λ u i h. subst (λ (v : View). Contains (history v) (u, i)) (sym e) h }) (ap (λ (v : View). v.agents) e)
       (seats_still x y held there same (subst (KeepsKnown (view_by x)) (sym e) left_known))
+      (subst (KeepsOwn (view_by x)) (sym e) (record { ids = λ i n h. h; words = λ c n h. h }))
 
   pub right_held : view_if y ≡ right_after_split (view_by x) give → (o z : Held) → ((i : ℕ) → IsIn o.known i ↔ IsIn x.known i) → ((i : ℕ) → IsIn o.interned i ↔ IsIn x.interned i)
       → ((n : ℕ) → Covers x.known n → Covers o.known n) → ((n : ℕ) → Covers x.interned n → Covers o.interned n) → z.text ≡ y → z.agents ≡
       x.agents → z.known ≡ o.known → z.interned ≡ o.interned → z.seats.slots.items ≡ []
-      → z.seats.hashes.items ≡ [] → IsHeld z × IsSame x z
-  right_held e o z known interned room calls_room member agents marks calls seats hashes = (
+      → z.seats.hashes.items ≡ [] → ((v : View) → IsReserve v z.reserve) → IsHeld z × IsSame x z
+  right_held e o z known interned room calls_room member agents marks calls seats hashes reserved = (
     record {
       there = subst (λ (m : Option SharedText). IsThere m) (sym member) there;
       agents = agents ∙ (held.agents ∙ sym (ap (λ (m : Option SharedText). (view_if m).agents) member ∙ ap (λ (v : View). v.agents) e));
@@ -262,6 +298,7 @@ module _ (x : Held) (y : Option SharedText) (give : ℕ) (held : IsHeld x) (ther
             calls_room = calls_room (held_size x).ids held.marked.calls_room;
           }))));
       noted = none_noted (view_by z) z.seats seats hashes;
+      reserved = reserved (view_by z);
     },
     subst (λ (m : Option SharedText). IsSameText x.text m) (sym member) same,
   )
@@ -282,6 +319,7 @@ interned_held x i known interned held key call room only here kept calls_room on
     calls_room = calls_room (held_size x).ids held.marked.calls_room;
   };
   noted = held.noted;
+  reserved = held.reserved;
 }
 
 share_in_view : (t : Option SharedText) → IsThere t → (view_if t).share ≡ share_if t
@@ -290,3 +328,12 @@ share_in_view (Some t) there = t.reader.belongs.4
 
 pub share_is : (x : Held) → IsHeld x → (view_by x).share ≡ share_by x
 share_is x held = share_in_view x.text held.there
+
+-- how many ids are in reserve fits a number of C
+ids_in_reserve : (t : Option SharedText) (r : Reserve) → IsThere t → IsReserve (view_if t) r → length (kept_ids r) < 2 ^ 32
+ids_in_reserve None r there h = absurd there
+ids_in_reserve (Some t) r there h = let v : View = view_of t.reader.agent in let p = t.reader.belongs.5 in let few = ids_few v r v.sizes.ids h (possible_within v p).ids in
+    let law = possible_lawful v p in let most = law.1 in omega (arith, few, most)
+
+pub ids_fit : (x : Held) → IsHeld x → length (kept_ids x.reserve) < 2 ^ 32
+ids_fit x held = ids_in_reserve x.text x.reserve held.there held.reserved

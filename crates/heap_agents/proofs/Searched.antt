@@ -27,6 +27,8 @@ use Rattle.heap_agents.specs.Held.{IsHeld, LeavesSearched, view_by}
 use Rattle.heap_agents.specs.Shared.{IsSameText, SharedText, heap_of, view_if}
 use Rattle.heap_agents.specs.Searched.{IsOrder, KeepsStrings}
 use Rattle.heap_agents.specs.Noted.{AreNoted}
+use Rattle.heap_text.specs.Texts.{KeepsOwn}
+use Rattle.heap_text.proofs.Owned.{own_reads}
 use Rattle.heap_agents.proofs.Marks.{held_on, kept_marks, same_text, still, told}
 
 is_some : (o : Option (List ℕ)) (us : List ℕ) → o ≡ Some us → IsSome o
@@ -76,7 +78,8 @@ by_loads v w o = let ids : w.low.ids ≡ v.low.ids = λ i. (o.low i).ids in let 
 pub loaded : (x : Held) (t u : SharedText) → x.text ≡ Some t → heap_of u ≡ heap_of t → u.limit ≡ t.limit → IsHeld x
     → OnlyLoads (view_of t.reader.agent) (view_of u.reader.agent) → LeavesSearched x (record x { text = Some u })
 loaded x t u own heap limit held o = let kept = by_loads (view_of t.reader.agent) (view_of u.reader.agent) o in record {
-  held = held_on x t u own heap limit held o.known (record { calls = λ v i h. subst (λ (m : Calls). Contains m (v, i)) (sym kept.calls) h }) o.agents;
+  held = held_on x t u own heap limit held o.known (record { calls = λ v i h. subst (λ (m : Calls). Contains m (v, i)) (sym kept.calls) h }) o.agents
+      (own_reads (view_of t.reader.agent) (view_of u.reader.agent) o);
   same = same_text x t u own heap limit;
   strings = told x t u own KeepsStrings kept;
   marks = kept_marks x (Some u);
@@ -111,12 +114,15 @@ module _ {H : Type 0} {g : Ghosts H} (x : Held) (t : SharedText) (s : Session H 
 
   -- and the text z has the agent that the session leaves
   pub searched : (r : Session H g) (z : SharedText) → IsHeld x → heap_of z ≡ heap_of t → z.limit ≡ t.limit
-      → Uses (state_in s) (state_in r) None 0 0 → view_of z.reader.agent ≡ session_view r → AreNoted (view_of z.reader.agent) x.seats → LeavesSearched x (record x { text = Some z })
-  searched r z held heap limit u view right =
+      → Uses (state_in s) (state_in r) None 0 0 → view_of z.reader.agent ≡ session_view r → AreNoted (view_of z.reader.agent) x.seats
+      → KeepsOwn (session_view s) (session_view r) → LeavesSearched x (record x { text = Some z })
+  searched r z held heap limit u view right keeps =
       let kept : KeepsStrings (view_by x) (view_of z.reader.agent) = subst (λ (o : Option SharedText). KeepsStrings (view_if o) (view_of z.reader.agent)) (sym own)
       (subst (λ (v : View). KeepsStrings v (view_of z.reader.agent)) same (subst (λ (w : View). KeepsStrings (session_view s) w) (sym view) (strings s r u))) in
+      let still_own : KeepsOwn (view_by x) (view_of z.reader.agent) = subst (λ (o : Option SharedText). KeepsOwn (view_if o) (view_of z.reader.agent)) (sym own)
+      (subst (λ (v : View). KeepsOwn v (view_of z.reader.agent)) same (subst (λ (w : View). KeepsOwn (session_view s) w) (sym view) keeps)) in
       let one : IsSameText x.text (Some z) = subst (λ (o : Option SharedText). IsSameText o (Some z)) (sym own) (heap, limit) in record {
-        held = still x (Some z) held tt one kept.units (record { calls = λ v i h. subst (λ (m : Calls). Contains m (v, i)) (sym kept.calls) h }) kept.agents right;
+        held = still x (Some z) held tt one kept.units (record { calls = λ v i h. subst (λ (m : Calls). Contains m (v, i)) (sym kept.calls) h }) kept.agents right still_own;
         same = one;
         strings = kept;
         marks = kept_marks x (Some z);

@@ -1,5 +1,6 @@
 -- What is kept at run time beside an agent: which ids it may use, which of them are answers of the string
--- table, what it notes of that table, and the numbers by which a join is known to be valid.
+-- table, what it notes of that table, what it claimed in advance, and the numbers by which a join is known to
+-- be valid.
 use Rattle.std.specs.Prelude.{◌≡◌, ◌⊎◌, ℕ, ◌<◌, List, Contains, Result, Ok, Err, None}
 use Rattle.heap_rule.specs.Maps.{HasKey}
 use Rattle.heap_rule.specs.Views.{history}
@@ -7,6 +8,7 @@ use Rattle.heap_rule.specs.declared.size.HeapSize.{HeapSize}
 use Rattle.heap_rule.specs.declared.view.View.{View}
 use Rattle.heap_read.specs.Reads.{Continues}
 use Rattle.heap_read.specs.declared.string.JsStr.{JsStr}
+use Rattle.heap_reserve.specs.Reserves.{IsReserve}
 use Rattle.heap_agents.specs.declared.ids.IdSet.{IdSet}
 use Rattle.heap_agents.specs.Sets.{Covers, IsIn}
 use Rattle.heap_agents.specs.declared.held.Held.{Held}
@@ -50,15 +52,31 @@ pub record IsHeld (x : Held) : Type 0 where
   pub agents : x.agents ≡ (view_by x).agents
   pub marked : IsMarked (view_by x) x.known x.interned (held_size x).ids
   pub noted : AreNoted (view_by x) x.seats
+  pub reserved : IsReserve (view_by x) x.reserve
 
 -- what was marked stays marked, and an agent keeps its numbers
-pub record KeepsMarks (x y : Held) : Type 0 where
+pub record StaysMarked (x y : Held) : Type 0 where
   pub known : (i : ℕ) → IsIn x.known i → IsIn y.known i
   pub interned : (i : ℕ) → IsIn x.interned i → IsIn y.interned i
   pub number : y.number ≡ x.number
   pub giver : y.giver ≡ x.giver
 
--- what a call on strings leaves
+-- the same, and it has the same in reserve
+pub record KeepsMarks (x y : Held) : Type 0 where
+  pub known : (i : ℕ) → IsIn x.known i → IsIn y.known i
+  pub interned : (i : ℕ) → IsIn x.interned i → IsIn y.interned i
+  pub number : y.number ≡ x.number
+  pub giver : y.giver ≡ x.giver
+  pub reserve : y.reserve ≡ x.reserve
+
+-- what a call on strings leaves that may claim in advance, or take what was
+pub record SpendsReserve (x y : Held) : Type 0 where
+  pub held : IsHeld y
+  pub same : IsSame x y
+  pub continues : Continues (view_by x) (view_by y)
+  pub marks : StaysMarked x y
+
+-- what any other call on strings leaves
 pub record LeavesStrings (x y : Held) : Type 0 where
   pub held : IsHeld y
   pub same : IsSame x y

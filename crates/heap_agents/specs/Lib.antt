@@ -9,5 +9,6 @@ pub mod Held
 pub mod Keys
 pub mod Batch
 pub mod Ready
+pub mod Spending
 pub mod Board
 pub mod Room

@@ -5,9 +5,8 @@ use Rattle.heap_rule.specs.declared.size.HeapSize.{HeapSize}
 use Rattle.heap_rule.specs.declared.view.View.{View}
 use Rattle.heap_agents.specs.Sets.{IsIn}
 use Rattle.heap_agents.specs.declared.held.Held.{Held}
-use Rattle.heap_agents.specs.Held.{IsHeld, IsSame, KeepsMarks, LeavesStrings, LeavesSearched, limit_by}
-use Rattle.heap_agents.specs.Held.{share_by}
-use Rattle.heap_agents.specs.Held.{held_size, view_by}
+use Rattle.heap_agents.specs.Held.{IsHeld, IsSame, KeepsMarks, LeavesStrings, LeavesSearched, SpendsReserve}
+use Rattle.heap_agents.specs.Held.{StaysMarked, limit_by, share_by, held_size, view_by}
 
 -- a handle that a call may be made with
 abbrev pub IsReady : Option Held → Type 0
@@ -43,11 +42,22 @@ IsBeside None _ = ⊥
 IsBeside (Some x) None = ⊥
 IsBeside (Some x) (Some y) = IsSame x y
 
--- what every call leaves of what is marked
+-- what a call leaves of what is marked that leaves the reserve
 abbrev pub MarksStay : Option Held → Option Held → Type 0
 MarksStay None _ = ⊥
 MarksStay (Some x) None = ⊥
 MarksStay (Some x) (Some y) = KeepsMarks x y
+
+-- what every call leaves of what is marked
+abbrev pub HandleStaysMarked : Option Held → Option Held → Type 0
+HandleStaysMarked None _ = ⊥
+HandleStaysMarked (Some x) None = ⊥
+HandleStaysMarked (Some x) (Some y) = StaysMarked x y
+
+abbrev pub HandleSpends : Option Held → Option Held → Type 0
+HandleSpends None _ = ⊥
+HandleSpends (Some x) None = ⊥
+HandleSpends (Some x) (Some y) = SpendsReserve x y
 
 abbrev pub HandleLeaves : Option Held → Option Held → Type 0
 HandleLeaves None _ = ⊥

@@ -9,7 +9,6 @@ use Rattle.heap_rule.specs.declared.size.HeapSize.{HeapSize}
 use Rattle.heap_rule.specs.declared.view.View.{View}
 use Rattle.heap_table.specs.declared.heap.Heap.{Heap}
 use Rattle.heap_table.specs.Agents.{share_of, size_of, view_of}
-use Rattle.heap_read.specs.Reads.{Continues}
 use Rattle.heap_read.specs.contracts.heap_ref.ArcHeapGlobalHeapRef.TheImpl.{ghosts}
 use Rattle.heap_text.specs.declared.text.Text.{Text}
 
@@ -45,9 +44,3 @@ abbrev pub IsSameText : Option SharedText → Option SharedText → Type 0
 IsSameText None _ = ⊥
 IsSameText (Some s) None = ⊥
 IsSameText (Some s) (Some t) = (heap_of t ≡ heap_of s) × (t.limit ≡ s.limit)
-
--- what a call on strings leaves: heap and limit, and an agent that knows what it knew
-pub record TextLeaves (x y : Option SharedText) : Type 0 where
-  pub there : IsThere y
-  pub same : IsSameText x y
-  pub continues : Continues (view_if x) (view_if y)

@@ -3,6 +3,7 @@
 //!
 //! A [`Held`] is made by [`Held::make`] and by [`Held::split`]. Its calls are those of `heap_table`,
 //! `heap_text`, the string table of `heap_intern` and `js_search`, and mark each string that they answer.
+//! [`Held::reserve`] claims ids and content words in advance, from which new strings are taken.
 #![tactic(auto)]
 
 mod batch;
@@ -21,12 +22,14 @@ mod reading;
 mod room;
 mod search;
 mod seats;
+mod spending;
 mod streams;
 mod table;
 mod words;
 
 pub use batch::{Batch, are_ends};
 pub use heap_export::{Unpaired, WriteFault};
+pub use heap_reserve::ReserveFault;
 pub use heap_table::MakeFault;
 pub use held::Held;
 pub use room::Room;

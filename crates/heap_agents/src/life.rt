@@ -4,15 +4,21 @@ ghost use Rattle.heap_rule.specs.Agents.{MayJoin, first_view, joined_view, left_
 ghost use Rattle.heap_rule.specs.Layout.{MAX};
 ghost use Rattle.heap_rule.specs.Views.{history};
 ghost use Rattle.heap_table.specs.Agents.{share_of, size_of, view_of};
-ghost use Rattle.heap_table.specs.Known.{KeepsKnown};
+ghost use Rattle.heap_table.specs.Known.{HasAllOf, KeepsKnown};
 ghost use Rattle.heap_table.specs.MayMake.{MayMake};
-ghost use Rattle.heap_agents.specs.Held.{IsHeld, IsSame, KeepsMarks, limit_by, share_by, view_by};
+ghost use Rattle.heap_text.specs.Keeping.{KeepsText};
+ghost use Rattle.heap_agents.specs.Held.{IsHeld, IsSame, KeepsMarks, StaysMarked, limit_by, share_by, view_by};
+ghost use Rattle.heap_agents.specs.Spending.{IsEmptyReserve};
+ghost use Rattle.heap_reserve.specs.Reserves.{IsReserve, TakesOverReserve};
+ghost use Rattle.heap_rule.specs.declared.view.View as view;
 ghost use Rattle.heap_agents.specs.Shared.{IsSameText, IsThere, heap_of, share_if, view_if};
 ghost use Rattle.heap_agents.specs.Sets.{Covers, IsIn};
 
 use crate::held::Held;
 use crate::ids::IdSet;
 use crate::seats::Seats;
+use heap_read::{HeapRef, Reader};
+use heap_reserve::Reserve;
 use heap_rule::{HeapSize, MAX};
 use heap_table::{Heap, MakeFault};
 use heap_text::Text;
@@ -68,6 +74,28 @@ fn split_text(
     }
 }
 
+// What the other's agent owns and knows goes over.
+fn join_agent(text: &mut Text<Arc<Heap, Global>>, other: Text<Arc<Heap, Global>>)
+    requires heap { heap_of other ≡ heap_of text.old }
+    requires may { MayJoin (view_of text.old.reader.agent) (view_of other.reader.agent) }
+    ensures kept { KeepsText text.old text.new }
+    ensures view { view_of text.new.reader.agent
+        ≡ joined_view (view_of text.old.reader.agent) (view_of other.reader.agent) }
+    ensures known { KeepsKnown (view_of text.old.reader.agent) (view_of text.new.reader.agent) }
+    ensures known_of_other { KeepsKnown (view_of other.reader.agent) (view_of text.new.reader.agent) }
+    ensures all { HasAllOf (view_of text.old.reader.agent) (view_of text.new.reader.agent) }
+    ensures all_of_other { HasAllOf (view_of other.reader.agent) (view_of text.new.reader.agent) }
+    ensures share { share_of text.new.reader.agent
+        ≡ share_of text.old.reader.agent + share_of other.reader.agent }
+{
+    let Text {
+        reader: Reader { agent, .. },
+        ..
+    } = other;
+    let reader = &mut text.reader;
+    reader.agent.join(reader.heap.heap(), agent);
+}
+
 fn join_text(text: &mut Option<Text<Arc<Heap, Global>>>, other: Option<Text<Arc<Heap, Global>>>)
     requires beside { IsSameText text.old other }
     requires may { MayJoin (view_if text.old) (view_if other) }
@@ -76,12 +104,14 @@ fn join_text(text: &mut Option<Text<Arc<Heap, Global>>>, other: Option<Text<Arc<
     ensures view { view_if text.new ≡ joined_view (view_if text.old) (view_if other) }
     ensures known { KeepsKnown (view_if text.old) (view_if text.new) }
     ensures known_of_other { KeepsKnown (view_if other) (view_if text.new) }
+    ensures all { HasAllOf (view_if text.old) (view_if text.new) }
+    ensures all_of_other { HasAllOf (view_if other) (view_if text.new) }
     ensures history { history (view_if text.new)
         ≡ history (view_if text.old) ++ (view_if other).mine }
     ensures share { share_if text.new ≡ share_if text.old + share_if other }
 {
     match (text, other) {
-        (Some(text), Some(other)) => text.join(other),
+        (Some(text), Some(other)) => join_agent(text, other),
         _ => unreachable!(),
     }
 }
@@ -97,6 +127,7 @@ impl Held {
         ensures held { IfOk result (λ b. IsHeld b.value) }
         ensures view { IfOk result (λ b. view_by b.value ≡ first_view size agents) }
         ensures limit { IfOk result (λ b. limit_by b.value ≡ limit) }
+        ensures nothing { IfOk result (λ b. IsEmptyReserve b.value.reserve) }
         ensures lawful { OnOk result (MayMake size agents × (limit ≤ MAX)) }
         ensures refused { result ≡ Err MakeFault.Size → ¬ (MayMake size agents × (limit ≤ MAX)) }
     {
@@ -119,6 +150,7 @@ impl Held {
         requires agents { agents ≡ (view_of text.reader.agent).agents }
         ensures held { IfOk result (λ b. IsHeld b.value) }
         ensures text { IfOk result (λ b. b.value.text ≡ Some text) }
+        ensures nothing { IfOk result (λ b. IsEmptyReserve b.value.reserve) }
     {
         let known = IdSet::new(alloc, ids)?;
         let interned = IdSet::new(alloc, ids)?;
@@ -129,6 +161,7 @@ impl Held {
             known,
             interned,
             seats: Seats::none(alloc),
+            reserve: Reserve::new(alloc),
             numbers,
             number: 1,
             giver: 0,
@@ -157,6 +190,7 @@ impl Held {
         ensures known { IfOk result (λ b. (i : ℕ) → IsIn self.old.known i → IsIn b.value.known i) }
         ensures interned { IfOk result (λ b. (i : ℕ) → IsIn self.old.interned i → IsIn b.value.interned i) }
         ensures giver { IfOk result (λ b. b.value.giver ≡ self.old.number) }
+        ensures nothing { IfOk result (λ b. IsEmptyReserve b.value.reserve) }
         ensures refused { IfErr result (λ e. self.new ≡ self.old) }
     {
         let mut other = self.beside(alloc)?;
@@ -174,6 +208,8 @@ impl Held {
             (λ b. (n : ℕ) → Covers self.now.interned n → Covers b.value.interned n) }
         ensures seats { IfOk result (λ b. b.value.seats.slots.items ≡ []) }
         ensures hashes { IfOk result (λ b. b.value.seats.hashes.items ≡ []) }
+        ensures nothing { IfOk result (λ b. IsEmptyReserve b.value.reserve) }
+        ensures reserve { IfOk result (λ b. (v : view.View) → IsReserve v b.value.reserve) }
         ensures agents { IfOk result (λ b. b.value.agents ≡ self.now.agents) }
         ensures giver { IfOk result (λ b. b.value.giver ≡ self.now.number) }
     {
@@ -186,6 +222,7 @@ impl Held {
             known,
             interned,
             seats: Seats::none(alloc),
+            reserve: Reserve::new(alloc),
             numbers,
             number: 0,
             giver: self.number,
@@ -194,7 +231,9 @@ impl Held {
         Ok(made)
     }
 
-    /// Takes over what another agent of the heap has and knows, and what it may use.
+    /// Takes over what another agent of the heap has and knows, and what it may use. It takes over the ids
+    /// that the other claimed in advance, and has left, where it has none left itself, and the content words
+    /// where it has none left itself; the rest of these is lost.
     pub fn join(&mut self, other: Held)
         requires held { IsHeld self.old }
         requires other { IsHeld other }
@@ -206,13 +245,15 @@ impl Held {
             ≡ joined_view (view_by self.old) (view_by other) }
         ensures share { share_by self.new
             ≡ share_by self.old + share_by other }
-        ensures marks { KeepsMarks self.old self.new }
+        ensures marks { StaysMarked self.old self.new }
+        ensures reserve { TakesOverReserve self.old.reserve other.reserve self.new.reserve }
         ensures known { (i : ℕ) → IsIn other.known i → IsIn self.new.known i }
         ensures interned { (i : ℕ) → IsIn other.interned i → IsIn self.new.interned i }
     {
         join_text(&mut self.text, other.text);
         self.known.add_all(&other.known);
         self.interned.add_all(&other.interned);
+        self.reserve.take_over(other.reserve);
     }
 
     /// Its number, which no other agent of the heap has, nor had.

@@ -51,7 +51,7 @@ impl<'h> Strings for Looking<'h> {
 
     ghost use Rattle.heap_agents.specs.Looking.{LookFrame, looking_sound, looking_state};
     ghost use Rattle.heap_session.specs.Sound.{session_sound};
-    ghost use Rattle.heap_session.specs.Sessions.{state_in};
+    ghost use Rattle.heap_session.specs.Sessions.{session_view, state_in};
     ghost use Rattle.heap_session.specs.Sessions.{table_of};
     ghost use Rattle.heap_table.specs.Agents.{view_of};
 
@@ -59,7 +59,7 @@ impl<'h> Strings for Looking<'h> {
 
     ghost number = { λ r. r.id };
 
-    ghost state = { λ s. looking_state (state_in s.session) s.seats.now };
+    ghost state = { λ s. looking_state (state_in s.session) s.seats.now (session_view s.session) };
 
     fn from_units(&mut self, _units: &[u16]) -> Result<JsStr, StoreFault> {
         Err(StoreFault::Memory)
@@ -105,7 +105,7 @@ impl<'h> Strings for Looking<'h> {
         self.session.limit()
     }
 
-    ghost sound = { λ s. looking_sound (state_in s.session) s.seats.now
+    ghost sound = { λ s. looking_sound (state_in s.session) s.seats.now (session_view s.session)
         (session_sound (view_of s.session.text.reader.agent) s.session.limit
         (table_of s.session.text.reader.heap.now) s.session.text.reader.belongs.5) };
 }

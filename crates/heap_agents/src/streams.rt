@@ -1,15 +1,14 @@
 // Units that bytes spell: strings made of them, interning them, looking for them in the string table, and strings
 // compared with them. No call requests memory but the heap's.
-ghost use Rattle.std.specs.Prelude.{◌≡◌, ◌↔◌, ◌≤◌, ℕ, List, length, IfOk, IfErr, IsTrue};
+ghost use Rattle.std.specs.Prelude.{◌≡◌, ◌↔◌, ◌≤◌, ℕ, List, length, IfOk, IsTrue};
 ghost use Rattle.js_search.specs.Order.{units_cmp};
-ghost use Rattle.js_units.specs.Lanes.{is_wide, words_over};
 ghost use Rattle.heap_rule.specs.Layout.{MAX};
 ghost use Rattle.heap_rule.specs.Maps.{Has, HasKey};
 ghost use Rattle.heap_rule.specs.Views.{IsSeenSettled};
 ghost use Rattle.heap_read.specs.Reads.{OnlyLoads};
 ghost use Rattle.heap_bytes.specs.Spellings.{IsReadable, spelling_units};
-ghost use Rattle.heap_text.specs.Texts.{IsSpared, KeepsOwn, LacksRoom, UsesExactly};
-ghost use Rattle.heap_agents.specs.Held.{IsHeld, LeavesStrings, MarksMade, MarksNothing, held_size, view_by};
+ghost use Rattle.heap_reserve.specs.Making.{IsMade};
+ghost use Rattle.heap_agents.specs.Held.{IsHeld, LeavesStrings, MarksMade, MarksNothing, SpendsReserve, held_size, view_by};
 ghost use Rattle.heap_agents.specs.Keys.{FoundUnits, InternedUnits};
 
 use crate::held::Held;
@@ -20,28 +19,21 @@ use heap_text::{JsStr, TextFull};
 use std::cmp::Ordering;
 
 impl Held {
-    /// A new string with the units that bytes spell, settled.
+    /// A new string with the units that bytes spell, settled. It takes the id and the content words from what
+    /// was claimed in advance, where that suffices, and then uses nothing.
     pub fn make_from(&mut self, source: &Spelling) -> Result<JsStr, TextFull>
         requires held { IsHeld self.old }
         requires read { IsReadable source.now }
         requires short { length (spelling_units source.now) ≤ MAX }
-        ensures leaves { LeavesStrings self.old self.new }
-        ensures own { KeepsOwn (view_by self.old) (view_by self.new) }
+        ensures spends { SpendsReserve self.old self.new }
         ensures marked { MarksMade self.old self.new result }
         ensures units { IfOk result (λ s. Has (view_by self.new).units s.id (spelling_units source.now)) }
         ensures settled { IfOk result (λ s. IsSeenSettled (view_by self.new) s.id) }
-        ensures used { IfOk result
-            (λ s. UsesExactly (view_by self.old) (view_by self.new) 1
-            (words_over (is_wide (spelling_units source.now)) (length (spelling_units source.now)))) }
-        ensures refused { IfErr result
-            (λ f. LacksRoom (view_by self.new) (held_size self.old)
-            (words_over (is_wide (spelling_units source.now)) (length (spelling_units source.now))) f) }
-        ensures spared { IfErr result
-            (λ f. IsSpared (view_by self.old) (view_by self.new)
-            (words_over (is_wide (spelling_units source.now)) (length (spelling_units source.now))) f) }
+        ensures made { IsMade (view_by self.old) (view_by self.new) self.old.reserve self.new.reserve
+            (held_size self.old) (spelling_units source.now) result }
     {
         let made = match &mut self.text {
-            Some(text) => text.make_from(source),
+            Some(text) => self.reserve.make_from(text, source),
             None => unreachable!(),
         };
         let s = made?;

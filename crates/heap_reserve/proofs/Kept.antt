@@ -29,7 +29,7 @@ use Rattle.heap_reserve.specs.declared.faults.ReserveFault.{ReserveFault}
 use Rattle.heap_reserve.specs.declared.faults.ReserveFault.TheVariants.{Memory, Full}
 use Rattle.heap_reserve.specs.declared.reserve.Reserve.{Reserve}
 use Rattle.heap_reserve.specs.Claims.{IsClaimAnswer, IsIdRefused}
-use Rattle.heap_reserve.specs.Reserves.{IsAscending, IsClaimed, IsGrown, IsReserve, IsTakenFrom, kept_ids, words_kept}
+use Rattle.heap_reserve.specs.Reserves.{IsAscending, IsClaimed, IsGrown, IsReserve, IsTakenFrom, TakesOverReserve, kept_ids, words_kept}
 
 -- any call that leaves the agent what it owns leaves it what it keeps
 pub reserve_kept : (v w : View) (r : Reserve) → KeepsOwn v w → IsReserve v r → IsReserve w r
@@ -207,3 +207,29 @@ claim_answer v w x z r s t ids words (Ok u) a ok err = claimed_behind v w x r s 
 claim_answer v w x z r s t ids words (Err Memory) a ok err = refused_behind v w x z r s t ids words Memory a err
 claim_answer v w x z r s t ids words (Err (Full (full.Ids f))) a ok err = refused_behind v w x z r s t ids words (Full (full.Ids f)) a err
 claim_answer v w x z r s t ids words (Err (Full (full.Words f))) a ok err = absurd err
+
+-- what is taken over is kept, where both reserves are
+pub reserve_over : (v : View) (r s t : Reserve) → TakesOverReserve r s t → IsReserve v r → IsReserve v s → IsReserve v t
+reserve_over v r s t h own other = let ids : All (λ i. HasKey v.own_ids i) (kept_ids t) × IsAscending (kept_ids t) = dite (ℕ_discrete (length (kept_ids r)) 0)
+    (λ none. let e = h.other_ids none in (subst (λ (is : List ℕ). All (λ i. HasKey v.own_ids i) is) (sym e) other.ids, subst IsAscending (sym e) other.ascending))
+    (λ some. let e = h.ids (omega (arith, some)) in (subst (λ (is : List ℕ). All (λ i. HasKey v.own_ids i) is) (sym e) own.ids, subst IsAscending (sym e) own.ascending)) in
+    let run : (t.start ≤ t.end) × ((c : ℕ) → t.start ≤ c → c < t.end → Has v.own_words c 0) = dite (ℕ_discrete (words_kept r) 0)
+    (λ none. let e = h.other_words none in let up = other.ordered in
+    (omega (arith, e.0, e.1, up), λ c low high. other.words c (omega (arith, low, e.0)) (omega (arith, high, e.1))))
+    (λ some. let e = h.words (omega (arith, some)) in let up = own.ordered in
+    (omega (arith, e.0, e.1, up), λ c low high. own.words c (omega (arith, low, e.0)) (omega (arith, high, e.1)))) in record {
+      ids = ids.0;
+      ascending = ids.1;
+      ordered = run.0;
+      words = run.1;
+    }
+
+-- numbers that ascend from `low` on, and stay below n, are at most n - low
+ascending_few : (low n : ℕ) (is : List ℕ) → IsAscending is → All (λ i. low ≤ i) is → All (λ i. i < n) is → low ≤ n → length is + low ≤ n
+ascending_few low n [] up from below le = omega (arith, le)
+ascending_few low n (i ∷ is) up from below le = let f = from 0 0 (omega arith) in let b = below 0 0 (omega arith) in
+    let rest = ascending_few (suc i) n is up.1 (λ k d l. let m = up.0 k d l in omega (arith, m)) (λ k d l. below (suc k) d (omega arith)) (omega (arith, b)) in omega (arith, rest, f)
+
+-- so a reserve has no more ids than the heap
+pub ids_few : (v : View) (r : Reserve) (n : ℕ) → IsReserve v r → ((i : ℕ) → HasKey v.own_ids i → i < n) → length (kept_ids r) ≤ n
+ids_few v r n h below = let few = ascending_few 0 n (kept_ids r) h.ascending (λ k d l. omega arith) (λ k d l. below (get_or (kept_ids r) k d) (h.ids k d l)) (omega arith) in omega (arith, few)

@@ -53,3 +53,11 @@ pub record IsTakenFrom (v w : View) (r s : Reserve) (id n : ℕ) : Type 0 where
   pub words : (s.start ≡ r.start + n) × (s.end ≡ r.end)
   pub used : w.used ≡ v.used
   pub own : KeepsOwnBut v w id r.start n
+
+-- The reserve r took over what another one, s, had, and became t: the ids of s where it had none itself, and
+-- the run of s where it had no content word itself. What it did not take is lost.
+pub record TakesOverReserve (r s t : Reserve) : Type 0 where
+  pub ids : 0 < length (kept_ids r) → kept_ids t ≡ kept_ids r
+  pub other_ids : length (kept_ids r) ≡ 0 → kept_ids t ≡ kept_ids s
+  pub words : 0 < words_kept r → (t.start ≡ r.start) × (t.end ≡ r.end)
+  pub other_words : words_kept r ≡ 0 → (t.start ≡ s.start) × (t.end ≡ s.end)

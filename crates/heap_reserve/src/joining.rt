@@ -1,5 +1,5 @@
 // Joining two strings with what is kept.
-ghost use Rattle.std.specs.Prelude.{◌≤◌, ◌<◌, ◌+◌, ◌++◌, ◌↔◌, ℕ, IsTrue, List};
+ghost use Rattle.std.specs.Prelude.{◌≤◌, ◌<◌, ◌+◌, ◌++◌, ◌↔◌, ℕ, IfOk, IsTrue, List};
 ghost use Rattle.heap_rule.specs.Layout.{MAX};
 ghost use Rattle.heap_rule.specs.Maps.{Has, HasKey};
 ghost use Rattle.heap_table.specs.Agents.{size_of, view_of};
@@ -31,6 +31,10 @@ impl Reserve {
         ensures kept { KeepsText text.old text.new }
         ensures continues { Continues (view_of text.old.reader.agent) (view_of text.new.reader.agent) }
         ensures reserve { IsReserve (view_of text.new.reader.agent) self.new }
+        ensures units { IfOk result
+            (λ s. (us vs : List ℕ) → Has (view_of text.old.reader.agent).units a.id us
+            → Has (view_of text.old.reader.agent).units b.id vs
+            → Has (view_of text.new.reader.agent).units s.id (us ++ vs)) }
         ensures joined { (us vs : List ℕ) → Has (view_of text.old.reader.agent).units a.id us
             → Has (view_of text.old.reader.agent).units b.id vs
             → IsJoinedBy (view_of text.old.reader.agent) (view_of text.new.reader.agent)
@@ -55,6 +59,9 @@ impl Reserve {
             → TriesJoin (view_of text.old.reader.agent) (view_of text.new.reader.agent) self.old self.new
             text.old.limit a b us vs result }
     {
+        if self.ids_left() == 0 {
+            return None;
+        }
         let left = text.reader.len(a);
         let right = text.reader.len(b);
         if !is_joinable(left, right, text.limit) {

@@ -2,9 +2,10 @@
 //!
 //! A [`Reserve`] keeps ids that its agent owns, and one run of content words. [`Reserve::claim`] adds to it,
 //! and uses of the heap what it adds. [`Reserve::make_flat`], [`Reserve::make_from`], [`Reserve::concat`] and
-//! [`Reserve::slice`] are the calls of a `Text` of the same names: where the reserve has what a new string needs, the string takes it
-//! from there and uses nothing; else they are those calls. An id serves a rope or a slice only where it is
-//! greater than the ids of the strings of which that is made, so ids are taken in their order.
+//! [`Reserve::slice`] are the calls of a `Text` of the same names: where the reserve has what a new string
+//! needs, the string takes it from there and uses nothing; else they are those calls. An id serves a rope or
+//! a slice only where it is greater than the ids of the strings of which that is made, so ids are taken in
+//! their order. [`Reserve::take_over`] is for the join of two agents.
 #![tactic(auto)]
 
 mod claiming;

@@ -1,5 +1,7 @@
 // Making a flat string with what is kept.
-ghost use Rattle.std.specs.Prelude.{◌≡◌, ◌≤◌, IfOk, length};
+ghost use Rattle.std.specs.Prelude.{◌≡◌, ◌≤◌, ℕ, false, IfOk, length};
+ghost use Rattle.js_header.specs.declared.form.Form.TheVariants.{Flat};
+ghost use Rattle.js_units.specs.Lanes.{is_wide};
 ghost use Rattle.heap_rule.specs.Layout.{MAX};
 ghost use Rattle.heap_rule.specs.Maps.{Has};
 ghost use Rattle.heap_table.specs.Agents.{size_of, view_of};
@@ -32,6 +34,9 @@ impl Reserve {
         ensures continues { Continues (view_of text.old.reader.agent) (view_of text.new.reader.agent) }
         ensures reserve { IsReserve (view_of text.new.reader.agent) self.new }
         ensures units { IfOk result (λ s. Has (view_of text.new.reader.agent).units s.id units.now) }
+        ensures form { IfOk result
+            (λ s. (start : ℕ)
+            × Has (view_of text.new.reader.agent).forms s.id (Flat (is_wide units.now) start false)) }
         ensures made { IsMade (view_of text.old.reader.agent) (view_of text.new.reader.agent) self.old
             self.new (size_of (H.reached text.old.reader.heap)) units.now result }
     {
@@ -56,6 +61,9 @@ impl Reserve {
         ensures reserve { IsReserve (view_of text.new.reader.agent) self.new }
         ensures units { IfOk result
             (λ s. Has (view_of text.new.reader.agent).units s.id (spelling_units source.now)) }
+        ensures form { IfOk result
+            (λ s. (start : ℕ) × Has (view_of text.new.reader.agent).forms s.id
+            (Flat (is_wide (spelling_units source.now)) start false)) }
         ensures made { IsMade (view_of text.old.reader.agent) (view_of text.new.reader.agent) self.old
             self.new (size_of (H.reached text.old.reader.heap)) (spelling_units source.now) result }
     {
@@ -75,6 +83,9 @@ impl Reserve {
         ensures made { MakesFlat (view_in reader.old) (view_in reader.new) self.old self.new
             (spelling_units source.now) result }
     {
+        if self.ids_left() == 0 {
+            return None;
+        }
         let n = source.len();
         let wide = source.is_wide();
         let words = words_for(n, wide);
@@ -103,6 +114,9 @@ impl Reserve {
         ensures made { MakesFlat (view_in reader.old) (view_in reader.new) self.old self.new
             (listed_in reader.old source.now) result }
     {
+        if self.ids_left() == 0 {
+            return None;
+        }
         let wide = reader.has_wide(source, n);
         let words = words_for(n, wide);
         if !self.has(words) {

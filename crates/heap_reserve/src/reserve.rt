@@ -1,7 +1,7 @@
 // What is kept in advance, and taking from it.
 ghost use Rattle.std.specs.Prelude.{◌≡◌, ◌↔◌, ◌+◌, ◌<◌, ◌≤◌, [], ◌∷◌, IsTrue, length};
 ghost use Rattle.heap_rule.specs.declared.view.View as view;
-ghost use Rattle.heap_reserve.specs.Reserves.{HasAbove, HasEnough, IsReserve, kept_ids, words_kept};
+ghost use Rattle.heap_reserve.specs.Reserves.{HasAbove, HasEnough, IsReserve, TakesOverReserve, kept_ids, words_kept};
 
 use std::alloc::Global;
 use std::collections::VecDeque;
@@ -41,6 +41,41 @@ impl Reserve {
         ensures { result ≡ words_kept self.now }
     {
         self.end.saturating_sub(self.start)
+    }
+
+    /// Takes over the ids of another one where it has none itself, and the content words of the other one
+    /// where it has none itself. What it does not take is lost: it stays the agent's own, in no string.
+    pub fn take_over(&mut self, other: Reserve)
+        ensures takes { TakesOverReserve self.old other self.new }
+        ensures reserve { (v : view.View) → IsReserve v self.old → IsReserve v other → IsReserve v self.new }
+    {
+        let Reserve { ids, start, end } = other;
+        self.take_ids(ids);
+        self.take_run(start, end);
+    }
+
+    // Ids of another one, where it has none itself.
+    fn take_ids(&mut self, ids: VecDeque<u32>)
+        ensures some { 0 < length (kept_ids self.old) → kept_ids self.new ≡ kept_ids self.old }
+        ensures none { length (kept_ids self.old) ≡ 0 → kept_ids self.new ≡ ids.items }
+        ensures words { (self.new.start ≡ self.old.start) × (self.new.end ≡ self.old.end) }
+    {
+        if self.ids.is_empty() {
+            self.ids = ids;
+        }
+    }
+
+    // The content words of another one, where it has none itself.
+    fn take_run(&mut self, start: u32, end: u32)
+        ensures ids { kept_ids self.new ≡ kept_ids self.old }
+        ensures some { 0 < words_kept self.old → (self.new.start ≡ self.old.start)
+            × (self.new.end ≡ self.old.end) }
+        ensures none { words_kept self.old ≡ 0 → (self.new.start ≡ start) × (self.new.end ≡ end) }
+    {
+        if self.words_left() == 0 {
+            self.start = start;
+            self.end = end;
+        }
     }
 
     // Whether it has an id, and so many content words.

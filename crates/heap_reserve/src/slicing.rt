@@ -1,5 +1,5 @@
 // Cutting strings with what is kept.
-ghost use Rattle.std.specs.Prelude.{◌≡◌, ◌≤◌, ◌<◌, ◌+◌, ◌↔◌, ℕ, IsTrue, List, length};
+ghost use Rattle.std.specs.Prelude.{◌≡◌, ◌≤◌, ◌<◌, ◌+◌, ◌-◌, ◌↔◌, ℕ, IfOk, IsTrue, List, length};
 ghost use Rattle.heap_rule.specs.Births.{part};
 ghost use Rattle.heap_rule.specs.Maps.{Has};
 ghost use Rattle.heap_rule.specs.Views.{IsSeenSettled};
@@ -34,6 +34,10 @@ impl Reserve {
         ensures kept { KeepsText text.old text.new }
         ensures continues { Continues (view_of text.old.reader.agent) (view_of text.new.reader.agent) }
         ensures reserve { IsReserve (view_of text.new.reader.agent) self.new }
+        ensures units { IfOk result
+            (λ t. (us : List ℕ) → Has (view_of text.old.reader.agent).units s.id us
+            → Has (view_of text.new.reader.agent).units t.id (part from (to - from) us)) }
+        ensures settled { IfOk result (λ t. IsSeenSettled (view_of text.new.reader.agent) t.id) }
         ensures cut { (us : List ℕ) → Has (view_of text.old.reader.agent).units s.id us
             → IsCutBy (view_of text.old.reader.agent) (view_of text.new.reader.agent)
             (size_of (H.reached text.old.reader.heap)) self.old self.new s from to us result }
@@ -63,6 +67,9 @@ impl Reserve {
             → TriesCut (view_of text.old.reader.agent) (view_of text.new.reader.agent) self.old self.new
             s from to us result }
     {
+        if self.ids_left() == 0 {
+            return None;
+        }
         let n = text.reader.len(s);
         if is_whole(from, to, n) {
             return None;

@@ -13,13 +13,19 @@ use Rattle.heap_agents.specs.Interned.{KeepsCalls}
 use Rattle.heap_agents.specs.Searched.{KeepsStrings}
 use Rattle.heap_agents.proofs.Interned.{continued}
 use Rattle.heap_agents.proofs.Marks.{same_trans}
-use Rattle.heap_agents.specs.Ready.{HandleLeaves, HandleSearches, IsReady, HandleKnows, handle_view}
+use Rattle.heap_agents.specs.Ready.{HandleLeaves, HandleSpends, HandleSearches, IsReady, HandleKnows, handle_view}
 use Rattle.jsstr_c.specs.declared.answer.JsAnswer.{JsAnswer}
 use Rattle.jsstr_c.specs.Given.{TestsGiven}
 use Rattle.jsstr_c.specs.Checked.{ReachesLength}
 
 marks_trans : (x y z : Held) → KeepsMarks x y → KeepsMarks y z → KeepsMarks x z
-marks_trans x y z a b = record { known = λ i h. b.known i (a.known i h); interned = λ i h. b.interned i (a.interned i h); number = b.number ∙ a.number; giver = b.giver ∙ a.giver }
+marks_trans x y z a b = record {
+  known = λ i h. b.known i (a.known i h);
+  interned = λ i h. b.interned i (a.interned i h);
+  number = b.number ∙ a.number;
+  giver = b.giver ∙ a.giver;
+  reserve = b.reserve ∙ a.reserve;
+}
 
 leaves_trans : (x y z : Held) → LeavesStrings x y → LeavesStrings y z → LeavesStrings x z
 leaves_trans x y z a b = record {
@@ -91,3 +97,31 @@ searches_strings (Some x) (Some y) g = g.strings
 -- a tested call on given units that is done did what it does
 pub does_done : (does : Option Held → Option Held → List ℕ → JsAnswer → Type 0) (o p : Option Held) (us : List ℕ) (r : JsAnswer) → TestsGiven does o p us r → r.status ≡ 0 → does o p us r
 does_done does o p us r t e = t.does (λ (x : r.status ≡ 9). absurd (omega (arith, x, e)))
+
+-- a call that may claim in advance, or take what was
+pub spends_continues : (o p : Option Held) → HandleSpends o p → Continues (handle_view o) (handle_view p)
+spends_continues None p a = absurd a
+spends_continues (Some x) None a = absurd a
+spends_continues (Some x) (Some y) a = a.continues
+
+pub spends_ready : (o p : Option Held) → HandleSpends o p → IsReady p
+spends_ready None p a = absurd a
+spends_ready (Some x) None a = absurd a
+spends_ready (Some x) (Some y) a = a.held
+
+pub spends_knows : (o p : Option Held) (i : ℕ) → HandleSpends o p → HandleKnows o i → HandleKnows p i
+spends_knows None p i a k = absurd a
+spends_knows (Some x) None i a k = absurd a
+spends_knows (Some x) (Some y) i a k = a.marks.known i k
+
+pub spends_units : (o p : Option Held) → HandleSpends o p → (i : ℕ) (us : List ℕ) → Has (handle_view o).units i us → Has (handle_view p).units i us
+spends_units o p a = (spends_continues o p a).known.units
+
+pub spends_key : (o p : Option Held) → HandleSpends o p → (i : ℕ) → HasKey (handle_view o).units i → HasKey (handle_view p).units i
+spends_key o p a i k = let u = has_key (handle_view o).units i k in key_of (handle_view p).units i u.0 (spends_units o p a i u.0 u.1)
+
+pub spends_known : (o p : Option Held) → HandleSpends o p → KeepsKnown (handle_view o) (handle_view p)
+spends_known o p g = (spends_continues o p g).known
+
+pub spends_calls : (o p : Option Held) → HandleSpends o p → KeepsCalls (handle_view o) (handle_view p)
+spends_calls o p g = continued (handle_view o) (handle_view p) (spends_continues o p g)

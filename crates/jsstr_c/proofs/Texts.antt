@@ -117,7 +117,12 @@ same_there (Some t) r = (refl, refl)
 looks_at : (o : Option Held) → IsReady o → OnlyLooks o o
 looks_at None r = absurd r
 looks_at (Some x) r = let v = view_by x in record {
-  leaves = record { held = r; same = same_there x.text r.there; continues = continues_reads v v (same_loads v); marks = record { known = λ i h. h; interned = λ i h. h; number = refl; giver = refl } };
+  leaves = record {
+    held = r;
+    same = same_there x.text r.there;
+    continues = continues_reads v v (same_loads v);
+    marks = record { known = λ i h. h; interned = λ i h. h; number = refl; giver = refl; reserve = refl };
+  };
   loads = same_loads v;
   marks = (refl, refl);
 }

@@ -1,34 +1,32 @@
 -- What calls on units that C gives leave and answer: units are made into a string, interned or looked for,
 -- and may be given as bytes that spell them.
-use Rattle.std.specs.Prelude.{◌≡◌, ◌≢◌, ◌⊎◌, ℕ, List, length, Option, Result}
+use Rattle.std.specs.Prelude.{◌≡◌, ◌≢◌, ◌⊎◌, ℕ, List, Option, Result}
 use Rattle.std.specs.Str.{IsUtf8}
-use Rattle.js_units.specs.Lanes.{is_wide, words_over}
 use Rattle.heap_rule.specs.Maps.{Has}
 use Rattle.heap_rule.specs.Views.{IsSeenSettled}
+use Rattle.heap_read.specs.declared.string.JsStr.{JsStr}
 use Rattle.heap_text.specs.declared.faults.TextFull.{TextFull}
-use Rattle.heap_text.specs.Texts.{LacksRoom, UsesExactly}
 use Rattle.heap_intern.specs.declared.table.faults.TableFull.{TableFull}
 use Rattle.heap_agents.specs.declared.held.Held.{Held}
 use Rattle.heap_agents.specs.Keys.{FindsUnits, InternsUnits}
-use Rattle.heap_agents.specs.Ready.{HandleLeaves, HandleKnows, size_in, handle_view}
+use Rattle.heap_agents.specs.Ready.{HandleSpends, HandleKnows, handle_view}
+use Rattle.heap_agents.specs.Spending.{HandleMakes}
 use Rattle.jsstr_c.specs.declared.answer.JsAnswer.{JsAnswer}
 use Rattle.heap_build.specs.Spelled.{SpellsWtf8, utf8_decoded}
 use Rattle.jsstr_c.specs.Decoded.{IsNoUtf8, IsNoWtf8}
-use Rattle.jsstr_c.specs.Reports.{BAD_ARGUMENT, DONE, NO_MEMORY, bad_argument, done, found_answer}
-use Rattle.jsstr_c.specs.Reports.{no_memory, table_answer, text_report}
+use Rattle.jsstr_c.specs.Reports.{BAD_ARGUMENT, DONE, NO_MEMORY, bad_argument, done, found_answer, no_memory}
+use Rattle.jsstr_c.specs.Reports.{table_answer, text_answer}
 
--- the units us were made into a new string, with r as the answer
+-- The units us were made into a new string, with r as the answer. It takes what it needs from what was
+-- reserved, where that suffices.
 pub record MakesString (o p : Option Held) (us : List ℕ) (r : JsAnswer) : Type 0 where
-  pub goes : HandleLeaves o p
+  pub goes : HandleSpends o p
   pub memory : r.status ≢ NO_MEMORY
   pub whole : r.status ≡ DONE → r ≡ done r.id
   pub marked : r.status ≡ DONE → HandleKnows p r.id
   pub units : r.status ≡ DONE → Has (handle_view p).units r.id us
   pub settled : r.status ≡ DONE → IsSeenSettled (handle_view p) r.id
-  pub used : r.status ≡ DONE
-      → UsesExactly (handle_view o) (handle_view p) 1 (words_over (is_wide us) (length us))
-  pub refused : r.status ≢ DONE → (f : TextFull) × (r ≡ text_report f)
-      × LacksRoom (handle_view p) (size_in o) (words_over (is_wide us) (length us)) f
+  pub made : (t : Result JsStr TextFull) × (r ≡ text_answer t) × HandleMakes o p us t
 
 -- the units us were interned, with r as the answer
 abbrev pub IsInterning : Option Held → Option Held → List ℕ → JsAnswer → Type 0

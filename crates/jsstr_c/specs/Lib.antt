@@ -6,6 +6,7 @@ pub mod Batches
 pub mod Checked
 pub mod Pairs
 pub mod Made
+pub mod Reserving
 pub mod Decoded
 pub mod Bytes
 pub mod Given

@@ -5,35 +5,31 @@ use Rattle.heap_table.specs.Known.{KeepsKnown}
 use Rattle.heap_read.specs.declared.string.JsStr.{JsStr}
 use Rattle.heap_text.specs.declared.faults.JoinFault.{JoinFault}
 use Rattle.heap_text.specs.declared.faults.TextFull.{TextFull}
-use Rattle.heap_text.specs.Joins.{IsCut, IsJoined}
-use Rattle.heap_text.specs.Texts.{KeepsOwn}
 use Rattle.heap_intern.specs.declared.table.faults.TableFull.{TableFull}
 use Rattle.heap_intern.specs.Answers.{IsForwarded, IsInternAnswer, IsPlan, HeaderPlan}
 use Rattle.heap_agents.specs.declared.held.Held.{Held}
 use Rattle.heap_agents.specs.Interned.{KeepsCalls}
-use Rattle.heap_agents.specs.Ready.{HandleLeaves, IsBeside, MarksStay, handle_limit, size_in, handle_view}
+use Rattle.heap_agents.specs.Ready.{HandleSpends, IsBeside, MarksStay, handle_view}
+use Rattle.heap_agents.specs.Spending.{HandleCuts, HandleJoins}
 use Rattle.jsstr_c.specs.declared.answer.JsAnswer.{JsAnswer}
 use Rattle.jsstr_c.specs.Checked.{MarksResult, MarksKey, MarksNone, RefusesSettling, SettlesString}
 use Rattle.jsstr_c.specs.Reports.{DONE, join_answer, table_answer, text_answer}
 
--- strings a and b were joined, with r as the answer
+-- Strings a and b were joined, with r as the answer. A new string takes what it needs from what was reserved,
+-- where that suffices.
 pub record JoinsStrings (o p : Option Held) (a b : ℕ) (r : JsAnswer) : Type 0 where
-  pub leaves : HandleLeaves o p
-  pub own : KeepsOwn (handle_view o) (handle_view p)
+  pub spends : HandleSpends o p
   pub marks : MarksResult o p r
   pub joined : (us vs : List ℕ) → Has (handle_view o).units a us → Has (handle_view o).units b vs
       → (t : Result JsStr JoinFault) × (r ≡ join_answer t)
-      × IsJoined (handle_view o) (handle_view p) (size_in o) (handle_limit o) (record { id = a })
-      (record { id = b }) us vs t
+      × HandleJoins o p (record { id = a }) (record { id = b }) us vs t
 
--- the settled string s was cut, with r as the answer
+-- the settled string s was cut in the same way, with r as the answer
 pub record CutsString (o p : Option Held) (s from to : ℕ) (r : JsAnswer) : Type 0 where
-  pub leaves : HandleLeaves o p
-  pub own : KeepsOwn (handle_view o) (handle_view p)
+  pub spends : HandleSpends o p
   pub marks : MarksResult o p r
   pub cut : (us : List ℕ) → Has (handle_view o).units s us
-      → (t : Result JsStr TextFull) × (r ≡ text_answer t)
-      × IsCut (handle_view o) (handle_view p) (size_in o) (record { id = s }) from to us t
+      → (t : Result JsStr TextFull) × (r ≡ text_answer t) × HandleCuts o p (record { id = s }) from to us t
 
 -- the settled string s was interned, with r as the answer
 pub record InternsString (o p : Option Held) (s : ℕ) (r : JsAnswer) : Type 0 where

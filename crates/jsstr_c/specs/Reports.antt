@@ -10,6 +10,8 @@ use Rattle.heap_text.specs.declared.faults.TextFull.TheVariants.{Ids, Words}
 use Rattle.heap_intern.specs.declared.table.faults.TableFull.{TableFull}
 use Rattle.heap_intern.specs.declared.table.faults.TableFull.TheVariants as table
 use Rattle.heap_rule.specs.declared.size.HeapSize.{HeapSize}
+use Rattle.heap_reserve.specs.declared.faults.ReserveFault.{ReserveFault}
+use Rattle.heap_reserve.specs.declared.faults.ReserveFault.TheVariants as reserve
 use Rattle.jsstr_c.specs.declared.answer.JsAnswer.{JsAnswer}
 use Rattle.jsstr_c.specs.declared.answer.JsNumber.{JsNumber}
 use Rattle.jsstr_c.specs.declared.answer.JsOrder.{JsOrder}
@@ -111,6 +113,12 @@ found_answer None = not_interned
 -- memory runs out, and nothing else is reported
 abbrev pub no_memory : JsAnswer
 no_memory = refusal NO_MEMORY 0 0 0
+
+-- what was to be claimed in advance was, and no string is answered; or what ran out
+abbrev pub reserve_answer : Result (Unit {0}) ReserveFault → JsAnswer
+reserve_answer (Ok u) = done 0
+reserve_answer (Err reserve.Memory) = no_memory
+reserve_answer (Err (reserve.Full f)) = text_report f
 
 -- the bytes stop to be UTF-8 at this place
 abbrev pub not_utf8 : ℕ → JsAnswer

@@ -4,7 +4,7 @@ use Rattle.std.specs.Prelude.{ℕ, List, Option}
 use Rattle.heap_bytes.specs.declared.encoding.Encoding.{Encoding}
 use Rattle.heap_bytes.specs.declared.encoding.Encoding.TheVariants.{Utf8, Wtf8}
 use Rattle.heap_agents.specs.declared.held.Held.{Held}
-use Rattle.heap_agents.specs.Ready.{HandleLeaves}
+use Rattle.heap_agents.specs.Ready.{HandleSpends}
 use Rattle.jsstr_c.specs.declared.answer.JsAnswer.{JsAnswer}
 use Rattle.jsstr_c.specs.declared.given.Source.{Source}
 use Rattle.jsstr_c.specs.declared.given.Source.TheVariants as source
@@ -39,6 +39,6 @@ DoesOn task (source.Wtf8 bytes) o p r = DoesSpelled Wtf8 task o p bytes.now r
 
 -- what making leaves
 abbrev pub Leaves : Task → Option Held → Option Held → Type 0
-Leaves Make o p = HandleLeaves o p
+Leaves Make o p = HandleSpends o p
 Leaves Intern o p = Unit {0}
 Leaves Find o p = Unit {0}

@@ -2,9 +2,9 @@
 ghost use Rattle.std.specs.Prelude.{◌≡◌, ◌≢◌};
 ghost use Rattle.jsstr_c.specs.Batches.{batch_answer};
 ghost use Rattle.jsstr_c.specs.Reports as reports;
-ghost use Rattle.jsstr_c.specs.Reports.{found_answer, join_answer, no_number, no_order, no_place, no_totals, no_truth, no_words, number_answer, order_number, place_answer, table_answer, text_answer, words_answer};
+ghost use Rattle.jsstr_c.specs.Reports.{found_answer, join_answer, no_number, no_order, no_place, no_totals, no_truth, no_words, number_answer, order_number, place_answer, reserve_answer, table_answer, text_answer, words_answer};
 
-use heap_agents::{Batch, Shown};
+use heap_agents::{Batch, ReserveFault, Shown};
 use heap_intern::TableFull;
 use heap_text::{JoinFault, JsStr, TextFull};
 use std::cmp::Ordering;
@@ -179,6 +179,18 @@ pub(crate) fn of_table(answer: Result<u32, TableFull>) -> JsAnswer
         Err(TableFull::Ids(full)) => refusal(NO_IDS, full.at, full.want, full.end),
         Err(TableFull::Words(full)) => refusal(NO_WORDS, full.at, full.want, full.end),
         Err(TableFull::Slots { slots }) => refusal(NO_SLOTS, 0, 0, slots),
+    }
+}
+
+// That what was to be claimed in advance was, or what ran out.
+pub(crate) fn of_reserve(answer: Result<(), ReserveFault>) -> JsAnswer
+    ensures value { result ≡ reserve_answer answer }
+    ensures told { result.status ≢ reports.BAD_ARGUMENT }
+{
+    match answer {
+        Ok(()) => done(JsStr { id: 0 }),
+        Err(ReserveFault::Memory) => no_memory(),
+        Err(ReserveFault::Full(full)) => report(full),
     }
 }
 

@@ -8,6 +8,7 @@ pub(crate) mod life;
 pub(crate) mod lists;
 pub(crate) mod making;
 pub(crate) mod reading;
+pub(crate) mod reserving;
 pub(crate) mod search;
 pub(crate) mod table;
 pub(crate) mod units;

@@ -1,7 +1,7 @@
 // Strings of one heap that are made, or interned, in another.
 ghost use Rattle.std.specs.Prelude.{◌≡◌, ◌≢◌, ◌↔◌, ◌⊎◌, ℕ, List};
 ghost use Rattle.heap_rule.specs.Maps.{Has};
-ghost use Rattle.heap_agents.specs.Ready.{HandleLeaves, HandleKnows, IsReady, handle_view};
+ghost use Rattle.heap_agents.specs.Ready.{HandleKnows, HandleSpends, IsReady, handle_view};
 ghost use Rattle.jsstr_c.specs.Checked.{RefusesSettling, SettlesAndLooks};
 ghost use Rattle.jsstr_c.specs.Given.{IsInterning, MakesString, OrNoMemory};
 ghost use Rattle.jsstr_c.specs.Handles.{IsHandle};
@@ -29,7 +29,7 @@ pub extern "C" fn jsstr_copy_into(
         ↔ ¬ (HandleKnows from.old.at.value s × IsReady to.old.at.value) }
     ensures unchanged { result.status ≡ reports.BAD_ARGUMENT → (result ≡ reports.bad_argument)
         × (from.new.at.value ≡ from.old.at.value) × (to.new.at.value ≡ to.old.at.value) }
-    ensures leaves { result.status ≢ reports.BAD_ARGUMENT → HandleLeaves to.old.at.value to.new.at.value }
+    ensures leaves { result.status ≢ reports.BAD_ARGUMENT → HandleSpends to.old.at.value to.new.at.value }
     ensures does { result.status ≢ reports.BAD_ARGUMENT
         → (RefusesSettling from.old.at.value from.new.at.value s result × (to.new.at.value ≡ to.old.at.value))
         ⊎ (SettlesAndLooks from.old.at.value from.new.at.value s × ((us : List ℕ)

@@ -3,7 +3,8 @@ ghost use Rattle.std.specs.Prelude.{ℕ, ◌≡◌, ◌≢◌, ◌↔◌, ◌⊎
 ghost use Rattle.heap_rule.specs.Agents.{MayJoin, first_view, joined_view, left_after_split, right_after_split};
 ghost use Rattle.heap_rule.specs.Layout.{MAX};
 ghost use Rattle.heap_table.specs.MayMake.{MayMake};
-ghost use Rattle.heap_agents.specs.Ready.{HasInterned, IsBeside, IsReady, HandleKnows, MarksStay, giver_in, handle_limit, handle_number, share_in, handle_view};
+ghost use Rattle.heap_agents.specs.Ready.{HasInterned, IsBeside, IsReady, HandleKnows, MarksStay, HandleStaysMarked, giver_in, handle_limit, handle_number, share_in, handle_view};
+ghost use Rattle.heap_agents.specs.Spending.{HandleReservesNothing, HandleTakesOver};
 ghost use Rattle.jsstr_c.specs.Checked.{IsChild};
 ghost use Rattle.jsstr_c.specs.Handles.{IsHandle};
 ghost use Rattle.jsstr_c.specs.Reports.{size_for};
@@ -34,6 +35,7 @@ pub extern "C" fn jsstr_make(
     ensures lawful { result ≡ reports.DONE → MayMake (size_for size) agents × (limit ≤ MAX) }
     ensures refused { result ≡ reports.BAD_SIZE → ¬ (MayMake (size_for size) agents × (limit ≤ MAX)) }
     ensures limit { result ≡ reports.DONE → handle_limit out.new.at.value ≡ limit }
+    ensures nothing { result ≡ reports.DONE → HandleReservesNothing out.new.at.value }
     ensures unmade { result ≢ reports.DONE → out.new.at.value ≡ out.old.at.value }
     ensures statuses { result ≢ reports.BAD_ARGUMENT
         → (result ≡ reports.DONE) ⊎ ((result ≡ reports.BAD_SIZE) ⊎ (result ≡ reports.NO_MEMORY)) }
@@ -90,6 +92,7 @@ pub extern "C" fn jsstr_split(
     ensures interned { result ≡ reports.DONE
         → (i : ℕ) → HasInterned agent.old.at.value i → HasInterned out.new.at.value i }
     ensures giver { result ≡ reports.DONE → giver_in out.new.at.value ≡ handle_number agent.old.at.value }
+    ensures nothing { result ≡ reports.DONE → HandleReservesNothing out.new.at.value }
     ensures statuses { result ≢ reports.BAD_ARGUMENT
         → (result ≡ reports.DONE) ⊎ (result ≡ reports.NO_MEMORY) }
     ensures refused { result ≢ reports.DONE
@@ -125,7 +128,9 @@ pub extern "C" fn jsstr_join(alloc: Global, agent: &mut JsAgent, other: &mut JsA
         ≡ joined_view (handle_view agent.old.at.value) (handle_view other.old.at.value) }
     ensures share { result ≡ reports.DONE → share_in agent.new.at.value
         ≡ share_in agent.old.at.value + share_in other.old.at.value }
-    ensures marks { result ≡ reports.DONE → MarksStay agent.old.at.value agent.new.at.value }
+    ensures marks { result ≡ reports.DONE → HandleStaysMarked agent.old.at.value agent.new.at.value }
+    ensures reserve { result ≡ reports.DONE
+        → HandleTakesOver agent.old.at.value other.old.at.value agent.new.at.value }
     ensures known { result ≡ reports.DONE
         → (i : ℕ) → HandleKnows other.old.at.value i → HandleKnows agent.new.at.value i }
     ensures interned { result ≡ reports.DONE
@@ -157,7 +162,9 @@ fn join_child(alloc: Global, agent: &mut JsAgent, other: &mut JsAgent) -> u32
         ≡ joined_view (handle_view agent.old.at.value) (handle_view other.old.at.value) }
     ensures share { result ≡ reports.DONE → share_in agent.new.at.value
         ≡ share_in agent.old.at.value + share_in other.old.at.value }
-    ensures marks { result ≡ reports.DONE → MarksStay agent.old.at.value agent.new.at.value }
+    ensures marks { result ≡ reports.DONE → HandleStaysMarked agent.old.at.value agent.new.at.value }
+    ensures reserve { result ≡ reports.DONE
+        → HandleTakesOver agent.old.at.value other.old.at.value agent.new.at.value }
     ensures known { result ≡ reports.DONE
         → (i : ℕ) → HandleKnows other.old.at.value i → HandleKnows agent.new.at.value i }
     ensures interned { result ≡ reports.DONE

@@ -1,7 +1,7 @@
 // Units that C gives: made into strings, interned, and looked for in the string table.
 ghost use Rattle.std.specs.Prelude.{◌≡◌, ◌≢◌, ◌↔◌, ◌≤◌, length};
 ghost use Rattle.heap_rule.specs.Layout.{MAX};
-ghost use Rattle.heap_agents.specs.Ready.{HandleLeaves, IsReady};
+ghost use Rattle.heap_agents.specs.Ready.{HandleSpends, IsReady};
 ghost use Rattle.jsstr_c.specs.Given.{IsFinding, IsInterning, MakesString, OnUtf8, OnWtf8, TestsGiven};
 ghost use Rattle.jsstr_c.specs.Handles.{IsHandle};
 ghost use Rattle.jsstr_c.specs.Reports as reports;
@@ -30,7 +30,7 @@ pub extern "C" fn jsstr_from_latin1(alloc: Global, agent: &mut JsAgent, bytes: &
     ensures handle { IsHandle agent.new }
     ensures bad { result.status ≡ reports.BAD_ARGUMENT
         ↔ ¬ (IsReady agent.old.at.value × (length bytes.now ≤ MAX)) }
-    ensures goes { result.status ≢ reports.BAD_ARGUMENT → HandleLeaves agent.old.at.value agent.new.at.value }
+    ensures goes { result.status ≢ reports.BAD_ARGUMENT → HandleSpends agent.old.at.value agent.new.at.value }
     ensures makes { TestsGiven MakesString agent.old.at.value agent.new.at.value bytes.now result }
 {
     tested(alloc, agent, Task::Make, Source::Latin1(bytes))
@@ -44,7 +44,7 @@ pub extern "C" fn jsstr_from_utf8(alloc: Global, agent: &mut JsAgent, bytes: &[u
     ensures handle { IsHandle agent.new }
     ensures bad { result.status ≡ reports.BAD_ARGUMENT
         ↔ ¬ (IsReady agent.old.at.value × (length bytes.now ≤ MAX)) }
-    ensures goes { result.status ≢ reports.BAD_ARGUMENT → HandleLeaves agent.old.at.value agent.new.at.value }
+    ensures goes { result.status ≢ reports.BAD_ARGUMENT → HandleSpends agent.old.at.value agent.new.at.value }
     ensures makes { TestsGiven (OnUtf8 MakesString) agent.old.at.value agent.new.at.value bytes.now result }
 {
     tested(alloc, agent, Task::Make, Source::Utf8(bytes))
@@ -58,7 +58,7 @@ pub extern "C" fn jsstr_from_wtf8(alloc: Global, agent: &mut JsAgent, bytes: &[u
     ensures handle { IsHandle agent.new }
     ensures bad { result.status ≡ reports.BAD_ARGUMENT
         ↔ ¬ (IsReady agent.old.at.value × (length bytes.now ≤ MAX)) }
-    ensures goes { result.status ≢ reports.BAD_ARGUMENT → HandleLeaves agent.old.at.value agent.new.at.value }
+    ensures goes { result.status ≢ reports.BAD_ARGUMENT → HandleSpends agent.old.at.value agent.new.at.value }
     ensures makes { TestsGiven (OnWtf8 MakesString) agent.old.at.value agent.new.at.value bytes.now result }
 {
     tested(alloc, agent, Task::Make, Source::Wtf8(bytes))

@@ -2,7 +2,7 @@
 ghost use Rattle.std.specs.Prelude.{◌≢◌, ℕ, List};
 ghost use Rattle.heap_rule.specs.Maps.{Has, HasKey};
 ghost use Rattle.heap_rule.specs.Views.{IsSeenSettled};
-ghost use Rattle.heap_agents.specs.Ready.{HandleLeaves, IsReady, handle_view};
+ghost use Rattle.heap_agents.specs.Ready.{HandleSpends, IsReady, handle_view};
 ghost use Rattle.jsstr_c.specs.Checked.{OnlyLooks};
 ghost use Rattle.jsstr_c.specs.Given.{IsInterning, MakesString, OrNoMemory};
 ghost use Rattle.jsstr_c.specs.Handles.{IsHandle};
@@ -30,7 +30,7 @@ pub extern "C" fn jsstr_copy_into_unchecked(
     ensures other_handle { IsHandle to.new }
     ensures looks { OnlyLooks from.old.at.value from.new.at.value }
     ensures told { result.status ≢ reports.BAD_ARGUMENT }
-    ensures leaves { HandleLeaves to.old.at.value to.new.at.value }
+    ensures leaves { HandleSpends to.old.at.value to.new.at.value }
     ensures does { (us : List ℕ) → Has (handle_view from.old.at.value).units s us
         → OrNoMemory MakesString to.old.at.value to.new.at.value us result }
 {

@@ -3,7 +3,8 @@ ghost use Rattle.std.specs.Prelude.{ℕ, ◌≡◌, ◌≢◌, ◌⊎◌, ◌+�
 ghost use Rattle.heap_rule.specs.Agents.{MayJoin, first_view, joined_view, left_after_split, right_after_split};
 ghost use Rattle.heap_rule.specs.Layout.{MAX};
 ghost use Rattle.heap_table.specs.MayMake.{MayMake};
-ghost use Rattle.heap_agents.specs.Ready.{HasInterned, IsBeside, IsReady, HandleKnows, MarksStay, giver_in, handle_limit, handle_number, share_in, handle_view};
+ghost use Rattle.heap_agents.specs.Ready.{HasInterned, IsBeside, IsReady, HandleKnows, MarksStay, HandleStaysMarked, giver_in, handle_limit, handle_number, share_in, handle_view};
+ghost use Rattle.heap_agents.specs.Spending.{HandleReservesNothing, HandleTakesOver};
 ghost use Rattle.jsstr_c.specs.Handles.{IsHandle};
 ghost use Rattle.jsstr_c.specs.Reports.{size_for};
 ghost use Rattle.jsstr_c.specs.Reports as reports;
@@ -30,6 +31,7 @@ pub extern "C" fn jsstr_make_unchecked(
     ensures lawful { result ≡ reports.DONE → MayMake (size_for size) agents × (limit ≤ MAX) }
     ensures refused { result ≡ reports.BAD_SIZE → ¬ (MayMake (size_for size) agents × (limit ≤ MAX)) }
     ensures limit { result ≡ reports.DONE → handle_limit out.new.at.value ≡ limit }
+    ensures nothing { result ≡ reports.DONE → HandleReservesNothing out.new.at.value }
     ensures unmade { result ≢ reports.DONE → out.new.at.value ≡ None }
     ensures statuses { (result ≡ reports.DONE)
         ⊎ ((result ≡ reports.BAD_SIZE) ⊎ (result ≡ reports.NO_MEMORY)) }
@@ -88,6 +90,7 @@ pub extern "C" fn jsstr_split_unchecked(
     ensures interned { result ≡ reports.DONE
         → (i : ℕ) → HasInterned agent.old.at.value i → HasInterned out.new.at.value i }
     ensures giver { result ≡ reports.DONE → giver_in out.new.at.value ≡ handle_number agent.old.at.value }
+    ensures nothing { result ≡ reports.DONE → HandleReservesNothing out.new.at.value }
     ensures out_handle { IsHandle out.old → IsHandle out.new }
     ensures told { result ≢ reports.BAD_ARGUMENT }
     ensures statuses { (result ≡ reports.DONE) ⊎ (result ≡ reports.NO_MEMORY) }
@@ -119,7 +122,8 @@ pub extern "C" fn jsstr_join_unchecked(alloc: Global, agent: &mut JsAgent, other
     ensures view { handle_view agent.new.at.value
         ≡ joined_view (handle_view agent.old.at.value) (handle_view other.old.at.value) }
     ensures share { share_in agent.new.at.value ≡ share_in agent.old.at.value + share_in other.old.at.value }
-    ensures marks { MarksStay agent.old.at.value agent.new.at.value }
+    ensures marks { HandleStaysMarked agent.old.at.value agent.new.at.value }
+    ensures reserve { HandleTakesOver agent.old.at.value other.old.at.value agent.new.at.value }
     ensures known { (i : ℕ) → HandleKnows other.old.at.value i → HandleKnows agent.new.at.value i }
     ensures interned { (i : ℕ) → HasInterned other.old.at.value i → HasInterned agent.new.at.value i }
     ensures gone { other.new.at.value ≡ None }

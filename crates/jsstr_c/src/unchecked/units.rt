@@ -1,7 +1,7 @@
 // Units that C gives: made into strings, interned, and looked for in the string table.
 ghost use Rattle.std.specs.Prelude.{◌≡◌, ◌≢◌, ◌≤◌, length};
 ghost use Rattle.heap_rule.specs.Layout.{MAX};
-ghost use Rattle.heap_agents.specs.Ready.{HandleLeaves, IsReady};
+ghost use Rattle.heap_agents.specs.Ready.{HandleSpends, IsReady};
 ghost use Rattle.jsstr_c.specs.Given.{IsFinding, IsInterning, MakesString, OnUtf8, OnWtf8};
 ghost use Rattle.jsstr_c.specs.Handles.{IsHandle};
 ghost use Rattle.jsstr_c.specs.Reports as reports;
@@ -41,7 +41,7 @@ pub extern "C" fn jsstr_from_latin1_unchecked(
     requires short { length bytes.now ≤ MAX }
     ensures handle { IsHandle agent.new }
     ensures told { result.status ≢ reports.BAD_ARGUMENT }
-    ensures goes { HandleLeaves agent.old.at.value agent.new.at.value }
+    ensures goes { HandleSpends agent.old.at.value agent.new.at.value }
     ensures makes { MakesString agent.old.at.value agent.new.at.value bytes.now result }
 {
     on_source(alloc, agent, Task::Make, Source::Latin1(bytes))
@@ -59,7 +59,7 @@ pub extern "C" fn jsstr_from_utf8_unchecked(
     requires short { length bytes.now ≤ MAX }
     ensures handle { IsHandle agent.new }
     ensures told { result.status ≢ reports.BAD_ARGUMENT }
-    ensures goes { HandleLeaves agent.old.at.value agent.new.at.value }
+    ensures goes { HandleSpends agent.old.at.value agent.new.at.value }
     ensures makes { OnUtf8 MakesString agent.old.at.value agent.new.at.value bytes.now result }
 {
     on_source(alloc, agent, Task::Make, Source::Utf8(bytes))
@@ -77,7 +77,7 @@ pub extern "C" fn jsstr_from_wtf8_unchecked(
     requires short { length bytes.now ≤ MAX }
     ensures handle { IsHandle agent.new }
     ensures told { result.status ≢ reports.BAD_ARGUMENT }
-    ensures goes { HandleLeaves agent.old.at.value agent.new.at.value }
+    ensures goes { HandleSpends agent.old.at.value agent.new.at.value }
     ensures makes { OnWtf8 MakesString agent.old.at.value agent.new.at.value bytes.now result }
 {
     on_source(alloc, agent, Task::Make, Source::Wtf8(bytes))

@@ -1,4 +1,4 @@
-use Rattle.std.proofs.Common.{◌≡◌, ◌∙◌, ℕ, List, Option, ap, length, subst, sym}
+use Rattle.std.proofs.Common.{◌≡◌, ◌∙◌, ℕ, List, Option, length, subst, sym}
 use Rattle.std.proofs.lemmas.List.{take_at}
 use Rattle.heap_rule.specs.declared.view.View.{View}
 use Rattle.heap_table.specs.Agents.{view_of}
@@ -6,8 +6,6 @@ use Rattle.heap_intern.specs.Answers.{copy_plan}
 use Rattle.heap_intern.specs.Hashes.{AreHashes}
 use Rattle.heap_intern.specs.Seats.{AreSeats}
 use Rattle.heap_intern.proofs.Seats.{seats_kept}
-use Rattle.heap_agents.specs.declared.seats.Seats.{Seats}
-use Rattle.heap_agents.specs.Noted.{AreNoted}
 use Rattle.heap_agents.specs.Shared.{SharedText, view_if}
 use Rattle.heap_agents.proofs.Interned.{known_from, sizes_from}
 use Rattle.heap_agents.proofs.Marks.{same_hashes}

@@ -2,7 +2,7 @@ use Rattle.std.proofs.Common.{◌≡◌, ◌++◌, ◌-◌, ℕ, length, subst, 
 use Rattle.heap_rule.specs.Births.{part}
 use Rattle.heap_rule.specs.Maps.{Has}
 use Rattle.heap_agents.specs.Ready.{handle_view}
-use Rattle.jsstr_c.proofs.Going.{does_done, goes_units}
+use Rattle.jsstr_c.proofs.Going.{does_done, spends_units}
 use Rattle.jsstr_c.proofs.uses.joined_and_cut.Goals as goal
 
 pub returns-clause-units : goal.returns-clause-units
@@ -11,7 +11,7 @@ returns-clause-units c = let us = c.args.first.now in let vs = c.args.second.now
     let l = c.if-left-ne-DONE.false in let r = c.if-right-ne-DONE.false in let b = c.if-both-ne-DONE.false in let f = c.if-front-ne-DONE.false in
     let one : left.result.status ≡ 0 = omega (arith, l) in let two : right.result.status ≡ 0 = omega (arith, r) in
     let three : both.result.status ≡ 0 = omega (arith, b) in let four : front.result.status ≡ 0 = omega (arith, f) in
-    let kept = goes_units left.new.agent.at.value right.new.agent.at.value (does_done _ _ _ _ _ right.ensures.makes two).goes left.result.id
+    let kept = spends_units left.new.agent.at.value right.new.agent.at.value (does_done _ _ _ _ _ right.ensures.makes two).goes left.result.id
     us ((does_done _ _ _ _ _ left.ensures.makes one).units one) in
     let all = both.ensures.units three us vs kept ((does_done _ _ _ _ _ right.ensures.makes two).units two) in
     let long : length us - 0 ≡ length us = omega arith in

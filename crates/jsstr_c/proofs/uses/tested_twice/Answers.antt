@@ -1,5 +1,5 @@
 use Rattle.std.proofs.Common.{◌≡◌, refl, arith}
-use Rattle.jsstr_c.proofs.Going.{does_done, goes_units}
+use Rattle.jsstr_c.proofs.Going.{does_done, spends_units}
 use Rattle.jsstr_c.proofs.uses.tested_twice.Goals as goal
 
 pub returns-clause-same : goal.returns-clause-same
@@ -9,7 +9,7 @@ returns-clause-same c = let us = c.args.units.now in let first = c.jsstr_from_un
     let a = c.if-first-ne-DONE.false in let b = c.if-one-ne-DONE.false in let d = c.if-second-ne-DONE.false in let e = c.if-other-ne-DONE.false in let f = c.if-same-ne-DONE.false in
     let made : first.result.status ≡ 0 = omega (arith, a) in let interned : one.result.status ≡ 0 = omega (arith, b) in let again : second.result.status ≡ 0 = omega (arith, d) in
     let twice : other.result.status ≡ 0 = omega (arith, e) in let done : same.result.status ≡ 0 = omega (arith, f) in
-    let kept = goes_units one.new.agent.at.value second.new.agent.at.value (does_done _ _ _ _ _ second.ensures.makes again).goes one.result.id us
+    let kept = spends_units one.new.agent.at.value second.new.agent.at.value (does_done _ _ _ _ _ second.ensures.makes again).goes one.result.id us
     ((one.ensures.entered interned).units us ((does_done _ _ _ _ _ first.ensures.makes made).units made)) in
     let left = (other.ensures.known (λ (x : other.result.status ≡ 9). absurd (omega (arith, x, twice)))).units one.result.id us kept in
     let right = (other.ensures.entered twice).units us ((does_done _ _ _ _ _ second.ensures.makes again).units again) in

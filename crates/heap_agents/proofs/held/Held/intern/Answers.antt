@@ -6,7 +6,7 @@ use Rattle.heap_rule.proofs.MapLemmas.{has_key, key_of}
 use Rattle.heap_agents.specs.Held.{view_by}
 use Rattle.heap_agents.specs.Interned.{IsEntered, KeepsCalls}
 use Rattle.heap_agents.specs.Shared.{SharedText, view_if}
-use Rattle.heap_agents.proofs.Interned.{agents_by, calls_by, entered_by, known_by}
+use Rattle.heap_agents.proofs.Interned.{agents_by, calls_by, entered_by, known_by, own_by}
 use Rattle.heap_agents.proofs.Marks.{noted}
 use Rattle.heap_agents.proofs.held.Held.intern.Goals as goal
 
@@ -14,7 +14,7 @@ pub mark_interned-requires-clause-held : goal.mark_interned-requires-clause-held
 mark_interned-requires-clause-held c = let x = c.args.self.now in let call = c.intern_noted-answer in let v : View = view_by x in
     let w : View = view_if call.new.text in let s : ℕ = c.args.s in let e = call.ensures in
     noted x call.new.text c.requires.held e.there e.same (known_by v w s c.requires.known call.result e.interns).units (calls_by v w s c.requires.known call.result e.interns)
-    (agents_by v w s c.requires.known call.result e.interns) call.new.seats e.noted
+    (agents_by v w s c.requires.known call.result e.interns) call.new.seats e.noted (own_by v w s c.requires.known call.result e.interns)
 
 pub mark_interned-requires-clause-known : goal.mark_interned-requires-clause-known
 mark_interned-requires-clause-known c = let v : View = view_by c.args.self.now in let w : View = view_if c.intern_noted-answer.new.text in
@@ -38,3 +38,9 @@ pub returns-clause-interns : goal.returns-clause-interns
 returns-clause-interns c = let v : View = view_by c.args.self.now in let s : ℕ = c.args.s in let id : ℕ = c.in_ok-id.id in
     subst (λ (o : Option SharedText). (us : List ℕ) → Has v.units s us → (plan : HeaderPlan) × IsPlan v (view_if o) s us plan ×
     IsInternAnswer v (view_if o) us plan (Ok id)) (sym c.mark_interned.ensures.text) c.in_ok-id.ensures.interns
+
+pub returns-in_err-id-clause-held : goal.returns-in_err-id-clause-held
+returns-in_err-id-clause-held c = let x = c.args.self.now in let call = c.intern_noted-answer in let v : View = view_by x in
+    let w : View = view_if call.new.text in let s : ℕ = c.args.s in let e = call.ensures in
+    noted x call.new.text c.requires.held e.there e.same (known_by v w s c.requires.known call.result e.interns).units (calls_by v w s c.requires.known call.result e.interns)
+    (agents_by v w s c.requires.known call.result e.interns) call.new.seats e.noted (own_by v w s c.requires.known call.result e.interns)

@@ -7,13 +7,13 @@ use Rattle.heap_rule.specs.Claims.{loaded_counter}
 use Rattle.heap_agents.specs.Room.{IsCounterAt}
 use Rattle.heap_agents.specs.Sets.{set_size}
 use Rattle.heap_agents.specs.Shared.{SharedText, size_if, view_if}
-use Rattle.heap_agents.proofs.Marks.{counted_known, held_counted, kept_marks, same_text, told}
+use Rattle.heap_agents.proofs.Marks.{counted_known, counted_own, held_counted, kept_marks, same_text, told}
 use Rattle.heap_agents.proofs.held.Held.room.Goals as goal
 
 pub returns : goal.returns
 returns c = let x = c.args.self.now in let t = c.in-Some.text in let e = c.look.ensures in let u : SharedText = c.look.new.text in
     let r = c.look.result in let heap = ap arc_value e.kept.heap in record {
-      held = held_counted x t u c.in-Some.is heap e.kept.limit _ c.requires e.view (counted_known _ _ _) (λ us i h. h) refl;
+      held = held_counted x t u c.in-Some.is heap e.kept.limit _ c.requires e.view (counted_known _ _ _) (λ us i h. h) refl (counted_own _ _ _);
       same = same_text x t u c.in-Some.is heap e.kept.limit;
       marks = kept_marks x (Some u);
       marked = (refl, refl);

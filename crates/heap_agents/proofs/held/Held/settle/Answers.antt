@@ -14,7 +14,9 @@ returns-clause-used c us h =
     (c.in_ok-answer.ensures.used us (subst (λ (t : Option SharedText). Has (view_if t).units c.args.s.id us) c.in-Some.is h)))
 
 pub returns-in_err-answer-clause-leaves : goal.returns-in_err-answer-clause-leaves
-returns-in_err-answer-clause-leaves c = let call = c.settle-answer in leaves_on c.args.self.now c.in-Some.text call.new.self c.in-Some.is c.requires.held call.ensures.kept call.ensures.continues
+returns-in_err-answer-clause-leaves c = let call = c.settle-answer in
+    leaves_on c.args.self.now c.in-Some.text call.new.self c.in-Some.is c.requires.held call.ensures.kept call.ensures.continues call.ensures.own
 
 pub mark-requires-clause-held : goal.mark-requires-clause-held
-mark-requires-clause-held c = let call = c.settle-answer in (leaves_on c.args.self.now c.in-Some.text call.new.self c.in-Some.is c.requires.held call.ensures.kept call.ensures.continues).held
+mark-requires-clause-held c = let call = c.settle-answer in
+    (leaves_on c.args.self.now c.in-Some.text call.new.self c.in-Some.is c.requires.held call.ensures.kept call.ensures.continues call.ensures.own).held

@@ -7,7 +7,7 @@ use Rattle.heap_intern.specs.Adopted.{LoadsNoneBehind}
 use Rattle.heap_intern.specs.Goes.{LoadsAlone}
 use Rattle.heap_intern.specs.SlotLoads.{loads_at}
 use Rattle.heap_agents.specs.Shared.{SharedText, size_if}
-use Rattle.heap_agents.proofs.Interned.{calls_looked}
+use Rattle.heap_agents.proofs.Interned.{calls_looked, own_looked}
 use Rattle.heap_agents.proofs.Marks.{held_on, kept_marks, same_text, told}
 use Rattle.heap_agents.proofs.held.Held.slot_of.Goals as goal
 
@@ -15,7 +15,7 @@ pub returns : goal.returns
 returns c = let x = c.args.self.now in let t = c.in-Some.text in let call = c.slot_of in let e = call.ensures in
     let u : SharedText = record t { reader = call.new.reader; within = _ } in let i : ℕ = c.args.id in let k : ℕ = call.result in
     let v : View = view_of t.reader.agent in let w : View = view_of u.reader.agent in let heap = ap arc_value e.heap in record {
-      held = held_on x t u c.in-Some.is heap refl c.requires.held e.looks.goes.known (calls_looked v w e.looks) e.looks.goes.agents;
+      held = held_on x t u c.in-Some.is heap refl c.requires.held e.looks.goes.known (calls_looked v w e.looks) e.looks.goes.agents (own_looked v w e.looks);
       same = same_text x t u c.in-Some.is heap refl;
       marks = kept_marks x (Some u);
       marked = (refl, refl);

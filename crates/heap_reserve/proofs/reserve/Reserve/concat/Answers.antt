@@ -8,6 +8,7 @@ use Rattle.heap_text.proofs.Owned.{own_reads, own_trans}
 use Rattle.heap_reserve.specs.Making.{IsLongJoin, IsShortJoin}
 use Rattle.heap_reserve.proofs.After.{joined_after}
 use Rattle.heap_reserve.proofs.Kept.{reserve_kept}
+use Rattle.heap_reserve.proofs.Tried.{join_made, join_told}
 use Rattle.heap_reserve.proofs.reserve.Reserve.concat.Goals as goal
 
 pub returns-in-Some-clause-joined : goal.returns-in-Some-clause-joined
@@ -40,3 +41,11 @@ returns-in-None-clause-joined g c us vs h k = let v : View = c.args.text.now.rea
         joined_after v u w z left.2 most a b us vs answer (subst (λ (n : ℕ). IsJoined u w z n a b us vs answer) c.try_concat.ensures.kept.limit told),
       );
     }
+
+pub returns-in-Some-clause-units : goal.returns-in-Some-clause-units
+returns-in-Some-clause-units g c us vs h k = join_made c.args.text.now.reader.agent.seat.me.0 c.try_concat.new.text.reader.agent.seat.me.0
+    c.args.self.now c.try_concat.new.self c.args.text.now.limit c.args.a c.args.b us vs c.in-Some.s (c.in-Some.ensures.tried us vs h k)
+
+pub returns-in-None-clause-units : goal.returns-in-None-clause-units
+returns-in-None-clause-units g c = join_told c.args.text.now.reader.agent.seat.me.0 c.try_concat.new.text.reader.agent.seat.me.0 c.concat.new.self.reader.agent.seat.me.0
+    c.try_concat.ensures.continues.known c.args.a c.args.b c.concat.result c.concat.ensures.units

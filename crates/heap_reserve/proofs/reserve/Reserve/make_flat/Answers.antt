@@ -10,6 +10,7 @@ use Rattle.heap_text.proofs.Pieces.{copy_answer}
 use Rattle.heap_reserve.specs.Making.{words_holding}
 use Rattle.heap_reserve.specs.Reserves.{HasEnough}
 use Rattle.heap_reserve.proofs.Kept.{reserve_kept}
+use Rattle.heap_reserve.proofs.Tried.{flat_made}
 use Rattle.heap_reserve.proofs.reserve.Reserve.make_flat.Goals as goal
 
 pub returns-in-None-clause-reserve : goal.returns-in-None-clause-reserve
@@ -31,3 +32,7 @@ returns-in-None-clause-made g c = let v : View = c.args.text.now.reader.agent.se
             (subst (λ (y : HeapSize). IfErr answer (λ f. LacksRoom w y (words_over (is_wide us) n) f)) same e.refused) e.spared,
       );
     }
+
+pub returns-in-Some-clause-form : goal.returns-in-Some-clause-form
+returns-in-Some-clause-form g c =
+    (flat_made c.args.text.now.reader.agent.seat.me.0 c.copy.new.reader.agent.seat.me.0 c.args.self.now c.copy.new.self (c.args.units.now) c.in-Some.s c.in-Some.ensures.made).form

@@ -8,6 +8,7 @@ use Rattle.heap_text.proofs.Owned.{own_reads, own_trans}
 use Rattle.heap_reserve.specs.Making.{IsLongCut, IsShortCut}
 use Rattle.heap_reserve.proofs.After.{cut_after}
 use Rattle.heap_reserve.proofs.Kept.{reserve_kept}
+use Rattle.heap_reserve.proofs.Tried.{cut_made, cut_told}
 use Rattle.heap_reserve.proofs.reserve.Reserve.slice.Goals as goal
 
 pub returns-in-Some-clause-cut : goal.returns-in-Some-clause-cut
@@ -37,3 +38,15 @@ returns-in-None-clause-cut g c us h = let v : View = c.args.text.now.reader.agen
         cut_after v u w z left.2 p from to us answer (subst (λ (y : HeapSize). IsCut u w y p from to us answer) same (c.slice.ensures.cut us (left.2.known.units p.id us h))),
       );
     }
+
+pub returns-in-Some-clause-units : goal.returns-in-Some-clause-units
+returns-in-Some-clause-units g c us h = (cut_made c.args.text.now.reader.agent.seat.me.0 c.try_slice.new.text.reader.agent.seat.me.0
+    c.args.self.now c.try_slice.new.self c.args.s c.args.from c.args.to us c.in-Some.t (c.in-Some.ensures.tried us h)).0
+
+pub returns-in-Some-clause-settled : goal.returns-in-Some-clause-settled
+returns-in-Some-clause-settled g c = let u = c.requires.within in (cut_made c.args.text.now.reader.agent.seat.me.0 c.try_slice.new.text.reader.agent.seat.me.0
+    c.args.self.now c.try_slice.new.self c.args.s c.args.from c.args.to u.0 c.in-Some.t (c.in-Some.ensures.tried u.0 u.1)).1
+
+pub returns-in-None-clause-units : goal.returns-in-None-clause-units
+returns-in-None-clause-units g c = cut_told c.args.text.now.reader.agent.seat.me.0 c.try_slice.new.text.reader.agent.seat.me.0 c.slice.new.self.reader.agent.seat.me.0
+    c.try_slice.ensures.continues.known c.args.s c.args.from c.args.to c.slice.result c.slice.ensures.units

@@ -1,0 +1,56 @@
+// Ids and content words that an agent claims in advance.
+ghost use Rattle.std.specs.Prelude.{◌≡◌, ◌≢◌, ◌↔◌};
+ghost use Rattle.heap_agents.specs.Ready.{IsReady};
+ghost use Rattle.heap_agents.specs.Spending.{handle_reserved_ids, handle_reserved_words};
+ghost use Rattle.jsstr_c.specs.Handles.{IsHandle};
+ghost use Rattle.jsstr_c.specs.Reports as reports;
+ghost use Rattle.jsstr_c.specs.Reserving.{IsReserving};
+
+use crate::agent::JsAgent;
+use crate::answer::{BAD_ARGUMENT, DONE, JsAnswer, JsTotals, bad_argument, without_totals};
+use crate::unchecked::reserving::{jsstr_reserve_unchecked, jsstr_reserved_unchecked};
+use std::alloc::Global;
+
+/// Claims so many content words in one piece, and then so many ids, from which later strings are taken.
+#[unsafe(no_mangle)]
+pub extern "C" fn jsstr_reserve(
+    alloc: Global,
+    agent: &mut JsAgent,
+    ids: u32,
+    words: u32,
+) -> JsAnswer
+    requires { IsHandle agent.old }
+    ensures handle { IsHandle agent.new }
+    ensures bad { result.status ≡ reports.BAD_ARGUMENT ↔ ¬ (IsReady agent.old.at.value) }
+    ensures unchanged { result.status ≡ reports.BAD_ARGUMENT
+        → (result ≡ reports.bad_argument) × (agent.new.at.value ≡ agent.old.at.value) }
+    ensures claims { result.status ≢ reports.BAD_ARGUMENT
+        → IsReserving agent.old.at.value agent.new.at.value ids words result }
+{
+    if agent.is_empty() {
+        return bad_argument();
+    }
+    jsstr_reserve_unchecked(alloc, agent, ids, words)
+}
+
+/// How many ids and content words of an agent were claimed in advance, and are left.
+#[unsafe(no_mangle)]
+pub extern "C" fn jsstr_reserved(alloc: Global, agent: &mut JsAgent) -> JsTotals
+    requires { IsHandle agent.old }
+    ensures handle { IsHandle agent.new }
+    ensures unchanged { agent.new.at.value ≡ agent.old.at.value }
+    ensures bad { result.status ≡ reports.BAD_ARGUMENT ↔ ¬ (IsReady agent.old.at.value) }
+    ensures status { result.status ≢ reports.BAD_ARGUMENT → result.status ≡ reports.DONE }
+    ensures ids { result.ids ≡ handle_reserved_ids agent.old.at.value }
+    ensures words { result.words ≡ handle_reserved_words agent.old.at.value }
+{
+    if agent.is_empty() {
+        return without_totals(BAD_ARGUMENT);
+    }
+    let kept = jsstr_reserved_unchecked(alloc, agent);
+    JsTotals {
+        status: DONE,
+        ids: kept.ids,
+        words: kept.words,
+    }
+}

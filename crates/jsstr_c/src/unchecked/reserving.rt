@@ -1,0 +1,45 @@
+// Ids and content words that an agent claims in advance.
+ghost use Rattle.std.specs.Prelude.{◌≡◌, ◌≢◌};
+ghost use Rattle.heap_agents.specs.Ready.{IsReady};
+ghost use Rattle.heap_agents.specs.Spending.{handle_reserved_ids, handle_reserved_words};
+ghost use Rattle.jsstr_c.specs.Handles.{IsHandle};
+ghost use Rattle.jsstr_c.specs.Reports as reports;
+ghost use Rattle.jsstr_c.specs.Reserving.{IsReserving};
+
+use crate::agent::JsAgent;
+use crate::answer::{JsAnswer, JsUse, of_reserve};
+use std::alloc::Global;
+
+/// Claims so many content words in one piece, and then so many ids, from which later strings are taken.
+#[unsafe(no_mangle)]
+pub extern "C" fn jsstr_reserve_unchecked(
+    alloc: Global,
+    agent: &mut JsAgent,
+    ids: u32,
+    words: u32,
+) -> JsAnswer
+    requires ready { IsReady agent.old.at.value }
+    ensures handle { IsHandle agent.new }
+    ensures told { result.status ≢ reports.BAD_ARGUMENT }
+    ensures claims { IsReserving agent.old.at.value agent.new.at.value ids words result }
+{
+    let mut held = agent.take(alloc);
+    let answer = held.reserve(ids, words);
+    agent.put(held);
+    of_reserve(answer)
+}
+
+/// How many ids and content words of an agent were claimed in advance, and are left.
+#[unsafe(no_mangle)]
+pub extern "C" fn jsstr_reserved_unchecked(alloc: Global, agent: &mut JsAgent) -> JsUse
+    requires ready { IsReady agent.old.at.value }
+    ensures handle { IsHandle agent.new }
+    ensures same { agent.new.at.value ≡ agent.old.at.value }
+    ensures ids { result.ids ≡ handle_reserved_ids agent.old.at.value }
+    ensures words { result.words ≡ handle_reserved_words agent.old.at.value }
+{
+    let held = agent.take(alloc);
+    let (ids, words) = held.reserved();
+    agent.put(held);
+    JsUse { ids, words }
+}

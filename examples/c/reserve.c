@@ -1,0 +1,120 @@
+/* Ids and words that an agent reserves, from which its later strings are taken: what is used, and when, and what becomes
+   of the rest; by calls in both forms, also where the heap is full but for what an agent reserved. Prints "ok". */
+#include "jsstr.h"
+#include <stdio.h>
+#include <stdlib.h>
+#include <string.h>
+
+#define CHECK(c) do { if (!(c)) { printf("line %d: %s\n", __LINE__, #c); exit(1); } } while (0)
+
+static const char LONG[] = "a string of 24 units, 3w";
+
+/* What all agents used, and what this one has in reserve. */
+static int has(jsstr_agent *a, uint32_t used_ids, uint32_t used_words, uint32_t ids, uint32_t words) {
+  jsstr_room room = jsstr_room_of(a);
+  jsstr_used kept = jsstr_reserved(a);
+  jsstr_use again = jsstr_reserved_unchecked(a);
+  CHECK(kept.status == JSSTR_DONE && again.ids == kept.ids && again.words == kept.words);
+  return room.ids == used_ids && room.words == used_words && kept.ids == ids && kept.words == words;
+}
+
+static int is_done(jsstr_answer s) { return s.status == JSSTR_DONE && !s.id && !s.at && !s.want && !s.end; }
+
+static int is_refused(jsstr_answer s, uint32_t status, uint32_t at, uint32_t want, uint32_t end) {
+  return s.status == status && !s.id && s.at == at && s.want == want && s.end == end;
+}
+
+static jsstr_answer made(jsstr_agent *a, const char *text) { return jsstr_from_latin1(a, (const uint8_t *)text, strlen(text)); }
+
+static jsstr_id id_of(jsstr_answer s) {
+  CHECK(s.status == JSSTR_DONE);
+  return s.id;
+}
+
+static jsstr_id interned(jsstr_agent *a, const char *text) { return id_of(jsstr_intern_latin1(a, (const uint8_t *)text, strlen(text))); }
+
+static int has_text(jsstr_agent *a, jsstr_id s, const char *text) { return jsstr_equals_latin1(a, s, (const uint8_t *)text, strlen(text)).holds; }
+
+/* Each kind of new string takes an id, in their order, and a copy its words; none uses anything. */
+static void take(void) {
+  jsstr_agent a = {0}, far = {0};
+  CHECK(jsstr_make((jsstr_size){100, 100, 7}, 1, 100, &a) == JSSTR_DONE && jsstr_make((jsstr_size){9, 9, 7}, 1, 100, &far) == JSSTR_DONE);
+  CHECK(has(&a, 0, 0, 0, 0) && is_done(jsstr_reserve(&a, 0, 0)) && has(&a, 0, 0, 0, 0));
+  CHECK(is_done(jsstr_reserve(&a, 8, 20)) && has(&a, 8, 20, 8, 20));
+  jsstr_id one = id_of(made(&a, LONG)), short_one = id_of(made(&a, "short"));
+  CHECK(one == 0 && short_one == 1 && has(&a, 8, 20, 6, 16));
+  jsstr_id rope = id_of(jsstr_concat(&a, one, short_one)), both = id_of(jsstr_concat_unchecked(&a, short_one, short_one));
+  CHECK(rope == 2 && both == 3 && has(&a, 8, 20, 4, 14) && has_text(&a, both, "shortshort"));
+  CHECK(has_text(&a, rope, "a string of 24 units, 3wshort") && has(&a, 8, 24, 4, 14)); /* settling takes nothing from these */
+  jsstr_id part = id_of(jsstr_slice(&a, one, 2, 20)), few = id_of(jsstr_slice_unchecked(&a, one, 2, 8));
+  CHECK(part == 4 && few == 5 && has(&a, 8, 24, 2, 13) && has_text(&a, part, "string of 24 units") && has_text(&a, few, "string"));
+  CHECK(id_of(jsstr_slice(&a, one, 0, 24)) == one && has(&a, 8, 24, 2, 13));
+  jsstr_id empty = id_of(made(&a, ""));
+  CHECK(id_of(jsstr_concat(&a, empty, one)) == one && has(&a, 8, 24, 1, 13));
+  CHECK(id_of(jsstr_copy_into(&a, both, &far)) == 0 && id_of(jsstr_copy_into(&far, 0, &a)) == 7 && has(&a, 8, 24, 0, 11));
+  CHECK(id_of(made(&a, "of its own")) == 8 && has(&a, 9, 26, 0, 11));
+  CHECK(jsstr_free(&a) == JSSTR_DONE && jsstr_free(&far) == JSSTR_DONE);
+}
+
+/* An id that isn't above a rope's sides, or above what is cut, is left for a string that is copied. */
+static void below(void) {
+  jsstr_agent a = {0};
+  CHECK(jsstr_make((jsstr_size){100, 100, 7}, 1, 100, &a) == JSSTR_DONE && is_done(jsstr_reserve_unchecked(&a, 2, 10)));
+  jsstr_id key = interned(&a, LONG);
+  CHECK(key == 2 && has(&a, 3, 13, 2, 10));
+  CHECK(id_of(jsstr_concat(&a, key, key)) == 3 && has(&a, 4, 13, 2, 10));
+  CHECK(id_of(jsstr_slice(&a, key, 1, 20)) == 4 && has(&a, 5, 13, 2, 10));
+  jsstr_id one = id_of(made(&a, "one"));
+  CHECK(one == 0 && has(&a, 5, 13, 1, 9) && id_of(jsstr_concat(&a, one, key)) == 5 && id_of(jsstr_concat(&a, key, one)) == 6);
+  CHECK(has(&a, 7, 13, 1, 9) && id_of(jsstr_slice(&a, key, 0, 3)) == 1 && has(&a, 7, 13, 0, 8));
+  CHECK(jsstr_free(&a) == JSSTR_DONE);
+}
+
+/* More than there is, all that there is, and words in two runs. */
+static void refuse(void) {
+  jsstr_agent a = {0}, none = {0};
+  CHECK(is_refused(jsstr_reserve(&none, 1, 1), JSSTR_BAD_ARGUMENT, 0, 0, 0) && jsstr_reserved(&none).status == JSSTR_BAD_ARGUMENT && !none.at);
+  CHECK(jsstr_make((jsstr_size){10, 20, 7}, 1, 100, &a) == JSSTR_DONE);
+  CHECK(is_refused(jsstr_reserve(&a, 3, 21), JSSTR_NO_WORDS, 0, 21, 20) && has(&a, 0, 0, 0, 0));
+  CHECK(is_refused(jsstr_reserve(&a, 3, UINT32_MAX), JSSTR_NO_WORDS, 0, UINT32_MAX, 20) && has(&a, 0, 0, 0, 0));
+  CHECK(is_done(jsstr_reserve(&a, 1, 3)) && is_done(jsstr_reserve(&a, 1, 2)) && has(&a, 2, 5, 2, 5));
+  CHECK(interned(&a, "key") == 2 && has(&a, 3, 6, 2, 5));
+  CHECK(is_done(jsstr_reserve(&a, 0, 4)) && has(&a, 3, 10, 2, 4)); /* the five words before are lost */
+  CHECK(is_refused(jsstr_reserve(&a, 8, 10), JSSTR_NO_IDS, 10, 1, 10) && has(&a, 10, 20, 9, 14));
+  CHECK(is_refused(jsstr_reserve(&a, 1, 0), JSSTR_NO_IDS, 10, 1, 10) && is_refused(jsstr_reserve(&a, 0, 1), JSSTR_NO_WORDS, 20, 1, 20));
+  CHECK(is_done(jsstr_reserve(&a, 0, 0)) && has(&a, 10, 20, 9, 14));
+  for (int i = 0; i < 4; i++) id_of(made(&a, LONG));
+  CHECK(has(&a, 10, 20, 5, 2) && is_refused(made(&a, LONG), JSSTR_NO_WORDS, 20, 3, 20) && has(&a, 10, 20, 5, 2));
+  for (int i = 0; i < 5; i++) id_of(made(&a, i < 2 ? "short" : ""));
+  CHECK(has(&a, 10, 20, 0, 0) && is_refused(made(&a, ""), JSSTR_NO_IDS, 10, 1, 10));
+  CHECK(jsstr_free(&a) == JSSTR_DONE);
+}
+
+/* Two agents: what one reserved the other can't use, and what goes over, or is lost, as they are joined or given back. */
+static void share(void) {
+  jsstr_agent a = {0}, b = {0};
+  CHECK(jsstr_make((jsstr_size){30, 30, 7}, 3, 100, &a) == JSSTR_DONE && is_done(jsstr_reserve(&a, 2, 4)));
+  CHECK(jsstr_split(&a, 1, &b) == JSSTR_DONE && has(&a, 2, 4, 2, 4) && has(&b, 2, 4, 0, 0));
+  CHECK(is_done(jsstr_reserve(&b, 3, 6)) && has(&b, 5, 10, 3, 6) && has(&a, 5, 10, 2, 4));
+  CHECK(jsstr_join(&a, &b) == JSSTR_DONE && !b.at && has(&a, 5, 10, 2, 4)); /* what b reserved is lost */
+  CHECK(id_of(made(&a, LONG)) == 0 && id_of(made(&a, "")) == 1 && has(&a, 5, 10, 0, 1));
+  CHECK(jsstr_split(&a, 1, &b) == JSSTR_DONE && is_done(jsstr_reserve(&b, 3, 6)) && has(&b, 8, 16, 3, 6));
+  jsstr_id theirs = id_of(made(&b, "theirs"));
+  CHECK(theirs == 5 && jsstr_join(&a, &b) == JSSTR_DONE && has(&a, 8, 16, 2, 1)); /* the ids go over */
+  CHECK(id_of(made(&a, "mine")) == 6 && has(&a, 8, 16, 1, 0) && has_text(&a, theirs, "theirs") && has_text(&a, 6, "mine"));
+  CHECK(jsstr_split(&a, 1, &b) == JSSTR_DONE && is_done(jsstr_reserve(&b, 3, 6)) && jsstr_join(&a, &b) == JSSTR_DONE && has(&a, 11, 22, 1, 6)); /* the words do */
+  CHECK(id_of(made(&a, LONG)) == 7 && has(&a, 11, 22, 0, 3));
+  CHECK(jsstr_split(&a, 1, &b) == JSSTR_DONE && is_refused(jsstr_reserve(&b, 40, 8), JSSTR_NO_IDS, 30, 1, 30) && has(&b, 30, 30, 19, 8));
+  CHECK(is_refused(made(&a, "a"), JSSTR_NO_WORDS, 30, 1, 30) && is_refused(made(&a, ""), JSSTR_NO_IDS, 30, 1, 30) && id_of(made(&b, LONG)) == 11);
+  CHECK(jsstr_free(&b) == JSSTR_DONE && has(&a, 30, 30, 0, 3) && is_refused(made(&a, ""), JSSTR_NO_IDS, 30, 1, 30)); /* what b reserved is lost */
+  CHECK(jsstr_free(&a) == JSSTR_DONE);
+}
+
+int main(void) {
+  take();
+  below();
+  refuse();
+  share();
+  puts("ok");
+  return 0;
+}
