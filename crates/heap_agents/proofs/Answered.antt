@@ -27,7 +27,8 @@ module _ (x : Held) (m : Option SharedText) (seats : Seats) (held : IsHeld x) (t
   left = record x { text = m; seats = seats }
 
   pub held_interned : (r : Result ℕ TableFull) → IsInternAnswer (view_by x) (view_if m) us (copy_plan us) r → IsHeld (record x { text = m; seats = seats })
-  held_interned r i = noted x m held there same (known_from v w us (copy_plan us) r i).units (calls_from v w us (copy_plan us) r i) (agents_from v w us (copy_plan us) r i) seats right (own_from v w us (copy_plan us) r i)
+  held_interned r i = noted x m held there same (known_from v w us (copy_plan us) r i).units (calls_from v w us (copy_plan us) r i) (agents_from v w us (copy_plan us) r i)
+      seats right (own_from v w us (copy_plan us) r i)
 
   pub held_found : (r : Option ℕ) → FindsString (view_by x) (view_if m) us r → IsHeld (record x { text = m; seats = seats })
   held_found r i = noted x m held there same (known_found v w us r i).units (calls_found v w us r i) (agents_found v w us r i) seats right (own_found v w us r i)

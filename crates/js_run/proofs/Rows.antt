@@ -269,7 +269,8 @@ honest_end : OneScript → NoneRefused → (words : List (List ℕ)) (ended : En
     → IsEnd (report_of v) ended.code old.sinks new.sinks → ended.kept ≡ kept_of v → IsDone words ended old new honest
 honest_end one none words ended old new honest BadWords why end kept = absurd why
 honest_end one none words ended old new honest (NotRead name) why end kept = absurd (counted old.files.faults new.files.faults why.once honest.given.calm)
-honest_end one none words ended old new honest (TooLarge name) why end kept = absurd (told_not_large honest.given.request old.files new.files honest.given.sources name honest.given.told honest.given.texts why)
+honest_end one none words ended old new honest (TooLarge name) why end kept =
+    absurd (told_not_large honest.given.request old.files new.files honest.given.sources name honest.given.told honest.given.texts why)
 honest_end one none words ended old new honest (Refused name fault) why end kept =
     let same = texts_same old.files.held honest.given.request.asked why.sources honest.given.sources honest.given.told why.texts honest.given.texts in
     absurd (none_refused one none honest.given.sources honest.trees name fault honest.spell (subst (λ (x : Program Named). FirstRefused x name fault) same why.cause))

@@ -21,7 +21,8 @@ returns-clause-noted c = let call = c.intern_units_noted in let s = c.args.seats
     let v : View = view_of t.reader.agent in let w : View = view_of call.new.reader.agent in let us : List ℕ = c.args.units.now in
     let len : length call.new.hashes ≡ c.reach_hashes.new.self.hashes.len = call.ensures.notes.room ∙ c.as_mut_slice-hashes.ensures.len in (
       subst (λ (q : List ℕ). AreSeats w q) (λ i. (sym c.reach_hashes.ensures.slots i).items)
-          (seats_kept v w t.reader.belongs.5 (known_from v w us (copy_plan us) call.result call.ensures.interns.answer) (sizes_from v w us (copy_plan us) call.result call.ensures.interns.answer) s.slots.items
+          (seats_kept v w t.reader.belongs.5 (known_from v w us (copy_plan us) call.result call.ensures.interns.answer)
+          (sizes_from v w us (copy_plan us) call.result call.ensures.interns.answer) s.slots.items
           (subst (λ (o : Option SharedText). AreSeats (view_if o) s.slots.items) c.in-Some.is c.requires.noted.0)),
       subst (λ (l : List ℕ). AreHashes w l) (sym (take_at call.new.hashes _ c.reach_hashes.new.self.hashes.len len)) call.ensures.notes.right,
     )

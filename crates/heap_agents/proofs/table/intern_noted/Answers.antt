@@ -10,12 +10,14 @@ use Rattle.heap_agents.proofs.table.intern_noted.Goals as goal
 
 pub intern_noted-requires-clause-seated : goal.intern_noted-requires-clause-seated
 intern_noted-requires-clause-seated c = let v = view_of c.in-Some.text.reader.agent in
-    subst (λ (l : List ℕ). AreSeats v l) (sym c.as_mut_slice.ensures.value) (same_seats v c.args.seats.now.slots.items c.reach_hashes.new.self.slots.items (λ i. (λ j. slice_index (c.reach_hashes.ensures.slots j).items i) ∙ c.reach.ensures.slots i)
+    subst (λ (l : List ℕ). AreSeats v l) (sym c.as_mut_slice.ensures.value) (same_seats v c.args.seats.now.slots.items c.reach_hashes.new.self.slots.items
+    (λ i. (λ j. slice_index (c.reach_hashes.ensures.slots j).items i) ∙ c.reach.ensures.slots i)
     (subst (λ (o : Option SharedText). AreSeats (view_if o) c.args.seats.now.slots.items) c.in-Some.is c.requires.noted.0))
 
 pub intern_noted-requires-clause-hashed : goal.intern_noted-requires-clause-hashed
 intern_noted-requires-clause-hashed c = let v = view_of c.in-Some.text.reader.agent in
-    subst (λ (l : List ℕ). AreHashes v l) (sym c.as_mut_slice-in-Some.ensures.value) (same_hashes v c.args.seats.now.hashes.items c.reach_hashes.new.self.hashes.items (λ k. c.reach_hashes.ensures.hashes k ∙ (λ j. slice_index (c.reach.ensures.hashes j).items k))
+    subst (λ (l : List ℕ). AreHashes v l) (sym c.as_mut_slice-in-Some.ensures.value) (same_hashes v c.args.seats.now.hashes.items c.reach_hashes.new.self.hashes.items
+    (λ k. c.reach_hashes.ensures.hashes k ∙ (λ j. slice_index (c.reach.ensures.hashes j).items k))
     (subst (λ (o : Option SharedText). AreHashes (view_if o) c.args.seats.now.hashes.items) c.in-Some.is c.requires.noted.1))
 
 pub returns-clause-noted : goal.returns-clause-noted

@@ -29,4 +29,5 @@ returns c = let call = c.intern_from-answer in let e = call.ensures in let mark 
 
 pub returns-in_err-id : goal.returns-in_err-id
 returns-in_err-id c = let call = c.intern_from-answer in let e = call.ensures in let p = err_from_is_err_and c.from_residual.result c.from_residual.ensures.1 in
-    rw (p.1, p.2) (refused_units c.args.self.now call.new.text call.new.seats c.requires.held e.there e.same e.noted (spelling_units c.args.source.now) c.in_err-id.field-0.0 c.in_err-id.ensures.interns)
+    rw (p.1, p.2) (refused_units c.args.self.now call.new.text call.new.seats c.requires.held e.there e.same e.noted (spelling_units c.args.source.now)
+    c.in_err-id.field-0.0 c.in_err-id.ensures.interns)
