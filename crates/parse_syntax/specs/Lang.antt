@@ -31,7 +31,6 @@ module _ {T : Type 0} where
     left : (a : List T) (x : A) → L a x → Either L M a x
     right : (a : List T) (x : A) → M a x → Either L M a x
 
-  -- the same between two alternatives of a production; ▸ and ◂ bind tighter
   infixr 4 ◌¦◌
   abbrev pub ◌¦◌ : {A : Type 0} → Lang T A → Lang T A → Lang T A
   L ¦ M = Either L M
