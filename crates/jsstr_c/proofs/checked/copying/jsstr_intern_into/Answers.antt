@@ -11,5 +11,5 @@ pub returns-clause-bad : goal.returns-clause-bad
 returns-clause-bad c = let told = c.jsstr_intern_into_unchecked.ensures.told in let one = c.settle_known-settled in let bad = one.ensures.bad in
     let full = c.is_empty.ensures.ready in let some = c.if-is_empty.false in let done : one.result.status ≡ 0 = omega (arith, c.if-settled-ne-DONE.false) in (
       λ x. absurd (told x),
-      λ n. let none : one.result.status ≡ 9 = bad.1 (λ a. let full_is = full.1 (λ b. n (a, b)) in absurd (grind (full_is, some))) in absurd (omega (arith, none, done)),
+      λ n. let none : one.result.status ≡ 9 = bad.1 (λ a. let full_is = full.1 (λ b. n (a, b)) in absurd (grind (arith, full_is, some))) in absurd (omega (arith, none, done)),
     )
