@@ -7,7 +7,6 @@ use Rattle.js_io.specs.Counts.{next_count}
 use Rattle.js_io.specs.declared.files.TheConstants.{FILE_MAX}
 use Rattle.js_io.specs.FilesState.{FilesState, IsTooLarge, IsToldAs}
 use Rattle.js_io.specs.SinkState.{SinkState, WritesAll}
-use Rattle.js_io.proofs.Prefixes.{Appends-nil}
 use Rattle.heap_core.specs.Core.{Core}
 use Rattle.heap_core.specs.Events.{IsSoundCore}
 use Rattle.heap_schedule.specs.declared.line.Line.{Line}
@@ -21,14 +20,6 @@ use Rattle.heap_schedule.specs.Outcome.{FileOutcome, HasPlayCause, IsFileRead, H
 use Rattle.heap_schedule.specs.Outcome.{bad_words, file_in, no_memory, not_of_form, not_read, play_status, play_report, stop_line, too_large, was_played}
 use Rattle.heap_schedule.proofs.Kept.{play_kept}
 use Rattle.js_io.specs.Report.{IsEnd, IsTold, Sinks, TakesAll, TakesUntil, Printed, sinks}
-
-takes_nothing : (a : SinkState) → TakesAll a a []
-takes_nothing a = record { took = Appends-nil a.taken; calm = refl }
-
--- a line was told, or a write of it failed
-pub told : {E : Type 0} (status : ℕ) (line : List ℕ) (r : Result Unit E) (out a b : SinkState) → WritesAll r a b line → IsTold status line status (sinks out a) (sinks out b)
-told status line (Ok done) out a b w = record { status = refl; silent = takes_nothing out; told = inl (record { took = w.all; calm = w.calm }) }
-told status line (Err e) out a b w = record { status = refl; silent = takes_nothing out; told = inr (record { took = w.prefix; once = w.once; counted = w.counted }) }
 
 module _ {E : Type 0} (lines n : ℕ) (bytes : List ℕ) (o p e f : SinkState) where
   -- a line isn't enabled, and telling it was cut

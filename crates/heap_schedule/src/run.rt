@@ -13,8 +13,9 @@ use crate::schedule::Schedule;
 use crate::show::show;
 use crate::text::{TextStop, read_schedule};
 use heap_core::{CoreState, Event, Refusal, apply};
-use itoa::Buffer;
-use js_io::{Failed, Files, ReadFault, Sink, write_all};
+use js_io::{
+    Failed, Files, ReadFault, Sink, tell_large, tell_refusal, tell_unread, write_all, write_number,
+};
 use js_units::NoMemory;
 use std::alloc::Global;
 
@@ -34,23 +35,6 @@ struct Shown {
     // the number of the line behind them
     next: usize,
     ghost next_is: { next ≡ played + 2 },
-}
-
-fn write_both<O: Sink>(sink: &mut O, first: &[u8], second: &[u8]) -> Result<(), Failed>
-    ensures { WritesAll result (O.state sink.old) (O.state sink.new) (first.now ++ second.now) }
-{
-    match write_all(sink, first) {
-        Ok(()) => write_all(sink, second),
-        Err(Failed) => Err(Failed),
-    }
-}
-
-// A number, and what follows it.
-fn write_number<O: Sink>(sink: &mut O, number: usize, behind: &[u8]) -> Result<(), Failed>
-    ensures { WritesAll result (O.state sink.old) (O.state sink.new) (decimal number ++ behind.now) }
-{
-    let mut digits = Buffer::new();
-    write_both(sink, digits.format(number).as_bytes(), behind)
 }
 
 fn begins_with_dash(name: &str) -> bool
@@ -131,27 +115,10 @@ fn tell_memory<E: Sink>(err: &mut E) -> u8
     ensures { (out : SinkState) → IsEnd (play_report no_memory) result
         (sinks out (E.state err.old)) (sinks out (E.state err.new)) }
 {
-    let _ = write_all(err, b"jssched: out of memory\n");
-    6
+    tell_refusal(err, b"jssched: out of memory\n", 6)
 }
 
-fn tell_unread<E: Sink>(err: &mut E, name: &str) -> u8
-    ensures { (out : SinkState) → IsEnd (play_report (not_read name.now)) result
-        (sinks out (E.state err.old)) (sinks out (E.state err.new)) }
-{
-    let _ = write_both(err, name.as_bytes(), b": cannot be read\n");
-    3
-}
-
-fn tell_large<E: Sink>(err: &mut E, name: &str) -> u8
-    ensures { (out : SinkState) → IsEnd (play_report (too_large name.now)) result
-        (sinks out (E.state err.old)) (sinks out (E.state err.new)) }
-{
-    let _ = write_both(err, name.as_bytes(), b": larger than 1048576 bytes\n");
-    3
-}
-
-#[tactic(auto, using(crate::proofs::Told::told))]
+#[tactic(auto, using(js_io::proofs::Told::told))]
 fn tell_refused<E: Sink>(err: &mut E, line: usize) -> u8
     ensures { (out : SinkState) → IsEnd (play_report (not_of_form line)) result
         (sinks out (E.state err.old)) (sinks out (E.state err.new)) }
@@ -224,10 +191,8 @@ pub fn run_schedule<F: Files, O: Sink, E: Sink>(
         Some(name) => Status {
             code: run_file(alloc, name, files, out, err),
         },
-        None => {
-            // a fault of err changes no status
-            let _ = write_all(err, b"jssched: the words are refused\n");
-            Status { code: 2 }
-        }
+        None => Status {
+            code: tell_refusal(err, b"jssched: the words are refused\n", 2),
+        },
     }
 }

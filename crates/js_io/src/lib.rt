@@ -6,7 +6,7 @@
 //! count rose by one, so code over the traits can't make one up. There are implementations in
 //! memory ([`MemFiles`], [`MemSink`]), which report all, over the runtime ([`HostFiles`],
 //! [`HostOut`], [`HostErr`]), which report no content, and a sink that keeps nothing
-//! ([`NullSink`]).
+//! ([`NullSink`]). Beside them are lines in pieces, and the reports where nothing was run.
 #![tactic(auto)]
 
 mod files;
@@ -16,6 +16,7 @@ mod mem_files;
 mod mem_sink;
 mod null_sink;
 mod sink;
+mod writing;
 
 pub use files::{FILE_MAX, Files, ReadFault};
 pub use gate::{FreeGate, Gate};
@@ -24,3 +25,4 @@ pub use mem_files::MemFiles;
 pub use mem_sink::MemSink;
 pub use null_sink::NullSink;
 pub use sink::{Failed, Sink, write_all};
+pub use writing::{tell_large, tell_refusal, tell_unread, write_both, write_number};

@@ -7,30 +7,14 @@ ghost use Rattle.js_run.specs.Cause.{names_in};
 ghost use Rattle.js_run.specs.Verdict.{BadWords, WasRun, count_line, end_line, end_lines, ends_of, err_of, full_text, kind_text, refused_line, out_of, report_of, status_of, status_or};
 ghost use Rattle.js_io.specs.Report.{IsEnd, sinks};
 
-use itoa::Buffer;
 use js_eval::{End, Kind};
-use js_io::{Failed, Sink, write_all};
+use js_io::{
+    Failed, Sink, tell_large, tell_refusal, tell_unread, write_all, write_both, write_number,
+};
 use js_parse::ParseFault;
 use js_store::FullReport;
 use run_program::{Outcome, Ran};
 use run_sources::{ScriptsFault, SourceText, Sources};
-
-fn write_both<O: Sink>(sink: &mut O, first: &[u8], second: &[u8]) -> Result<(), Failed>
-    ensures { WritesAll result (O.state sink.old) (O.state sink.new) (first.now ++ second.now) }
-{
-    match write_all(sink, first) {
-        Ok(()) => write_all(sink, second),
-        Err(Failed) => Err(Failed),
-    }
-}
-
-// A number, and what follows it.
-fn write_number<O: Sink>(sink: &mut O, number: u32, behind: &[u8]) -> Result<(), Failed>
-    ensures { WritesAll result (O.state sink.old) (O.state sink.new) (decimal number ++ behind.now) }
-{
-    let mut digits = Buffer::new();
-    write_both(sink, digits.format(number).as_bytes(), behind)
-}
 
 // A name, and then what precedes a place, the place and what follows it.
 fn write_place<O: Sink>(
@@ -44,7 +28,7 @@ fn write_place<O: Sink>(
         (name.now ++ (before.now ++ (decimal at ++ behind.now))) }
 {
     match write_both(sink, name.as_bytes(), before) {
-        Ok(()) => write_number(sink, at, behind),
+        Ok(()) => write_number(sink, at as usize, behind),
         Err(Failed) => Err(Failed),
     }
 }
@@ -121,7 +105,7 @@ fn write_count<O: Sink>(out: &mut O, interned: Option<u32>) -> Result<(), Failed
     match interned {
         None => Ok(()),
         Some(count) => match write_all(out, b"interned ") {
-            Ok(()) => write_number(out, count, b"\n"),
+            Ok(()) => write_number(out, count as usize, b"\n"),
             Err(Failed) => Err(Failed),
         },
     }
@@ -225,9 +209,7 @@ pub(crate) fn tell_words<E: Sink>(err: &mut E) -> u8
     ensures { (out : SinkState) → IsEnd (report_of BadWords) result
         (sinks out (E.state err.old)) (sinks out (E.state err.new)) }
 {
-    // a fault of err changes no status
-    let _ = write_all(err, b"jsstr: the words are refused\n");
-    2
+    tell_refusal(err, b"jsstr: the words are refused\n", 2)
 }
 
 // Writes the line of a file that is no script.
@@ -245,23 +227,14 @@ pub(crate) fn tell_stop<E: Sink>(stop: ScriptsFault<'_>, err: &mut E) -> u8
     ensures { (out : SinkState) → IsEnd (stop_report stop.entry) result
         (sinks out (E.state err.old)) (sinks out (E.state err.new)) }
 {
-    // a fault of err changes no status
     match stop {
-        ScriptsFault::NotRead(name) => {
-            let _ = write_both(err, name.as_bytes(), b": cannot be read\n");
-            3
-        }
-        ScriptsFault::TooLarge(name) => {
-            let _ = write_both(err, name.as_bytes(), b": larger than 1048576 bytes\n");
-            3
-        }
+        ScriptsFault::NotRead(name) => tell_unread(err, name),
+        ScriptsFault::TooLarge(name) => tell_large(err, name),
         ScriptsFault::Refused(name, fault) => {
+            // a fault of err changes no status
             let _ = write_refusal(err, name, fault);
             4
         }
-        ScriptsFault::NoMemory => {
-            let _ = write_all(err, b"jsstr: out of memory\n");
-            6
-        }
+        ScriptsFault::NoMemory => tell_refusal(err, b"jsstr: out of memory\n", 6),
     }
 }

@@ -16,6 +16,6 @@ mod words;
 pub use chars::split_char;
 pub use marks::{first_from, lanes_from};
 pub use packing::{has_wide, hash_units, pack};
-pub use text::{append_utf8, code_point, is_lead, is_trail, is_trimmed};
+pub use text::{append_utf8, code_point, is_lead, is_trail, is_trimmed, split_point};
 pub use units::{NoMemory, Units};
 pub use words::{hash_step, lane, lane_size, lanes, set_lane, word_and_lane, words_for};

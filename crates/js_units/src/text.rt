@@ -1,6 +1,6 @@
 // What a single unit is, and the UTF-8 of a list of units.
-ghost use Rattle.std.specs.Prelude.{◌≡◌, ◌++◌, [], ◌∷◌, ◌<◌, ◌≤◌, length, take, All, IsTrue, IfOk, OnOk, OnErr, MatchOption};
-ghost use Rattle.js_units.specs.Text.{pair_value, points, utf8, well};
+ghost use Rattle.std.specs.Prelude.{◌≡◌, ◌++◌, [], ◌∷◌, ◌<◌, ◌≤◌, length, take, All, IsTrue, IfOk, IfSome, OnOk, OnErr, MatchOption, ◌+◌};
+ghost use Rattle.js_units.specs.Text.{alone, pair_value, points, utf16_of, utf8, well};
 ghost use Rattle.js_units.specs.Text;
 
 use crate::units::NoMemory;
@@ -40,30 +40,34 @@ pub fn is_trimmed(unit: u16) -> bool
     }
 }
 
-/// The first character of the well-formed list, and the units behind it.
-fn split_point(units: &[u16]) -> Option<(char, &[u16])>
-    ensures { MatchOption result (length units.now ≡ 0)
-        (λ p. (points (well units.now) ≡ p.0 ∷ points (well p.1.now)) × (length p.1.now < length units.now)) }
+/// The first code point, an unpaired surrogate as itself, and the units behind it (ECMA-262,
+/// "CodePointAt").
+pub fn split_point(units: &[u16]) -> Option<(u32, &[u16])>
+    ensures range { IfSome result (λ p. p.0 < 0x110000) }
+    ensures parts { MatchOption result (length units.now ≡ 0)
+        (λ p. (points units.now ≡ p.0 ∷ points p.1.now)
+        × (length units.now ≡ length (utf16_of p.0) + length p.1.now)
+        × (length p.1.now < length units.now)) }
+    ensures well_formed { IfSome result
+        (λ p. points (well units.now) ≡ alone p.0 ∷ points (well p.1.now)) }
 {
     let first = *units.first()?;
     let rest = &units[1..];
-    if !is_lead(first) {
-        return Some((alone(first), rest));
-    }
     match rest.first() {
-        Some(second) if is_trail(*second) => {
-            let c = char::from_u32(code_point(first, *second)).unwrap_or('\u{FFFD}');
-            Some((c, &rest[1..]))
+        Some(second) if is_lead(first) && is_trail(*second) => {
+            Some((code_point(first, *second), &rest[1..]))
         }
-        _ => Some(('\u{FFFD}', rest)),
+        _ => Some((u32::from(first), rest)),
     }
 }
 
-/// A unit that is in no pair as a character, U+FFFD where it is a surrogate.
-fn alone(unit: u16) -> char
-    ensures { result ≡ Text.alone unit }
+/// The first character of the well-formed list, and the units behind it.
+fn split_well(units: &[u16]) -> Option<(char, &[u16])>
+    ensures { MatchOption result (length units.now ≡ 0)
+        (λ p. (points (well units.now) ≡ p.0 ∷ points (well p.1.now)) × (length p.1.now < length units.now)) }
 {
-    char::from_u32(u32::from(unit)).unwrap_or('\u{FFFD}')
+    let (point, rest) = split_point(units)?;
+    Some((char::from_u32(point).unwrap_or('\u{FFFD}'), rest))
 }
 
 /// How many units in front are ASCII.
@@ -107,7 +111,7 @@ fn push_front<'a>(units: &'a [u16], out: &mut Vec<u8>) -> Result<Option<&'a [u16
         push_ascii(&units[..ascii], out)?;
         return Ok(Some(&units[ascii..]));
     }
-    let Some((c, rest)) = split_point(units) else {
+    let Some((c, rest)) = split_well(units) else {
         return Ok(None);
     };
     let mut room = [0; 4];

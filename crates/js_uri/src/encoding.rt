@@ -8,25 +8,7 @@ ghost use Rattle.js_uri.specs.Steps.{escapes};
 ghost use Rattle.js_uri.specs.Encoding;
 
 use crate::sets::UriPart;
-use js_units::{NoMemory, Units, code_point, is_lead, is_trail};
-
-// The first code point, an unpaired surrogate as itself, and the units behind it.
-fn split_point(units: &[u16]) -> Option<(u32, &[u16])>
-    ensures range { IfSome result (λ p. p.0 < 0x110000) }
-    ensures parts { MatchOption result (length units.now ≡ 0)
-        (λ p. (points units.now ≡ p.0 ∷ points p.1.now)
-        × (length units.now ≡ length (utf16_of p.0) + length p.1.now)
-        × (length p.1.now < length units.now)) }
-{
-    let first = *units.first()?;
-    let rest = &units[1..];
-    match rest.first() {
-        Some(second) if is_lead(first) && is_trail(*second) => {
-            Some((code_point(first, *second), &rest[1..]))
-        }
-        _ => Some((u32::from(first), rest)),
-    }
-}
+use js_units::{NoMemory, Units, split_point};
 
 // A hexadecimal digit, in upper case.
 fn hex(digit: u8) -> u8

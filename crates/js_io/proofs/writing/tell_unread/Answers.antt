@@ -1,5 +1,5 @@
-use Rattle.heap_schedule.proofs.Told.{told}
-use Rattle.heap_schedule.proofs.run.tell_unread.Goals as goal
+use Rattle.js_io.proofs.Told.{told}
+use Rattle.js_io.proofs.writing.tell_unread.Goals as goal
 
 pub returns : goal.returns
 returns g c =

@@ -1,5 +1,5 @@
 use Rattle.js_io.proofs.Prefixes.{then_second}
-use Rattle.heap_schedule.proofs.run.write_both.Goals as goal
+use Rattle.js_io.proofs.writing.write_both.Goals as goal
 
 pub returns-in-Ok : goal.returns-in-Ok
 returns-in-Ok g c =

@@ -1,4 +1,4 @@
-use Rattle.js_run.proofs.telling.write_number.Goals as goal
+use Rattle.js_io.proofs.writing.write_number.Goals as goal
 
 pub returns : goal.returns
 returns g c = rw (c.as_bytes.ensures.value, c.format.ensures.text) at c.write_both.ensures
