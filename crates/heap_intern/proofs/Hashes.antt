@@ -3,6 +3,7 @@ use Rattle.std.proofs.Common.{◌≡◌, ◌≢◌, ℕ, zero, suc, ◌+◌, ◌
 use Rattle.std.specs.Prelude.{length, max, slice_index, unwrap_or}
 use Rattle.std.specs.FinMap.{FinMap, get}
 use Rattle.std.specs.Ordering.{nat_cmp}
+use Rattle.std.proofs.lemmas.Bool.{cases_lt}
 use Rattle.std.proofs.Math.Nat.{mod-eq_of_lt, add-mod_right}
 use Rattle.js_units.specs.Lanes.{hash_of}
 use Rattle.heap_rule.specs.declared.view.View.{View}
@@ -182,6 +183,13 @@ module _ (hashes : List ℕ) (start n mark r m : ℕ) where
       → (j : ℕ) → r ≤ j → j < r + m → IsNotedApart hashes ((start + j) % n) mark
   apart_over from small place within apart j l s = let at : start + j ≡ from + (j - r) + n = omega arith in let e = wrap_over start j n (from + (j - r)) at (omega arith) in
       subst (λ (k : ℕ). IsNotedApart hashes k mark) (sym e) (apart (j - r) (omega arith))
+
+-- slots up to one, and some from it on
+pub apart_both : (hashes : List ℕ) (from mid b mark : ℕ) → from ≤ mid → ((i : ℕ) → from + i < mid → IsNotedApart hashes (from + i) mark)
+    → ((i : ℕ) → i < b → IsNotedApart hashes (mid + i) mark) → (i : ℕ) → from + i < mid + b → IsNotedApart hashes (from + i) mark
+apart_both hashes from mid b mark reach f g i l = ⊎_elim (λ (s : from + i < mid). f i s)
+    (λ (s : mid ≤ from + i). let e : mid + (from + i - mid) ≡ from + i = omega arith in subst (λ (k : ℕ). IsNotedApart hashes k mark) e (g (from + i - mid) (omega arith)))
+    (cases_lt (from + i) mid)
 
 pub near_under : (hashes : List ℕ) (start n mark r m : ℕ) → start + r + m < n → (IsNotedApart hashes (start + r + m) mark → ⊥) → IsNotedApart hashes ((start + (r + m)) % n) mark → ⊥
 near_under hashes start n mark r m l near h = let e = wrap_none start (r + m) n (omega arith) in let at : start + (r + m) ≡ start + r + m = omega arith in

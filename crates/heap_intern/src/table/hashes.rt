@@ -1,6 +1,6 @@
 // Hashes of strings by their slots. A string stays in its slot, so an agent that has noted what it hashes to
 // knows from then on that it isn't one with another hash.
-ghost use Rattle.std.specs.Prelude.{◌≡◌, ◌⊎◌, ℕ, ◌+◌, ◌%◌, ◌≤◌, ◌<◌, ◌^◌, length, slice_index};
+ghost use Rattle.std.specs.Prelude.{◌≡◌, ◌⊎◌, ℕ, ◌+◌, ◌%◌, ◌≤◌, ◌<◌, ◌^◌, IsTrue, length, slice_index};
 ghost use Rattle.heap_intern.specs.Hashes.{IsNotedApart};
 
 // Notes the hash of the string in a slot, where there is room for its number.
@@ -16,6 +16,54 @@ pub(crate) fn note_hash(hashes: &mut [u32], slot: u32, mark: u32)
     }
 }
 
+// How many hashes are compared at once.
+const BLOCK: usize = 16;
+
+// Whether each slot of a block is noted with another hash. It compares all of them, without a branch.
+fn is_block_apart(hashes: &[u32], at: usize, mark: u32) -> bool
+    requires { at + BLOCK ≤ length hashes.now }
+    ensures { IsTrue result → (i : ℕ) → i < BLOCK → IsNotedApart hashes.now (at + i) mark }
+{
+    let block = &hashes[at..at + BLOCK];
+    let mut apart = true;
+    for i in 0..BLOCK {
+        let hash = block[i];
+        apart = apart & (hash != 0) & (hash != mark);
+    }
+    apart
+}
+
+// How many slots from one on, and before another, are noted with another hash, by whole blocks.
+fn count_blocks(hashes: &[u32], from: usize, to: usize, mark: u32) -> usize
+    requires range { from ≤ to }
+    requires room { to ≤ length hashes.now }
+    ensures within { from + result ≤ to }
+    ensures apart { (i : ℕ) → i < result → IsNotedApart hashes.now (from + i) mark }
+{
+    let mut at = from;
+    while to - at >= BLOCK && is_block_apart(hashes, at, mark) {
+        at += BLOCK;
+    }
+    at - from
+}
+
+// How many slots from one on, and before another, are noted with another hash, up to the first that isn't.
+fn count_singly(hashes: &[u32], from: usize, to: usize, mark: u32) -> usize
+    requires range { from ≤ to }
+    requires room { to ≤ length hashes.now }
+    ensures within { from + result ≤ to }
+    ensures apart { (i : ℕ) → i < result → IsNotedApart hashes.now (from + i) mark }
+    ensures last { from + result < to → IsNotedApart hashes.now (from + result) mark → ⊥ }
+{
+    for slot in from..to {
+        let hash = hashes[slot];
+        if hash == 0 || hash == mark {
+            return slot - from;
+        }
+    }
+    to - from
+}
+
 // How many slots from one on, and before another, are noted with another hash, up to the first that isn't.
 fn count_apart(hashes: &[u32], from: u32, to: u32, mark: u32) -> u32
     requires { from ≤ to }
@@ -23,13 +71,14 @@ fn count_apart(hashes: &[u32], from: u32, to: u32, mark: u32) -> u32
     ensures apart { (i : ℕ) → i < result → IsNotedApart hashes.now (from + i) mark }
     ensures last { from + result < to → IsNotedApart hashes.now (from + result) mark → ⊥ }
 {
-    for slot in from..to {
-        let place = slot as usize;
-        if place >= hashes.len() || hashes[place] == 0 || hashes[place] == mark {
-            return slot - from;
-        }
+    let start = from as usize;
+    let end = hashes.len().min(to as usize);
+    if end <= start {
+        return 0;
     }
-    to - from
+    let blocks = count_blocks(hashes, start, end, mark);
+    let singles = count_singly(hashes, start + blocks, end, mark);
+    (blocks + singles) as u32
 }
 
 // The first rank from one on whose slot isn't noted with another hash; n where there is none.
