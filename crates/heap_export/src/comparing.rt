@@ -43,13 +43,63 @@ fn compare_front<H: HeapRef>(text: &mut Text<H>, w: Window, units: &[u16], size:
     ensures order { (us : List ℕ) → IsWindow (view_of text.old.reader.agent) w us
         → units_cmp us units.now ≡ ordering_then result (units_cmp (drop size us) (drop size units.now)) }
 {
-    for i in 0..size {
-        let order = unit(text, w, i).cmp(&units[i as usize]);
+    if size > FEW {
+        return compare_long_front(text, w, units, size);
+    }
+    let mut room = [0; 32];
+    compare_span(text, w, units, 0, &mut room[..size as usize])
+}
+
+// The same by blocks of many units.
+fn compare_long_front<H: HeapRef>(
+    text: &mut Text<H>,
+    w: Window,
+    units: &[u16],
+    size: u32,
+) -> Ordering
+    requires window { (us : List ℕ) × IsWindow (view_of text.old.reader.agent) w us }
+    requires left_long { size ≤ w.len }
+    requires right_long { size ≤ length units.now }
+    ensures kept { KeepsText text.old text.new }
+    ensures loads { LoadsWords (view_of text.old.reader.agent) (view_of text.new.reader.agent) }
+    ensures order { (us : List ℕ) → IsWindow (view_of text.old.reader.agent) w us
+        → units_cmp us units.now ≡ ordering_then result (units_cmp (drop size us) (drop size units.now)) }
+{
+    let mut room = [0; 256];
+    let mut at = 0;
+    while at < size {
+        let count = MANY.min(size - at);
+        let order = compare_span(text, w, units, at, &mut room[..count as usize]);
         if order != Ordering::Equal {
             return order;
         }
+        at += count;
     }
     Ordering::Equal
+}
+
+// The order of the units of both from place `from` on, as many as there is room for.
+fn compare_span<H: HeapRef>(
+    text: &mut Text<H>,
+    w: Window,
+    units: &[u16],
+    from: u32,
+    room: &mut [u16],
+) -> Ordering
+    requires window { (us : List ℕ) × IsWindow (view_of text.old.reader.agent) w us }
+    requires left_long { from + length room.old ≤ w.len }
+    requires right_long { from + length room.old ≤ length units.now }
+    ensures kept { KeepsText text.old text.new }
+    ensures loads { LoadsWords (view_of text.old.reader.agent) (view_of text.new.reader.agent) }
+    ensures order { (us : List ℕ) → IsWindow (view_of text.old.reader.agent) w us
+        → units_cmp (drop from us) (drop from units.now) ≡ ordering_then result
+        (units_cmp (drop (from + length room.old) us) (drop (from + length room.old) units.now)) }
+{
+    let at = from as usize;
+    let given = &units[at..at + room.len()];
+    text.read_in(w, from, room);
+    let shown: &[u16] = room;
+    shown.cmp(given)
 }
 
 /// Whether a string has just these units.
@@ -78,12 +128,7 @@ fn shows<H: HeapRef>(text: &mut Text<H>, w: Window, units: &[u16]) -> bool
     ensures same { (us : List ℕ) → IsWindow (view_of text.old.reader.agent) w us
         → IsTrue result ↔ (us ≡ units.now) }
 {
-    for i in 0..w.len {
-        if unit(text, w, i) != units[i as usize] {
-            return false;
-        }
-    }
-    true
+    compare_front(text, w, units, w.len) == Ordering::Equal
 }
 
 /// The order of two settled strings by units, where a proper prefix comes first.

@@ -19,3 +19,4 @@ pub mod ShiftedLanes
 pub mod Narrowness
 pub mod LanesAtOnce
 pub mod Fronts
+pub mod Turns

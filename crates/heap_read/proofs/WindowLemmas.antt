@@ -1,5 +1,5 @@
 -- Reading the units of a window a word at a time.
-use Rattle.std.proofs.Common.{◌≡◌, ℕ, ◌+◌, ◌-◌, ◌%◌, ◌<◌, ◌≤◌, Bool, true, false, refl, subst, List, ◌++◌, length, get_or, sym, ap, ◌∙◌, arith, ⊎_elim}
+use Rattle.std.proofs.Common.{◌≡◌, ℕ, ◌+◌, ◌-◌, ◌%◌, ◌<◌, ◌≤◌, Bool, refl, subst, List, ◌++◌, length, get_or, sym, ap, ◌∙◌, arith, ⊎_elim}
 use Rattle.std.specs.Prelude.{slice_range, take, drop}
 use Rattle.std.proofs.Common.{get_or-take, get_or-drop}
 use Rattle.std.proofs.lemmas.Bool.{cases_lt}
@@ -65,11 +65,6 @@ whole_on w us i word wide e shows z k l m =
     let z' : (w.offset + i) % lane_count w.wide ≡ 0 = subst (λ (b : Bool). (w.offset + i) % lane_count b ≡ 0) e z in
     let l' : k < lane_count w.wide = subst (λ (b : Bool). k < lane_count b) e l in
     ap (λ (b : Bool). lane_of b word k) e ∙ first_on w us i word ((w.offset + i) % lane_count w.wide) shows refl z' k l' m
-
--- the first unit behind such a word is in a lowest lane too
-pub next_lowest : (wide : Bool) (o from i n : ℕ) → (o + (from + i)) % lane_count wide ≡ 0 → n ≡ lane_count wide → (o + (from + (i + n))) % lane_count wide ≡ 0
-next_lowest true o from i n z e = omega arith
-next_lowest false o from i n z e = omega arith
 
 -- what was searched before, and the word
 pub none_on : (us : List ℕ) (unit from i next : ℕ) → ((k : ℕ) → from ≤ k → k < i → get_or us k 0 ≡ unit → ⊥) → ((k : ℕ) → i ≤ k → k < next →

@@ -1,11 +1,13 @@
 // Comparing the units of two windows, a word at a time.
-ghost use Rattle.std.specs.Prelude.{◌≡◌, ◌≢◌, ℕ, List, ◌+◌, ◌%◌, ◌<◌, ◌≤◌, ◌^◌, slice_index};
+ghost use Rattle.std.specs.Prelude.{◌≡◌, ◌≢◌, ℕ, List, ◌+◌, ◌*◌, ◌/◌, ◌%◌, ◌<◌, ◌≤◌, ◌^◌, IsTrue, slice_index};
 ghost use Rattle.std.specs.Bool.{MatchBool};
 ghost use Rattle.js_units.specs.Lanes.{lane_count};
+ghost use Rattle.heap_rule.specs.Layout.{content_at};
+ghost use Rattle.heap_table.specs.Agents.{size_of};
 ghost use Rattle.heap_read.specs.Frozen.{HasOther, HasUnits, IsLearned};
 ghost use Rattle.heap_read.specs.Readers.{MovesView, view_in};
 ghost use Rattle.heap_read.specs.Reads.{KeepsForms, OnlyLoads};
-ghost use Rattle.heap_read.specs.Windows.{IsFrozenWindow, IsWindow};
+ghost use Rattle.heap_read.specs.Windows.{BeginsWord, IsFrozenWindow, IsWindow};
 ghost use Rattle.heap_read.specs.Written.{HasAt, held_unit};
 
 use crate::heap_ref::HeapRef;
@@ -88,20 +90,16 @@ impl<H: HeapRef> Reader<H> {
         if a.wide != b.wide || left > 0 || right > 0 {
             return 0;
         }
-        if a.wide {
-            return self.same_lanes(a, b, true, most);
-        }
-        self.same_lanes(a, b, false, most)
+        self.same_lanes(a, b, most)
     }
 
-    // The same with the width of the lanes, so that there is a loop for each of the two.
-    #[inline(always)]
-    fn same_lanes(&mut self, a: Window, b: Window, wide: bool, most: u32) -> u32
+    // The same of windows that begin with a word and whose lanes are as wide.
+    fn same_lanes(&mut self, a: Window, b: Window, most: u32) -> u32
         requires left { (us : List ℕ) × IsWindow (view_in self.old) a us }
         requires right { (vs : List ℕ) × IsWindow (view_in self.old) b vs }
         requires within { (most ≤ a.len) × (most ≤ b.len) }
-        requires wide { (wide ≡ a.wide) × (wide ≡ b.wide) }
-        requires lowest { (a.offset % lane_count wide ≡ 0) × (b.offset % lane_count wide ≡ 0) }
+        requires alike { a.wide ≡ b.wide }
+        requires lowest { (a.offset % lane_count a.wide ≡ 0) × (b.offset % lane_count b.wide ≡ 0) }
         ensures reads { MovesView OnlyLoads self.old self.new }
         ensures forms { KeepsForms (view_in self.old) (view_in self.new) }
         ensures most { result ≤ most }
@@ -113,16 +111,20 @@ impl<H: HeapRef> Reader<H> {
             return 0;
         }
         let first = self.heap.heap().first_content();
-        let size = lanes(wide);
+        let size = lanes(a.wide);
         let (left_number, _) = word_and_lane(a.wide, a.offset);
         let (right_number, _) = word_and_lane(b.wide, b.offset);
         let mut left_at = a.start + left_number;
         let mut right_at = b.start + right_number;
         let mut i = 0;
         while i < most {
-            let left = self.word_from(first, left_at, a, i);
-            let right = self.word_from(first, right_at, b, i);
-            if left != right {
+            if self.same_four(a, b, i, most, first, left_at, right_at) {
+                i += 4 * size;
+                left_at += 4;
+                right_at += 4;
+                continue;
+            }
+            if !self.same_word(a, b, i, first, left_at, right_at) {
                 return i;
             }
             i += size;
@@ -130,6 +132,76 @@ impl<H: HeapRef> Reader<H> {
             right_at += 1;
         }
         most
+    }
+
+    // Whether there are four more words of units below place `most`, and they are the same in two windows. In
+    // both unit `i` is the first one of a content word, `left` and `right`.
+    #[inline(always)]
+    fn same_four(
+        &mut self,
+        a: Window,
+        b: Window,
+        i: u32,
+        most: u32,
+        first: usize,
+        left: u32,
+        right: u32,
+    ) -> bool
+        requires left { (us : List ℕ) × IsWindow (view_in self.old) a us }
+        requires right { (vs : List ℕ) × IsWindow (view_in self.old) b vs }
+        requires within { (i < most) × (most ≤ a.len) × (most ≤ b.len) }
+        requires alike { a.wide ≡ b.wide }
+        requires first { first ≡ content_at (size_of (H.reached self.old.heap)) 0 }
+        requires places { BeginsWord a i left × BeginsWord b i right }
+        ensures reads { MovesView OnlyLoads self.old self.new }
+        ensures forms { KeepsForms (view_in self.old) (view_in self.new) }
+        ensures within { IsTrue result → i + 4 * lane_count a.wide ≤ most }
+        ensures same { IsTrue result → (us vs : List ℕ) → IsWindow (view_in self.old) a us
+            → IsWindow (view_in self.old) b vs
+            → (k : ℕ) → k < 4 * lane_count a.wide → slice_index us (i + k) ≡ slice_index vs (i + k) }
+    {
+        let size = lanes(a.wide);
+        if most - i < 4 * size {
+            return false;
+        }
+        if !self.same_word(a, b, i, first, left, right) {
+            return false;
+        }
+        if !self.same_word(a, b, i + size, first, left + 1, right + 1) {
+            return false;
+        }
+        if !self.same_word(a, b, i + 2 * size, first, left + 2, right + 2) {
+            return false;
+        }
+        self.same_word(a, b, i + 3 * size, first, left + 3, right + 3)
+    }
+
+    // The same of one word, of which the windows may have fewer units than it has lanes.
+    #[inline(always)]
+    fn same_word(
+        &mut self,
+        a: Window,
+        b: Window,
+        i: u32,
+        first: usize,
+        left: u32,
+        right: u32,
+    ) -> bool
+        requires left { (us : List ℕ) × IsWindow (view_in self.old) a us }
+        requires right { (vs : List ℕ) × IsWindow (view_in self.old) b vs }
+        requires within { (i < a.len) × (i < b.len) }
+        requires alike { a.wide ≡ b.wide }
+        requires first { first ≡ content_at (size_of (H.reached self.old.heap)) 0 }
+        requires places { BeginsWord a i left × BeginsWord b i right }
+        ensures reads { MovesView OnlyLoads self.old self.new }
+        ensures forms { KeepsForms (view_in self.old) (view_in self.new) }
+        ensures same { IsTrue result → (us vs : List ℕ) → IsWindow (view_in self.old) a us
+            → IsWindow (view_in self.old) b vs → (k : ℕ) → k < lane_count a.wide → i + k < a.len
+            → i + k < b.len → slice_index us (i + k) ≡ slice_index vs (i + k) }
+    {
+        let one = self.word_from(first, left, a, i);
+        let other = self.word_from(first, right, b, i);
+        one == other
     }
 }
 

@@ -6,7 +6,7 @@ ghost use Rattle.heap_table.specs.Agents.{size_of};
 ghost use Rattle.heap_read.specs.Readers.{MovesView, view_in};
 ghost use Rattle.heap_read.specs.Reads.{KeepsForms, OnlyLoads};
 ghost use Rattle.js_units.specs.Units.{IsFirstUnit};
-ghost use Rattle.heap_read.specs.Windows.{IsFrozenWindow, IsWindow};
+ghost use Rattle.heap_read.specs.Windows.{BeginsWord, IsFrozenWindow, IsWindow};
 ghost use Rattle.heap_read.specs.Written.{ShowsFrom, ShowsOn};
 
 use crate::heap_ref::HeapRef;
@@ -56,26 +56,18 @@ impl<H: HeapRef> Reader<H> {
             → slice_index into.new k ≡ slice_index us (from + k) }
     {
         if w.wide {
-            return self.lanes_into(w, true, from, into, done);
+            return self.lanes_into(Window { wide: true, ..w }, from, into, done);
         }
-        self.lanes_into(w, false, from, into, done)
+        self.lanes_into(Window { wide: false, ..w }, from, into, done)
     }
 
-    // The same with the width of the lanes, so that there is a loop for each of the two.
+    // The same, inlined for each width of the lanes, so that there is a loop for each of the two.
     #[inline(always)]
-    fn lanes_into(
-        &mut self,
-        w: Window,
-        wide: bool,
-        from: u32,
-        into: &mut [u16],
-        done: usize,
-    ) -> usize
+    fn lanes_into(&mut self, w: Window, from: u32, into: &mut [u16], done: usize) -> usize
         requires window { (us : List ℕ) × IsWindow (view_in self.old) w us }
-        requires wide { wide ≡ w.wide }
         requires within { from + length into.old ≤ w.len }
-        requires lowest { (w.offset + (from + done)) % lane_count wide ≡ 0 }
-        requires room { done + lane_count wide ≤ length into.old }
+        requires lowest { (w.offset + (from + done)) % lane_count w.wide ≡ 0 }
+        requires room { done + lane_count w.wide ≤ length into.old }
         ensures reads { MovesView OnlyLoads self.old self.new }
         ensures forms { KeepsForms (view_in self.old) (view_in self.new) }
         ensures more { (done < result) × (result ≤ length into.old) }
@@ -84,17 +76,70 @@ impl<H: HeapRef> Reader<H> {
             → slice_index into.new k ≡ slice_index us (from + k) }
     {
         let first = self.heap.heap().first_content();
-        let size = lanes(wide) as usize;
+        let size = lanes(w.wide) as usize;
         let (number, _) = word_and_lane(w.wide, w.offset + (from + done as u32));
         let mut at = w.start + number;
         let mut next = done;
         while into.len() - next >= size {
-            let word = self.word_from(first, at, w, from + next as u32);
-            put_word(into, next, word, wide);
+            if into.len() - next >= 4 * size {
+                self.four_into(w, from + next as u32, first, at, into, next);
+                next += 4 * size;
+                at += 4;
+                continue;
+            }
+            self.word_into(w, from + next as u32, first, at, into, next);
             next += size;
             at += 1;
         }
         next
+    }
+
+    // Copies four words of a window into `into` from place `next` on, each lane straight to its place. Unit `i`
+    // is the first one of content word `at`.
+    #[inline(always)]
+    fn four_into(&mut self, w: Window, i: u32, first: usize, at: u32, into: &mut [u16], next: usize)
+        requires window { (us : List ℕ) × IsWindow (view_in self.old) w us }
+        requires within { i + 4 * lane_count w.wide ≤ w.len }
+        requires room { next + 4 * lane_count w.wide ≤ length into.old }
+        requires first { first ≡ content_at (size_of (H.reached self.old.heap)) 0 }
+        requires at { BeginsWord w i at }
+        ensures reads { MovesView OnlyLoads self.old self.new }
+        ensures forms { KeepsForms (view_in self.old) (view_in self.new) }
+        ensures before { (k : ℕ) → k < next → slice_index into.new k ≡ slice_index into.old k }
+        ensures inside { (us : List ℕ) → IsWindow (view_in self.old) w us → (k : ℕ)
+            → k < 4 * lane_count w.wide → slice_index into.new (next + k) ≡ slice_index us (i + k) }
+    {
+        let size = lanes(w.wide);
+        let place = next + size as usize;
+        self.word_into(w, i, first, at, into, next);
+        self.word_into(w, i + size, first, at + 1, into, place);
+        self.word_into(w, i + 2 * size, first, at + 2, into, place + size as usize);
+        self.word_into(
+            w,
+            i + 3 * size,
+            first,
+            at + 3,
+            into,
+            place + 2 * size as usize,
+        );
+    }
+
+    // The same of one word.
+    #[inline(always)]
+    fn word_into(&mut self, w: Window, i: u32, first: usize, at: u32, into: &mut [u16], next: usize)
+        requires window { (us : List ℕ) × IsWindow (view_in self.old) w us }
+        requires within { i + lane_count w.wide ≤ w.len }
+        requires room { next + lane_count w.wide ≤ length into.old }
+        requires first { first ≡ content_at (size_of (H.reached self.old.heap)) 0 }
+        requires at { BeginsWord w i at }
+        ensures reads { MovesView OnlyLoads self.old self.new }
+        ensures forms { KeepsForms (view_in self.old) (view_in self.new) }
+        ensures before { (k : ℕ) → k < next → slice_index into.new k ≡ slice_index into.old k }
+        ensures inside { (us : List ℕ) → IsWindow (view_in self.old) w us → (k : ℕ) → k < lane_count w.wide
+            → slice_index into.new (next + k) ≡ slice_index us (i + k) }
+    {
+        let word = self.word_from(first, at, w, i);
+        put_word(into, next, word, w.wide);
     }
 
     /// The least place from `from` on in a window whose unit is `unit`.
@@ -105,11 +150,27 @@ impl<H: HeapRef> Reader<H> {
         ensures forms { KeepsForms (view_in self.old) (view_in self.new) }
         ensures least { (us : List ℕ) → IsWindow (view_in self.old) w us → IsFirstUnit us unit from result }
     {
+        if w.wide {
+            return self.find_lane(Window { wide: true, ..w }, unit, from);
+        }
+        self.find_lane(Window { wide: false, ..w }, unit, from)
+    }
+
+    // The same, inlined for each width of the lanes.
+    #[inline(always)]
+    fn find_lane(&mut self, w: Window, unit: u16, from: u32) -> Option<u32>
+        requires window { (us : List ℕ) × IsWindow (view_in self.old) w us }
+        requires within { from ≤ w.len }
+        ensures reads { MovesView OnlyLoads self.old self.new }
+        ensures forms { KeepsForms (view_in self.old) (view_in self.new) }
+        ensures least { (us : List ℕ) → IsWindow (view_in self.old) w us → IsFirstUnit us unit from result }
+    {
+        let first = self.heap.heap().first_content();
         let size = lanes(w.wide);
         let mut i = from;
         while i < w.len {
-            let (_, lane) = word_and_lane(w.wide, w.offset + i);
-            let word = self.word_with(w, i);
+            let (number, lane) = word_and_lane(w.wide, w.offset + i);
+            let word = self.word_from(first, w.start + number, w, i);
             if lane == 0 && w.len - i >= size {
                 let at = first_from(word, w.wide, 0, unit);
                 if at < size {

@@ -1,16 +1,14 @@
-use Rattle.std.proofs.Common.{◌≡◌, ℕ, ◌+◌, ◌-◌, ◌/◌, ◌%◌, ◌<◌, ◌≤◌, List, length, get_or}
-use Rattle.js_units.specs.Lanes.{lane_count}
+use Rattle.std.proofs.Common.{◌≡◌, ℕ, ◌+◌, ◌-◌, ◌<◌, ◌≤◌, List, length, get_or}
 use Rattle.heap_read.specs.Readers.{view_in}
 use Rattle.heap_read.specs.Reads.{KeepsForms, OnlyLoads}
-use Rattle.heap_read.specs.Windows.{IsWindow}
+use Rattle.heap_read.specs.Windows.{BeginsWord, IsWindow}
 use Rattle.heap_read.proofs.reader.Reader.lanes_into.Given as goal
 
 abbrev pub invariant-loop-into : goal.invariant-loop-into
 invariant-loop-into g l = record {
   low : l.done ≤ l.next;
   most : l.next ≤ length l.into;
-  lowest : (l.w.offset + (l.from + l.next)) % lane_count l.wide ≡ 0;
-  place : l.at ≡ l.w.start + (l.w.offset + (l.from + l.next)) / lane_count l.w.wide;
+  place : BeginsWord l.w (l.from + l.next) l.at;
   before : (k : ℕ) → k < l.done → get_or l.into k 0 ≡ get_or l.fn.into k 0;
   same : (us : List ℕ) → IsWindow (view_in l.fn.self) l.w us → (k : ℕ) → l.done ≤ k → k < l.next → get_or l.into k 0 ≡ get_or us (l.from + k) 0;
   heap : l.self.heap ≡ l.fn.self.heap;
