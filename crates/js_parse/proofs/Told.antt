@@ -5,9 +5,9 @@ use Rattle.js_lex.specs.declared.token.LexFault.TheVariants as lex
 use Rattle.js_lex.specs.Tokens.{LexFaultOf}
 use Rattle.parse_syntax.specs.Reader.{SyntaxFaultKind, Wrong, TooDeep}
 use Rattle.parse_syntax.specs.Refused.{IsRefused}
-use Rattle.parse_look.specs.declared.fault.Fault.{Fault}
-use Rattle.parse_look.specs.declared.fault.Fault.TheVariants as parser
-use Rattle.parse_look.specs.Gives.{OnFault}
+use Rattle.parse_statements.specs.declared.fault.Fault.{Fault}
+use Rattle.parse_statements.specs.declared.fault.Fault.TheVariants as parser
+use Rattle.parse_statements.specs.Gives.{OnFault}
 use Rattle.parse_syntax.specs.declared.token.GrammarToken.{GrammarToken}
 use Rattle.parse_syntax.specs.Tables.{TokenTables}
 use Rattle.parse_syntax.specs.Grammar.{Statements, own_names, most}

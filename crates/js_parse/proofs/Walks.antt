@@ -7,7 +7,7 @@ use Rattle.eval_tree.specs.declared.tree.Script.{Script}
 use Rattle.eval_tree.specs.declared.tree.Stmt.TheViews.{If}
 use Rattle.js_parse.specs.Names.{NameFault}
 use Rattle.eval_tree.specs.Tree as tree
-use Rattle.eval_tree.specs.Tree.{StmtTree, BlockTree, Stmts, Arms, block_of, arms, stmts_tree, stmt_tree, arm_tree, block_tree, tree_of}
+use Rattle.eval_tree.specs.Tree.{StmtTree, BlockTree, Stmts, Arms, arms, stmts_tree, stmt_tree, arm_tree, block_tree, tree_of}
 use Rattle.js_parse.specs.declared.name_fault.NameFault.{NameFault as Told}
 use Rattle.js_parse.specs.NameFaults.{NameTest, nobody, is_in, marked, all_marked, offer, offers, declared_again, with_own, faults_in, faults_inside, faults_in_arms, faults_among, faults_of}
 use Rattle.js_parse.specs.NameWalk.{found_of, Walks}

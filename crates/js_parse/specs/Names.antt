@@ -1,7 +1,7 @@
 -- The early errors on names, over the tree of a script (ECMA-262, "Static Semantics: Early Errors" of blocks
 -- and scripts, and the profile's own rule that the name of a `for` isn't assigned).
 use Rattle.std.specs.Prelude.{◌≡◌, ℕ, List, [], ◌∷◌, ◌++◌}
-use Rattle.eval_tree.specs.Tree.{Tree, ExprTree, StmtTree, BlockTree, block_of, Stmts, stmt, Arms, arm}
+use Rattle.eval_tree.specs.Tree.{ExprTree, StmtTree, BlockTree, block_of, Stmts, stmt, Arms, arm}
 use Rattle.eval_tree.specs.Tree.{block, let_line, const_line, assign, append, if_line, for_line}
 use Rattle.parse_syntax.specs.Grammar.{own_name}
 use Rattle.std.specs.Prelude.{Option}

@@ -1,6 +1,6 @@
 -- Which bytes spell which script, and which are refused.
 use Rattle.std.specs.Prelude.{◌≡◌, ℕ, ◌-◌, List, [], ◌∷◌, length, drop, Bool, true, false, if◌then◌else◌}
-use Rattle.std.specs.Prelude.{Option, Some, None, Result, Ok, Err}
+use Rattle.std.specs.Prelude.{Option, Some, None}
 use Rattle.js_lex.specs.declared.token.LexFault.{LexFault}
 use Rattle.js_lex.specs.Tokens.{LexFaultOf}
 use Rattle.parse_syntax.specs.Reader.{SyntaxFaultKind, Wrong, TooDeep}
@@ -77,25 +77,3 @@ pub data Refused (r : Role) (outer : List (List ℕ)) (bytes : List ℕ) : Parse
       → Refused r outer bytes (misplaced kind refused.front rest (length bytes))
   of_names : (script : Tree) (f : NameFault) (p : Parses r bytes script)
       → IsFirstFault outer p.tables p.tokens script f → Refused r outer bytes (misnamed f)
-
--- x, or out of memory
-abbrev pub IsOrMemory : {X A : Type 0} → (X → A) → Result X ParseFault → A → Type 0
-IsOrMemory view (Ok y) x = view y ≡ x
-IsOrMemory view (Err fault.Memory) x = Unit {0}
-IsOrMemory view (Err (fault.Lex f)) x = ⊥
-IsOrMemory view (Err (fault.Unexpected at)) x = ⊥
-IsOrMemory view (Err (fault.NotInProfile at)) x = ⊥
-IsOrMemory view (Err (fault.TooDeep at)) x = ⊥
-IsOrMemory view (Err (fault.Duplicate at)) x = ⊥
-IsOrMemory view (Err (fault.LoopName at)) x = ⊥
-
--- this holds of a fault other than out of memory
-abbrev pub HoldsOfFault : {X : Type 0} → Result X ParseFault → (ParseFault → Type 0) → Type 0
-HoldsOfFault (Ok x) P = Unit {0}
-HoldsOfFault (Err fault.Memory) P = Unit {0}
-HoldsOfFault (Err (fault.Lex f)) P = P (fault.Lex f)
-HoldsOfFault (Err (fault.Unexpected at)) P = P (fault.Unexpected at)
-HoldsOfFault (Err (fault.NotInProfile at)) P = P (fault.NotInProfile at)
-HoldsOfFault (Err (fault.TooDeep at)) P = P (fault.TooDeep at)
-HoldsOfFault (Err (fault.Duplicate at)) P = P (fault.Duplicate at)
-HoldsOfFault (Err (fault.LoopName at)) P = P (fault.LoopName at)

@@ -10,8 +10,7 @@ ghost use Rattle.js_parse.specs.Told as told;
 
 use crate::fault::ParseFault;
 use js_lex::Mark;
-use parse_look::next;
-use parse_statements::Fault;
+use parse_statements::{Fault, next};
 use parse_syntax::{GrammarKind, GrammarToken};
 
 // Whether a token that isn't allowed at its place is an identifier.

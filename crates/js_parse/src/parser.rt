@@ -1,8 +1,9 @@
 // From bytes to a script whose names are right.
-ghost use Rattle.std.specs.Prelude.{◌≡◌, ◌≤◌, length, IfOk, IfErr};
+ghost use Rattle.std.specs.Prelude.{◌≡◌, ◌≤◌, ◌⊎◌, length, IfOk, IfErr, MatchResult};
 ghost use Rattle.eval_tree.specs.Tree.{Tree, tree_of};
 ghost use Rattle.js_parse.specs.FirstFault.{fault_of};
-ghost use Rattle.js_parse.specs.Spells.{Spells, Refused, IsOrMemory, HoldsOfFault, misnamed};
+ghost use Rattle.js_parse.specs.Spells.{Spells, Refused, misnamed};
+ghost use Rattle.js_parse.specs.declared.fault.ParseFault.TheVariants.{Memory};
 ghost use Rattle.js_parse.specs.Told.{IsTold};
 
 use crate::fault::{ParseFault, Role};
@@ -42,8 +43,9 @@ fn read(alloc: Global, bytes: &[u8], role: Role, outer: &Names) -> Result<Script
 pub fn parse(alloc: Global, bytes: &[u8], role: Role, outer: &Names) -> Result<Script, ParseFault>
     requires short { length bytes.now ≤ 1_048_576 }
     ensures spells { IfOk result (λ script. Spells role outer.now bytes.now (tree_of script)) }
-    ensures found { (tree : Tree) → Spells role outer.now bytes.now tree → IsOrMemory tree_of result tree }
-    ensures refused { HoldsOfFault result (λ fault. Refused role outer.now bytes.now fault) }
+    ensures found { (tree : Tree) → Spells role outer.now bytes.now tree
+        → MatchResult result (λ script. tree_of script ≡ tree) (λ fault. fault ≡ Memory) }
+    ensures refused { IfErr result (λ fault. (fault ≡ Memory) ⊎ Refused role outer.now bytes.now fault) }
 {
     read(alloc, bytes, role, outer)
 }

@@ -9,7 +9,7 @@ ghost use Rattle.js_parse.specs.ProtoKeys as definition;
 
 use crate::name_fault::{NameFault, offer};
 use js_lex::Mark;
-use parse_look::next;
+use parse_statements::next;
 use parse_syntax::{GrammarKind, GrammarToken, Tables};
 
 fn opens_entry(token: GrammarToken) -> bool

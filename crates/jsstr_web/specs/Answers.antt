@@ -1,6 +1,5 @@
 -- What a page's call comes to.
-use Rattle.std.specs.Prelude.{◌≡◌, ℕ, ◌<◌, List, [], ◌∷◌, length, None, Result, Err}
-use Rattle.eval_tree.specs.declared.tree.Script.{Script}
+use Rattle.std.specs.Prelude.{◌≡◌, ◌⊎◌, ℕ, ◌<◌, List, [], ◌∷◌, length, None}
 use Rattle.eval_tree.specs.Tree.{Tree}
 use Rattle.heap_rule.specs.Layout.{IsLawfulSize}
 use Rattle.heap_table.specs.Agents.{view_of}
@@ -9,7 +8,8 @@ use Rattle.js_eval.specs.declared.ending.End.TheVariants as end
 use Rattle.js_parse.specs.declared.fault.Role.TheVariants.{Main}
 use Rattle.js_parse.specs.declared.fault.ParseFault.{ParseFault}
 use Rattle.js_parse.specs.Faults.{fault_report}
-use Rattle.js_parse.specs.Spells.{Refused, HoldsOfFault, Spells}
+use Rattle.js_parse.specs.declared.fault.ParseFault.TheVariants.{Memory}
+use Rattle.js_parse.specs.Spells.{Refused, Spells}
 use Rattle.run_program.specs.declared.job.Outcome.{Outcome}
 use Rattle.run_here.specs.declared.here.Here.{Here}
 use Rattle.run_here.specs.Here.{IsHere}
@@ -42,10 +42,6 @@ pub data IsWebRun (o : WebOptions) (script : Tree) (before after old new : List 
       → IsWebRun o script before after old new end
   no_memory : end ≡ plain 10 → after ≡ before → new ≡ old → IsWebRun o script before after old new end
 
--- the reading of a text that ended so
-abbrev pub as_read : ParseFault → Result Script ParseFault
-as_read fault = Err fault
-
 -- The text is too long, or it spells a script that is run, or it is refused, or memory runs out.
 pub data Answers (o : WebOptions) (text : List ℕ) (before after old new : List ℕ)
     (end : WebEnd) : Type 0 where
@@ -53,6 +49,6 @@ pub data Answers (o : WebOptions) (text : List ℕ) (before after old new : List
       → Answers o text before after old new end
   runs : (script : Tree) → Spells Main [] text script → IsWebRun o script before after old new end
       → Answers o text before after old new end
-  refused : (fault : ParseFault) → HoldsOfFault (as_read fault) (Refused Main [] text)
+  refused : (fault : ParseFault) → (fault ≡ Memory) ⊎ Refused Main [] text fault
       → end ≡ fault_told fault → BeginsWith (fault_report fault).1 before after → new ≡ old
       → Answers o text before after old new end

@@ -13,9 +13,9 @@ use Rattle.parse_syntax.proofs.Stops.{begins_unary, is_step}
 use Rattle.parse_syntax.proofs.Expressions.{Inner, step_part, step_starts, unary_part, unary_starts, sum_part, sum_starts, comparison_part, comparison_starts}
 use Rattle.parse_syntax.proofs.Expressions.{equality_part, equality_starts, conjunction_part, conjunction_starts}
 use Rattle.parse_syntax.proofs.Scripts.{lowest, inner_levels, same_expressions}
-use Rattle.parse_look.specs.declared.look.Level.{Level}
-use Rattle.parse_look.specs.declared.look.Level.TheVariants as level
-use Rattle.parse_look.specs.Look.{operators}
+use Rattle.parse_statements.specs.declared.look.Level.{Level}
+use Rattle.parse_statements.specs.declared.look.Level.TheVariants as level
+use Rattle.parse_statements.specs.Look.{operators}
 use Rattle.parse_statements.specs.At.{has_room, inner, step_at, operand_at}
 use Rattle.parse_syntax.specs.MarksAndWords.{comma}
 use Rattle.parse_syntax.specs.Reading.{link_of, Which, Whole, Operand, within_room}

@@ -19,8 +19,8 @@ use Rattle.parse_syntax.specs.Grammar.{Expression, Statement}
 use Rattle.parse_syntax.specs.Reading.{goes_on}
 use Rattle.parse_syntax.proofs.Statements.{first, arm_part, else_part}
 use Rattle.parse_syntax.proofs.Scripts.{same_expressions, same_levels, starts_at}
-use Rattle.parse_look.specs.declared.fault.Fault.{Fault}
-use Rattle.parse_look.specs.Gives.{FailsWith}
+use Rattle.parse_statements.specs.declared.fault.Fault.{Fault}
+use Rattle.parse_statements.specs.Gives.{FailsWith}
 use Rattle.parse_statements.specs.At.{expression_at, init_at, statement_at, statements_at, arm_at, others_at, rest_at, if_at}
 use Rattle.parse_statements.proofs.Eats.{Any}
 use Rattle.parse_statements.proofs.Turns.{handed_on}

@@ -10,8 +10,8 @@ use Rattle.eval_tree.specs.declared.tree.Expr.{Expr}
 use Rattle.eval_tree.specs.Tree.{ExprTree, entry_tree}
 use Rattle.parse_syntax.specs.Terminals.{key}
 use Rattle.parse_syntax.specs.Grammar.{pair_of}
-use Rattle.parse_look.specs.declared.fault.Fault.{Fault}
-use Rattle.parse_look.specs.Gives.{FailsWith}
+use Rattle.parse_statements.specs.declared.fault.Fault.{Fault}
+use Rattle.parse_statements.specs.Gives.{FailsWith}
 use Rattle.parse_statements.specs.At.{inner, entry_at, members_at}
 use Rattle.parse_statements.proofs.Rooms.{head_of}
 use Rattle.parse_statements.proofs.Eats.{inner_eats}

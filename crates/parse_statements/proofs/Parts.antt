@@ -9,8 +9,8 @@ use Rattle.eval_tree.specs.Tree.{ExprTree, StepTree}
 use Rattle.parse_syntax.specs.Terminals.{member_word, property_word, method}
 use Rattle.parse_syntax.specs.Grammar.{method_step}
 use Rattle.parse_syntax.specs.Reading.{index_read, unary_of}
-use Rattle.parse_look.specs.declared.fault.Fault.{Fault}
-use Rattle.parse_look.specs.Gives.{FailsWith}
+use Rattle.parse_statements.specs.declared.fault.Fault.{Fault}
+use Rattle.parse_statements.specs.Gives.{FailsWith}
 use Rattle.parse_statements.specs.At.{args_at, member_at, step_at, unary_at, branches_at, expression_at}
 use Rattle.parse_statements.proofs.Rooms.{member_call, step_index, unary_signed, branches_some}
 use Rattle.parse_statements.proofs.Turns.{handed_on}

@@ -19,10 +19,10 @@ use Rattle.parse_syntax.specs.Terminals.{member_word, property_word, method, key
 use Rattle.parse_syntax.specs.Grammar.{pair_of, builtin_of, method_step, cond_of}
 use Rattle.parse_syntax.specs.Reading.{single_of, plain_string, uri_of, object_of, index_read, unary_of, branches_of, Whole, Operand}
 use Rattle.parse_syntax.specs.Reading.{read_within, read_parens, read_args, read_index, read_members, read_literal, read_method_args, read_word}
-use Rattle.parse_look.specs.declared.look.Level.TheVariants as level
-use Rattle.parse_look.specs.declared.look.Opener.{Opener}
-use Rattle.parse_look.specs.declared.look.Opener.TheVariants as opener
-use Rattle.parse_look.specs.Look.{opener_of, openers, read_string_called, read_called}
+use Rattle.parse_statements.specs.declared.look.Level.TheVariants as level
+use Rattle.parse_statements.specs.declared.look.Opener.{Opener}
+use Rattle.parse_statements.specs.declared.look.Opener.TheVariants as opener
+use Rattle.parse_statements.specs.Look.{opener_of, openers, read_string_called, read_called}
 use Rattle.parse_statements.specs.At.{has_room, inner, parens_at, args_at, given_at, builtin_at, entry_at, members_at, literal_at, primary_at, member_at}
 use Rattle.parse_statements.specs.At.{step_at, post_at, unary_at, chain_at, branches_at, expression_at}
 use Rattle.std.specs.Prelude.{is_some}

@@ -12,12 +12,12 @@ use Rattle.eval_tree.specs.declared.tree.PostStep.{PostStep}
 use Rattle.eval_tree.specs.Tree.{ExprTree, LinkTree, StepTree, expr_tree, step_tree, link_tree}
 use Rattle.parse_syntax.specs.Grammar.{chain_of, post_of}
 use Rattle.parse_syntax.specs.Reading.{step_mark, link_of, Whole}
-use Rattle.parse_look.specs.declared.fault.Fault.{Fault}
-use Rattle.parse_look.specs.declared.fault.Fault.TheVariants as fault
-use Rattle.parse_look.specs.declared.look.Level.{Level}
-use Rattle.parse_look.specs.declared.look.Level.TheVariants as level
-use Rattle.parse_look.specs.Gives.{FailsWith}
-use Rattle.parse_look.specs.Look.{operators}
+use Rattle.parse_statements.specs.declared.fault.Fault.{Fault}
+use Rattle.parse_statements.specs.declared.fault.Fault.TheVariants as fault
+use Rattle.parse_statements.specs.declared.look.Level.{Level}
+use Rattle.parse_statements.specs.declared.look.Level.TheVariants as level
+use Rattle.parse_statements.specs.Gives.{FailsWith}
+use Rattle.parse_statements.specs.Look.{operators}
 use Rattle.parse_statements.specs.At.{inner, operand_at, chain_at, step_at, post_at, primary_at, args_at, expression_at}
 use Rattle.parse_statements.proofs.Rooms.{head_of, inner_whole, bind_got}
 use Rattle.parse_statements.proofs.Eats.{item_eats, step_eats, link_eats}

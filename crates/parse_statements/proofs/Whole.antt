@@ -9,9 +9,9 @@ use Rattle.eval_tree.specs.Tree.{StmtTree}
 use Rattle.parse_syntax.specs.Grammar.{Statements}
 use Rattle.parse_syntax.specs.Reading.{read_statements}
 use Rattle.parse_syntax.proofs.Scripts.{reads_all, all_read, refuses}
-use Rattle.parse_look.specs.declared.fault.Fault.{Fault}
-use Rattle.parse_look.specs.declared.fault.Fault.TheVariants as fault
-use Rattle.parse_look.specs.Gives.{GivesAnswer, OnFault, IsFoundOrMemory}
+use Rattle.parse_statements.specs.declared.fault.Fault.{Fault}
+use Rattle.parse_statements.specs.declared.fault.Fault.TheVariants as fault
+use Rattle.parse_statements.specs.Gives.{GivesAnswer, OnFault, IsFoundOrMemory}
 
 module _ {X : Type 0} (view : X → List StmtTree) (tables : TokenTables) (prints : Bool) (n : ℕ) (ts : List GrammarToken) where
   pub is_spelled : (r : Result X Fault) → GivesAnswer view (λ _. []) r (read_whole (read_statements tables prints n) ts) → IfOk r (λ e. Statements tables prints n ts (view e))

@@ -17,8 +17,8 @@ use Rattle.parse_syntax.specs.Reading.{read_post, read_unary, read_sum, read_com
 use Rattle.parse_syntax.specs.Reading.{read_conjunction, read_disjunction, read_conditional, goes_on}
 use Rattle.parse_syntax.specs.Reading.{read_block, read_init, read_let, read_const, read_assign, read_print}
 use Rattle.parse_syntax.specs.Reading.{read_arm, read_rest, read_if, read_for, read_statement, read_at}
-use Rattle.parse_look.specs.declared.look.Level.{Level}
-use Rattle.parse_look.specs.declared.look.Level.TheVariants as level
+use Rattle.parse_statements.specs.declared.look.Level.{Level}
+use Rattle.parse_statements.specs.declared.look.Level.TheVariants as level
 use Rattle.parse_syntax.specs.MarksAndWords.{else_word, if_word, string_word, symbol_word, json_word}
 use Rattle.parse_syntax.specs.MarksAndWords.{uri_function, question}
 

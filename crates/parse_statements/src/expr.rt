@@ -2,17 +2,17 @@
 ghost use Rattle.std.specs.Prelude.{◌≡◌, ◌<◌, map};
 ghost use Rattle.eval_tree.specs.Tree.{expr_tree, step_tree, entry_tree};
 ghost use Rattle.parse_statements.specs.At.{args_at, parens_at, given_at, builtin_at, entry_at, members_at, literal_at, primary_at, member_at, step_at, post_at, unary_at, operand_at, chain_at, branches_at, expression_at};
-ghost use Rattle.parse_look.specs.Gives.{GivesAnswer};
+ghost use Rattle.parse_statements.specs.Gives.{GivesAnswer};
 ghost use Rattle.parse_syntax.specs.Tables.{tables_of};
 
+use crate::fault::{Fault, refused, too_deep};
+use crate::look::{
+    Fixed, Level, Opener, begins_step, behind, called, key, member, method, next_opener,
+    open_bracket, open_literal, operator, property, property_word, sign, simple, take,
+};
 use crate::node::{add, builtin, call, chain, conditional, index, link, object, post, signed};
 use eval_tree::{Builtin, Expr, PostStep};
 use js_units::Units;
-use parse_look::{
-    Fault, Fixed, Level, Opener, begins_step, behind, called, key, member, method, next_opener,
-    open_bracket, open_literal, operator, property, property_word, refused, sign, simple, take,
-    too_deep,
-};
 use parse_syntax::{GrammarToken, Tables};
 use std::alloc::Global;
 

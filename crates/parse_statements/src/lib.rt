@@ -2,9 +2,12 @@
 #![tactic(auto)]
 
 mod expr;
+mod fault;
+mod look;
 mod node;
 mod statement;
 
+pub use fault::Fault;
+pub use look::next;
 pub use node::declared;
-pub use parse_look::Fault;
 pub use statement::statements;

@@ -3,13 +3,13 @@ ghost use Rattle.std.specs.Prelude.{◌≡◌, ◌++◌, ◌∷◌, [], map, IfO
 ghost use Rattle.eval_tree.specs.Tree.{expr_tree, exprs_tree, link_tree, step_tree, entry_tree, init_tree, stmt_tree, arm_tree, block_tree, arms as arms_tree};
 ghost use Rattle.parse_syntax.specs.Grammar.{builtin_of, post_of, chain_of, own_name, own_names, assign_of};
 ghost use Rattle.parse_syntax.specs.Reading.{index_read, object_of, unary_of, no_inside, print_of, link_of, inside_of, arm_of, let_of, const_of, for_of};
-ghost use Rattle.parse_look.specs.Look.{ident};
+ghost use Rattle.parse_statements.specs.Look.{ident};
 ghost use Rattle.parse_syntax.specs.Tables.{tables_of};
 ghost use Rattle.eval_tree.specs.Tree as tree;
 
+use crate::look::{Ident, letters};
 use eval_tree::{Arm, Block, Builtin, Expr, Link, Method, Name, Names, Op, PostStep, Stmt};
 use js_units::{NoMemory, Units};
-use parse_look::{Ident, letters};
 use parse_syntax::Tables;
 use std::alloc::{AllocError, Global};
 

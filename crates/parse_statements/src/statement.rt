@@ -6,19 +6,18 @@ ghost use Rattle.eval_tree.specs.Tree.{StmtTree, init_tree, stmt_tree, arm_tree,
 ghost use Rattle.parse_syntax.specs.Grammar.{Statements, most};
 ghost use Rattle.parse_syntax.specs.Reading.{read_strict, read_statements};
 ghost use Rattle.parse_statements.specs.At.{init_at, let_at, const_at, assign_at, print_at, statement_at, statements_at, block_at, arm_at, rest_at, if_at, for_at};
-ghost use Rattle.parse_look.specs.Gives.{GivesAnswer, OnFault, IsFoundOrMemory};
+ghost use Rattle.parse_statements.specs.Gives.{GivesAnswer, OnFault, IsFoundOrMemory};
 ghost use Rattle.parse_syntax.specs.Tables.{tables_of};
 
 use crate::expr::{args, expression, parens};
+use crate::fault::{Fault, refused, too_deep};
+use crate::look::{Fixed, assign_op, behind, else_if, goes_on, header, name, next, take};
 use crate::node::{
     add, arm, assignment, block, block_line, conditions, const_line, for_line, let_line, no_block,
     print,
 };
 use eval_tree::{Arm, Block, Expr, Stmt};
 use js_lex::Mark;
-use parse_look::{
-    Fault, Fixed, assign_op, behind, else_if, goes_on, header, name, next, refused, take, too_deep,
-};
 use parse_syntax::{GrammarKind, GrammarToken, Tables, Word};
 use std::alloc::Global;
 

@@ -1,3 +1,4 @@
+-- Helpers: no public contract reaches these definitions.
 -- Names for the marks and identifiers of the grammar, as the parser's functions look for them.
 use Rattle.std.specs.Prelude.{ℕ, Bool, true, false, [], ◌∷◌, Option}
 use Rattle.js_lex.specs.declared.token.Mark.TheVariants.{StrictEqual, StrictUnequal, AtMost, AtLeast, And}

@@ -1,4 +1,5 @@
--- Reading scripts from the front. No public contract cites these: they are what the parser's functions give.
+-- Helpers: no public contract reaches these definitions.
+-- Reading scripts from the front, as the parser's functions do.
 use Rattle.std.specs.Prelude.{ℕ, zero, suc, Bool, true, false, cond, List, [], ◌∷◌, Option, Some, None}
 use Rattle.std.specs.Prelude.{is_some}
 use Rattle.js_lex.specs.declared.token.Mark.TheVariants as mark

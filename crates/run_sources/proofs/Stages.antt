@@ -12,7 +12,7 @@ use Rattle.run_sources.specs.declared.stop.ScriptsFault.{ScriptsFault}
 use Rattle.run_sources.specs.declared.stop.ScriptsFault.TheVariants as stop
 use Rattle.run_sources.specs.Program.{FileName, Program, outer_of, program_from}
 use Rattle.run_sources.specs.Reading as reading
-use Rattle.run_sources.specs.Reading.{AreRead, IsLarge, IsPreludeRead, IsQuiet, IsSourceRead, IsUnread, KeepsFiles, Read, ReadUpTo}
+use Rattle.run_sources.specs.Reading.{AreRead, IsPreludeRead, IsQuiet, IsSourceRead, KeepsFiles, Read, ReadUpTo}
 use Rattle.run_sources.specs.Spelling as spelling
 use Rattle.run_sources.specs.Spelling.{AllSpell, FirstAmong, FirstRefused, SpellsPrelude}
 use Rattle.run_sources.specs.Answers.{AreShort, IsPreludeShort, IsShort, RefusesAmong, RefusesFile, RefusesPrelude, RefusesPreludeText, RefusesRead, RefusesScript, RefusesText}

@@ -27,29 +27,8 @@ fn parse_text<'a>(
     let name = source.name;
     match parse(alloc, &source.bytes, role, outer) {
         Ok(script) => Ok(script),
-        Err(fault) => match fault {
-            ParseFault::Memory => Err(ScriptsFault::NoMemory),
-            ParseFault::Lex(fault) => Err(ScriptsFault::Refused(name, ParseFault::Lex(fault))),
-            ParseFault::Unexpected { at } => Err(ScriptsFault::Refused(
-                name,
-                ParseFault::Unexpected { at },
-            )),
-            ParseFault::NotInProfile { at } => {
-                Err(ScriptsFault::Refused(name, ParseFault::NotInProfile { at }))
-            }
-            ParseFault::TooDeep { at } => Err(ScriptsFault::Refused(
-                name,
-                ParseFault::TooDeep { at },
-            )),
-            ParseFault::Duplicate { at } => Err(ScriptsFault::Refused(
-                name,
-                ParseFault::Duplicate { at },
-            )),
-            ParseFault::LoopName { at } => Err(ScriptsFault::Refused(
-                name,
-                ParseFault::LoopName { at },
-            )),
-        },
+        Err(ParseFault::Memory) => Err(ScriptsFault::NoMemory),
+        Err(fault) => Err(ScriptsFault::Refused(name, fault)),
     }
 }
 

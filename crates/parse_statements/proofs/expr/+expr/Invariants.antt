@@ -3,10 +3,10 @@ use Rattle.parse_syntax.specs.Tables.{tables_of}
 use Rattle.parse_syntax.specs.Reader.{and_then, one_of, all_of, heads, with_front, keep_second}
 use Rattle.eval_tree.specs.Tree.{expr_tree, step_tree, link_tree, entry_tree}
 use Rattle.parse_syntax.specs.Reading.{step_mark, link_of, Whole}
-use Rattle.parse_look.specs.Look.{operators}
+use Rattle.parse_statements.specs.Look.{operators}
 use Rattle.parse_statements.specs.At.{inner, step_at, operand_at}
-use Rattle.parse_look.specs.declared.look.Level.{Level}
-use Rattle.parse_look.specs.declared.look.Level.TheVariants as level
+use Rattle.parse_statements.specs.declared.look.Level.{Level}
+use Rattle.parse_statements.specs.declared.look.Level.TheVariants as level
 use Rattle.parse_statements.proofs.Members.{more_at}
 use Rattle.parse_statements.proofs.expr.+expr.Given as goal
 use Rattle.parse_syntax.specs.MarksAndWords.{comma}

@@ -3,7 +3,7 @@ use Rattle.parse_syntax.specs.Tables.{tables_of}
 use Rattle.parse_syntax.specs.Reader.{read_whole}
 use Rattle.eval_tree.specs.Tree.{stmt_tree}
 use Rattle.parse_syntax.specs.Reading.{read_statements}
-use Rattle.parse_look.specs.Gives.{GivesAnswer}
+use Rattle.parse_statements.specs.Gives.{GivesAnswer}
 use Rattle.parse_statements.proofs.Whole.{is_spelled, is_found, is_refused}
 use Rattle.parse_statements.proofs.statement.statements.Goals as goal
 

@@ -2,8 +2,8 @@
 use Rattle.std.specs.Prelude.{◌≡◌, List, Result, Ok, Err}
 use Rattle.parse_syntax.specs.Reader.{Answer, Got, Bad, SyntaxFaultKind, Wrong, TooDeep}
 use Rattle.parse_syntax.specs.declared.token.GrammarToken.{GrammarToken}
-use Rattle.parse_look.specs.declared.fault.Fault.{Fault}
-use Rattle.parse_look.specs.declared.fault.Fault.TheVariants as fault
+use Rattle.parse_statements.specs.declared.fault.Fault.{Fault}
+use Rattle.parse_statements.specs.declared.fault.Fault.TheVariants as fault
 
 -- the fault, unless memory ran out
 abbrev pub FailsWith : {A : Type 0} → Fault → Answer GrammarToken A → Type 0

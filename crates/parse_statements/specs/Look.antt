@@ -1,3 +1,4 @@
+-- Helpers: no public contract reaches these definitions.
 -- What the parser looks for at the next token.
 use Rattle.std.specs.Prelude.{ℕ, List, [], ◌∷◌, Option, Some, None}
 use Rattle.parse_syntax.specs.Reader.{TokenReader, and_then, one_of, choose, heads, succeed, keep_second}
@@ -11,12 +12,12 @@ use Rattle.eval_tree.specs.declared.tree.Builtin.TheVariants as builtin
 use Rattle.parse_syntax.specs.Terminals.{Identifier, from_word, symbol_function, stringify_word, keys_word}
 use Rattle.parse_syntax.specs.Terminals.{directive, increment, nought}
 use Rattle.parse_syntax.specs.Grammar.{pair_of}
-use Rattle.parse_look.specs.declared.look.Level.{Level}
-use Rattle.parse_look.specs.declared.look.Level.TheVariants as level
-use Rattle.parse_look.specs.declared.look.Opener.{Opener}
-use Rattle.parse_look.specs.declared.look.Opener.TheVariants as opener
-use Rattle.parse_look.specs.declared.look.Fixed.{Fixed}
-use Rattle.parse_look.specs.declared.look.Fixed.TheVariants as fixed
+use Rattle.parse_statements.specs.declared.look.Level.{Level}
+use Rattle.parse_statements.specs.declared.look.Level.TheVariants as level
+use Rattle.parse_statements.specs.declared.look.Opener.{Opener}
+use Rattle.parse_statements.specs.declared.look.Opener.TheVariants as opener
+use Rattle.parse_statements.specs.declared.look.Fixed.{Fixed}
+use Rattle.parse_statements.specs.declared.look.Fixed.TheVariants as fixed
 use Rattle.parse_syntax.specs.MarksAndWords.{or_op, and_op, equal_op, compare_op, sum_op, else_word}
 use Rattle.parse_syntax.specs.MarksAndWords.{if_word, string_word, symbol_word, json_word, object_word}
 use Rattle.parse_syntax.specs.MarksAndWords.{uri_function, point, let_word, const_word, print_word}

@@ -1,22 +1,22 @@
-// Looks at the next token.
-ghost use Rattle.std.specs.Prelude.{◌≡◌, [], ◌∷◌, ℕ, MatchOption, None, Some, IfOk, false, true};
+// Looks at the next token: which identifiers and marks are there, and the tables behind them.
+ghost use Rattle.std.specs.Prelude.{◌≡◌, [], ◌∷◌, ℕ, MatchOption, None, Some, IfOk, false, true, decimal, get_or};
 ghost use Rattle.parse_syntax.specs.Reader.{Got, one_of, heads, heads_two};
-ghost use Rattle.eval_tree.specs.Tree.{expr_tree, step_tree};
+ghost use Rattle.eval_tree.specs.Tree.{expr_tree, step_tree, of_property};
 ghost use Rattle.parse_syntax.specs.Tables.{tables_of};
 ghost use Rattle.parse_syntax.specs.MarksAndWords as named;
 ghost use Rattle.parse_syntax.specs.Terminals as terminals;
 ghost use Rattle.parse_syntax.specs.declared.token.GrammarToken.{GrammarToken};
 ghost use Rattle.parse_syntax.specs.declared.token.GrammarKind.TheVariants as kind;
 ghost use Rattle.parse_syntax.specs.Reading.{step_mark, goes_on, read_header};
-ghost use Rattle.parse_look.specs.Look.{terminal, operators, openers, read_string_called, read_symbol_called, read_json_called, read_object_called, read_called, ident};
-ghost use Rattle.parse_look.specs.Gives.{GivesAnswer};
+ghost use Rattle.parse_statements.specs.Look.{terminal, operators, openers, read_string_called, read_symbol_called, read_json_called, read_object_called, read_called, ident};
+ghost use Rattle.parse_statements.specs.Gives.{GivesAnswer};
 ghost use Rattle.std.specs.Bool.{then_some};
 
 use crate::fault::{Fault, refused};
-use crate::object::letters;
-use eval_tree::{Builtin, Expr, Op, PostStep};
+use eval_tree::{Builtin, Expr, Method, Name, Op, PostStep};
+use itoa::Buffer;
 use js_lex::Mark;
-use js_units::NoMemory;
+use js_units::{NoMemory, Units};
 use parse_syntax::{GrammarKind, GrammarToken, Property, Tables, Word};
 use std::alloc::Global;
 
@@ -117,7 +117,7 @@ fn is(fixed: Fixed, token: GrammarToken) -> bool
 }
 
 /// The rest behind this token, which has to come next.
-pub fn take(tokens: &[GrammarToken], fixed: Fixed) -> Result<&[GrammarToken], Fault<'_>>
+pub(crate) fn take(tokens: &[GrammarToken], fixed: Fixed) -> Result<&[GrammarToken], Fault<'_>>
     ensures { GivesAnswer (λ _. tt) (λ rest. rest.now) result (one_of (terminal fixed) tokens.now) }
 {
     let Some((token, rest)) = next(tokens) else {
@@ -131,7 +131,7 @@ pub fn take(tokens: &[GrammarToken], fixed: Fixed) -> Result<&[GrammarToken], Fa
 }
 
 /// The rest behind this token, where it comes next.
-pub fn behind(tokens: &[GrammarToken], fixed: Fixed) -> Option<&[GrammarToken]>
+pub(crate) fn behind(tokens: &[GrammarToken], fixed: Fixed) -> Option<&[GrammarToken]>
     ensures { MatchOption result (heads (terminal fixed) tokens.now ≡ false)
         (λ rest. one_of (terminal fixed) tokens.now ≡ Got tt rest.now) }
 {
@@ -139,7 +139,7 @@ pub fn behind(tokens: &[GrammarToken], fixed: Fixed) -> Option<&[GrammarToken]>
     if is(fixed, token) { Some(rest) } else { None }
 }
 
-pub fn begins_step(tokens: &[GrammarToken]) -> bool
+pub(crate) fn begins_step(tokens: &[GrammarToken]) -> bool
     ensures { result ≡ heads step_mark tokens.now }
 {
     match next(tokens) {
@@ -152,7 +152,7 @@ pub fn begins_step(tokens: &[GrammarToken]) -> bool
 }
 
 /// A sign: its offset, and whether it is a minus.
-pub fn sign(tokens: &[GrammarToken]) -> Option<((u32, bool), &[GrammarToken])>
+pub(crate) fn sign(tokens: &[GrammarToken]) -> Option<((u32, bool), &[GrammarToken])>
     ensures { MatchOption result (heads named.sign tokens.now ≡ false)
         (λ found. one_of named.sign tokens.now ≡ Got (found.0.0, found.0.1) found.1.now) }
 {
@@ -188,7 +188,10 @@ fn op(level: Level, token: GrammarToken) -> Option<(u32, Op)>
 }
 
 /// An operator of the level, with its offset.
-pub fn operator(level: Level, tokens: &[GrammarToken]) -> Option<((u32, Op), &[GrammarToken])>
+pub(crate) fn operator(
+    level: Level,
+    tokens: &[GrammarToken],
+) -> Option<((u32, Op), &[GrammarToken])>
     ensures { MatchOption result (heads (operators level) tokens.now ≡ false)
         (λ found. one_of (operators level) tokens.now ≡ Got (found.0.0, found.0.1) found.1.now) }
 {
@@ -215,7 +218,7 @@ fn constant(word: Word) -> Option<Expr>
 }
 
 /// A token that is an expression alone.
-pub fn simple<'a>(
+pub(crate) fn simple<'a>(
     alloc: Global,
     tables: &Tables,
     tokens: &'a [GrammarToken],
@@ -251,7 +254,7 @@ pub enum Opener {
     Literal,
 }
 
-pub fn next_opener(tokens: &[GrammarToken]) -> Option<Opener>
+pub(crate) fn next_opener(tokens: &[GrammarToken]) -> Option<Opener>
     ensures { result ≡ openers tokens.now }
 {
     let (token, _) = next(tokens)?;
@@ -274,7 +277,7 @@ pub fn next_opener(tokens: &[GrammarToken]) -> Option<Opener>
 }
 
 /// The mark `[`: its offset.
-pub fn open_bracket(tokens: &[GrammarToken]) -> Option<(u32, &[GrammarToken])>
+pub(crate) fn open_bracket(tokens: &[GrammarToken]) -> Option<(u32, &[GrammarToken])>
     ensures { MatchOption result (heads named.open_bracket tokens.now ≡ false)
         (λ found. one_of named.open_bracket tokens.now ≡ Got found.0 found.1.now) }
 {
@@ -286,7 +289,7 @@ pub fn open_bracket(tokens: &[GrammarToken]) -> Option<(u32, &[GrammarToken])>
 }
 
 /// `length` or `description`.
-pub fn member(tokens: &[GrammarToken]) -> Option<(PostStep, &[GrammarToken])>
+pub(crate) fn member(tokens: &[GrammarToken]) -> Option<(PostStep, &[GrammarToken])>
     ensures { MatchOption result (heads terminals.member_word tokens.now ≡ false)
         (λ found. one_of terminals.member_word tokens.now ≡ Got (step_tree found.0) found.1.now) }
 {
@@ -326,32 +329,6 @@ fn symbol_function(tokens: &[GrammarToken]) -> Result<(Builtin, &[GrammarToken])
     }
 }
 
-fn json_function(tokens: &[GrammarToken]) -> Result<(Builtin, &[GrammarToken]), Fault<'_>>
-    ensures { GivesAnswer (λ found. found.0) (λ found. found.1.now) result
-        (one_of terminals.stringify_word tokens.now) }
-{
-    let Some((token, rest)) = next(tokens) else {
-        return Err(refused(tokens));
-    };
-    match token.kind {
-        GrammarKind::Name(_, Property::Stringify) => Ok((Builtin::Stringify, rest)),
-        _ => Err(refused(tokens)),
-    }
-}
-
-fn object_function(tokens: &[GrammarToken]) -> Result<(Builtin, &[GrammarToken]), Fault<'_>>
-    ensures { GivesAnswer (λ found. found.0) (λ found. found.1.now) result
-        (one_of terminals.keys_word tokens.now) }
-{
-    let Some((token, rest)) = next(tokens) else {
-        return Err(refused(tokens));
-    };
-    match token.kind {
-        GrammarKind::Name(_, Property::Keys) => Ok((Builtin::Keys, rest)),
-        _ => Err(refused(tokens)),
-    }
-}
-
 // String, and perhaps a point and a function of it.
 fn string_called(tokens: &[GrammarToken]) -> Result<(Builtin, &[GrammarToken]), Fault<'_>>
     ensures { GivesAnswer (λ found. found.0) (λ found. found.1.now) result (read_string_called tokens.now) }
@@ -373,14 +350,26 @@ fn json_called(tokens: &[GrammarToken]) -> Result<(Builtin, &[GrammarToken]), Fa
     ensures { GivesAnswer (λ found. found.0) (λ found. found.1.now) result (read_json_called tokens.now) }
 {
     let rest = take(tokens, Fixed::Point)?;
-    json_function(rest)
+    let Some((token, after)) = next(rest) else {
+        return Err(refused(rest));
+    };
+    match token.kind {
+        GrammarKind::Name(_, Property::Stringify) => Ok((Builtin::Stringify, after)),
+        _ => Err(refused(rest)),
+    }
 }
 
 fn object_called(tokens: &[GrammarToken]) -> Result<(Builtin, &[GrammarToken]), Fault<'_>>
     ensures { GivesAnswer (λ found. found.0) (λ found. found.1.now) result (read_object_called tokens.now) }
 {
     let rest = take(tokens, Fixed::Point)?;
-    object_function(rest)
+    let Some((token, after)) = next(rest) else {
+        return Err(refused(rest));
+    };
+    match token.kind {
+        GrammarKind::Name(_, Property::Keys) => Ok((Builtin::Keys, after)),
+        _ => Err(refused(rest)),
+    }
 }
 
 // A URI handling function.
@@ -408,7 +397,9 @@ fn uri_function(tokens: &[GrammarToken]) -> Result<((u32, Builtin), &[GrammarTok
 /// The built-in function that is called, with the offset of its first identifier: `String`,
 /// `String . fromCharCode`, `String . fromCodePoint`, `Symbol . for`, `Symbol . keyFor`, `JSON . stringify`,
 /// `Object . keys`, or a URI handling function.
-pub fn called(tokens: &[GrammarToken]) -> Result<((u32, Builtin), &[GrammarToken]), Fault<'_>>
+pub(crate) fn called(
+    tokens: &[GrammarToken],
+) -> Result<((u32, Builtin), &[GrammarToken]), Fault<'_>>
     ensures { GivesAnswer (λ found. (found.0.0, found.0.1)) (λ found. found.1.now) result
         (read_called tokens.now) }
 {
@@ -444,7 +435,7 @@ pub struct Ident {
 }
 
 /// A name, which has to come next.
-pub fn name(tokens: &[GrammarToken]) -> Result<(Ident, &[GrammarToken]), Fault<'_>>
+pub(crate) fn name(tokens: &[GrammarToken]) -> Result<(Ident, &[GrammarToken]), Fault<'_>>
     ensures { GivesAnswer (λ found. ident found.0.at found.0.number) (λ found. found.1.now) result
         (one_of terminals.name tokens.now) }
 {
@@ -490,7 +481,7 @@ fn bound(tokens: &[GrammarToken]) -> Result<(u32, &[GrammarToken]), Fault<'_>>
 }
 
 /// `for ( let Name = 0 ; Name < Bound ; Name ++ )`
-pub fn header(tokens: &[GrammarToken]) -> Result<((Ident, u32), &[GrammarToken]), Fault<'_>>
+pub(crate) fn header(tokens: &[GrammarToken]) -> Result<((Ident, u32), &[GrammarToken]), Fault<'_>>
     ensures { GivesAnswer (λ found. (ident found.0.0.at found.0.0.number, found.0.1)) (λ found. found.1.now)
         result
         (read_header tokens.now) }
@@ -513,7 +504,9 @@ pub fn header(tokens: &[GrammarToken]) -> Result<((Ident, u32), &[GrammarToken])
 }
 
 /// `=`, or the offset of a `+=`.
-pub fn assign_op(tokens: &[GrammarToken]) -> Result<(Option<u32>, &[GrammarToken]), Fault<'_>>
+pub(crate) fn assign_op(
+    tokens: &[GrammarToken],
+) -> Result<(Option<u32>, &[GrammarToken]), Fault<'_>>
     ensures { GivesAnswer (λ found. found.0) (λ found. found.1.now) result
         (one_of terminals.assign_op tokens.now) }
 {
@@ -528,7 +521,7 @@ pub fn assign_op(tokens: &[GrammarToken]) -> Result<(Option<u32>, &[GrammarToken
 }
 
 /// Whether statements go on: up to the end of a block or of the tokens.
-pub fn goes_on(tokens: &[GrammarToken]) -> bool
+pub(crate) fn goes_on(tokens: &[GrammarToken]) -> bool
     ensures { result ≡ goes_on tokens.now }
 {
     match next(tokens) {
@@ -538,7 +531,7 @@ pub fn goes_on(tokens: &[GrammarToken]) -> bool
 }
 
 /// The rest behind an `else` that an `if` follows.
-pub fn else_if(tokens: &[GrammarToken]) -> Option<&[GrammarToken]>
+pub(crate) fn else_if(tokens: &[GrammarToken]) -> Option<&[GrammarToken]>
     ensures { MatchOption result (heads_two named.else_word named.if_word tokens.now ≡ false)
         (λ rest. (one_of named.else_word tokens.now ≡ Got tt rest.now)
         × (heads_two named.else_word named.if_word tokens.now ≡ true)) }
@@ -546,4 +539,150 @@ pub fn else_if(tokens: &[GrammarToken]) -> Option<&[GrammarToken]>
     let rest = behind(tokens, Fixed::Else)?;
     let _ = behind(rest, Fixed::If)?;
     Some(rest)
+}
+
+/// The letters of a name by its number.
+pub(crate) fn letters(alloc: Global, tables: &Tables, number: u32) -> Result<Name, NoMemory>
+    ensures { IfOk result (λ name. name ≡ get_or (tables_of tables.now).names number []) }
+{
+    match tables.names.get(number as usize) {
+        Some(name) => name.copy(),
+        None => Ok(Name::new(Vec::new(alloc))),
+    }
+}
+
+// The letters of an identifier by its number.
+fn letters_of(tables: &Tables, number: u32) -> &[u8]
+    ensures { result.now ≡ get_or (tables_of tables.now).names number [] }
+{
+    match tables.names.get(number as usize) {
+        Some(name) => name.as_bytes(),
+        None => &[],
+    }
+}
+
+fn units_of(alloc: Global, letters: &[u8]) -> Result<Units, NoMemory>
+    ensures { IfOk result (λ units. units ≡ letters.now) }
+{
+    let mut units = Units::new(alloc);
+    units.extend_from_latin1(letters)?;
+    Ok(units)
+}
+
+// The units of a string that is a key, by its number.
+fn key_text(alloc: Global, tables: &Tables, number: u32) -> Result<Units, NoMemory>
+    ensures { IfOk result (λ units. units ≡ get_or (tables_of tables.now).keys number []) }
+{
+    let mut units = Units::new(alloc);
+    match tables.keys.get(number as usize) {
+        Some(key) => {
+            units.extend_from_slice(key.as_slice())?;
+            Ok(units)
+        }
+        None => Ok(units),
+    }
+}
+
+fn decimal_text(alloc: Global, value: u64) -> Result<Units, NoMemory>
+    ensures { IfOk result (λ units. units ≡ decimal value) }
+{
+    let mut buffer = Buffer::new();
+    units_of(alloc, buffer.format(value).as_bytes())
+}
+
+/// The key of a member of an object literal, which has to come next: an identifier, a string, or a number by its decimal digits.
+pub(crate) fn key<'a>(
+    alloc: Global,
+    tables: &Tables,
+    tokens: &'a [GrammarToken],
+) -> Result<(Units, &'a [GrammarToken]), Fault<'a>>
+    ensures { GivesAnswer (λ found. found.0) (λ found. found.1.now) result
+        (one_of (terminals.key (tables_of tables.now)) tokens.now) }
+{
+    let Some((token, rest)) = next(tokens) else {
+        return Err(refused(tokens));
+    };
+    match token.kind {
+        GrammarKind::Text { number, .. } => Ok((key_text(alloc, tables, number)?, rest)),
+        GrammarKind::Number(value) => Ok((decimal_text(alloc, value)?, rest)),
+        GrammarKind::Name(number, _) => Ok((units_of(alloc, letters_of(tables, number))?, rest)),
+        GrammarKind::Word(_, number) => Ok((units_of(alloc, letters_of(tables, number))?, rest)),
+        GrammarKind::Directive => Err(refused(tokens)),
+        GrammarKind::Mark(_) => Err(refused(tokens)),
+    }
+}
+
+/// The read of the property of that name.
+#[tactic(auto, using(eval_tree::proofs::Trees::tree_of_property))]
+pub(crate) fn property(alloc: Global, at: u32, letters: &[u8]) -> Result<PostStep, NoMemory>
+    ensures { IfOk result (λ step. step_tree step ≡ of_property at letters.now) }
+{
+    Ok(PostStep::Property {
+        at,
+        key: units_of(alloc, letters)?,
+    })
+}
+
+/// An identifier other than `length`, `description` and the methods: the read of the property of that name.
+pub(crate) fn property_word<'a>(
+    alloc: Global,
+    tables: &Tables,
+    tokens: &'a [GrammarToken],
+) -> Result<Option<(PostStep, &'a [GrammarToken])>, NoMemory>
+    ensures { IfOk result (λ found.
+        MatchOption found (heads (terminals.property_word (tables_of tables.now)) tokens.now ≡ false)
+        (λ one. one_of (terminals.property_word (tables_of tables.now)) tokens.now
+        ≡ Got (step_tree one.0) one.1.now)) }
+{
+    let Some((token, rest)) = next(tokens) else {
+        return Ok(None);
+    };
+    match token.kind {
+        GrammarKind::Name(_, Property::Length | Property::Description | Property::Method(_)) => {
+            Ok(None)
+        }
+        GrammarKind::Name(number, _) => {
+            let step = property(alloc, token.at, letters_of(tables, number))?;
+            Ok(Some((step, rest)))
+        }
+        GrammarKind::Word(_, number) => {
+            let step = property(alloc, token.at, letters_of(tables, number))?;
+            Ok(Some((step, rest)))
+        }
+        GrammarKind::Directive => Ok(None),
+        GrammarKind::Text { .. } => Ok(None),
+        GrammarKind::Number(_) => Ok(None),
+        GrammarKind::Mark(_) => Ok(None),
+    }
+}
+
+/// A method with its offset and its letters.
+pub(crate) fn method<'t, 'a>(
+    tables: &'t Tables,
+    tokens: &'a [GrammarToken],
+) -> Option<((u32, Method, &'t [u8]), &'a [GrammarToken])>
+    ensures { MatchOption result (heads (terminals.method (tables_of tables.now)) tokens.now ≡ false)
+        (λ found. one_of (terminals.method (tables_of tables.now)) tokens.now
+        ≡ Got ((found.0.0, found.0.1), found.0.2.now) found.1.now) }
+{
+    let (token, rest) = next(tokens)?;
+    match token.kind {
+        GrammarKind::Name(number, Property::Method(method)) => {
+            let letters = letters_of(tables, number);
+            Some(((token.at, method, letters), rest))
+        }
+        _ => None,
+    }
+}
+
+/// The `{` of an object literal: its offset.
+pub(crate) fn open_literal(tokens: &[GrammarToken]) -> Option<(u32, &[GrammarToken])>
+    ensures { MatchOption result (heads named.open_literal tokens.now ≡ false)
+        (λ found. one_of named.open_literal tokens.now ≡ Got found.0 found.1.now) }
+{
+    let (token, rest) = next(tokens)?;
+    match token.kind {
+        GrammarKind::Mark(Mark::OpenBrace) => Some((token.at, rest)),
+        _ => None,
+    }
 }

@@ -1,8 +1,8 @@
 // Faults of the grammar.
 ghost use Rattle.std.specs.Prelude.{◌≡◌, ℕ};
 ghost use Rattle.parse_syntax.specs.Reader.{wrong, too_deep};
-ghost use Rattle.parse_look.specs.Gives.{FailsWith};
-ghost use Rattle.parse_look.specs.declared.fault.Fault.TheVariants.{Memory};
+ghost use Rattle.parse_statements.specs.Gives.{FailsWith};
+ghost use Rattle.parse_statements.specs.declared.fault.Fault.TheVariants.{Memory};
 
 use js_units::NoMemory;
 use parse_syntax::GrammarToken;
@@ -19,13 +19,13 @@ pub enum Fault<'a> {
     TooDeep { rest: &'a [GrammarToken] },
 }
 
-pub fn refused(tokens: &[GrammarToken]) -> Fault<'_>
+pub(crate) fn refused(tokens: &[GrammarToken]) -> Fault<'_>
     ensures { FailsWith result (wrong {A = ℕ} tokens.now) }
 {
     Fault::Wrong { rest: tokens }
 }
 
-pub fn too_deep(tokens: &[GrammarToken]) -> Fault<'_>
+pub(crate) fn too_deep(tokens: &[GrammarToken]) -> Fault<'_>
     ensures { FailsWith result (too_deep {A = ℕ} tokens.now) }
 {
     Fault::TooDeep { rest: tokens }
