@@ -80,10 +80,6 @@ pub all_narrow : (k : ℕ) (us : List ℕ) (i : ℕ) → past_latin1 k us ≡ No
 all_narrow k [] i e l = absurd (omega arith)
 all_narrow k (u ∷ us) i e l = by_first k u us i e (λ j f m. all_narrow (k + 1) us j f m) (omega (arith, l)) (cases_lt 255 u)
 
--- where the front is the same, so is a list with one unit more
-pub same_more : (us vs : List ℕ) (i : ℕ) → i < length us → i < length vs → get_or us i 0 ≡ get_or vs i 0 → take i us ≡ take i vs → take (i + 1) us ≡ take (i + 1) vs
-same_more us vs i l m e h = take_more us i 0 l ∙ (ap₂ (λ (f : List ℕ) (u : ℕ). f ++ u ∷ []) h e ∙ sym (take_more vs i 0 m))
-
 -- what the test of an order says
 pub is_equal : (o : Ordering) → not (ordering_index o == 1) ≡ false → o ≡ Equal
 is_equal Less e = cc

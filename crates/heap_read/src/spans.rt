@@ -94,8 +94,8 @@ impl<H: HeapRef> Reader<H> {
         next
     }
 
-    // Copies four words of a window into `into` from place `next` on, each lane straight to its place. Unit `i`
-    // is the first one of content word `at`.
+    // Copies four words of a window into `into` from place `next` on, each lane straight to its place.
+    // Unit `i` is the first one of content word `at`.
     #[inline(always)]
     fn four_into(&mut self, w: Window, i: u32, first: usize, at: u32, into: &mut [u16], next: usize)
         requires window { (us : List ℕ) × IsWindow (view_in self.old) w us }

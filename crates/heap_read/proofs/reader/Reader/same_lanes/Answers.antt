@@ -18,12 +18,14 @@ overflow_add-left_at g c = let v : View = c.args.self.now.agent.seat.me.0 in let
 pub overflow_add-left_at-then-same_four : goal.overflow_add-left_at-then-same_four
 overflow_add-left_at-then-same_four g c = let v : View = c.args.self.now.agent.seat.me.0 in let u : View = c.loop-i.self.agent.seat.me.0 in let s = c.loop-i.invariant in
     let within = c.requires.within in let t = c.loop-i-test.true in
-    let small = word_there u c.args.a c.loop-i.i c.loop-i.left_at c.loop-i.self.belongs.5 (frozen_later v u c.args.a c.requires.left.0 s.reads s.forms c.requires.left.1) (omega arith) s.left in omega arith
+    let small = word_there u c.args.a c.loop-i.i c.loop-i.left_at c.loop-i.self.belongs.5
+    (frozen_later v u c.args.a c.requires.left.0 s.reads s.forms c.requires.left.1) (omega arith) s.left in omega arith
 
 pub overflow_add-left_at-in-loop-i : goal.overflow_add-left_at-in-loop-i
 overflow_add-left_at-in-loop-i g c = let v : View = c.args.self.now.agent.seat.me.0 in let u : View = c.loop-i.self.agent.seat.me.0 in let s = c.loop-i.invariant in
     let within = c.requires.within in let t = c.loop-i-test.true in
-    let small = word_there u c.args.a c.loop-i.i c.loop-i.left_at c.loop-i.self.belongs.5 (frozen_later v u c.args.a c.requires.left.0 s.reads s.forms c.requires.left.1) (omega arith) s.left in omega arith
+    let small = word_there u c.args.a c.loop-i.i c.loop-i.left_at c.loop-i.self.belongs.5
+    (frozen_later v u c.args.a c.requires.left.0 s.reads s.forms c.requires.left.1) (omega arith) s.left in omega arith
 
 pub overflow_add-right_at : goal.overflow_add-right_at
 overflow_add-right_at g c = let v : View = c.args.self.now.agent.seat.me.0 in let within = c.requires.within in let some = c.if-most-eq0.false in
@@ -35,12 +37,14 @@ overflow_add-right_at g c = let v : View = c.args.self.now.agent.seat.me.0 in le
 pub overflow_add-right_at-then-same_four : goal.overflow_add-right_at-then-same_four
 overflow_add-right_at-then-same_four g c = let v : View = c.args.self.now.agent.seat.me.0 in let u : View = c.loop-i.self.agent.seat.me.0 in let s = c.loop-i.invariant in
     let within = c.requires.within in let t = c.loop-i-test.true in
-    let small = word_there u c.args.b c.loop-i.i c.loop-i.right_at c.loop-i.self.belongs.5 (frozen_later v u c.args.b c.requires.right.0 s.reads s.forms c.requires.right.1) (omega arith) s.right in omega arith
+    let small = word_there u c.args.b c.loop-i.i c.loop-i.right_at c.loop-i.self.belongs.5
+    (frozen_later v u c.args.b c.requires.right.0 s.reads s.forms c.requires.right.1) (omega arith) s.right in omega arith
 
 pub overflow_add-right_at-in-loop-i : goal.overflow_add-right_at-in-loop-i
 overflow_add-right_at-in-loop-i g c = let v : View = c.args.self.now.agent.seat.me.0 in let u : View = c.loop-i.self.agent.seat.me.0 in let s = c.loop-i.invariant in
     let within = c.requires.within in let t = c.loop-i-test.true in
-    let small = word_there u c.args.b c.loop-i.i c.loop-i.right_at c.loop-i.self.belongs.5 (frozen_later v u c.args.b c.requires.right.0 s.reads s.forms c.requires.right.1) (omega arith) s.right in omega arith
+    let small = word_there u c.args.b c.loop-i.i c.loop-i.right_at c.loop-i.self.belongs.5
+    (frozen_later v u c.args.b c.requires.right.0 s.reads s.forms c.requires.right.1) (omega arith) s.right in omega arith
 
 pub same_four-requires-clause-left : goal.same_four-requires-clause-left
 same_four-requires-clause-left g c = let v : View = c.args.self.now.agent.seat.me.0 in let u : View = c.loop-i.self.agent.seat.me.0 in let s = c.loop-i.invariant in
@@ -72,7 +76,8 @@ loop-i-init g c = let low = c.requires.lowest in record {
 
 pub returns-then-not-same_word-clause-reads : goal.returns-then-not-same_word-clause-reads
 returns-then-not-same_word-clause-reads g c = let v : View = c.args.self.now.agent.seat.me.0 in let u : View = c.loop-i.self.agent.seat.me.0 in
-    let x : View = c.same_four.new.self.agent.seat.me.0 in let y : View = c.same_word.new.self.agent.seat.me.0 in let s = c.loop-i.invariant in let e = c.same_four.ensures in let f = c.same_word.ensures in
+    let x : View = c.same_four.new.self.agent.seat.me.0 in let y : View = c.same_word.new.self.agent.seat.me.0 in
+    let s = c.loop-i.invariant in let e = c.same_four.ensures in let f = c.same_word.ensures in
     record { heap = f.reads.heap ∙ (e.reads.heap ∙ s.heap); view = reads_trans v u y s.reads (reads_trans u x y e.reads.view f.reads.view) }
 
 pub loop-i-preserved-then-same_four : goal.loop-i-preserved-then-same_four
