@@ -1,7 +1,7 @@
 // Units that are in no string: interning them, and looking for them in the string table.
 ghost use Rattle.std.specs.Prelude.{◌≤◌, length};
 ghost use Rattle.heap_rule.specs.Layout.{MAX};
-ghost use Rattle.heap_intern.specs.Keys.{IsKey, key_units};
+ghost use Rattle.heap_intern.specs.Keys.{IsKey, units_of_key};
 ghost use Rattle.heap_agents.specs.Held.{IsHeld};
 ghost use Rattle.heap_agents.specs.Keys.{FoundUnits, InternedUnits};
 
@@ -35,7 +35,7 @@ impl Held {
     pub(crate) fn intern_key(&mut self, key: &Key) -> Result<u32, TableFull>
         requires held { IsHeld self.old }
         requires key { IsKey key.now }
-        ensures { InternedUnits self.old self.new (key_units key.now) result }
+        ensures { InternedUnits self.old self.new (units_of_key key.now) result }
     {
         let answer = intern_key(&mut self.text, &mut self.seats, &mut self.reserve, key);
         let id = answer?;
@@ -47,7 +47,7 @@ impl Held {
     pub(crate) fn find_key(&mut self, key: &Key) -> Option<u32>
         requires held { IsHeld self.old }
         requires key { IsKey key.now }
-        ensures { FoundUnits self.old self.new (key_units key.now) result }
+        ensures { FoundUnits self.old self.new (units_of_key key.now) result }
     {
         let found = find_key(&mut self.text, &mut self.seats, key);
         match found {

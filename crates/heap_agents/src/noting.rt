@@ -1,7 +1,7 @@
 // Units that are in no string, interned and looked for by an agent that notes what the strings in slots hash
 // to.
 ghost use Rattle.heap_intern.specs.Given.{FindsGiven};
-ghost use Rattle.heap_intern.specs.Keys.{IsKey, key_units};
+ghost use Rattle.heap_intern.specs.Keys.{IsKey, units_of_key};
 ghost use Rattle.heap_reserve.specs.Interning.{InternsKept};
 ghost use Rattle.heap_reserve.specs.Reserves.{IsReserve};
 ghost use Rattle.heap_agents.specs.Noted.{AreNoted};
@@ -29,7 +29,7 @@ pub(crate) fn intern_key(
     ensures there { IsThere text.new }
     ensures same { IsSameText text.old text.new }
     ensures interns { InternsKept (view_if text.old) (view_if text.new) reserve.old reserve.new
-        (key_units key.now) result }
+        (units_of_key key.now) result }
     ensures noted { AreNoted (view_if text.new) seats.new }
     ensures reserved { IsReserve (view_if text.new) reserve.new }
 {
@@ -54,7 +54,7 @@ pub(crate) fn find_key(
     requires noted { AreNoted (view_if text.old) seats.old }
     ensures there { IsThere text.new }
     ensures same { IsSameText text.old text.new }
-    ensures finds { FindsGiven (view_if text.old) (view_if text.new) (key_units key.now) result }
+    ensures finds { FindsGiven (view_if text.old) (view_if text.new) (units_of_key key.now) result }
     ensures noted { AreNoted (view_if text.new) seats.new }
 {
     match text {

@@ -38,9 +38,9 @@ use Rattle.heap_intern.specs.Headers.{IsFlat, MayBeOver}
 use Rattle.heap_intern.specs.declared.table.key.Key.{Key}
 use Rattle.heap_intern.specs.declared.table.key.Key.TheVariants.{Units, Spelled}
 use Rattle.heap_rule.specs.Layout.{MAX}
-use Rattle.heap_intern.specs.Keys.{IsKey, key_units}
+use Rattle.heap_intern.specs.Keys.{IsKey, units_of_key}
 use Rattle.heap_intern.specs.SlotLoads.{loads_at}
-use Rattle.heap_intern.specs.Taking.{HasGiven, IsSettled, without_given}
+use Rattle.heap_intern.specs.Taking.{HasGiven, IsKeyAnswer, without_given}
 use Rattle.heap_intern.specs.Visits.{IsNeverUnmade, IsPassed, IsPlace, LoadsOne, id_in}
 use Rattle.heap_intern.proofs.Bearing.{known_length, shown_span, without_keeps}
 use Rattle.heap_intern.proofs.Going.{goes_trans}
@@ -132,19 +132,19 @@ pub header_given : (w : View) (us : List ℕ) (start id : ℕ) → IsFlat w (is_
 header_given w us start id h = ((start, tt, h.0), h.1)
 
 -- What is settled.
-pub settled_by : (v w : View) (us : List ℕ) (plan : HeaderPlan) (r : Result Seat TableFull) → IsNeverUnmade r → IsInternAnswer v w us plan (id_in r) → IsSettled v w us (id_in r)
+pub settled_by : (v w : View) (us : List ℕ) (plan : HeaderPlan) (r : Result Seat TableFull) → IsNeverUnmade r → IsInternAnswer v w us plan (id_in r) → IsKeyAnswer v w us (id_in r)
 settled_by v w us plan (Ok s) n h = (h.0, h.3, h.4)
 settled_by v w us plan (Err (Slots m)) n h = (h.0, h.1.0, h.1.1)
 settled_by v w us plan (Err (Ids f)) n h = absurd n
 settled_by v w us plan (Err (Words f)) n h = absurd n
 
-pub settled_after : (a v w : View) (us : List ℕ) (r : Result ℕ TableFull) → AddsCalls a v [] → IsSettled v w us r → IsSettled a w us r
+pub settled_after : (a v w : View) (us : List ℕ) (r : Result ℕ TableFull) → AddsCalls a v [] → IsKeyAnswer v w us r → IsKeyAnswer a w us r
 settled_after a v w us (Ok i) g h = (goes_trans a v w [] ((us, i) ∷ []) g h.0, h.1, h.2)
 settled_after a v w us (Err (Slots m)) g h = (goes_trans a v w [] [] g h.0, h.1, h.2)
 settled_after a v w us (Err (Ids f)) g h = absurd h
 settled_after a v w us (Err (Words f)) g h = absurd h
 
-pub settled_known : (v w : View) (us : List ℕ) (r : Result ℕ TableFull) → IsSettled v w us r → KeepsKnown v w × (w.sizes ≡ v.sizes)
+pub settled_known : (v w : View) (us : List ℕ) (r : Result ℕ TableFull) → IsKeyAnswer v w us r → KeepsKnown v w × (w.sizes ≡ v.sizes)
 settled_known v w us (Ok i) h = (h.0.known, h.0.sizes)
 settled_known v w us (Err (Slots m)) h = (h.0.known, h.0.sizes)
 settled_known v w us (Err (Ids f)) h = absurd h
@@ -254,10 +254,10 @@ given_written p possible us x wide n long is h none = record {
     there : 0 < words_over wide n → x.start < 2 ^ 29
     there l = let t = h.each 0 l in let a = (possible_within p possible).words (x.start + 0) (key_of p.own_words (x.start + 0) t.0 t.1) in let b = (possible_lawful p possible).3 in omega (arith, a, b)
 
-pub key_short : (k : Key) → IsKey k → length (key_units k) ≤ MAX
+pub key_short : (k : Key) → IsKey k → length (units_of_key k) ≤ MAX
 key_short (Units xs) h = h
 key_short (Spelled s) h = h.1
 
 -- the answer has the units
-pub settled_units : (v w : View) (us : List ℕ) (i : ℕ) → IsSettled v w us (Ok i) → Has w.units i us
+pub settled_units : (v w : View) (us : List ℕ) (i : ℕ) → IsKeyAnswer v w us (Ok i) → Has w.units i us
 settled_units v w us i h = h.1.1

@@ -16,14 +16,14 @@ use Rattle.heap_intern.specs.Answers.{FindsString, UsesNothing}
 use Rattle.heap_intern.specs.Hashes.{AreHashes, IsNotedApart}
 use Rattle.heap_intern.specs.Headers.{IsFlat}
 use Rattle.heap_intern.specs.SlotLoads.{loads_at}
-use Rattle.heap_intern.specs.Taking.{InternsByGiven, IsSettled, without_given}
+use Rattle.heap_intern.specs.Taking.{InternsByGiven, IsKeyAnswer, without_given}
 use Rattle.heap_intern.specs.Visits.{IsFreeAt}
 use Rattle.heap_intern.proofs.Again.{find_again}
 use Rattle.heap_intern.proofs.Giving.{free_near, given_known, place_open, settled_after, settled_known, without_later}
 use Rattle.heap_intern.proofs.Going.{forms_trans}
 use Rattle.heap_intern.proofs.Hashes.{hashes_kept}
 
-pub taken_known : (v u w : View) (us : List ℕ) (x : Given) (r : Result ℕ TableFull) → FindsString v u us None → IsSettled (without_given u us x) w us r → KeepsKnown v w
+pub taken_known : (v u w : View) (us : List ℕ) (x : Given) (r : Result ℕ TableFull) → FindsString v u us None → IsKeyAnswer (without_given u us x) w us r → KeepsKnown v w
 taken_known v u w us x r f h = known_trans v u w f.0.goes.known (given_known u w us x (settled_known (without_given u us x) w us r h).0)
 
 pub taken_apart : (v u w : View) (us hashes : List ℕ) (k at mark : ℕ) → FindsString v u us None → IsFreeAt v u us k at → AreHashes v hashes
@@ -33,7 +33,7 @@ taken_apart v u w us hashes k at mark f e right first later j apart =
     later j (λ d. free_near u hashes k mark (hashes_kept v u f.0.goes.known hashes right) e.free (subst (λ (i : ℕ). IsNotedApart hashes i mark) d apart)) apart ∙ first j apart
 
 pub taken_by : (v u w : View) (us : List ℕ) (x : Given) (r : Result ℕ TableFull) (k at : ℕ) → IsPossible v → IsPossible u → FindsString v u us None → IsFreeAt v u us k at → HoldsForms v u
-    → IsSettled (without_given u us x) w us r → IsFlat w (is_wide us) x.start us x.id → UsesNothing u w → HoldsForms u w
+    → IsKeyAnswer (without_given u us x) w us r → IsFlat w (is_wide us) x.start us x.id → UsesNothing u w → HoldsForms u w
     → ((j : ℕ) → rank us u.sizes.slots j ≤ at → loads_at w j ≤ loads_at u j + 1) → ((j : ℕ) → loads_at w j ≤ loads_at u j + 2) → InternsByGiven v w us x true r
 taken_by v u w us x r k at p q f e forms settles flat nothing later once most = let s = settled_known (without_given u us x) w us r settles in record {
   answer = record {

@@ -5,9 +5,9 @@ use Rattle.heap_bytes.specs.Spellings.{IsReadable, spelling_units}
 use Rattle.heap_intern.specs.declared.table.key.Key.{Key}
 use Rattle.heap_intern.specs.declared.table.key.Key.TheVariants.{Units, Spelled}
 
-abbrev pub key_units : Key → List ℕ
-key_units (Units xs) = xs.now
-key_units (Spelled s) = spelling_units s
+abbrev pub units_of_key : Key → List ℕ
+units_of_key (Units xs) = xs.now
+units_of_key (Spelled s) = spelling_units s
 
 -- they are no more than a string may have, and bytes spell them
 abbrev pub IsKey : Key → Type 0

@@ -30,22 +30,22 @@ without_given v us p = record v {
 
 -- The answer is a fixed Flat of these units that is in a slot, and the history has one call more; or every
 -- slot is known to be used by a string that differs.
-abbrev pub IsSettled : View → View → List ℕ → Result ℕ TableFull → Type 0
-IsSettled v w us (Ok i) = AddsCalls v w ((us, i) ∷ []) × IsFixed w us i × StandsInSlot w us i
-IsSettled v w us (Err (Slots n)) = AddsCalls v w [] × (n ≡ w.sizes.slots) × IsTrue (shut w us w.sizes.slots)
-IsSettled v w us (Err _) = ⊥
+abbrev pub IsKeyAnswer : View → View → List ℕ → Result ℕ TableFull → Type 0
+IsKeyAnswer v w us (Ok i) = AddsCalls v w ((us, i) ∷ []) × IsFixed w us i × StandsInSlot w us i
+IsKeyAnswer v w us (Err (Slots n)) = AddsCalls v w [] × (n ≡ w.sizes.slots) × IsTrue (shut w us w.sizes.slots)
+IsKeyAnswer v w us (Err _) = ⊥
 
 -- What was given was taken: a slot was found free behind slots with strings that differ, and the id became a
 -- fixed Flat of the units over the words. It is the answer, or another one is, where the claim of a slot was
 -- lost. All else that was the agent's own is so still.
 pub record IsGivenTaken (v w : View) (us : List ℕ) (p : Given) (r : Result ℕ TableFull) : Type 0 where
-  pub settled : IsSettled (without_given v us p) w us r
+  pub settled : IsKeyAnswer (without_given v us p) w us r
   pub form : Has w.forms p.id (Flat (is_wide us) p.start true)
   pub units : Has w.units p.id us
   pub opened : IsOpenAt v w us
 
 abbrev pub AnswersGiven : View → View → List ℕ → Given → Bool → Result ℕ TableFull → Type 0
-AnswersGiven v w us p false r = IsSettled v w us r
+AnswersGiven v w us p false r = IsKeyAnswer v w us r
 AnswersGiven v w us p true r = IsGivenTaken v w us p r
 
 -- The units were interned by what was given; the test says whether that was taken. If not, it is the agent's

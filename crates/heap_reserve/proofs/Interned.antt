@@ -12,7 +12,7 @@ use Rattle.heap_intern.specs.declared.table.faults.TableFull.TheVariants.{Ids, W
 use Rattle.heap_intern.specs.declared.table.given.Given.{Given}
 use Rattle.heap_intern.specs.Answers.{IsInternAnswer, UsesNothing, copy_plan, words_of_copy}
 use Rattle.heap_intern.specs.Goes.{AddsCalls}
-use Rattle.heap_intern.specs.Taking.{HasGiven, InternsByGiven, IsSettled, without_given}
+use Rattle.heap_intern.specs.Taking.{HasGiven, InternsByGiven, IsKeyAnswer, without_given}
 use Rattle.heap_text.specs.Texts.{KeepsOwn, KeepsOwnBut}
 use Rattle.heap_text.proofs.Owned.{without_other}
 use Rattle.heap_reserve.specs.declared.reserve.Reserve.{Reserve}
@@ -59,7 +59,7 @@ same_used v w n = λ i. record { ids = n.0 i; words = n.1 i }
 adds_own : (v w : View) (calls : Calls) → AddsCalls v w calls → KeepsOwn v w
 adds_own v w calls g = record { ids = g.own_ids; words = g.own_words }
 
-pub settled_own : (v w : View) (us : List ℕ) (r : Result ℕ TableFull) → IsSettled v w us r → KeepsOwn v w
+pub settled_own : (v w : View) (us : List ℕ) (r : Result ℕ TableFull) → IsKeyAnswer v w us r → KeepsOwn v w
 settled_own v w us (Ok i) h = adds_own v w ((us, i) ∷ []) h.0
 settled_own v w us (Err (Slots n)) h = adds_own v w [] h.0
 settled_own v w us (Err (Ids f)) h = absurd h
@@ -78,7 +78,7 @@ given_own v w us p start first k = record {
 }
 
 pub taken_from : (v w : View) (r s : Reserve) (us : List ℕ) (p : Given) (i n : ℕ) (answer : Result ℕ TableFull) → IsOffered r (length us) p
-    → IsSettled (without_given v us p) w us answer → UsesNothing v w → n ≡ words_holding us
+    → IsKeyAnswer (without_given v us p) w us answer → UsesNothing v w → n ≡ words_holding us
     → kept_ids r ≡ i ∷ kept_ids s → (s.start ≡ r.start + n) × (s.end ≡ r.end) → IsTakenFrom v w r s p.id (words_holding us)
 taken_from v w r s us p i n answer o h nothing e ids run = let is : i ≡ p.id = sym (ap (λ (l : List ℕ). get_or l 0 0) ids) ∙ sym o.id in record {
   ids = subst (λ (j : ℕ). kept_ids r ≡ j ∷ kept_ids s) is ids;

@@ -8,7 +8,7 @@ use Rattle.heap_intern.specs.declared.table.given.Given.{Given}
 use Rattle.heap_intern.specs.Answers.{StandsInSlot, UsesNothing}
 use Rattle.heap_intern.specs.Given.{InternsGiven}
 use Rattle.heap_intern.specs.SlotLoads.{loads_at}
-use Rattle.heap_intern.specs.Taking.{IsGivenTaken, IsSettled}
+use Rattle.heap_intern.specs.Taking.{IsGivenTaken, IsKeyAnswer}
 use Rattle.heap_reserve.specs.declared.reserve.Reserve.{Reserve}
 use Rattle.heap_reserve.specs.Making.{words_holding}
 use Rattle.heap_reserve.specs.Reserves.{HasEnough, IsTakenFrom, kept_ids}
@@ -33,7 +33,7 @@ module _ (v w : View) (r s : Reserve) (us : List ℕ) (answer : Result ℕ Table
   -- free, the reserve stays. No counter is touched, no form that was seen is another one, and no slot is
   -- loaded more than twice.
   pub record InternsByReserve : Type 0 where
-    pub ways : ((s ≡ r) × IsSettled v w us answer) ⊎ IsKeyTaken
+    pub ways : ((s ≡ r) × IsKeyAnswer v w us answer) ⊎ IsKeyTaken
     pub used : w.used ≡ v.used
     pub forms : HoldsForms v w
     pub few : (k : ℕ) → loads_at w k ≤ loads_at v k + 2

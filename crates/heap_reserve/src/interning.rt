@@ -4,7 +4,7 @@ ghost use Rattle.heap_rule.specs.Maps.{Has};
 ghost use Rattle.heap_table.specs.Agents.{view_of};
 ghost use Rattle.heap_intern.specs.Answers.{StandsInSlot};
 ghost use Rattle.heap_intern.specs.Hashes.{AreHashes, NotesHash};
-ghost use Rattle.heap_intern.specs.Keys.{IsKey, key_units};
+ghost use Rattle.heap_intern.specs.Keys.{IsKey, units_of_key};
 ghost use Rattle.heap_intern.specs.SlotLoads.{answered};
 ghost use Rattle.heap_text.specs.Keeping.{KeepsText};
 ghost use Rattle.heap_reserve.specs.Interning.{InternsByReserve, InternsKept, IsOffered};
@@ -34,9 +34,9 @@ impl Reserve {
         ensures kept { KeepsText text.old text.new }
         ensures reserve { IsReserve (view_of text.new.reader.agent) self.new }
         ensures interns { InternsKept (view_of text.old.reader.agent) (view_of text.new.reader.agent)
-            self.old self.new (key_units key.now) result }
+            self.old self.new (units_of_key key.now) result }
         ensures notes { NotesHash (view_of text.old.reader.agent) (view_of text.new.reader.agent)
-            (key_units key.now) (answered result) hashes.old hashes.new }
+            (units_of_key key.now) (answered result) hashes.old hashes.new }
     {
         if !self.covers(key) {
             return intern_key_noted(&mut text.reader, key, hashes);
@@ -53,17 +53,17 @@ impl Reserve {
     ) -> Result<u32, TableFull>
         requires reserve { IsReserve (view_of text.old.reader.agent) self.old }
         requires key { IsKey key.now }
-        requires enough { HasEnough self.old (words_holding (key_units key.now)) }
+        requires enough { HasEnough self.old (words_holding (units_of_key key.now)) }
         requires hashed { AreHashes (view_of text.old.reader.agent) hashes.old }
         ensures kept { KeepsText text.old text.new }
         ensures reserve { IsReserve (view_of text.new.reader.agent) self.new }
         ensures interns { InternsByReserve (view_of text.old.reader.agent)
-            (view_of text.new.reader.agent) self.old self.new (key_units key.now) result }
-        ensures again { (i : ℕ) → Has (view_of text.old.reader.agent).units i (key_units key.now)
-            → StandsInSlot (view_of text.old.reader.agent) (key_units key.now) i
+            (view_of text.new.reader.agent) self.old self.new (units_of_key key.now) result }
+        ensures again { (i : ℕ) → Has (view_of text.old.reader.agent).units i (units_of_key key.now)
+            → StandsInSlot (view_of text.old.reader.agent) (units_of_key key.now) i
             → IsOk result × (self.new ≡ self.old) }
         ensures notes { NotesHash (view_of text.old.reader.agent) (view_of text.new.reader.agent)
-            (key_units key.now) (answered result) hashes.old hashes.new }
+            (units_of_key key.now) (answered result) hashes.old hashes.new }
     {
         let given = self.offer(key.len());
         let (answer, taken) = intern_given(&mut text.reader, key, given, hashes);
@@ -78,7 +78,7 @@ impl Reserve {
     // few words.
     fn covers(&self, key: &Key) -> bool
         requires { IsKey key.now }
-        ensures { IsTrue result ↔ HasEnough self.now (words_holding (key_units key.now)) }
+        ensures { IsTrue result ↔ HasEnough self.now (words_holding (units_of_key key.now)) }
     {
         let n = key.len();
         if self.has(words_for(n, true)) {

@@ -11,9 +11,9 @@ ghost use Rattle.heap_intern.specs.Answers.{UsesNothing};
 ghost use Rattle.heap_intern.specs.Goes.{AddsCalls};
 ghost use Rattle.heap_intern.specs.Hashes.{AreHashes, IsNotedApart, NotesHash};
 ghost use Rattle.heap_intern.specs.Headers.{IsFlat, MayBeOver};
-ghost use Rattle.heap_intern.specs.Keys.{IsKey, key_units};
+ghost use Rattle.heap_intern.specs.Keys.{IsKey, units_of_key};
 ghost use Rattle.heap_intern.specs.SlotLoads.{answered, loads_at};
-ghost use Rattle.heap_intern.specs.Taking.{HasGiven, InternsByGiven, IsSettled, without_given};
+ghost use Rattle.heap_intern.specs.Taking.{HasGiven, InternsByGiven, IsKeyAnswer, without_given};
 ghost use Rattle.heap_intern.specs.Visits.{IsMade, IsPlace, StandsAt, id_in};
 ghost use Rattle.heap_intern.specs.Wanted.{IsWanted, wanted_plan};
 
@@ -62,16 +62,16 @@ fn bear_given<H: HeapRef>(reader: &mut Reader<H>, id: u32, wide: bool, start: u3
 // A fixed Flat of units, of what was given. The words are written before it is born.
 fn make_given<H: HeapRef>(reader: &mut Reader<H>, key: &Key, given: Given)
     requires key { IsKey key.now }
-    requires given { HasGiven (view_in reader.old) (key_units key.now) given }
+    requires given { HasGiven (view_in reader.old) (units_of_key key.now) given }
     ensures heap { reader.new.heap ≡ reader.old.heap }
-    ensures goes { AddsCalls (without_given (view_in reader.old) (key_units key.now) given)
+    ensures goes { AddsCalls (without_given (view_in reader.old) (units_of_key key.now) given)
         (view_in reader.new) [] }
     ensures forms { HoldsForms (view_in reader.old) (view_in reader.new) }
     ensures slots { (view_in reader.new).slots ≡ (view_in reader.old).slots }
     ensures loads { (view_in reader.new).slot_loads ≡ (view_in reader.old).slot_loads }
     ensures used { (view_in reader.new).used ≡ (view_in reader.old).used }
-    ensures flat { IsFlat (view_in reader.new) (is_wide (key_units key.now)) given.start
-        (key_units key.now) given.id }
+    ensures flat { IsFlat (view_in reader.new) (is_wide (units_of_key key.now)) given.start
+        (units_of_key key.now) given.id }
 {
     let n = key.len();
     let wide = key.is_wide();
@@ -101,7 +101,7 @@ fn place<L: Ledger, H: HeapRef>(
     ensures heap { reader.new.heap ≡ reader.old.heap }
     ensures forms { HoldsForms (view_in reader.old) (view_in reader.new) }
     ensures settles { (us : List ℕ) → IsWanted (view_in reader.old) wanted.now us
-        → IsSettled (view_in reader.old) (view_in reader.new) us (id_in result) }
+        → IsKeyAnswer (view_in reader.old) (view_in reader.new) us (id_in result) }
     ensures nothing { UsesNothing (view_in reader.old) (view_in reader.new) }
     ensures stands { IfOk result (λ s. (us : List ℕ) → IsWanted (view_in reader.old) wanted.now us
         → StandsAt (view_in reader.new) us s.slot s.id) }
@@ -130,19 +130,19 @@ fn settle<L: Ledger, H: HeapRef>(
     steps: &mut Steps<L>,
 ) -> Result<Seat, TableFull>
     requires key { IsKey key.now }
-    requires given { HasGiven (view_in reader.old) (key_units key.now) given }
-    requires hash { hash ≡ hash_of (key_units key.now) }
+    requires given { HasGiven (view_in reader.old) (units_of_key key.now) given }
+    requires hash { hash ≡ hash_of (units_of_key key.now) }
     requires hashed { AreHashes (view_in reader.old) hashes.now }
-    requires place { IsPlace (view_in reader.old) (key_units key.now) slot at }
+    requires place { IsPlace (view_in reader.old) (units_of_key key.now) slot at }
     ensures heap { reader.new.heap ≡ reader.old.heap }
     ensures forms { HoldsForms (view_in reader.old) (view_in reader.new) }
-    ensures settles { IsSettled (without_given (view_in reader.old) (key_units key.now) given)
-        (view_in reader.new) (key_units key.now) (id_in result) }
-    ensures flat { IsFlat (view_in reader.new) (is_wide (key_units key.now)) given.start
-        (key_units key.now) given.id }
+    ensures settles { IsKeyAnswer (without_given (view_in reader.old) (units_of_key key.now) given)
+        (view_in reader.new) (units_of_key key.now) (id_in result) }
+    ensures flat { IsFlat (view_in reader.new) (is_wide (units_of_key key.now)) given.start
+        (units_of_key key.now) given.id }
     ensures nothing { UsesNothing (view_in reader.old) (view_in reader.new) }
-    ensures stands { IfOk result (λ s. StandsAt (view_in reader.new) (key_units key.now) s.slot s.id) }
-    ensures once { (k : ℕ) → rank (key_units key.now) (view_in reader.old).sizes.slots k ≤ at
+    ensures stands { IfOk result (λ s. StandsAt (view_in reader.new) (units_of_key key.now) s.slot s.id) }
+    ensures once { (k : ℕ) → rank (units_of_key key.now) (view_in reader.old).sizes.slots k ≤ at
         → loads_at (view_in reader.new) k ≤ loads_at (view_in reader.old) k + 1 }
     ensures most { (k : ℕ) → loads_at (view_in reader.new) k ≤ loads_at (view_in reader.old) k + 2 }
     ensures apart { (k : ℕ) → k ≢ slot → IsNotedApart hashes.now k (max hash 1)
@@ -173,12 +173,12 @@ fn intern_given_by<L: Ledger, H: HeapRef>(
     requires parts { blank.parts ≡ L.parts }
     requires some { 0 < blank.parts }
     requires key { IsKey key.now }
-    requires given { HasGiven (view_in reader.old) (key_units key.now) given }
+    requires given { HasGiven (view_in reader.old) (units_of_key key.now) given }
     requires hashed { AreHashes (view_in reader.old) hashes.old }
     ensures heap { reader.new.heap ≡ reader.old.heap }
-    ensures interns { InternsByGiven (view_in reader.old) (view_in reader.new) (key_units key.now) given
+    ensures interns { InternsByGiven (view_in reader.old) (view_in reader.new) (units_of_key key.now) given
         result.1 result.0 }
-    ensures notes { NotesHash (view_in reader.old) (view_in reader.new) (key_units key.now)
+    ensures notes { NotesHash (view_in reader.old) (view_in reader.new) (units_of_key key.now)
         (answered result.0) hashes.old hashes.new }
 {
     let mut steps = Steps::<L>::start(blank);
@@ -217,12 +217,12 @@ pub fn intern_given<H: HeapRef>(
     hashes: &mut [u32],
 ) -> (Result<u32, TableFull>, bool)
     requires key { IsKey key.now }
-    requires given { HasGiven (view_in reader.old) (key_units key.now) given }
+    requires given { HasGiven (view_in reader.old) (units_of_key key.now) given }
     requires hashed { AreHashes (view_in reader.old) hashes.old }
     ensures heap { reader.new.heap ≡ reader.old.heap }
-    ensures interns { InternsByGiven (view_in reader.old) (view_in reader.new) (key_units key.now) given
+    ensures interns { InternsByGiven (view_in reader.old) (view_in reader.new) (units_of_key key.now) given
         result.1 result.0 }
-    ensures notes { NotesHash (view_in reader.old) (view_in reader.new) (key_units key.now)
+    ensures notes { NotesHash (view_in reader.old) (view_in reader.new) (units_of_key key.now)
         (answered result.0) hashes.old hashes.new }
 {
     intern_given_by::<Brand, _>(reader, key, given, hashes, Blank::new(1))

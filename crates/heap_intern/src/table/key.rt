@@ -7,7 +7,7 @@ ghost use Rattle.heap_read.specs.Reads.{KeepsBeside, KeepsForms, WritesOwnWords}
 ghost use Rattle.heap_read.specs.Readers.{MovesView, view_in};
 ghost use Rattle.heap_read.specs.Written.{AreWords};
 ghost use Rattle.heap_intern.specs.Answers.{copy_plan};
-ghost use Rattle.heap_intern.specs.Keys.{IsKey, key_units};
+ghost use Rattle.heap_intern.specs.Keys.{IsKey, units_of_key};
 ghost use Rattle.heap_intern.specs.Wanted.{IsWanted, wanted_plan};
 
 use crate::table::wanted::Wanted;
@@ -26,7 +26,7 @@ impl Key<'_> {
     /// How many units it has.
     pub fn len(&self) -> u32
         requires { IsKey self.now }
-        ensures { result ≡ length (key_units self.now) }
+        ensures { result ≡ length (units_of_key self.now) }
     {
         match self {
             Key::Units(units) => units.len() as u32,
@@ -37,7 +37,7 @@ impl Key<'_> {
     /// Whether a unit is over 255.
     pub fn is_wide(&self) -> bool
         requires { IsKey self.now }
-        ensures { result ≡ is_wide (key_units self.now) }
+        ensures { result ≡ is_wide (units_of_key self.now) }
     {
         match self {
             Key::Units(units) => has_wide(units),
@@ -48,7 +48,7 @@ impl Key<'_> {
     // What the units hash to.
     pub(crate) fn hash(&self) -> u32
         requires { IsKey self.now }
-        ensures { result ≡ hash_of (key_units self.now) }
+        ensures { result ≡ hash_of (units_of_key self.now) }
     {
         match self {
             Key::Units(units) => hash_units(0, units),
@@ -59,7 +59,7 @@ impl Key<'_> {
     // What is looked for.
     pub(crate) fn wanted(&self) -> Wanted<'_>
         requires { IsKey self.now }
-        ensures wanted { (v : View) → IsWanted v result (key_units self.now) }
+        ensures wanted { (v : View) → IsWanted v result (units_of_key self.now) }
         ensures plan { (us : List ℕ) → wanted_plan result us ≡ copy_plan us }
     {
         match self {
@@ -78,12 +78,12 @@ pub(crate) fn write_key<H: HeapRef>(
     start: u32,
 )
     requires key { IsKey key.now }
-    requires count { length (key_units key.now) ≡ n }
-    requires wide { wide ≡ is_wide (key_units key.now) }
+    requires count { length (units_of_key key.now) ≡ n }
+    requires wide { wide ≡ is_wide (units_of_key key.now) }
     requires own { (q : ℕ) → q < words_over wide n → Has (view_in reader.old).own_words (start + q) 0 }
     ensures writes { MovesView WritesOwnWords reader.old reader.new }
     ensures forms { KeepsForms (view_in reader.old) (view_in reader.new) }
-    ensures written { AreWords (view_in reader.new) wide start (key_units key.now) (words_over wide n) }
+    ensures written { AreWords (view_in reader.new) wide start (units_of_key key.now) (words_over wide n) }
     ensures others { KeepsBeside start (words_over wide n) (view_in reader.old) (view_in reader.new) }
 {
     match key {

@@ -3,7 +3,7 @@
 ghost use Rattle.std.specs.Prelude.{◌≡◌, ◌<◌};
 ghost use Rattle.heap_intern.specs.Given.{FindsGiven, InternsGiven};
 ghost use Rattle.heap_intern.specs.Hashes.{AreHashes, NotesHash};
-ghost use Rattle.heap_intern.specs.Keys.{IsKey, key_units};
+ghost use Rattle.heap_intern.specs.Keys.{IsKey, units_of_key};
 ghost use Rattle.heap_intern.specs.SlotLoads.{answered};
 ghost use Rattle.heap_read.specs.Readers.{view_in};
 
@@ -28,8 +28,8 @@ fn intern_key_noted_by<L: Ledger, H: HeapRef>(
     requires key { IsKey key.now }
     requires hashed { AreHashes (view_in reader.old) hashes.old }
     ensures heap { reader.new.heap ≡ reader.old.heap }
-    ensures interns { InternsGiven (view_in reader.old) (view_in reader.new) (key_units key.now) result }
-    ensures notes { NotesHash (view_in reader.old) (view_in reader.new) (key_units key.now)
+    ensures interns { InternsGiven (view_in reader.old) (view_in reader.new) (units_of_key key.now) result }
+    ensures notes { NotesHash (view_in reader.old) (view_in reader.new) (units_of_key key.now)
         (answered result) hashes.old hashes.new }
 {
     let mut steps = Steps::<L>::start(blank);
@@ -52,8 +52,8 @@ pub fn intern_key_noted<H: HeapRef>(
     requires key { IsKey key.now }
     requires hashed { AreHashes (view_in reader.old) hashes.old }
     ensures heap { reader.new.heap ≡ reader.old.heap }
-    ensures interns { InternsGiven (view_in reader.old) (view_in reader.new) (key_units key.now) result }
-    ensures notes { NotesHash (view_in reader.old) (view_in reader.new) (key_units key.now)
+    ensures interns { InternsGiven (view_in reader.old) (view_in reader.new) (units_of_key key.now) result }
+    ensures notes { NotesHash (view_in reader.old) (view_in reader.new) (units_of_key key.now)
         (answered result) hashes.old hashes.new }
 {
     intern_key_noted_by::<Brand, _>(reader, key, hashes, Blank::new(1))
@@ -72,8 +72,8 @@ fn find_key_noted_by<L: Ledger, H: HeapRef>(
     requires key { IsKey key.now }
     requires hashed { AreHashes (view_in reader.old) hashes.old }
     ensures heap { reader.new.heap ≡ reader.old.heap }
-    ensures finds { FindsGiven (view_in reader.old) (view_in reader.new) (key_units key.now) result }
-    ensures notes { NotesHash (view_in reader.old) (view_in reader.new) (key_units key.now)
+    ensures finds { FindsGiven (view_in reader.old) (view_in reader.new) (units_of_key key.now) result }
+    ensures notes { NotesHash (view_in reader.old) (view_in reader.new) (units_of_key key.now)
         result hashes.old hashes.new }
 {
     let mut steps = Steps::<L>::start(blank);
@@ -91,8 +91,8 @@ pub fn find_key_noted<H: HeapRef>(
     requires key { IsKey key.now }
     requires hashed { AreHashes (view_in reader.old) hashes.old }
     ensures heap { reader.new.heap ≡ reader.old.heap }
-    ensures finds { FindsGiven (view_in reader.old) (view_in reader.new) (key_units key.now) result }
-    ensures notes { NotesHash (view_in reader.old) (view_in reader.new) (key_units key.now)
+    ensures finds { FindsGiven (view_in reader.old) (view_in reader.new) (units_of_key key.now) result }
+    ensures notes { NotesHash (view_in reader.old) (view_in reader.new) (units_of_key key.now)
         result hashes.old hashes.new }
 {
     find_key_noted_by::<Brand, _>(reader, key, hashes, Blank::new(1))

@@ -3,7 +3,7 @@ use Rattle.std.proofs.lemmas.List.{take_at}
 use Rattle.heap_rule.specs.declared.view.View.{View}
 use Rattle.heap_table.specs.Agents.{view_of}
 use Rattle.heap_intern.specs.Hashes.{AreHashes}
-use Rattle.heap_intern.specs.Keys.{key_units}
+use Rattle.heap_intern.specs.Keys.{units_of_key}
 use Rattle.heap_intern.specs.Seats.{AreSeats}
 use Rattle.heap_intern.proofs.Seats.{seats_kept}
 use Rattle.heap_reserve.specs.Reserves.{IsReserve}
@@ -22,7 +22,7 @@ intern-requires-clause-hashed c = let v = view_of c.in-Some.text.reader.agent in
 
 pub returns-clause-noted : goal.returns-clause-noted
 returns-clause-noted c = let call = c.intern in let s = c.args.seats.now in let t = c.in-Some.text in
-    let v : View = view_of t.reader.agent in let w : View = view_of call.new.text.reader.agent in let us : List ℕ = key_units c.args.key.now in
+    let v : View = view_of t.reader.agent in let w : View = view_of call.new.text.reader.agent in let us : List ℕ = units_of_key c.args.key.now in
     let l : Leaves v w us call.result = leaves v w c.args.reserve.now call.new.self us call.result call.ensures.interns in
     let len : length call.new.hashes ≡ c.reach_hashes.new.self.hashes.len = call.ensures.notes.room ∙ c.as_mut_slice-hashes.ensures.len in (
       subst (λ (q : List ℕ). AreSeats w q) (λ i. (sym c.reach_hashes.ensures.slots i).items)

@@ -1,7 +1,7 @@
 use Rattle.std.proofs.Common.{◌≡◌, ◌∙◌, ℕ, Bool, List, length, true, false, subst}
 use Rattle.js_units.specs.Lanes.{words_over}
 use Rattle.heap_rule.specs.declared.view.View.{View}
-use Rattle.heap_intern.specs.Keys.{key_units}
+use Rattle.heap_intern.specs.Keys.{units_of_key}
 use Rattle.heap_intern.specs.Taking.{InternsByGiven}
 use Rattle.heap_reserve.specs.Interning.{IsOffered}
 use Rattle.heap_reserve.specs.Making.{words_holding}
@@ -12,13 +12,13 @@ use Rattle.heap_reserve.proofs.reserve.Reserve.intern_with.Goals as goal
 
 pub returns-then-not-taken-clause-reserve : goal.returns-then-not-taken-clause-reserve
 returns-then-not-taken-clause-reserve g c = let v : View = c.args.text.now.reader.agent.seat.me.0 in let w : View = c.intern_given-answer.new.reader.agent.seat.me.0 in
-    let us : List ℕ = key_units c.args.key.now in let p = c.offer-given.result in let answer = c.intern_given-answer.result.0 in
+    let us : List ℕ = units_of_key c.args.key.now in let p = c.offer-given.result in let answer = c.intern_given-answer.result.0 in
     let h : InternsByGiven v w us p false answer = subst (λ (b : Bool). InternsByGiven v w us p b answer) c.if-not-taken.true c.intern_given-answer.ensures.interns in
     reserve_kept v w c.args.self.now (settled_own v w us answer h.answer) c.requires.reserve
 
 pub returns-clause-reserve : goal.returns-clause-reserve
 returns-clause-reserve g c = let v : View = c.args.text.now.reader.agent.seat.me.0 in let w : View = c.intern_given-answer.new.reader.agent.seat.me.0 in
-    let us : List ℕ = key_units c.args.key.now in let p = c.offer-given.result in let answer = c.intern_given-answer.result.0 in
+    let us : List ℕ = units_of_key c.args.key.now in let p = c.offer-given.result in let answer = c.intern_given-answer.result.0 in
     let r = c.args.self.now in let s = c.take.new.self in let e = c.take.ensures in
     let h : InternsByGiven v w us p true answer = subst (λ (b : Bool). InternsByGiven v w us p b answer) c.if-not-taken.false c.intern_given-answer.ensures.interns in
     let offered : IsOffered r (length us) p = subst (λ (m : ℕ). IsOffered r m p) c.len.ensures c.offer-given.ensures in
@@ -28,7 +28,7 @@ returns-clause-reserve g c = let v : View = c.args.text.now.reader.agent.seat.me
 
 pub returns-clause-interns : goal.returns-clause-interns
 returns-clause-interns g c = let v : View = c.args.text.now.reader.agent.seat.me.0 in let w : View = c.intern_given-answer.new.reader.agent.seat.me.0 in
-    let us : List ℕ = key_units c.args.key.now in let p = c.offer-given.result in let answer = c.intern_given-answer.result.0 in
+    let us : List ℕ = units_of_key c.args.key.now in let p = c.offer-given.result in let answer = c.intern_given-answer.result.0 in
     let r = c.args.self.now in let s = c.take.new.self in let e = c.take.ensures in
     let h : InternsByGiven v w us p true answer = subst (λ (b : Bool). InternsByGiven v w us p b answer) c.if-not-taken.false c.intern_given-answer.ensures.interns in
     let offered : IsOffered r (length us) p = subst (λ (m : ℕ). IsOffered r m p) c.len.ensures c.offer-given.ensures in
