@@ -84,6 +84,10 @@ module _ (x : Held) (y : Option SharedText) (held : IsHeld x) (there : IsThere y
   pub still : AreNoted (view_if y) x.seats → KeepsOwn (view_by x) (view_if y) → IsHeld (record x { text = y })
   still right keeps = noted x.seats right keeps
 
+  -- also where something was taken from the reserve
+  pub noted_spent : (seats : Seats) (r : Reserve) → AreNoted (view_if y) seats → IsReserve (view_if y) r → IsHeld (record x { text = y; seats = seats; reserve = r })
+  noted_spent seats r right reserved = record { there = there; agents = held.agents ∙ sym agents; marked = marked_on; noted = right; reserved = reserved }
+
   -- and where something was taken from the reserve, or added to it
   pub spent_on : (r : Reserve) → AreNoted (view_if y) x.seats → IsReserve (view_if y) r → IsHeld (record x { text = y; reserve = r })
   spent_on r right reserved = record { there = there; agents = held.agents ∙ sym agents; marked = marked_on; noted = right; reserved = reserved }

@@ -3,9 +3,10 @@ use Rattle.std.specs.Prelude.{◌≡◌, ℕ, List, Option, Some, None, Result, 
 use Rattle.heap_rule.specs.Maps.{Has}
 use Rattle.heap_table.specs.Known.{KeepsKnown}
 use Rattle.heap_intern.specs.declared.table.faults.TableFull.{TableFull}
-use Rattle.heap_intern.specs.Answers.{FindsString, IsInternAnswer, IsFoundAgain, StandsInSlot, copy_plan}
+use Rattle.heap_intern.specs.Answers.{FindsString, StandsInSlot}
+use Rattle.heap_reserve.specs.Interning.{InternsKept}
 use Rattle.heap_agents.specs.declared.held.Held.{Held}
-use Rattle.heap_agents.specs.Held.{IsHeld, IsSame, KeepsMarks, MarksNothing, MarksOnlyKey, view_by}
+use Rattle.heap_agents.specs.Held.{IsHeld, IsSame, KeepsMarks, MarksNothing, MarksOnlyKey, StaysMarked, view_by}
 use Rattle.heap_agents.specs.Interned.{HasEntered, KeepsCalls}
 
 -- the answer gets both marks; a refusal marks nothing
@@ -18,18 +19,17 @@ abbrev pub MarksFound : Held → Held → Option ℕ → Type 0
 MarksFound x y (Some i) = MarksOnlyKey x y i
 MarksFound x y None = MarksNothing x y
 
--- The units us were interned, with r as the answer. Where their string was seen at its place in the table, it
--- is answered, and nothing used.
+-- The units us were interned, with r as the answer, by what was reserved where that suffices. Where their
+-- string was seen at its place in the table, it is answered, and nothing used or taken.
 pub record InternedUnits (x y : Held) (us : List ℕ) (r : Result ℕ TableFull) : Type 0 where
   pub held : IsHeld y
   pub same : IsSame x y
-  pub marks : KeepsMarks x y
+  pub marks : StaysMarked x y
   pub marked : MarksAnswer x y r
   pub known : KeepsKnown (view_by x) (view_by y)
   pub calls : KeepsCalls (view_by x) (view_by y)
   pub entered : IfOk r (λ i. HasEntered (view_by y) us i)
-  pub interns : IsInternAnswer (view_by x) (view_by y) us (copy_plan us) r
-  pub again : IsFoundAgain (view_by x) (view_by y) us r
+  pub interns : InternsKept (view_by x) (view_by y) x.reserve y.reserve us r
 
 -- The units us were looked for, with r as the answer, and nothing was used. Where their string was seen at
 -- its place in the table, it is found.

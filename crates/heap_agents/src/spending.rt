@@ -9,9 +9,10 @@ use heap_reserve::ReserveFault;
 
 impl Held {
     /// Claims so many content words in one piece, and then so many ids, from which strings that are made,
-    /// joined and cut are taken later; 0 claims none. Where the heap has not that many content words, nothing
-    /// is claimed. Where ids or memory end before, the words and the ids that were claimed are kept. If the
-    /// new words do not begin where those in reserve end, the rest of these is given up.
+    /// joined and cut, and units that are interned, are taken later; 0 claims none. Where the heap has not
+    /// that many content words, nothing is claimed. Where ids or memory end before, the words and the ids
+    /// that were claimed are kept. If the new words do not begin where those in reserve end, the rest of
+    /// these is given up.
     pub fn reserve(&mut self, ids: u32, words: u32) -> Result<(), ReserveFault>
         requires held { IsHeld self.old }
         ensures { ClaimsInAdvance self.old self.new ids words result }

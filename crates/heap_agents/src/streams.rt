@@ -1,5 +1,5 @@
-// Units that bytes spell: strings made of them, interning them, looking for them in the string table, and strings
-// compared with them. No call requests memory but the heap's.
+// Units that bytes spell: strings made of them, interning them, looking for them in the string table, and
+// strings compared with them. No call requests memory but the heap's.
 ghost use Rattle.std.specs.Prelude.{◌≡◌, ◌↔◌, ◌≤◌, ℕ, List, length, IfOk, IsTrue};
 ghost use Rattle.js_search.specs.Order.{units_cmp};
 ghost use Rattle.heap_rule.specs.Layout.{MAX};
@@ -12,9 +12,8 @@ ghost use Rattle.heap_agents.specs.Held.{IsHeld, LeavesStrings, MarksMade, Marks
 ghost use Rattle.heap_agents.specs.Keys.{FoundUnits, InternedUnits};
 
 use crate::held::Held;
-use crate::noting::{find_from, intern_from};
 use heap_bytes::Spelling;
-use heap_intern::TableFull;
+use heap_intern::{Key, TableFull};
 use heap_text::{JsStr, TextFull};
 use std::cmp::Ordering;
 
@@ -41,17 +40,15 @@ impl Held {
         Ok(s)
     }
 
-    /// The one string of the table with the units that bytes spell. Where it is there, nothing is used.
+    /// The one string of the table with the units that bytes spell. Where it is there, nothing is used. Else
+    /// it takes what it needs from what was claimed in advance, where that suffices.
     pub fn intern_from(&mut self, source: &Spelling) -> Result<u32, TableFull>
         requires held { IsHeld self.old }
         requires read { IsReadable source.now }
         requires short { length (spelling_units source.now) ≤ MAX }
         ensures { InternedUnits self.old self.new (spelling_units source.now) result }
     {
-        let answer = intern_from(&mut self.text, &mut self.seats, source);
-        let id = answer?;
-        self.mark_interned(id);
-        Ok(id)
+        self.intern_key(&Key::Spelled(*source))
     }
 
     /// The one string of the table with the units that bytes spell, if it is there. It uses nothing, also
@@ -62,18 +59,11 @@ impl Held {
         requires short { length (spelling_units source.now) ≤ MAX }
         ensures { FoundUnits self.old self.new (spelling_units source.now) result }
     {
-        let found = find_from(&mut self.text, &mut self.seats, source);
-        match found {
-            Some(id) => {
-                self.mark_interned(id);
-                Some(id)
-            }
-            None => None,
-        }
+        self.find_key(&Key::Spelled(*source))
     }
 
-    /// The order of a settled string and the units that bytes spell, where a proper prefix comes first, by loads
-    /// alone.
+    /// The order of a settled string and the units that bytes spell, where a proper prefix comes first, by
+    /// loads alone.
     pub fn compare_spelled(&mut self, s: JsStr, source: &Spelling) -> Ordering
         requires held { IsHeld self.old }
         requires known { HasKey (view_by self.old).units s.id }

@@ -35,7 +35,7 @@ use Rattle.heap_read.specs.Reads.{HoldsForms}
 use Rattle.heap_intern.specs.Seeking.{IsSought}
 
 -- a run that is taken away leaves the other keys
-without_keeps : (m : FinMap nat_cmp ℕ) (k n q x : ℕ) → ((p : ℕ) → p < n → q ≡ k + p → ⊥) → Has m q x → Has (without_run m k n) q x
+pub without_keeps : (m : FinMap nat_cmp ℕ) (k n q x : ℕ) → ((p : ℕ) → p < n → q ≡ k + p → ⊥) → Has m q x → Has (without_run m k n) q x
 without_keeps m k zero q x never h = h
 without_keeps m k (suc n) q x never h = without_keeps (remove m k) (suc k) n q x (λ p l e. never (suc p) (omega arith) (omega arith))
     (remove_other m k q (λ e. never 0 (omega arith) (omega arith)) ∙ h)
@@ -43,7 +43,7 @@ without_keeps m k (suc n) q x never h = without_keeps (remove m k) (suc k) n q x
 known_ids : (v : View) (id : ℕ) → KeepsKnown v (won_claim v Ids id 1)
 known_ids v id = record { units = λ i us h. h; lengths = λ i n h. h; flats = λ i wide start h. h; thins = λ i t h. h; settled = λ i h. h; frozen = λ c x h. h; known = λ i h. h; slots = λ k i h. h }
 
-known_length : (v : View) (i n : ℕ) → KeepsKnown v (stored_length v i n)
+pub known_length : (v : View) (i n : ℕ) → KeepsKnown v (stored_length v i n)
 known_length v i n = record {
   units = λ i us h. h;
   lengths = λ i n h. h;
@@ -89,7 +89,7 @@ module _ (v : View) (wide : Bool) (start n : ℕ) (us : List ℕ) (h : MayBeOver
   header_fits = (n, insert_same (won_claim v Ids id 1).own_ids id n, (h.small, h.words, (λ o lo hi. let long = h.long in h.lanes o hi ∙ get_or_past us o 0 (omega arith)), h.empty))
 
   -- it has the units
-  shown_span : span (shown_word v) wide start 0 n ≡ us
+  pub shown_span : span (shown_word v) wide start 0 n ≡ us
   shown_span = let long = h.long in let m = length_span (shown_word v) wide start 0 n in same_number_lists (span (shown_word v) wide start 0 n) us (omega arith)
       (λ k l. let l' : k < n = omega arith in let plain : 0 + k ≡ k = omega arith in
       span_lane (shown_word v) wide start 0 n k l' ∙ (ap (λ (o : ℕ). lane_in (shown_word v) wide start o) plain ∙ h.lanes k (lane_there wide n k l')))

@@ -169,6 +169,21 @@ module _ (a v w : View) (us : List ℕ) (r before now after k most : ℕ) (p : W
     sum = loaded_sum;
   }
 
+-- it ends at a slot that is free: none was loaded twice, and none behind it
+pub free_once : (a v : View) (us : List ℕ) (r before now : ℕ) → Walking a v us r before now → (j : ℕ) → loads_at v j ≤ loads_at a j + 1
+free_once a v us r before now p j = let e = p.each j in let m = on_most (loads_at a j) (p.times j) in let o = p.once j in omega (arith, e, m, o)
+
+pub free_ahead : (a v : View) (us : List ℕ) (r before now : ℕ) → v.sizes ≡ a.sizes → Walking a v us (r + 1) before now → (j : ℕ) → r < rank us v.sizes.slots j → loads_at v j ≡ loads_at a j
+free_ahead a v us r before now z p j l = let m : r < rank us a.sizes.slots j = subst (λ (y : HeapSize). r < rank us y.slots j) z l in
+    p.each j ∙ ap (counted_on (loads_at a j)) (p.ahead j (omega (arith, m)))
+
+-- a load of a slot leaves the count of those that were passed before
+pub before_on : (a v w : View) (us : List ℕ) (slot from r most before after : ℕ) → rank us a.sizes.slots slot ≡ r → from ≤ r → LoadsOne v w slot most before after →
+    ((k : ℕ) → rank us a.sizes.slots k < from → loads_at v k ≡ loads_at a k) → (k : ℕ) → rank us a.sizes.slots k < from → loads_at w k ≡ loads_at a k
+before_on a v w us slot from r most before after at low h none k l = let ne : k ≢ slot = (λ e.
+    let same : rank us a.sizes.slots k ≡ rank us a.sizes.slots slot = ap (rank us a.sizes.slots) e in omega (arith, same, at, low, l)) in
+    h.others k ne ∙ none k l
+
 -- it passed all slots
 pub walked_all : (a v : View) (us : List ℕ) (r before now : ℕ) (answer : Option ℕ) → Walking a v us r before now → LoadsSlots a v answer before now
 walked_all a v us r before now answer p = record {

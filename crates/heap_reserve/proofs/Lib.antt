@@ -1,3 +1,4 @@
 pub mod Kept
 pub mod After
 pub mod Tried
+pub mod Interned

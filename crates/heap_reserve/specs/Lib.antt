@@ -1,4 +1,5 @@
 pub mod Reserves
 pub mod Claims
 pub mod Making
+pub mod Interning
 pub mod Trying

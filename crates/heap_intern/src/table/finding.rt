@@ -1,5 +1,5 @@
 // Looking for units in the string table, where nothing is made. Each load of a slot is counted.
-ghost use Rattle.std.specs.Prelude.{◌≡◌, ℕ, List, ◌+◌, ◌*◌, ◌%◌, ◌≤◌, ◌<◌, ◌^◌, Option, Some, IfSome, length, max};
+ghost use Rattle.std.specs.Prelude.{◌≡◌, ℕ, List, ◌+◌, ◌*◌, ◌%◌, ◌≤◌, ◌<◌, ◌^◌, Option, Some, length, max};
 ghost use Rattle.js_units.specs.Lanes.{hash_of};
 ghost use Rattle.heap_rule.specs.Layout.{MAX};
 ghost use Rattle.heap_rule.specs.Maps.{Has};
@@ -9,7 +9,7 @@ ghost use Rattle.heap_bytes.specs.Spellings.{IsReadable, spelling_units};
 ghost use Rattle.heap_intern.specs.Given.{FindsGiven};
 ghost use Rattle.heap_intern.specs.Hashes.{AreHashes, IsNotedApart, NotesHash};
 ghost use Rattle.heap_intern.specs.SlotLoads.{LoadsSlots, loads_at};
-ghost use Rattle.heap_intern.specs.Visits.{Looked, LoadsOne, entries_seen, found_id};
+ghost use Rattle.heap_intern.specs.Visits.{Ends, Looked, LoadsOne, entries_seen, found_id};
 ghost use Rattle.heap_intern.specs.Wanted.{IsWanted, wanted_plan};
 ghost use Rattle.heap_read.specs.Readers.{view_in};
 ghost use Rattle.heap_read.specs.Reads.{HoldsForms};
@@ -22,6 +22,15 @@ use heap_read::{HeapRef, Reader, Steps};
 use js_units::hash_units;
 use std::marker::Brand;
 use std::sync::ledger::{Blank, Ledger};
+
+// What a walk ends with: the string; the first slot that was found free, with its rank on the path; or no
+// slot is free.
+#[derive(Clone, Copy)]
+pub(crate) enum WalkEnd {
+    Found(Seat),
+    Free { slot: u32, rank: u32 },
+    Shut,
+}
 
 // A look at one slot: none where it is free.
 fn look<L: Ledger, H: HeapRef>(
@@ -45,15 +54,15 @@ fn look<L: Ledger, H: HeapRef>(
     }
 }
 
-// The slots of the path, from the first on, up to the one with the string or a free one, but for those that are
-// noted with another hash.
-fn walk_path<L: Ledger, H: HeapRef>(
+// The slots of the path, from the first on, up to the one with the string or a free one, but for those that
+// are noted with another hash.
+pub(crate) fn walk_path<L: Ledger, H: HeapRef>(
     reader: &mut Reader<H>,
     wanted: &Wanted,
     hash: u32,
     hashes: &[u32],
     steps: &mut Steps<L>,
-) -> Option<Seat>
+) -> WalkEnd
     requires wanted { (us : List ℕ) × IsWanted (view_in reader.old) wanted.now us }
     requires hash { (us : List ℕ) → IsWanted (view_in reader.old) wanted.now us → hash ≡ hash_of us }
     requires hashed { AreHashes (view_in reader.old) hashes.now }
@@ -63,7 +72,8 @@ fn walk_path<L: Ledger, H: HeapRef>(
         → FindsString (view_in reader.old) (view_in reader.new) us (found_id result) }
     ensures loads { LoadsSlots (view_in reader.old) (view_in reader.new) (found_id result)
         steps.old steps.new }
-    ensures stands { IfSome result (λ s. Has (view_in reader.new).slots s.slot s.id) }
+    ensures ends { (us : List ℕ) → IsWanted (view_in reader.old) wanted.now us
+        → Ends (view_in reader.old) (view_in reader.new) us result }
     ensures apart { (k : ℕ) → IsNotedApart hashes.now k (max hash 1)
         → loads_at (view_in reader.new) k ≡ loads_at (view_in reader.old) k }
 {
@@ -75,15 +85,15 @@ fn walk_path<L: Ledger, H: HeapRef>(
         let slot = (start + r) % n;
         let visit = match look(reader, wanted, slot, steps) {
             Some(visit) => visit,
-            None => return None,
+            None => return WalkEnd::Free { slot, rank: r },
         };
         match visit {
-            Visit::Answer { id } => return Some(Seat { id, slot }),
+            Visit::Answer { id } => return WalkEnd::Found(Seat { id, slot }),
             Visit::Next { .. } => {}
         }
         r = next_rank(hashes, start, n, mark, r + 1);
     }
-    None
+    WalkEnd::Shut
 }
 
 // The same, and notes the hash for the slot of the string.
@@ -106,8 +116,9 @@ pub(crate) fn walk<L: Ledger, H: HeapRef>(
         → NotesHash (view_in reader.old) (view_in reader.new) us result hashes.old hashes.new }
 {
     let seat = match walk_path(reader, wanted, hash, hashes, steps) {
-        Some(seat) => seat,
-        None => return None,
+        WalkEnd::Found(seat) => seat,
+        WalkEnd::Free { .. } => return None,
+        WalkEnd::Shut => return None,
     };
     note_hash(hashes, seat.slot, hash.max(1));
     Some(seat.id)

@@ -8,8 +8,8 @@ use Rattle.heap_intern.specs.Wanted.{wanted_plan}
 use Rattle.heap_intern.specs.Visits.{LoadsOne, Visited, entries}
 use Rattle.heap_intern.proofs.Going.{forms_trans, looks_trans}
 use Rattle.heap_intern.proofs.Hashes.{apart_on, hashes_kept, mark_is, probing_on, walking_on}
-use Rattle.heap_intern.proofs.Loading.{walked_all, walked_to, walking_next, walking_none}
-use Rattle.heap_intern.proofs.Visiting.{Probing, free_slot, looks_probing, next_inside, next_rank, next_probing, none_made, probed_all, probed_to, probing_first}
+use Rattle.heap_intern.proofs.Loading.{free_ahead, free_once, walked_all, walked_to, walking_next, walking_none}
+use Rattle.heap_intern.proofs.Visiting.{Probing, free_place, free_slot, looks_probing, next_inside, next_rank, next_probing, none_made, probed_all, probed_to, probing_first}
 use Rattle.heap_table.specs.Agents.{size_of}
 use Rattle.heap_intern.proofs.table.finding.walk_path.Goals as goal
 
@@ -146,9 +146,31 @@ returns-in-Answer-clause-apart g c k apart = let a : View = c.args.reader.now.ag
 pub returns-clause-apart : goal.returns-clause-apart
 returns-clause-apart g c k apart = c.loop-r.invariant.5 k (subst (IsNotedApart c.args.hashes.now k) (sym c.max-mark.ensures) apart)
 
-pub returns-in-Answer-clause-stands : goal.returns-in-Answer-clause-stands
-returns-in-Answer-clause-stands g c = let v : View = c.loop-r.reader.agent.seat.me.0 in
-    let w : View = c.look.new.reader.agent.seat.me.0 in let s = c.args.wanted.now in let u = c.requires.wanted in let i = c.loop-r.invariant.1 u.0 u.1 in
-    let answer = subst (λ (x : Visit). Visited v w u.0 (wanted_plan s u.0)
+pub returns-in-Answer-clause-ends : goal.returns-in-Answer-clause-ends
+returns-in-Answer-clause-ends g c us h = let v : View = c.loop-r.reader.agent.seat.me.0 in
+    let w : View = c.look.new.reader.agent.seat.me.0 in let s = c.args.wanted.now in let i = c.loop-r.invariant.1 us h in
+    let answer = subst (λ (x : Visit). Visited v w us (wanted_plan s us)
     ((c.args.hash % c.size-n.result.slots + c.loop-r.r) % c.size-n.result.slots) None x) c.in-Answer.is
-    (c.in-Some.ensures.looked u.0 i.wanted).0 in answer.stands
+    (c.in-Some.ensures.looked us i.wanted).0 in answer.stands
+
+pub returns-in-None-clause-ends : goal.returns-in-None-clause-ends
+returns-in-None-clause-ends g c us h = let a : View = c.args.reader.now.agent.seat.me.0 in
+    let v : View = c.loop-r.reader.agent.seat.me.0 in let w : View = c.look.new.reader.agent.seat.me.0 in let s = c.args.wanted.now in
+    let i = c.loop-r.invariant.1 us h in let n = c.size-n.result.slots in
+    let slots : n ≡ a.sizes.slots = ap (λ (z : HeapSize). z.slots) ((c.size-n.ensures ∙ ap size_of c.heap.ensures) ∙
+    sym c.args.reader.now.belongs.1) in let l = c.in-None.ensures.looked us i.wanted in let k : ℕ = (c.args.hash % n + c.loop-r.r) % n in
+    let at = next_rank a v s us (wanted_plan s us) None c.loop-r.r None i n c.args.hash slots (c.requires.hash us h) c.loop-r-test.true in
+    let walking = walking_next a v w us c.loop-r.r c.args.steps.now c.loop-r.steps c.look.new.steps k (0 + 1) (c.loop-r.invariant.2 us h)
+    (next_inside a v s us (wanted_plan s us) None c.loop-r.r None i n c.args.hash slots (c.requires.hash us h) c.loop-r-test.true) at
+    c.in-None.ensures.loads (omega arith) in record {
+      place = free_place a v s us (wanted_plan s us) None c.loop-r.r None i n c.args.hash slots (c.requires.hash us h) w c.loop-r.reader.belongs.5 c.loop-r-test.true l.0.goes;
+      free = l.2;
+      once = free_once a w us (c.loop-r.r + 1) c.args.steps.now c.look.new.steps walking;
+      ahead = free_ahead a w us c.loop-r.r c.args.steps.now c.look.new.steps (l.0.goes.sizes ∙ i.goes.sizes) walking;
+    }
+
+pub returns-clause-ends : goal.returns-clause-ends
+returns-clause-ends g c us h = let a : View = c.args.reader.now.agent.seat.me.0 in let v : View = c.loop-r.reader.agent.seat.me.0 in
+    let s = c.args.wanted.now in let n = c.size-n.result.slots in let e : c.loop-r.r ≡ n = omega arith in let i = c.loop-r.invariant.1 us h in
+    let slots : n ≡ a.sizes.slots = ap (λ (z : HeapSize). z.slots) ((c.size-n.ensures ∙ ap size_of c.heap.ensures) ∙ sym c.args.reader.now.belongs.1) in
+    (probed_all a v s us (wanted_plan s us) None c.loop-r.r None i n c.args.hash slots (c.requires.hash us h) e).1.1

@@ -11,9 +11,9 @@ use Rattle.heap_intern.specs.Wanted.{wanted_plan}
 use Rattle.heap_intern.specs.Visits.{IsMade, IsUnmade, LoadsOne, Visited, entries}
 use Rattle.heap_intern.proofs.Going.{forms_trans}
 use Rattle.heap_intern.proofs.Hashes.{apart_on, hashes_kept, mark_is, probing_on, walking_on}
-use Rattle.heap_intern.proofs.Loading.{walked_all, walked_to, walking_first, walking_next, walking_none}
+use Rattle.heap_intern.proofs.Loading.{before_on, walked_all, walked_to, walking_first, walking_next, walking_none}
 use Rattle.heap_intern.proofs.Visiting.{first_key, first_now, next_behind, next_inside, next_rank, next_probing, probed_all, probed_at, probed_unmade}
-use Rattle.heap_intern.proofs.Visiting.{probed_to, probing_first, unused_all, unused_to, unused_unmade}
+use Rattle.heap_intern.proofs.Visiting.{probed_to, probing_from, unused_all, unused_to, never_unmade}
 use Rattle.heap_intern.proofs.Wanting.{only_wanted}
 use Rattle.heap_intern.proofs.table.probing.probe_path.Goals as goal
 
@@ -26,13 +26,15 @@ loop-r-init g c = let a : View = c.args.reader.now.agent.seat.me.0 in let s = c.
     let slots : n ≡ a.sizes.slots = ap (λ (z : HeapSize). z.slots) ((c.size-n.ensures ∙ ap size_of c.heap.ensures) ∙ sym c.args.reader.now.belongs.1) in
     let q = c.next_rank-r.result in let e = c.next_rank-r.ensures in (
       refl,
-      λ us h. probing_on a a s us (wanted_plan s us) c.args.ready c.args.hashes.now n c.args.hash c.max-mark.result 0 q slots (c.requires.hash us h)
+      λ us h. probing_on a a s us (wanted_plan s us) c.args.ready c.args.hashes.now n c.args.hash c.max-mark.result c.args.from q slots (c.requires.hash us h)
           (mark_is c.args.hash c.max-mark.result us c.max-mark.ensures (c.requires.hash us h)) c.requires.hashed e.from e.apart c.args.ready
-          (probing_first a s us (wanted_plan s us) c.args.ready h (c.requires.ready us h)),
-      λ us h. walking_on a a us 0 q c.args.steps.now c.args.steps.now e.from (walking_none a us c.args.steps.now),
+          (probing_from a s us (wanted_plan s us) c.args.ready c.args.from (c.requires.passed us h) h (c.requires.ready us h)),
+      λ us h. walking_on a a us 0 q c.args.steps.now c.args.steps.now (omega arith) (walking_none a us c.args.steps.now),
       e.most,
       e.last,
       λ k apart. refl,
+      e.from,
+      λ us h k l. refl,
     )
 
 pub visit_slot-requires-clause-wanted : goal.visit_slot-requires-clause-wanted
@@ -88,6 +90,11 @@ loop-r-preserved g c = let a : View = c.args.reader.now.agent.seat.me.0 in let v
       e.most,
       e.last,
       apart_on a v w c.args.hashes.now ((c.args.hash % n + c.loop-r.r) % n) c.max-mark.result _ _ _ (c.loop-r.invariant.4 c.loop-r-test.true) c.in-Ok.ensures.loads c.loop-r.invariant.5,
+      (let low = c.loop-r.invariant.6 in omega (arith, low, e.from)),
+      λ us h. let i = c.loop-r.invariant.1 us h in
+          before_on a v w us ((c.args.hash % n + c.loop-r.r) % n) c.args.from c.loop-r.r _ _ _
+          (next_rank a v s us (wanted_plan s us) c.args.ready c.loop-r.r c.loop-r.header i n c.args.hash slots (c.requires.hash us h) c.loop-r-test.true)
+          c.loop-r.invariant.6 c.in-Ok.ensures.loads (c.loop-r.invariant.7 us h),
     )
 
 pub returns-clause-interns : goal.returns-clause-interns
@@ -176,7 +183,8 @@ pub returns-in-Err-clause-ready : goal.returns-in-Err-clause-ready
 returns-in-Err-clause-ready g c = let a : View = c.args.reader.now.agent.seat.me.0 in let v : View = c.loop-r.reader.agent.seat.me.0 in
     let w : View = c.visit_slot.new.reader.agent.seat.me.0 in let s = c.args.wanted.now in let u = c.requires.wanted in let i = c.loop-r.invariant.1 u.0 u.1 in
     let n = c.size-n.result.slots in let slots : n ≡ a.sizes.slots = ap (λ (z : HeapSize). z.slots) ((c.size-n.ensures ∙ ap size_of c.heap.ensures) ∙ sym c.args.reader.now.belongs.1) in
-    unused_unmade a v s u.0 (wanted_plan s u.0) c.args.ready c.loop-r.r c.loop-r.header i n c.args.hash slots (c.requires.hash u.0 u.1) w c.in-Err.full (c.in-Err.ensures.visits u.0 i.wanted)
+    λ j e. absurd (never_unmade a v s u.0 (wanted_plan s u.0) c.args.ready c.loop-r.r c.loop-r.header i n c.args.hash slots (c.requires.hash u.0 u.1)
+    w c.in-Err.full (c.in-Err.ensures.visits u.0 i.wanted) j e)
 
 pub returns-in-Answer-clause-ready : goal.returns-in-Answer-clause-ready
 returns-in-Answer-clause-ready g c = let a : View = c.args.reader.now.agent.seat.me.0 in let v : View = c.loop-r.reader.agent.seat.me.0 in
@@ -212,3 +220,29 @@ returns-in-Answer-clause-apart g c k apart = let a : View = c.args.reader.now.ag
 
 pub returns-clause-apart : goal.returns-clause-apart
 returns-clause-apart g c k apart = c.loop-r.invariant.5 k (subst (IsNotedApart c.args.hashes.now k) (sym c.max-mark.ensures) apart)
+
+pub returns-in-Err-clause-only : goal.returns-in-Err-clause-only
+returns-in-Err-clause-only g c = let a : View = c.args.reader.now.agent.seat.me.0 in let v : View = c.loop-r.reader.agent.seat.me.0 in
+    let w : View = c.visit_slot.new.reader.agent.seat.me.0 in let s = c.args.wanted.now in let u = c.requires.wanted in let i = c.loop-r.invariant.1 u.0 u.1 in
+    let n = c.size-n.result.slots in let slots : n ≡ a.sizes.slots = ap (λ (z : HeapSize). z.slots) ((c.size-n.ensures ∙ ap size_of c.heap.ensures) ∙ sym c.args.reader.now.belongs.1) in
+    λ j e. absurd (never_unmade a v s u.0 (wanted_plan s u.0) c.args.ready c.loop-r.r c.loop-r.header i n c.args.hash slots (c.requires.hash u.0 u.1)
+    w c.in-Err.full (c.in-Err.ensures.visits u.0 i.wanted) j e)
+
+pub returns-in-Err-clause-before : goal.returns-in-Err-clause-before
+returns-in-Err-clause-before g c us h = let a : View = c.args.reader.now.agent.seat.me.0 in let v : View = c.loop-r.reader.agent.seat.me.0 in
+    let w : View = c.visit_slot.new.reader.agent.seat.me.0 in let s = c.args.wanted.now in let i = c.loop-r.invariant.1 us h in
+    let n = c.size-n.result.slots in let slots : n ≡ a.sizes.slots = ap (λ (z : HeapSize). z.slots) ((c.size-n.ensures ∙ ap size_of c.heap.ensures) ∙ sym c.args.reader.now.belongs.1) in
+    before_on a v w us ((c.args.hash % n + c.loop-r.r) % n) c.args.from c.loop-r.r _ _ _
+    (next_rank a v s us (wanted_plan s us) c.args.ready c.loop-r.r c.loop-r.header i n c.args.hash slots (c.requires.hash us h) c.loop-r-test.true)
+    c.loop-r.invariant.6 c.in-Err.ensures.loads (c.loop-r.invariant.7 us h)
+
+pub returns-in-Answer-clause-before : goal.returns-in-Answer-clause-before
+returns-in-Answer-clause-before g c us h = let a : View = c.args.reader.now.agent.seat.me.0 in let v : View = c.loop-r.reader.agent.seat.me.0 in
+    let w : View = c.visit_slot.new.reader.agent.seat.me.0 in let s = c.args.wanted.now in let i = c.loop-r.invariant.1 us h in
+    let n = c.size-n.result.slots in let slots : n ≡ a.sizes.slots = ap (λ (z : HeapSize). z.slots) ((c.size-n.ensures ∙ ap size_of c.heap.ensures) ∙ sym c.args.reader.now.belongs.1) in
+    before_on a v w us ((c.args.hash % n + c.loop-r.r) % n) c.args.from c.loop-r.r _ _ _
+    (next_rank a v s us (wanted_plan s us) c.args.ready c.loop-r.r c.loop-r.header i n c.args.hash slots (c.requires.hash us h) c.loop-r-test.true)
+    c.loop-r.invariant.6 c.in-Ok.ensures.loads (c.loop-r.invariant.7 us h)
+
+pub returns-clause-before : goal.returns-clause-before
+returns-clause-before g c us h = c.loop-r.invariant.7 us h

@@ -1,4 +1,0 @@
-use Rattle.heap_intern.proofs.table.noted.intern_units_noted.Given as goal
-
-abbrev pub ghosts-intern_units_noted_by : goal.ghosts-intern_units_noted_by
-ghosts-intern_units_noted_by g a = record { name = a.blank.name; parts = a.blank.parts }

@@ -1,0 +1,229 @@
+// Interning with an id and content words that the caller has claimed before.
+ghost use Rattle.std.specs.Prelude.{◌≡◌, ◌≢◌, ℕ, List, ◌+◌, ◌≤◌, ◌<◌, Some, IfOk, [], max};
+ghost use Rattle.js_units.specs.Lanes.{hash_of, is_wide, words_over};
+ghost use Rattle.heap_rule.specs.declared.view.View.{View};
+ghost use Rattle.heap_rule.specs.Maps.{HasKey};
+ghost use Rattle.heap_rule.specs.Paths.{rank};
+ghost use Rattle.heap_table.specs.Agents.{size_of};
+ghost use Rattle.heap_read.specs.Readers.{view_in};
+ghost use Rattle.heap_read.specs.Reads.{HoldsForms};
+ghost use Rattle.heap_intern.specs.Answers.{UsesNothing};
+ghost use Rattle.heap_intern.specs.Goes.{AddsCalls};
+ghost use Rattle.heap_intern.specs.Hashes.{AreHashes, IsNotedApart, NotesHash};
+ghost use Rattle.heap_intern.specs.Headers.{IsFlat, MayBeOver};
+ghost use Rattle.heap_intern.specs.Keys.{IsKey, units_of_key};
+ghost use Rattle.heap_intern.specs.SlotLoads.{answered, loads_at};
+ghost use Rattle.heap_intern.specs.Taking.{HasGiven, InternsByGiven, IsKeyAnswer, without_given};
+ghost use Rattle.heap_intern.specs.Visits.{IsMade, IsPlace, StandsAt, id_in};
+ghost use Rattle.heap_intern.specs.Wanted.{IsWanted, wanted_plan};
+
+use crate::table::faults::TableFull;
+use crate::table::finding::{WalkEnd, walk_path};
+use crate::table::hashes::note_hash;
+use crate::table::key::{Key, write_key};
+use crate::table::probing::{Seat, Visit, probe_path, put};
+use crate::table::wanted::Wanted;
+use heap_read::{HeapRef, Reader, Steps};
+use js_header::Form;
+use std::marker::Brand;
+use std::sync::ledger::{Blank, Ledger};
+
+/// An id of the agent's own, and the first of own content words, 0 where none is needed.
+#[derive(Clone, Copy)]
+pub struct Given {
+    pub id: u32,
+    pub start: u32,
+}
+
+// An own id is born as a fixed Flat of `len` units over the words from `start` on.
+fn bear_given<H: HeapRef>(reader: &mut Reader<H>, id: u32, wide: bool, start: u32, len: u32)
+    requires own { HasKey (view_in reader.old).own_ids id }
+    requires over { (us : List ℕ) × MayBeOver (view_in reader.old) wide start len us }
+    ensures heap { reader.new.heap ≡ reader.old.heap }
+    ensures goes { (a : View) → AddsCalls a (view_in reader.old) [] → (HasKey a.own_ids id → ⊥)
+        → ((c : ℕ) → start ≤ c → c < start + words_over wide len → HasKey a.own_words c → ⊥)
+        → AddsCalls a (view_in reader.new) [] }
+    ensures forms { HoldsForms (view_in reader.old) (view_in reader.new) }
+    ensures slots { (view_in reader.new).slots ≡ (view_in reader.old).slots }
+    ensures loads { (view_in reader.new).slot_loads ≡ (view_in reader.old).slot_loads }
+    ensures used { (view_in reader.new).used ≡ (view_in reader.old).used }
+    ensures flat { (us : List ℕ) → MayBeOver (view_in reader.old) wide start len us
+        → IsFlat (view_in reader.new) wide start us id }
+{
+    reader.agent.store_length(reader.heap.heap(), id, len);
+    let form = Form::Flat {
+        wide,
+        start,
+        fixed: true,
+    };
+    reader.agent.birth(reader.heap.heap(), id, form);
+}
+
+// A fixed Flat of units, of what was given. The words are written before it is born.
+fn make_given<H: HeapRef>(reader: &mut Reader<H>, key: &Key, given: Given)
+    requires key { IsKey key.now }
+    requires given { HasGiven (view_in reader.old) (units_of_key key.now) given }
+    ensures heap { reader.new.heap ≡ reader.old.heap }
+    ensures goes { AddsCalls (without_given (view_in reader.old) (units_of_key key.now) given)
+        (view_in reader.new) [] }
+    ensures forms { HoldsForms (view_in reader.old) (view_in reader.new) }
+    ensures slots { (view_in reader.new).slots ≡ (view_in reader.old).slots }
+    ensures loads { (view_in reader.new).slot_loads ≡ (view_in reader.old).slot_loads }
+    ensures used { (view_in reader.new).used ≡ (view_in reader.old).used }
+    ensures flat { IsFlat (view_in reader.new) (is_wide (units_of_key key.now)) given.start
+        (units_of_key key.now) given.id }
+{
+    let n = key.len();
+    let wide = key.is_wide();
+    write_key(reader, key, n, wide, given.start);
+    bear_given(reader, given.id, wide, given.start, n);
+}
+
+// A fixed Flat that is there is put into a slot that was found free; where that is lost, and the winner's
+// string differs, the probe goes on behind it.
+fn place<L: Ledger, H: HeapRef>(
+    reader: &mut Reader<H>,
+    wanted: &Wanted,
+    header: u32,
+    slot: u32,
+    at: u32,
+    hash: u32,
+    hashes: &[u32],
+    steps: &mut Steps<L>,
+) -> Result<Seat, TableFull>
+    requires wanted { (us : List ℕ) × IsWanted (view_in reader.old) wanted.now us }
+    requires hash { (us : List ℕ) → IsWanted (view_in reader.old) wanted.now us → hash ≡ hash_of us }
+    requires hashed { AreHashes (view_in reader.old) hashes.now }
+    requires place { (us : List ℕ) → IsWanted (view_in reader.old) wanted.now us
+        → IsPlace (view_in reader.old) us slot at }
+    requires header { (us : List ℕ) → IsWanted (view_in reader.old) wanted.now us
+        → IsMade (view_in reader.old) (wanted_plan wanted.now us) us (Some header) }
+    ensures heap { reader.new.heap ≡ reader.old.heap }
+    ensures forms { HoldsForms (view_in reader.old) (view_in reader.new) }
+    ensures settles { (us : List ℕ) → IsWanted (view_in reader.old) wanted.now us
+        → IsKeyAnswer (view_in reader.old) (view_in reader.new) us (id_in result) }
+    ensures nothing { UsesNothing (view_in reader.old) (view_in reader.new) }
+    ensures stands { IfOk result (λ s. (us : List ℕ) → IsWanted (view_in reader.old) wanted.now us
+        → StandsAt (view_in reader.new) us s.slot s.id) }
+    ensures once { (us : List ℕ) → IsWanted (view_in reader.old) wanted.now us
+        → (k : ℕ) → rank us (view_in reader.old).sizes.slots k ≤ at
+        → loads_at (view_in reader.new) k ≤ loads_at (view_in reader.old) k + 1 }
+    ensures most { (k : ℕ) → loads_at (view_in reader.new) k ≤ loads_at (view_in reader.old) k + 2 }
+    ensures apart { (k : ℕ) → k ≢ slot → IsNotedApart hashes.now k (max hash 1)
+        → loads_at (view_in reader.new) k ≡ loads_at (view_in reader.old) k }
+{
+    match put(reader, wanted, slot, header, steps) {
+        Visit::Answer { id } => Ok(Seat { id, slot }),
+        Visit::Next { .. } => probe_path(reader, wanted, Some(header), hash, at + 1, hashes, steps),
+    }
+}
+
+// What was given is born, and put into a slot that was found free.
+fn settle<L: Ledger, H: HeapRef>(
+    reader: &mut Reader<H>,
+    key: &Key,
+    given: Given,
+    slot: u32,
+    at: u32,
+    hash: u32,
+    hashes: &[u32],
+    steps: &mut Steps<L>,
+) -> Result<Seat, TableFull>
+    requires key { IsKey key.now }
+    requires given { HasGiven (view_in reader.old) (units_of_key key.now) given }
+    requires hash { hash ≡ hash_of (units_of_key key.now) }
+    requires hashed { AreHashes (view_in reader.old) hashes.now }
+    requires place { IsPlace (view_in reader.old) (units_of_key key.now) slot at }
+    ensures heap { reader.new.heap ≡ reader.old.heap }
+    ensures forms { HoldsForms (view_in reader.old) (view_in reader.new) }
+    ensures settles { IsKeyAnswer (without_given (view_in reader.old) (units_of_key key.now) given)
+        (view_in reader.new) (units_of_key key.now) (id_in result) }
+    ensures flat { IsFlat (view_in reader.new) (is_wide (units_of_key key.now)) given.start
+        (units_of_key key.now) given.id }
+    ensures nothing { UsesNothing (view_in reader.old) (view_in reader.new) }
+    ensures stands { IfOk result (λ s. StandsAt (view_in reader.new) (units_of_key key.now) s.slot s.id) }
+    ensures once { (k : ℕ) → rank (units_of_key key.now) (view_in reader.old).sizes.slots k ≤ at
+        → loads_at (view_in reader.new) k ≤ loads_at (view_in reader.old) k + 1 }
+    ensures most { (k : ℕ) → loads_at (view_in reader.new) k ≤ loads_at (view_in reader.old) k + 2 }
+    ensures apart { (k : ℕ) → k ≢ slot → IsNotedApart hashes.now k (max hash 1)
+        → loads_at (view_in reader.new) k ≡ loads_at (view_in reader.old) k }
+{
+    make_given(reader, key, given);
+    place(
+        reader,
+        &key.wanted(),
+        given.id,
+        slot,
+        at,
+        hash,
+        hashes,
+        steps,
+    )
+}
+
+// The ledger of a caller that counts nothing.
+fn intern_given_by<L: Ledger, H: HeapRef>(
+    reader: &mut Reader<H>,
+    key: &Key,
+    given: Given,
+    hashes: &mut [u32],
+    blank: Blank,
+) -> (Result<u32, TableFull>, bool)
+    requires name { blank.name ≡ L.name }
+    requires parts { blank.parts ≡ L.parts }
+    requires some { 0 < blank.parts }
+    requires key { IsKey key.now }
+    requires given { HasGiven (view_in reader.old) (units_of_key key.now) given }
+    requires hashed { AreHashes (view_in reader.old) hashes.old }
+    ensures heap { reader.new.heap ≡ reader.old.heap }
+    ensures interns { InternsByGiven (view_in reader.old) (view_in reader.new) (units_of_key key.now) given
+        result.1 result.0 }
+    ensures notes { NotesHash (view_in reader.old) (view_in reader.new) (units_of_key key.now)
+        (answered result.0) hashes.old hashes.new }
+{
+    let mut steps = Steps::<L>::start(blank);
+    let hash = key.hash();
+    match walk_path(reader, &key.wanted(), hash, hashes, &mut steps) {
+        WalkEnd::Found(seat) => {
+            note_hash(hashes, seat.slot, hash.max(1));
+            (Ok(seat.id), false)
+        }
+        WalkEnd::Free { slot, rank } => {
+            match settle(reader, key, given, slot, rank, hash, hashes, &mut steps) {
+                Ok(seat) => {
+                    note_hash(hashes, seat.slot, hash.max(1));
+                    (Ok(seat.id), true)
+                }
+                Err(full) => (Err(full), true),
+            }
+        }
+        WalkEnd::Shut => {
+            let slots = reader.heap.heap().size().slots;
+            (Err(TableFull::Slots { slots }), false)
+        }
+    }
+}
+
+/// The interned string of these units, by its number, with an id and content words that the agent has claimed
+/// before, and whether they were taken. They are only where a slot was found free behind slots with strings
+/// that differ: the id is then born as a fixed Flat of the units over the words, and put there. Where the
+/// claim of the slot is lost to the same units, the other string is the answer, and the own one is a string
+/// beside the table. No counter of the heap is touched. The agent notes hashes, as
+/// [`intern_key_noted`](crate::intern_key_noted) does, and no slot is loaded more than twice.
+pub fn intern_given<H: HeapRef>(
+    reader: &mut Reader<H>,
+    key: &Key,
+    given: Given,
+    hashes: &mut [u32],
+) -> (Result<u32, TableFull>, bool)
+    requires key { IsKey key.now }
+    requires given { HasGiven (view_in reader.old) (units_of_key key.now) given }
+    requires hashed { AreHashes (view_in reader.old) hashes.old }
+    ensures heap { reader.new.heap ≡ reader.old.heap }
+    ensures interns { InternsByGiven (view_in reader.old) (view_in reader.new) (units_of_key key.now) given
+        result.1 result.0 }
+    ensures notes { NotesHash (view_in reader.old) (view_in reader.new) (units_of_key key.now)
+        (answered result.0) hashes.old hashes.new }
+{
+    intern_given_by::<Brand, _>(reader, key, given, hashes, Blank::new(1))
+}
