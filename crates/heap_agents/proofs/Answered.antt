@@ -34,7 +34,7 @@ module _ (x : Held) (m : Option SharedText) (seats : Seats) (held : IsHeld x) (t
   held_found r i = noted x m held there same (known_found v w us r i).units (calls_found v w us r i) (agents_found v w us r i) seats right (own_found v w us r i)
 
   kept : KeepsMarks x left
-  kept = record { known = λ i h. h; interned = λ i h. h; number = λ i. x.number; giver = λ i. x.giver; reserve = λ i. x.reserve }
+  kept = record { known = λ i h. h; interned = λ i h. h; number = λ i. x.number; giver = λ i. x.giver; reserve = λ i. x.reserve; blocks = λ i. x.blocks }
 
   -- no answer is marked
   pub refused_units : (f : TableFull) → InternsGiven (view_by x) (view_if m) us (Err f) → InternedUnits x (record x { text = m; seats = seats }) us (Err f)
@@ -69,7 +69,7 @@ module _ (x : Held) (m : Option SharedText) (seats : Seats) (held : IsHeld x) (t
     at_end P h = subst P (sym is) h
 
     marks : KeepsMarks x y
-    marks = record { known = keeps.known; interned = keeps.interned; number = keeps.number; giver = keeps.giver; reserve = keeps.reserve }
+    marks = record { known = keeps.known; interned = keeps.interned; number = keeps.number; giver = keeps.giver; reserve = keeps.reserve; blocks = keeps.blocks }
 
     both : MarksOnlyKey x y i
     both = record { known = marked.known; interned = marked.interned; only = marked.only; only_interned = marked.only_interned }
