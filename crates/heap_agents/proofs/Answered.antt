@@ -71,7 +71,7 @@ module _ (x : Held) (m : Option SharedText) (seats : Seats) (held : IsHeld x) (t
   held_found r i = noted x m held there same (known_found v w us r i).units (calls_found v w us r i) (agents_found v w us r i) seats right (own_found v w us r i)
 
   kept : KeepsMarks x left
-  kept = record { known = λ i h. h; interned = λ i h. h; number = λ i. x.number; giver = λ i. x.giver; reserve = λ i. x.reserve }
+  kept = record { known = λ i h. h; interned = λ i h. h; number = λ i. x.number; giver = λ i. x.giver; reserve = λ i. x.reserve; blocks = λ i. x.blocks }
 
   -- nothing is marked
   pub missing_units : FindsGiven (view_by x) (view_if m) us None → FoundUnits x (record x { text = m; seats = seats }) us None
@@ -93,7 +93,7 @@ module _ (x : Held) (m : Option SharedText) (seats : Seats) (held : IsHeld x) (t
     at_end P h = subst P (sym is) h
 
     marks : KeepsMarks x y
-    marks = record { known = keeps.known; interned = keeps.interned; number = keeps.number; giver = keeps.giver; reserve = keeps.reserve }
+    marks = record { known = keeps.known; interned = keeps.interned; number = keeps.number; giver = keeps.giver; reserve = keeps.reserve; blocks = keeps.blocks }
 
     both : MarksOnlyKey x y i
     both = record { known = marked.known; interned = marked.interned; only = marked.only; only_interned = marked.only_interned }

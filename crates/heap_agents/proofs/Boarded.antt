@@ -30,7 +30,7 @@ module _ (x : Held) (t u : SharedText) (own : x.text ≡ Some t) (heap : heap_of
   adopted_marked i y is after keeps marked a again loads = let there : (P : Option SharedText → Type 0) → P (Some u) → P y.text = (λ P h. subst P (sym is) h) in record {
     held = after;
     same = there (λ (n : Option SharedText). IsSameText x.text n) (same_text x t u own heap limit);
-    marks = record { known = keeps.known; interned = keeps.interned; number = keeps.number; giver = keeps.giver; reserve = keeps.reserve };
+    marks = record { known = keeps.known; interned = keeps.interned; number = keeps.number; giver = keeps.giver; reserve = keeps.reserve; blocks = keeps.blocks };
     marked = record { known = marked.known; interned = marked.interned; only = marked.only; only_interned = marked.only_interned };
     known = there (λ (n : Option SharedText). KeepsKnown (view_by x) (view_if n)) (told x t u own KeepsKnown (known_adopted v w k (Some i) a));
     calls = there (λ (n : Option SharedText). KeepsCalls (view_by x) (view_if n)) (told x t u own KeepsCalls (calls_adopted v w k (Some i) a));

@@ -5,6 +5,7 @@ pub mod Refusing
 pub mod Searched
 pub mod NotesStay
 pub mod Marks
+pub mod Renewed
 pub mod Answered
 pub mod Boarded
 pub mod Batched

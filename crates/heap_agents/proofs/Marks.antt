@@ -63,7 +63,7 @@ same_trans (Some r) (Some s) None a b = absurd b
 same_trans (Some r) (Some s) (Some t) a b = (b.0 ∙ a.0, b.1 ∙ a.1)
 
 pub kept_marks : (x : Held) (y : Option SharedText) → KeepsMarks x (record x { text = y })
-kept_marks x y = record { known = λ i h. h; interned = λ i h. h; number = λ i. x.number; giver = λ i. x.giver; reserve = λ i. x.reserve }
+kept_marks x y = record { known = λ i h. h; interned = λ i h. h; number = λ i. x.number; giver = λ i. x.giver; reserve = λ i. x.reserve; blocks = λ i. x.blocks }
 
 module _ (x : Held) (y : Option SharedText) (held : IsHeld x) (there : IsThere y) (same : IsSameText x.text y)
     (units : (i : ℕ) (us : List ℕ) → Has (view_by x).units i us → Has (view_if y).units i us) (calls : KeepsCalls (view_by x) (view_if y)) (agents : (view_if y).agents ≡ (view_by x).agents) where
@@ -92,7 +92,7 @@ module _ (x : Held) (y : Option SharedText) (held : IsHeld x) (there : IsThere y
   pub spent_on : (r : Reserve) → AreNoted (view_if y) x.seats → IsReserve (view_if y) r → IsHeld (record x { text = y; reserve = r })
   spent_on r right reserved = record { there = there; agents = held.agents ∙ sym agents; marked = marked_on; noted = right; reserved = reserved }
 
-possible_in : (t : Option SharedText) → IsThere t → IsPossible (view_if t)
+pub possible_in : (t : Option SharedText) → IsThere t → IsPossible (view_if t)
 possible_in None there = absurd there
 possible_in (Some t) there = t.reader.belongs.5
 
@@ -100,7 +100,7 @@ sizes_in : (t : Option SharedText) → IsThere t → (view_if t).sizes ≡ size_
 sizes_in None there = absurd there
 sizes_in (Some t) there = t.reader.belongs.1
 
-same_sizes : (x y : Option SharedText) → IsSameText x y → size_if y ≡ size_if x
+pub same_sizes : (x y : Option SharedText) → IsSameText x y → size_if y ≡ size_if x
 same_sizes None y s = absurd s
 same_sizes (Some a) None s = absurd s
 same_sizes (Some a) (Some b) s = λ i. size_of (s.0 i)
@@ -202,7 +202,7 @@ spends_on x t u own held kept c r reserved = let heap = ap arc_value kept.heap i
   held = held_spending x t u own heap kept.limit r held c.known (continued (view_of t.reader.agent) (view_of u.reader.agent) c) c.agents reserved;
   same = same_text x t u own heap kept.limit;
   continues = told x t u own Continues c;
-  marks = record { known = λ i h. h; interned = λ i h. h; number = λ i. x.number; giver = λ i. x.giver };
+  marks = record { known = λ i h. h; interned = λ i h. h; number = λ i. x.number; giver = λ i. x.giver; blocks = λ i. x.blocks };
 }
 
 -- an id that is known has its place in a set of marks

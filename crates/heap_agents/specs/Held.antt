@@ -1,6 +1,6 @@
 -- What is kept at run time beside an agent: which ids it may use, which of them are answers of the string
--- table, what it notes of that table, what it claimed in advance, and the numbers by which a join is known to
--- be valid.
+-- table, what it notes of that table, what it claimed in advance, by which blocks that is renewed, and the
+-- numbers by which a join is known to be valid.
 use Rattle.std.specs.Prelude.{◌≡◌, ◌⊎◌, ℕ, ◌<◌, List, Contains, Result, Ok, Err, None}
 use Rattle.heap_rule.specs.Maps.{HasKey}
 use Rattle.heap_rule.specs.Views.{history}
@@ -54,12 +54,13 @@ pub record IsHeld (x : Held) : Type 0 where
   pub noted : AreNoted (view_by x) x.seats
   pub reserved : IsReserve (view_by x) x.reserve
 
--- what was marked stays marked, and an agent keeps its numbers
+-- what was marked stays marked, and an agent keeps its numbers and its blocks
 pub record StaysMarked (x y : Held) : Type 0 where
   pub known : (i : ℕ) → IsIn x.known i → IsIn y.known i
   pub interned : (i : ℕ) → IsIn x.interned i → IsIn y.interned i
   pub number : y.number ≡ x.number
   pub giver : y.giver ≡ x.giver
+  pub blocks : y.blocks ≡ x.blocks
 
 -- the same, and it has the same in reserve
 pub record KeepsMarks (x y : Held) : Type 0 where
@@ -68,6 +69,7 @@ pub record KeepsMarks (x y : Held) : Type 0 where
   pub number : y.number ≡ x.number
   pub giver : y.giver ≡ x.giver
   pub reserve : y.reserve ≡ x.reserve
+  pub blocks : y.blocks ≡ x.blocks
 
 -- what a call on strings leaves that may claim in advance, or take what was
 pub record SpendsReserve (x y : Held) : Type 0 where

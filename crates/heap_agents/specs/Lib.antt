@@ -10,5 +10,6 @@ pub mod Keys
 pub mod Batch
 pub mod Ready
 pub mod Spending
+pub mod Preparing
 pub mod Board
 pub mod Room

@@ -6,6 +6,7 @@ ghost use Rattle.heap_agents.specs.Held.{IsHeld, KeepsMarks, MarksOnly, MarksOnl
 ghost use Rattle.heap_agents.specs.Sets.{IsIn};
 
 use crate::ids::IdSet;
+use crate::renewing::Blocks;
 use crate::seats::Seats;
 use heap_reserve::Reserve;
 use heap_table::Heap;
@@ -16,9 +17,10 @@ use std::sync::atomic::AtomicU64;
 
 /// A text of the heap, which it owns together with the other agents of the heap, and beside it how many
 /// agents the heap may have, the ids that were answered to it, those of them that the string table
-/// answered, the slots of strings that it interned, what it claimed in advance, its number and that of the
-/// agent that it was split off from. Numbers are counted by all agents of a heap together. The text is
-/// missing only while a split makes room for a new agent, and while strings are searched.
+/// answered, the slots of strings that it interned, what it claimed in advance, the blocks by which it
+/// renews that, its number and that of the agent that it was split off from. Numbers are counted by all
+/// agents of a heap together. The text is missing only while a split makes room for a new agent, and while
+/// strings are searched.
 #[derive(Drop)]
 pub struct Held {
     pub(crate) text: Option<Text<Arc<Heap, Global>>>,
@@ -27,6 +29,7 @@ pub struct Held {
     pub(crate) interned: IdSet,
     pub(crate) seats: Seats,
     pub(crate) reserve: Reserve,
+    pub(crate) blocks: Blocks,
     pub(crate) numbers: Arc<AtomicU64, Global>,
     pub(crate) number: u64,
     pub(crate) giver: u64,

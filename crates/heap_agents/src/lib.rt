@@ -3,7 +3,8 @@
 //!
 //! A [`Held`] is made by [`Held::make`] and by [`Held::split`]. Its calls are those of `heap_table`,
 //! `heap_text`, the string table of `heap_intern` and `js_search`, and mark each string that they answer.
-//! [`Held::reserve`] claims ids and content words in advance, from which new strings are taken.
+//! [`Held::reserve`] claims ids and content words in advance, from which new strings are taken, and
+//! [`Held::renew`] sets the blocks by which a call that makes a string claims them again.
 #![tactic(auto)]
 
 mod batch;
@@ -19,12 +20,14 @@ mod making;
 mod noting;
 mod out;
 mod reading;
+mod renewing;
 mod room;
 mod search;
 mod seats;
 mod spending;
 mod streams;
 mod table;
+mod taking;
 mod words;
 
 pub use batch::{Batch, are_ends};
@@ -32,5 +35,6 @@ pub use heap_export::{Unpaired, WriteFault};
 pub use heap_reserve::ReserveFault;
 pub use heap_table::MakeFault;
 pub use held::Held;
+pub use renewing::Blocks;
 pub use room::Room;
 pub use words::Shown;

@@ -8,7 +8,7 @@ ghost use Rattle.heap_table.specs.Known.{HasAllOf, KeepsKnown};
 ghost use Rattle.heap_table.specs.MayMake.{MayMake};
 ghost use Rattle.heap_text.specs.Keeping.{KeepsText};
 ghost use Rattle.heap_agents.specs.Held.{IsHeld, IsSame, KeepsMarks, StaysMarked, limit_by, share_by, view_by};
-ghost use Rattle.heap_agents.specs.Spending.{IsEmptyReserve};
+ghost use Rattle.heap_agents.specs.Spending.{ReservesNothing};
 ghost use Rattle.heap_reserve.specs.Reserves.{IsReserve, TakesOverReserve};
 ghost use Rattle.heap_rule.specs.declared.view.View as view;
 ghost use Rattle.heap_agents.specs.Shared.{IsSameText, IsThere, heap_of, share_if, view_if};
@@ -16,6 +16,7 @@ ghost use Rattle.heap_agents.specs.Sets.{Covers, IsIn};
 
 use crate::held::Held;
 use crate::ids::IdSet;
+use crate::renewing::Blocks;
 use crate::seats::Seats;
 use heap_read::{HeapRef, Reader};
 use heap_reserve::Reserve;
@@ -127,7 +128,7 @@ impl Held {
         ensures held { IfOk result (λ b. IsHeld b.value) }
         ensures view { IfOk result (λ b. view_by b.value ≡ first_view size agents) }
         ensures limit { IfOk result (λ b. limit_by b.value ≡ limit) }
-        ensures nothing { IfOk result (λ b. IsEmptyReserve b.value.reserve) }
+        ensures nothing { IfOk result (λ b. ReservesNothing b.value) }
         ensures lawful { OnOk result (MayMake size agents × (limit ≤ MAX)) }
         ensures refused { result ≡ Err MakeFault.Size → ¬ (MayMake size agents × (limit ≤ MAX)) }
     {
@@ -150,7 +151,7 @@ impl Held {
         requires agents { agents ≡ (view_of text.reader.agent).agents }
         ensures held { IfOk result (λ b. IsHeld b.value) }
         ensures text { IfOk result (λ b. b.value.text ≡ Some text) }
-        ensures nothing { IfOk result (λ b. IsEmptyReserve b.value.reserve) }
+        ensures nothing { IfOk result (λ b. ReservesNothing b.value) }
     {
         let known = IdSet::new(alloc, ids)?;
         let interned = IdSet::new(alloc, ids)?;
@@ -162,6 +163,7 @@ impl Held {
             interned,
             seats: Seats::none(alloc),
             reserve: Reserve::new(alloc),
+            blocks: Blocks { ids: 0, words: 0 },
             numbers,
             number: 1,
             giver: 0,
@@ -190,7 +192,7 @@ impl Held {
         ensures known { IfOk result (λ b. (i : ℕ) → IsIn self.old.known i → IsIn b.value.known i) }
         ensures interned { IfOk result (λ b. (i : ℕ) → IsIn self.old.interned i → IsIn b.value.interned i) }
         ensures giver { IfOk result (λ b. b.value.giver ≡ self.old.number) }
-        ensures nothing { IfOk result (λ b. IsEmptyReserve b.value.reserve) }
+        ensures nothing { IfOk result (λ b. ReservesNothing b.value) }
         ensures refused { IfErr result (λ e. self.new ≡ self.old) }
     {
         let mut other = self.beside(alloc)?;
@@ -208,7 +210,7 @@ impl Held {
             (λ b. (n : ℕ) → Covers self.now.interned n → Covers b.value.interned n) }
         ensures seats { IfOk result (λ b. b.value.seats.slots.items ≡ []) }
         ensures hashes { IfOk result (λ b. b.value.seats.hashes.items ≡ []) }
-        ensures nothing { IfOk result (λ b. IsEmptyReserve b.value.reserve) }
+        ensures nothing { IfOk result (λ b. ReservesNothing b.value) }
         ensures reserve { IfOk result (λ b. (v : view.View) → IsReserve v b.value.reserve) }
         ensures agents { IfOk result (λ b. b.value.agents ≡ self.now.agents) }
         ensures giver { IfOk result (λ b. b.value.giver ≡ self.now.number) }
@@ -223,6 +225,7 @@ impl Held {
             interned,
             seats: Seats::none(alloc),
             reserve: Reserve::new(alloc),
+            blocks: Blocks { ids: 0, words: 0 },
             numbers,
             number: 0,
             giver: self.number,
@@ -233,7 +236,7 @@ impl Held {
 
     /// Takes over what another agent of the heap has and knows, and what it may use. It takes over the ids
     /// that the other claimed in advance, and has left, where it has none left itself, and the content words
-    /// where it has none left itself; the rest of these is lost.
+    /// where it has none left itself; the rest of these is lost. It keeps its own blocks.
     pub fn join(&mut self, other: Held)
         requires held { IsHeld self.old }
         requires other { IsHeld other }

@@ -4,15 +4,15 @@ ghost use Rattle.heap_rule.specs.Births.{part};
 ghost use Rattle.heap_rule.specs.Layout.{MAX};
 ghost use Rattle.heap_rule.specs.Maps.{Has, HasKey};
 ghost use Rattle.heap_rule.specs.Views.{IsSeenSettled};
-ghost use Rattle.heap_reserve.specs.Making.{IsCutBy, IsJoinedBy, IsMade};
-ghost use Rattle.heap_agents.specs.Held.{IsHeld, MarksMade, SpendsReserve, limit_by, held_size, view_by};
+ghost use Rattle.heap_agents.specs.Held.{IsHeld, MarksMade, SpendsReserve, view_by};
+ghost use Rattle.heap_agents.specs.Spending.{CutsRenewing, JoinsRenewing, MakesRenewing};
 
 use crate::held::Held;
 use heap_text::{JoinFault, JsStr, TextFull};
 
 impl Held {
     /// A new string with these units, settled. It takes the id and the content words from what was claimed in
-    /// advance, where that suffices, and then uses nothing.
+    /// advance, where that suffices, and then uses nothing. Where it doesn't, it is renewed first.
     pub fn from_units(&mut self, units: &[u16]) -> Result<JsStr, TextFull>
         requires held { IsHeld self.old }
         requires short { length units.now ≤ MAX }
@@ -20,20 +20,14 @@ impl Held {
         ensures marked { MarksMade self.old self.new result }
         ensures units { IfOk result (λ s. Has (view_by self.new).units s.id units.now) }
         ensures settled { IfOk result (λ s. IsSeenSettled (view_by self.new) s.id) }
-        ensures made { IsMade (view_by self.old) (view_by self.new) self.old.reserve self.new.reserve
-            (held_size self.old) units.now result }
+        ensures made { MakesRenewing self.old self.new units.now result }
     {
-        let made = match &mut self.text {
-            Some(text) => self.reserve.make_flat(text, units),
-            None => unreachable!(),
-        };
-        let s = made?;
-        self.mark(s.id);
-        Ok(s)
+        self.renew_for_units(units);
+        self.take_flat(units)
     }
 
     /// The units of one string, and then those of another. A new string takes what it needs from what was
-    /// claimed in advance, where that suffices, and then uses nothing.
+    /// claimed in advance, where that suffices, and then uses nothing. Where it doesn't, it is renewed first.
     pub fn concat(&mut self, a: JsStr, b: JsStr) -> Result<JsStr, JoinFault>
         requires held { IsHeld self.old }
         requires known { HasKey (view_by self.old).units a.id
@@ -46,20 +40,15 @@ impl Held {
             → Has (view_by self.new).units s.id (us ++ vs)) }
         ensures joined { (us vs : List ℕ) → Has (view_by self.old).units a.id us
             → Has (view_by self.old).units b.id vs
-            → IsJoinedBy (view_by self.old) (view_by self.new) (held_size self.old) self.old.reserve
-            self.new.reserve (limit_by self.old) a b us vs result }
+            → JoinsRenewing self.old self.new a b us vs result }
     {
-        let joined = match &mut self.text {
-            Some(text) => self.reserve.concat(text, a, b),
-            None => unreachable!(),
-        };
-        let s = joined?;
-        self.mark(s.id);
-        Ok(s)
+        self.renew_for_both(a, b);
+        self.take_joined(a, b)
     }
 
     /// The part of a settled string from unit `from` up to unit `to`, settled. A new string takes what it
-    /// needs from what was claimed in advance, where that suffices, and then uses nothing.
+    /// needs from what was claimed in advance, where that suffices, and then uses nothing. Where it doesn't,
+    /// it is renewed first.
     pub fn slice(&mut self, s: JsStr, from: u32, to: u32) -> Result<JsStr, TextFull>
         requires held { IsHeld self.old }
         requires settled { IsSeenSettled (view_by self.old) s.id }
@@ -72,15 +61,9 @@ impl Held {
             → Has (view_by self.new).units t.id (part from (to - from) us)) }
         ensures settled { IfOk result (λ t. IsSeenSettled (view_by self.new) t.id) }
         ensures cut { (us : List ℕ) → Has (view_by self.old).units s.id us
-            → IsCutBy (view_by self.old) (view_by self.new) (held_size self.old) self.old.reserve
-            self.new.reserve s from to us result }
+            → CutsRenewing self.old self.new s from to us result }
     {
-        let cut = match &mut self.text {
-            Some(text) => self.reserve.slice(text, s, from, to),
-            None => unreachable!(),
-        };
-        let t = cut?;
-        self.mark(t.id);
-        Ok(t)
+        self.renew_for_part(s, from, to);
+        self.take_part(s, from, to)
     }
 }

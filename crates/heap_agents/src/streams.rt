@@ -7,8 +7,8 @@ ghost use Rattle.heap_rule.specs.Maps.{Has, HasKey};
 ghost use Rattle.heap_rule.specs.Views.{IsSeenSettled};
 ghost use Rattle.heap_read.specs.Reads.{OnlyLoads};
 ghost use Rattle.heap_bytes.specs.Spellings.{IsReadable, spelling_units};
-ghost use Rattle.heap_reserve.specs.Making.{IsMade};
-ghost use Rattle.heap_agents.specs.Held.{IsHeld, LeavesStrings, MarksMade, MarksNothing, SpendsReserve, held_size, view_by};
+ghost use Rattle.heap_agents.specs.Held.{IsHeld, LeavesStrings, MarksMade, MarksNothing, SpendsReserve, view_by};
+ghost use Rattle.heap_agents.specs.Spending.{MakesRenewing};
 ghost use Rattle.heap_agents.specs.Keys.{FoundUnits, InternedUnits};
 
 use crate::held::Held;
@@ -19,7 +19,8 @@ use std::cmp::Ordering;
 
 impl Held {
     /// A new string with the units that bytes spell, settled. It takes the id and the content words from what
-    /// was claimed in advance, where that suffices, and then uses nothing.
+    /// was claimed in advance, where that suffices, and then uses nothing. Where it doesn't, it is renewed
+    /// first.
     pub fn make_from(&mut self, source: &Spelling) -> Result<JsStr, TextFull>
         requires held { IsHeld self.old }
         requires read { IsReadable source.now }
@@ -28,16 +29,10 @@ impl Held {
         ensures marked { MarksMade self.old self.new result }
         ensures units { IfOk result (λ s. Has (view_by self.new).units s.id (spelling_units source.now)) }
         ensures settled { IfOk result (λ s. IsSeenSettled (view_by self.new) s.id) }
-        ensures made { IsMade (view_by self.old) (view_by self.new) self.old.reserve self.new.reserve
-            (held_size self.old) (spelling_units source.now) result }
+        ensures made { MakesRenewing self.old self.new (spelling_units source.now) result }
     {
-        let made = match &mut self.text {
-            Some(text) => self.reserve.make_from(text, source),
-            None => unreachable!(),
-        };
-        let s = made?;
-        self.mark(s.id);
-        Ok(s)
+        self.renew_for_spelled(source);
+        self.take_spelled(source)
     }
 
     /// The one string of the table with the units that bytes spell. Where it is there, nothing is used. Else

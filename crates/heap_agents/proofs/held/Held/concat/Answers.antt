@@ -1,19 +1,23 @@
-use Rattle.std.proofs.Common.{Option, subst}
-use Rattle.heap_rule.specs.Maps.{HasKey}
-use Rattle.heap_table.specs.Agents.{view_of}
-use Rattle.heap_agents.specs.Shared.{SharedText, view_if}
-use Rattle.heap_agents.proofs.Marks.{spends_on, joined_known}
+use Rattle.heap_reserve.proofs.Tried.{join_told}
+use Rattle.heap_agents.specs.Held.{view_by}
+use Rattle.heap_agents.proofs.Renewed.{joins_then, key_then, marks_then, spends_trans}
 use Rattle.heap_agents.proofs.held.Held.concat.Goals as goal
 
-pub mark-requires-clause-known : goal.mark-requires-clause-known
-mark-requires-clause-known c =
-    joined_known (view_of c.in-Some.text.reader.agent) (view_of c.concat-joined.new.text.reader.agent) c.args.a.id c.args.b.id c.in_ok-s.s.id
-    (subst (λ (t : Option SharedText). HasKey (view_if t).units c.args.a.id × HasKey (view_if t).units c.args.b.id) c.in-Some.is c.requires.known) c.in_ok-s.ensures.units
+pub returns-clause-spends : goal.returns-clause-spends
+returns-clause-spends c = spends_trans c.args.self.now c.renew_for_both.new.self c.take_joined.new.self c.renew_for_both.ensures.prepared.spends c.take_joined.ensures.spends
 
-pub returns-in_err-s-clause-spends : goal.returns-in_err-s-clause-spends
-returns-in_err-s-clause-spends c = let call = c.concat-joined in
-    spends_on c.args.self.now c.in-Some.text call.new.text c.in-Some.is c.requires.held call.ensures.kept call.ensures.continues call.new.self call.ensures.reserve
+pub returns-clause-marked : goal.returns-clause-marked
+returns-clause-marked c = marks_then c.args.self.now c.renew_for_both.new.self c.take_joined.new.self c.renew_for_both.ensures.prepared c.take_joined.result c.take_joined.ensures.marked
 
-pub mark-requires-clause-held : goal.mark-requires-clause-held
-mark-requires-clause-held c = let call = c.concat-joined in
-    (spends_on c.args.self.now c.in-Some.text call.new.text c.in-Some.is c.requires.held call.ensures.kept call.ensures.continues call.new.self call.ensures.reserve).held
+pub returns-clause-joined : goal.returns-clause-joined
+returns-clause-joined c us vs h k = let u = c.renew_for_both.ensures.prepared.spends.continues.known.units in
+    let x = c.args.self.now in let z = c.renew_for_both.new.self in let y = c.take_joined.new.self in let p = c.renew_for_both.ensures in let t = c.take_joined.ensures in
+    joins_then x z y p.prepared c.args.a c.args.b us vs c.take_joined.result (p.renews us vs h k) (t.joined us vs (u c.args.a.id us h) (u c.args.b.id vs k))
+
+pub returns-clause-units : goal.returns-clause-units
+returns-clause-units c = let x = c.args.self.now in let z = c.renew_for_both.new.self in let y = c.take_joined.new.self in let p = c.renew_for_both.ensures in let t = c.take_joined.ensures in
+    join_told (view_by x) (view_by z) (view_by y) p.prepared.spends.continues.known c.args.a c.args.b c.take_joined.result t.units
+
+pub take_joined-requires-clause-known : goal.take_joined-requires-clause-known
+take_joined-requires-clause-known c = let x = c.args.self.now in let z = c.renew_for_both.new.self in let p = c.renew_for_both.ensures.prepared in
+    (key_then x z p c.args.a.id c.requires.known.0, key_then x z p c.args.b.id c.requires.known.1)

@@ -1,19 +1,12 @@
-use Rattle.std.proofs.Common.{Option, false, subst, sym}
-use Rattle.js_header.specs.declared.form.Form.TheVariants.{Flat}
-use Rattle.js_units.specs.Lanes.{is_wide}
-use Rattle.heap_rule.specs.Views.{IsSeenSettled}
-use Rattle.heap_agents.specs.Shared.{SharedText, view_if}
-use Rattle.heap_agents.proofs.Marks.{spends_on}
+use Rattle.heap_agents.proofs.Renewed.{makes_then, marks_then, spends_trans}
 use Rattle.heap_agents.proofs.held.Held.from_units.Goals as goal
 
-pub returns-clause-settled : goal.returns-clause-settled
-returns-clause-settled c = let form = c.in_ok-s.ensures.form in
-    subst (λ (t : Option SharedText). IsSeenSettled (view_if t) c.in_ok-s.s.id) (sym c.mark.ensures.text) (Flat (is_wide c.args.units.now) form.0 false, form.1, λ n. n)
+pub returns-clause-spends : goal.returns-clause-spends
+returns-clause-spends c = spends_trans c.args.self.now c.renew_for_units.new.self c.take_flat.new.self c.renew_for_units.ensures.prepared.spends c.take_flat.ensures.spends
 
-pub returns-in_err-s-clause-spends : goal.returns-in_err-s-clause-spends
-returns-in_err-s-clause-spends c = let call = c.make_flat-made in
-    spends_on c.args.self.now c.in-Some.text call.new.text c.in-Some.is c.requires.held call.ensures.kept call.ensures.continues call.new.self call.ensures.reserve
+pub returns-clause-marked : goal.returns-clause-marked
+returns-clause-marked c = marks_then c.args.self.now c.renew_for_units.new.self c.take_flat.new.self c.renew_for_units.ensures.prepared c.take_flat.result c.take_flat.ensures.marked
 
-pub mark-requires-clause-held : goal.mark-requires-clause-held
-mark-requires-clause-held c = let call = c.make_flat-made in
-    (spends_on c.args.self.now c.in-Some.text call.new.text c.in-Some.is c.requires.held call.ensures.kept call.ensures.continues call.new.self call.ensures.reserve).held
+pub returns-clause-made : goal.returns-clause-made
+returns-clause-made c = let x = c.args.self.now in let z = c.renew_for_units.new.self in let y = c.take_flat.new.self in let p = c.renew_for_units.ensures in let t = c.take_flat.ensures in
+    makes_then x z y p.prepared c.args.units.now c.take_flat.result p.renews t.made

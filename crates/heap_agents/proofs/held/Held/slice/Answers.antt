@@ -1,20 +1,29 @@
-use Rattle.std.proofs.Common.{Option, subst}
-use Rattle.heap_rule.specs.Maps.{Has}
 use Rattle.heap_rule.proofs.MapLemmas.{key_of}
-use Rattle.heap_table.specs.Agents.{view_of}
-use Rattle.heap_agents.specs.Shared.{SharedText, view_if}
-use Rattle.heap_agents.proofs.Marks.{spends_on}
+use Rattle.heap_reserve.proofs.Tried.{cut_told}
+use Rattle.heap_agents.specs.Held.{view_by}
+use Rattle.heap_agents.proofs.Renewed.{cuts_then, marks_then, spends_trans}
 use Rattle.heap_agents.proofs.held.Held.slice.Goals as goal
 
-pub mark-requires-clause-known : goal.mark-requires-clause-known
-mark-requires-clause-known c = let u = c.requires.within in
-    key_of (view_of c.slice-cut.new.text.reader.agent).units c.in_ok-t.t.id _
-    (c.in_ok-t.ensures.units u.0 (subst (λ (t : Option SharedText). Has (view_if t).units c.args.s.id u.0) c.in-Some.is u.1))
+pub returns-clause-spends : goal.returns-clause-spends
+returns-clause-spends c = spends_trans c.args.self.now c.renew_for_part.new.self c.take_part.new.self c.renew_for_part.ensures.prepared.spends c.take_part.ensures.spends
 
-pub returns-in_err-t-clause-spends : goal.returns-in_err-t-clause-spends
-returns-in_err-t-clause-spends c = let call = c.slice-cut in
-    spends_on c.args.self.now c.in-Some.text call.new.text c.in-Some.is c.requires.held call.ensures.kept call.ensures.continues call.new.self call.ensures.reserve
+pub returns-clause-marked : goal.returns-clause-marked
+returns-clause-marked c = marks_then c.args.self.now c.renew_for_part.new.self c.take_part.new.self c.renew_for_part.ensures.prepared c.take_part.result c.take_part.ensures.marked
 
-pub mark-requires-clause-held : goal.mark-requires-clause-held
-mark-requires-clause-held c = let call = c.slice-cut in
-    (spends_on c.args.self.now c.in-Some.text call.new.text c.in-Some.is c.requires.held call.ensures.kept call.ensures.continues call.new.self call.ensures.reserve).held
+pub returns-clause-cut : goal.returns-clause-cut
+returns-clause-cut c us h = let u = c.renew_for_part.ensures.prepared.spends.continues.known.units in
+    let x = c.args.self.now in let z = c.renew_for_part.new.self in let y = c.take_part.new.self in let p = c.renew_for_part.ensures in let t = c.take_part.ensures in
+    cuts_then x z y p.prepared c.args.s c.args.from c.args.to us c.take_part.result (p.renews us h) (t.cut us (u c.args.s.id us h))
+
+pub returns-clause-units : goal.returns-clause-units
+returns-clause-units c = let x = c.args.self.now in let z = c.renew_for_part.new.self in let y = c.take_part.new.self in let p = c.renew_for_part.ensures in let t = c.take_part.ensures in
+    cut_told (view_by x) (view_by z) (view_by y) p.prepared.spends.continues.known c.args.s c.args.from c.args.to c.take_part.result t.units
+
+pub renew_for_part-requires-clause-known : goal.renew_for_part-requires-clause-known
+renew_for_part-requires-clause-known c = let u = c.requires.within in key_of (view_by c.args.self.now).units c.args.s.id u.0 u.1
+
+pub take_part-requires-clause-settled : goal.take_part-requires-clause-settled
+take_part-requires-clause-settled c = c.renew_for_part.ensures.prepared.spends.continues.known.settled c.args.s.id c.requires.settled
+
+pub take_part-requires-clause-within : goal.take_part-requires-clause-within
+take_part-requires-clause-within c = let u = c.requires.within in (u.0, c.renew_for_part.ensures.prepared.spends.continues.known.units c.args.s.id u.0 u.1, u.2, u.3)
