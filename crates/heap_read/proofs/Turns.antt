@@ -1,5 +1,6 @@
 -- Several words of a window in one turn.
 use Rattle.std.proofs.Common.{◌≡◌, ℕ, ◌+◌, ◌-◌, ◌*◌, ◌/◌, ◌%◌, ◌<◌, ◌^◌, Bool, true, false, List, get_or, sym, ap, subst, ◌∙◌, ⊎_elim, arith}
+use mathlib.Core.Bool.{beq, not}
 use Rattle.std.proofs.lemmas.Bool.{cases_lt}
 use Rattle.js_units.specs.Lanes.{lane_count}
 use Rattle.heap_rule.specs.declared.view.View.{View}
@@ -63,3 +64,10 @@ begins_here w at number z e f = let none : w.offset ≡ w.offset + 0 = omega ari
   lowest = subst (λ (o : ℕ). o % lane_count w.wide ≡ 0) none z;
   place = subst (λ (o : ℕ). at ≡ w.start + o / lane_count w.wide) none (omega arith);
 }
+
+-- two windows of one width
+pub one_width : (a b wide : Bool) → not (beq a b) ≡ false → a ≡ wide → b ≡ wide
+one_width true true wide e h = h
+one_width false false wide e h = h
+one_width true false wide e h = absurd (cc)
+one_width false true wide e h = absurd (cc)

@@ -90,10 +90,18 @@ impl<H: HeapRef> Reader<H> {
         if a.wide != b.wide || left > 0 || right > 0 {
             return 0;
         }
-        self.same_lanes(a, b, most)
+        if a.wide {
+            return self.same_lanes(Window { wide: true, ..a }, Window { wide: true, ..b }, most);
+        }
+        self.same_lanes(
+            Window { wide: false, ..a },
+            Window { wide: false, ..b },
+            most,
+        )
     }
 
-    // The same of windows that begin with a word and whose lanes are as wide.
+    // The same of windows that begin with a word and whose lanes are as wide, inlined for each width.
+    #[inline(always)]
     fn same_lanes(&mut self, a: Window, b: Window, most: u32) -> u32
         requires left { (us : List ℕ) × IsWindow (view_in self.old) a us }
         requires right { (vs : List ℕ) × IsWindow (view_in self.old) b vs }
