@@ -145,12 +145,13 @@ uint32_t jsstr_join(jsstr_agent *agent, jsstr_agent *other);
 jsstr_number jsstr_share(jsstr_agent *agent);
 
 /* Claims `words` words in one piece, and then `ids` ids, for this agent's later strings: a call that makes, joins,
-   cuts or copies takes from these, where they suffice, and then touches nothing that agents share and uses nothing
-   of the heap. A copy needs an id and its words; a rope or a slice an id above the numbers of the strings that it
-   is made of, and the least id left is tried. Where they do not suffice, the call is as if nothing were reserved.
-   Interning and settling take nothing from these. Answers DONE, with string 0; NO_WORDS, and then nothing was claimed;
-   or NO_IDS or NO_MEMORY, and then the words, and fewer ids, were. What was claimed is used, whether or not a string
-   takes it. Where the new words don't begin where those left end, the words that were left are lost. */
+   cuts, copies, or interns units or bytes takes from these, where they suffice, and then touches nothing that agents
+   share but slots, and uses nothing of the heap. A copy needs an id and its words; a rope or a slice an id above the
+   numbers of the strings that it is made of, and the least id left is tried. Units or bytes whose string is in the
+   table need nothing, others what a copy needs. Where they do not suffice, the call is as if nothing were reserved.
+   Interning a string and settling take nothing from these. Answers DONE, with string 0; NO_WORDS, and then nothing was
+   claimed; or NO_IDS or NO_MEMORY, and then the words, and fewer ids, were. What was claimed is used, whether or not a
+   string takes it. Where the new words don't begin where those left end, the words that were left are lost. */
 jsstr_answer jsstr_reserve(jsstr_agent *agent, uint32_t ids, uint32_t words);
 
 /* How many ids and words are reserved, and left. */

@@ -99,15 +99,21 @@ static jsstr_use used_settled(agent *a, agent *of, jsstr_id s) {
   return now;
 }
 
-/* A string of these units was made of what is reserved, where that suffices, and then nothing was used; else
-   nothing is taken of it. */
-static int is_taken(agent *a, jsstr_use before, jsstr_answer s, const uint16_t *units, uint32_t len) {
+/* What a copy of these units takes of what is reserved, where that suffices. */
+static int takes(agent *a, const uint16_t *units, uint32_t len) {
   uint32_t lanes = 8;
   for (uint32_t i = 0; i < len; i++) if (units[i] > 255) lanes = 4;
   uint32_t words = (len + lanes - 1) / lanes;
-  jsstr_use after = jsstr_totals_unchecked(&a->handle);
-  if (!a->ids || words > a->words) return jsstr_reserved(&a->handle).ids == a->ids;
+  if (!a->ids || words > a->words) return 0;
   a->ids--, a->words -= words;
+  return 1;
+}
+
+/* A string of these units was made of what is reserved, where that suffices, and then nothing was used; else
+   nothing is taken of it. */
+static int is_taken(agent *a, jsstr_use before, jsstr_answer s, const uint16_t *units, uint32_t len) {
+  jsstr_use after = jsstr_totals_unchecked(&a->handle);
+  if (!takes(a, units, len)) return jsstr_reserved(&a->handle).ids == a->ids;
   return s.status == JSSTR_DONE && before.ids == after.ids && (before.words == after.words || before.words == UINT32_MAX);
 }
 
@@ -367,6 +373,12 @@ static uint32_t slot_for(const uint16_t *units, uint32_t len) {
 
 static int is_used(uint32_t slot) { return slot < SLOTS && table[slot] != JSSTR_NO_STRING; }
 
+/* Whether the string of these units is to be put into the table: then it is made. */
+static int is_new(const uint16_t *units, uint32_t len) {
+  uint32_t slot = slot_for(units, len);
+  return slot < SLOTS && !is_used(slot);
+}
+
 /* The answer is to be the string of the table with these units, made for them where there was none. */
 static void interned(agent *a, jsstr_answer one, const uint16_t *units, uint32_t len) {
   uint32_t slot = slot_for(units, len);
@@ -392,12 +404,14 @@ static void key(agent *a) {
   enum kind kind = (enum kind)chance(KINDS);
   int find = (int)chance(2);
   give(&g, kind);
+  jsstr_use before = used(a);
   jsstr_answer one = kind == UNITS ? (find ? jsstr_find_units : jsstr_intern_units)(&a->handle, g.units, g.len)
     : (kind == LATIN1 ? find ? jsstr_find_latin1 : jsstr_intern_latin1 : kind == UTF8 ? find ? jsstr_find_utf8 : jsstr_intern_utf8
     : find ? jsstr_find_wtf8 : jsstr_intern_wtf8)(&a->handle, g.bytes, g.n);
   if (!a->handle.live) { CHECK(one.status == JSSTR_BAD_ARGUMENT); return; }
   lawful++;
   if (is_refused(&g, one)) return;
+  if (!find && is_new(g.units, g.len)) CHECK(is_taken(a, before, one, g.units, g.len));
   if (find && !is_used(slot_for(g.units, g.len))) CHECK(one.status == JSSTR_NONE && !one.id);
   else interned(a, one, g.units, g.len);
 }
@@ -417,7 +431,10 @@ static void many(agent *a) {
   if (!a->handle.live || wrong) { CHECK(all.status == JSSTR_BAD_ARGUMENT && !all.id && ids[0] == UINT32_MAX); return; }
   lawful++;
   CHECK(all.id <= count && (all.status == JSSTR_DONE) == (all.id == count));
-  for (uint32_t i = 0, at = 0; i < all.id; at = ends[i++]) interned(a, (jsstr_answer){JSSTR_DONE, ids[i], 0, 0, 0}, g.units + at, ends[i] - at);
+  for (uint32_t i = 0, at = 0; i < all.id; at = ends[i++]) {
+    if (is_new(g.units + at, ends[i] - at)) takes(a, g.units + at, ends[i] - at);
+    interned(a, (jsstr_answer){JSSTR_DONE, ids[i], 0, 0, 0}, g.units + at, ends[i] - at);
+  }
   for (uint32_t i = all.id; i < count; i++) CHECK(ids[i] == UINT32_MAX);
   if (all.id < count) {
     uint32_t at = all.id ? ends[all.id - 1] : 0;
@@ -491,7 +508,7 @@ static void finish(agent *a) {
   int interns = (int)chance(2), here = chance(9) > 0;
   jsstr_use before = used(a);
   jsstr_answer s = (interns ? jsstr_built_interned : jsstr_built)(&built.handle, here ? &a->handle : &stranger.handle);
-  if (here && a->handle.live && !interns) CHECK(is_taken(a, before, s, built.units, built.len));
+  if (here && a->handle.live && (!interns || is_new(built.units, built.len))) CHECK(is_taken(a, before, s, built.units, built.len));
   if (here && !a->handle.live) CHECK(s.status == JSSTR_BAD_ARGUMENT);
   else if (here) (interns ? interned : answered)(a, s, built.units, built.len);
   else CHECK(s.status == JSSTR_DONE || s.status == JSSTR_NO_IDS || s.status == JSSTR_NO_WORDS || s.status == JSSTR_NO_SLOTS);

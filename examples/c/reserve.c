@@ -59,9 +59,9 @@ static void take(void) {
 /* An id that isn't above a rope's sides, or above what is cut, is left for a string that is copied. */
 static void below(void) {
   jsstr_agent a = {0};
-  CHECK(jsstr_make((jsstr_size){100, 100, 7}, 1, 100, &a) == JSSTR_DONE && is_done(jsstr_reserve_unchecked(&a, 2, 10)));
-  jsstr_id key = interned(&a, LONG);
-  CHECK(key == 2 && has(&a, 3, 13, 2, 10));
+  CHECK(jsstr_make((jsstr_size){100, 100, 7}, 1, 100, &a) == JSSTR_DONE && is_done(jsstr_reserve_unchecked(&a, 2, 0)));
+  jsstr_id key = interned(&a, LONG); /* there are no words for it */
+  CHECK(key == 2 && has(&a, 3, 3, 2, 0) && is_done(jsstr_reserve(&a, 0, 10)) && has(&a, 3, 13, 2, 10));
   CHECK(id_of(jsstr_concat(&a, key, key)) == 3 && has(&a, 4, 13, 2, 10));
   CHECK(id_of(jsstr_slice(&a, key, 1, 20)) == 4 && has(&a, 5, 13, 2, 10));
   jsstr_id one = id_of(made(&a, "one"));
@@ -74,19 +74,51 @@ static void below(void) {
 static void refuse(void) {
   jsstr_agent a = {0}, none = {0};
   CHECK(is_refused(jsstr_reserve(&none, 1, 1), JSSTR_BAD_ARGUMENT, 0, 0, 0) && jsstr_reserved(&none).status == JSSTR_BAD_ARGUMENT && !none.at);
-  CHECK(jsstr_make((jsstr_size){10, 20, 7}, 1, 100, &a) == JSSTR_DONE);
-  CHECK(is_refused(jsstr_reserve(&a, 3, 21), JSSTR_NO_WORDS, 0, 21, 20) && has(&a, 0, 0, 0, 0));
-  CHECK(is_refused(jsstr_reserve(&a, 3, UINT32_MAX), JSSTR_NO_WORDS, 0, UINT32_MAX, 20) && has(&a, 0, 0, 0, 0));
+  CHECK(jsstr_make((jsstr_size){10, 25, 7}, 1, 100, &a) == JSSTR_DONE);
+  CHECK(is_refused(jsstr_reserve(&a, 3, 26), JSSTR_NO_WORDS, 0, 26, 25) && has(&a, 0, 0, 0, 0));
+  CHECK(is_refused(jsstr_reserve(&a, 3, UINT32_MAX), JSSTR_NO_WORDS, 0, UINT32_MAX, 25) && has(&a, 0, 0, 0, 0));
   CHECK(is_done(jsstr_reserve(&a, 1, 3)) && is_done(jsstr_reserve(&a, 1, 2)) && has(&a, 2, 5, 2, 5));
-  CHECK(interned(&a, "key") == 2 && has(&a, 3, 6, 2, 5));
-  CHECK(is_done(jsstr_reserve(&a, 0, 4)) && has(&a, 3, 10, 2, 4)); /* the five words before are lost */
-  CHECK(is_refused(jsstr_reserve(&a, 8, 10), JSSTR_NO_IDS, 10, 1, 10) && has(&a, 10, 20, 9, 14));
-  CHECK(is_refused(jsstr_reserve(&a, 1, 0), JSSTR_NO_IDS, 10, 1, 10) && is_refused(jsstr_reserve(&a, 0, 1), JSSTR_NO_WORDS, 20, 1, 20));
-  CHECK(is_done(jsstr_reserve(&a, 0, 0)) && has(&a, 10, 20, 9, 14));
+  CHECK(interned(&a, "a key of 41 units, for which six words do") == 2 && has(&a, 3, 11, 2, 5));
+  CHECK(is_done(jsstr_reserve(&a, 0, 4)) && has(&a, 3, 15, 2, 4)); /* the five words before are lost */
+  CHECK(is_refused(jsstr_reserve(&a, 8, 10), JSSTR_NO_IDS, 10, 1, 10) && has(&a, 10, 25, 9, 14));
+  CHECK(is_refused(jsstr_reserve(&a, 1, 0), JSSTR_NO_IDS, 10, 1, 10) && is_refused(jsstr_reserve(&a, 0, 1), JSSTR_NO_WORDS, 25, 1, 25));
+  CHECK(is_done(jsstr_reserve(&a, 0, 0)) && has(&a, 10, 25, 9, 14));
   for (int i = 0; i < 4; i++) id_of(made(&a, LONG));
-  CHECK(has(&a, 10, 20, 5, 2) && is_refused(made(&a, LONG), JSSTR_NO_WORDS, 20, 3, 20) && has(&a, 10, 20, 5, 2));
+  CHECK(has(&a, 10, 25, 5, 2) && is_refused(made(&a, LONG), JSSTR_NO_WORDS, 25, 3, 25) && has(&a, 10, 25, 5, 2));
   for (int i = 0; i < 5; i++) id_of(made(&a, i < 2 ? "short" : ""));
-  CHECK(has(&a, 10, 20, 0, 0) && is_refused(made(&a, ""), JSSTR_NO_IDS, 10, 1, 10));
+  CHECK(has(&a, 10, 25, 0, 0) && is_refused(made(&a, ""), JSSTR_NO_IDS, 10, 1, 10));
+  CHECK(jsstr_free(&a) == JSSTR_DONE);
+}
+
+/* Keys that are not in the table take an id and words, by each call; those that are there take nothing. */
+static void keys(void) {
+  jsstr_agent a = {0};
+  const uint16_t wide[] = {0x100, 0x101, 0x102, 0x103, 0x104}, many[] = {'a', 'b', 'a', 'c', 'd'};
+  const uint32_t ends[] = {1, 2, 3, 5};
+  jsstr_id ids[4];
+  CHECK(jsstr_make((jsstr_size){100, 100, 31}, 1, 100, &a) == JSSTR_DONE && is_done(jsstr_reserve(&a, 9, 12)));
+  CHECK(interned(&a, LONG) == 0 && has(&a, 9, 12, 8, 9) && interned(&a, LONG) == 0 && has(&a, 9, 12, 8, 9));
+  CHECK(id_of(jsstr_intern_units(&a, wide, 5)) == 1 && has(&a, 9, 12, 7, 7) && id_of(jsstr_intern_units_unchecked(&a, wide, 5)) == 1);
+  CHECK(id_of(jsstr_intern_utf8(&a, (const uint8_t *)"\xc3\xa9t\xc3\xa9", 5)) == 2 && has(&a, 9, 12, 6, 6) && has_text(&a, 2, "\xe9t\xe9"));
+  CHECK(id_of(jsstr_intern_latin1_unchecked(&a, (const uint8_t *)"\xe9t\xe9", 3)) == 2 && has(&a, 9, 12, 6, 6));
+  CHECK(id_of(jsstr_intern_many(&a, many, 5, ends, 4, ids, 4)) == 4 && has(&a, 9, 12, 3, 3));
+  CHECK(ids[0] == 3 && ids[1] == 4 && ids[2] == 3 && ids[3] == 5 && has_text(&a, 5, "cd"));
+  jsstr_id s = id_of(made(&a, "a string"));
+  CHECK(s == 6 && has(&a, 9, 12, 2, 2) && id_of(jsstr_intern(&a, s)) == 9 && has(&a, 10, 12, 2, 2)); /* a string takes none */
+  CHECK(interned(&a, "a string") == 9 && interned(&a, "") == 7 && has(&a, 10, 12, 1, 2) && interned(&a, LONG) == 0);
+  CHECK(jsstr_free(&a) == JSSTR_DONE);
+}
+
+/* A heap that is full but for what was reserved, and a table without a free slot, which leaves that. */
+static void last(void) {
+  jsstr_agent a = {0};
+  CHECK(jsstr_make((jsstr_size){2, 3, 7}, 1, 100, &a) == JSSTR_DONE && is_done(jsstr_reserve(&a, 2, 3)));
+  CHECK(is_refused(jsstr_intern_latin1(&a, (const uint8_t *)"a key of 30 units, too long, .", 30), JSSTR_NO_WORDS, 3, 4, 3) && has(&a, 2, 3, 2, 3));
+  CHECK(interned(&a, "a") == 0 && interned(&a, "b") == 1 && interned(&a, "a") == 0 && has(&a, 2, 3, 0, 1));
+  CHECK(is_refused(jsstr_intern_latin1(&a, (const uint8_t *)"", 0), JSSTR_NO_IDS, 2, 1, 2) && has(&a, 2, 3, 0, 1));
+  CHECK(jsstr_free(&a) == JSSTR_DONE);
+  CHECK(jsstr_make((jsstr_size){9, 9, 1}, 1, 100, &a) == JSSTR_DONE && is_done(jsstr_reserve(&a, 3, 3)));
+  CHECK(interned(&a, "a") == 0 && jsstr_intern_latin1(&a, (const uint8_t *)"b", 1).status == JSSTR_NO_SLOTS && has(&a, 3, 3, 2, 2) && interned(&a, "a") == 0);
   CHECK(jsstr_free(&a) == JSSTR_DONE);
 }
 
@@ -114,6 +146,8 @@ int main(void) {
   take();
   below();
   refuse();
+  keys();
+  last();
   share();
   puts("ok");
   return 0;
