@@ -101,7 +101,7 @@ static jsstr_use used_settled(agent *a, agent *of, jsstr_id s) {
 }
 
 /* What is renewed for a string that takes so many words, and needs at most `most`: a block of what is missing, if there is
-   one of all that is. Whether the words begin a new run is told by what was left. Where it isn't known what was used before,
+   one of all that is. What was left shows whether the words begin a new run. Where it isn't known what was used before,
    what is left is believed. */
 static void renewed(agent *a, jsstr_use *before, uint32_t most, uint32_t words) {
   int no_ids = !a->ids, few = a->words < most;
