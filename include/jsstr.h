@@ -31,7 +31,8 @@
 
    MEMORY. jsstr_make, jsstr_split and jsstr_reserve allocate; a call that appends to a text may; and for its own
    duration one that copies into another heap. These alone may answer JSSTR_NO_MEMORY. jsstr_intern and
-   the calls that intern or look for units or bytes may allocate too, and answer the same where they are refused that.
+   the calls that intern or look for units or bytes may allocate too, as do those that renew what is reserved (jsstr_renew),
+   and answer the same where they are refused that.
    That no other call allocates is tested, not proved.
 
    Link -ljsstr: there is one archive, libjsstr.a, and no shared object. malloc, realloc and free are the C
@@ -148,11 +149,20 @@ jsstr_number jsstr_share(jsstr_agent *agent);
    cuts, copies, or interns units or bytes takes from these, where they suffice, and then touches nothing that agents
    share but slots, and uses nothing of the heap. A copy needs an id and its words; a rope or a slice an id above the
    numbers of the strings that it is made of, and the least id left is tried. Units or bytes whose string is in the
-   table need nothing, others what a copy needs. Where they do not suffice, the call is as if nothing were reserved.
-   Interning a string and settling take nothing from these. Answers DONE, with string 0; NO_WORDS, and then nothing was
-   claimed; or NO_IDS or NO_MEMORY, and then the words, and fewer ids, were. What was claimed is used, whether or not a
-   string takes it. Where the new words don't begin where those left end, the words that were left are lost. */
+   table need nothing, others what a copy needs. Where they do not suffice, and are not renewed (jsstr_renew), the call
+   is as if nothing were reserved. Interning a string and settling take nothing from these. Answers DONE, with string 0;
+   NO_WORDS, and then nothing was claimed; or NO_IDS or NO_MEMORY, and then the words, and fewer ids, were. What was
+   claimed is used, whether or not a string takes it. Where the new words don't begin where those left end, the words
+   that were left are lost. */
 jsstr_answer jsstr_reserve(jsstr_agent *agent, uint32_t ids, uint32_t words);
+
+/* Sets the blocks by which what is reserved is renewed; with 0 and 0, as an agent begins, it isn't. A call that makes,
+   joins, cuts or copies, and whose new string finds too few words there, or no id, first claims `words` words, or as many
+   as the string needs where these are more, and `ids` ids: what is missing of the two, and nothing where the block of
+   what is missing is 0. For jsstr_concat and jsstr_slice a copy needs a word for 4 units. Where the heap has not that many
+   words no id is claimed either, and the call goes on as if nothing were renewed; where it has fewer ids, these are
+   claimed. Interning and settling renew nothing. At a join `agent` keeps its blocks. Answers DONE. */
+uint32_t jsstr_renew(jsstr_agent *agent, uint32_t ids, uint32_t words);
 
 /* How many ids and words are reserved, and left. */
 jsstr_used jsstr_reserved(jsstr_agent *agent);
@@ -356,6 +366,7 @@ uint32_t jsstr_split_unchecked(jsstr_agent *, uint32_t, jsstr_agent *);
 void jsstr_join_unchecked(jsstr_agent *, jsstr_agent *);
 uint32_t jsstr_share_unchecked(jsstr_agent *);
 jsstr_answer jsstr_reserve_unchecked(jsstr_agent *, uint32_t, uint32_t);
+void jsstr_renew_unchecked(jsstr_agent *, uint32_t, uint32_t);
 jsstr_use jsstr_reserved_unchecked(jsstr_agent *);
 jsstr_answer jsstr_from_units_unchecked(jsstr_agent *, const uint16_t *, size_t);
 jsstr_answer jsstr_from_latin1_unchecked(jsstr_agent *, const uint8_t *, size_t);

@@ -210,6 +210,9 @@ public:
   /// share. They are used, whether or not a string takes them.
   answer<nothing> reserve(std::uint32_t ids, std::uint32_t words) { return given(claimed(jsstr_reserve(handle(), ids, words))); }
 
+  /// Sets how many ids and words it claims at once from now on, where a new string finds too few reserved; 0 and 0 stop it.
+  answer<nothing> renew(std::uint32_t ids, std::uint32_t words) { return given(done(jsstr_renew(handle(), ids, words))); }
+
   /// How many ids and words are reserved, and left.
   answer<use> reserved() { return given(used(jsstr_reserved(handle()))); }
 

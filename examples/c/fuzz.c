@@ -25,6 +25,7 @@ typedef struct agent {
   int number, giver;
   uint8_t known[IDS], interned[IDS];
   uint32_t ids, words; /* what it reserved, and has left */
+  jsstr_use blocks;    /* by which it renews that */
 } agent;
 
 static text texts[IDS];
@@ -99,26 +100,61 @@ static jsstr_use used_settled(agent *a, agent *of, jsstr_id s) {
   return now;
 }
 
-/* What a copy of these units takes of what is reserved, where that suffices. */
-static int takes(agent *a, const uint16_t *units, uint32_t len) {
+/* How many words hold a copy of these units. */
+static uint32_t words_of(const uint16_t *units, uint32_t len) {
   uint32_t lanes = 8;
   for (uint32_t i = 0; i < len; i++) if (units[i] > 255) lanes = 4;
-  uint32_t words = (len + lanes - 1) / lanes;
+  return (len + lanes - 1) / lanes;
+}
+
+/* What a copy of these units takes of what is reserved, where that suffices. */
+static int takes(agent *a, const uint16_t *units, uint32_t len) {
+  uint32_t words = words_of(units, len);
   if (!a->ids || words > a->words) return 0;
   a->ids--, a->words -= words;
   return 1;
 }
 
-/* A string of these units was made of what is reserved, where that suffices, and then nothing was used; else
-   nothing is taken of it. */
+/* What is renewed for a string that takes so many words, and needs at most `most`: a block of what is missing, if there is
+   one of all that is. What was left shows whether the words begin a new run. Where it isn't known what was used before,
+   what is left is believed. */
+static void renewed(agent *a, jsstr_use *before, uint32_t most, uint32_t words) {
+  int no_ids = !a->ids, few = a->words < most;
+  if (!(no_ids || few) || (no_ids && !a->blocks.ids) || (few && !a->blocks.words)) return;
+  uint32_t more = !few ? 0 : most > a->blocks.words ? most : a->blocks.words;
+  jsstr_used kept = jsstr_reserved(&a->handle);
+  if (few && before->words == UINT32_MAX) {
+    jsstr_use after = jsstr_totals_unchecked(&a->handle);
+    uint32_t taken = kept.ids < a->ids || (no_ids && kept.ids + 1 == after.ids - before->ids);
+    a->ids = kept.ids + taken, a->words = kept.words + (taken ? words : 0), before->ids = after.ids;
+    return;
+  }
+  if (few && more > WORDS - before->words) return;
+  uint32_t ids = !no_ids ? 0 : a->blocks.ids < IDS - before->ids ? a->blocks.ids : IDS - before->ids;
+  a->ids += ids, before->ids += ids;
+  if (!few) return;
+  before->words += more;
+  a->words = kept.words + (a->ids ? words : 0) == a->words + more ? a->words + more : more;
+}
+
+/* A string of these units was made, or interned as a new one, of what is reserved, where that suffices, and then nothing
+   was used; else nothing is taken of it. */
 static int is_taken(agent *a, jsstr_use before, jsstr_answer s, const uint16_t *units, uint32_t len) {
   jsstr_use after = jsstr_totals_unchecked(&a->handle);
   if (!takes(a, units, len)) return jsstr_reserved(&a->handle).ids == a->ids;
   return s.status == JSSTR_DONE && before.ids == after.ids && (before.words == after.words || before.words == UINT32_MAX);
 }
 
+/* The same, and what is reserved was renewed before. */
+static int is_renewed(agent *a, jsstr_use before, jsstr_answer s, const uint16_t *units, uint32_t len, int is_short) {
+  uint32_t words = words_of(units, len);
+  renewed(a, &before, is_short ? (len + 3) / 4 : words, words);
+  return is_taken(a, before, s, units, len);
+}
+
 /* The same of a rope or a slice, which takes an id and no word, if it takes any. */
 static int is_linked(agent *a, jsstr_use before) {
+  renewed(a, &before, 0, 0);
   jsstr_use after = jsstr_totals_unchecked(&a->handle);
   if (jsstr_reserved(&a->handle).ids == a->ids) return 1;
   a->ids--;
@@ -203,7 +239,7 @@ static void make(agent *a) {
   if (!a->handle.live) { CHECK(s.status == JSSTR_BAD_ARGUMENT); return; }
   lawful++;
   if (is_refused(&g, s)) return;
-  CHECK(is_taken(a, before, s, g.units, g.len));
+  CHECK(is_renewed(a, before, s, g.units, g.len, 0));
   answered(a, s, g.units, g.len);
 }
 
@@ -218,7 +254,7 @@ static void concat(agent *a) {
   uint16_t units[LIMIT];
   memcpy(units, texts[l].units, m * 2);
   memcpy(units + m, texts[r].units, n * 2);
-  if (m && n) CHECK(m + n < 13 ? is_taken(a, before, s, units, m + n) : is_linked(a, before));
+  if (m && n) CHECK(m + n < 13 ? is_renewed(a, before, s, units, m + n, 1) : is_linked(a, before));
   answered(a, s, units, m + n);
 }
 
@@ -230,7 +266,7 @@ static void slice(agent *a) {
   if (!knows(a, s) || from > to || to > len) { CHECK(t.status == JSSTR_BAD_ARGUMENT); return; }
   lawful++;
   if (to - from < len && jsstr_is_settled(&a->handle, s).holds)
-    CHECK(to - from < 13 ? is_taken(a, before, t, texts[s].units + from, to - from) : is_linked(a, before));
+    CHECK(to - from < 13 ? is_renewed(a, before, t, texts[s].units + from, to - from, 1) : is_linked(a, before));
   answered(a, t, texts[s].units + from, to - from);
 }
 
@@ -284,7 +320,7 @@ static void carry(agent *a, agent *b) {
   jsstr_answer t = jsstr_copy_into(&a->handle, s, &b->handle);
   if (!knows(a, s) || !b->handle.live) { CHECK(t.status == JSSTR_BAD_ARGUMENT); return; }
   lawful++;
-  if (jsstr_is_settled(&a->handle, s).holds) CHECK(is_taken(b, before, t, texts[s].units, texts[s].len));
+  if (jsstr_is_settled(&a->handle, s).holds) CHECK(is_renewed(b, before, t, texts[s].units, texts[s].len, 0));
   answered(b, t, texts[s].units, texts[s].len);
 }
 
@@ -508,7 +544,8 @@ static void finish(agent *a) {
   int interns = (int)chance(2), here = chance(9) > 0;
   jsstr_use before = used(a);
   jsstr_answer s = (interns ? jsstr_built_interned : jsstr_built)(&built.handle, here ? &a->handle : &stranger.handle);
-  if (here && a->handle.live && (!interns || is_new(built.units, built.len))) CHECK(is_taken(a, before, s, built.units, built.len));
+  if (here && a->handle.live && !interns) CHECK(is_renewed(a, before, s, built.units, built.len, 0));
+  if (here && a->handle.live && interns && is_new(built.units, built.len)) CHECK(is_taken(a, before, s, built.units, built.len));
   if (here && !a->handle.live) CHECK(s.status == JSSTR_BAD_ARGUMENT);
   else if (here) (interns ? interned : answered)(a, s, built.units, built.len);
   else CHECK(s.status == JSSTR_DONE || s.status == JSSTR_NO_IDS || s.status == JSSTR_NO_WORDS || s.status == JSSTR_NO_SLOTS);
@@ -590,6 +627,16 @@ static void reserve(agent *a) {
   a->ids = kept.ids, a->words = kept.words;
 }
 
+static void renew(agent *a) {
+  jsstr_use blocks = {chance(3) ? chance(6) : 0, chance(3) ? chance(20) : 0};
+  if (chance(40) == 0) blocks = (jsstr_use){chance(2) ? IDS : blocks.ids, chance(2) ? 2 * WORDS : blocks.words};
+  uint32_t status = jsstr_renew(&a->handle, blocks.ids, blocks.words);
+  CHECK(status == (a->handle.live ? JSSTR_DONE : JSSTR_BAD_ARGUMENT));
+  if (!a->handle.live) return;
+  lawful++;
+  a->blocks = blocks;
+}
+
 static void split(agent *a, agent *b) {
   uint32_t give = chance(AGENTS + 1);
   int ok = a != b && a->handle.live && !b->handle.live && give >= 1 && give < a->share;
@@ -605,6 +652,7 @@ static void split(agent *a, agent *b) {
   b->giver = a->number;
   b->number = (int)++numbers;
   b->ids = b->words = 0;
+  b->blocks = (jsstr_use){0, 0};
   a->share -= give;
 }
 
@@ -634,7 +682,7 @@ int main(int count_of, char **told) {
   for (call = 0; call < calls; call++) {
     agent *a = &agents[chance(AGENTS)], *b = &agents[chance(AGENTS)];
     if (!a->handle.live && chance(3)) a = &agents[0];
-    switch (chance(27)) {
+    switch (chance(28)) {
     case 0: case 1: make(a); break;
     case 2: case 3: concat(a); break;
     case 4: case 5: slice(a); break;
@@ -654,6 +702,7 @@ int main(int count_of, char **told) {
     case 23: gauge(a); break;
     case 24: many(a); break;
     case 25: reserve(a); break;
+    case 26: renew(a); break;
     default: join(a, b);
     }
     CHECK(keeps_reserve(a) && keeps_reserve(b));

@@ -1,7 +1,7 @@
 /* What memory the calls take. The rows below say which calls allocate, and no other does. Where malloc answers null, at each
    place in turn, such a call answers JSSTR_NO_MEMORY, has changed nothing, and succeeds when it is made again; but where
    jsstr_intern notes a slot, and where an agent first interns or looks for units or bytes, the call answers what it would, and
-   jsstr_reserve has claimed its words.
+   jsstr_reserve has claimed its words, and one that renews what is reserved is made as if it didn't.
 
    It has a malloc, realloc and free of its own in front of the C library's, so it is linked with -Wl,--wrap=malloc,--wrap=realloc,--wrap=free.
    Prints "ok". */
@@ -49,6 +49,9 @@ static const uint8_t latin1[] = "Latin-1 \xE9", utf8[] = "UTF-8 \xC3\xA9 \xF0\x9
   ROW(reserve_unchecked, MEMORY_RESERVED, jsstr_reserve_unchecked(&w->one, 3, 4)) \
   ROW(reserve_words, NOTHING, jsstr_reserve(&w->one, 0, 4)) \
   ROW(from_reserved, NOTHING, jsstr_from_units(&w->far, UNITS)) \
+  ROW(renew, NOTHING, told(jsstr_renew(&w->one, 3, 4))) \
+  ROW(renew_unchecked, NOTHING, (jsstr_renew_unchecked(&w->one, 3, 4), told(JSSTR_DONE))) \
+  ROW(renewing, NOTED, (jsstr_renew_unchecked(&w->one, 3, 4), told(jsstr_from_units(&w->one, UNITS).status))) \
   ROW(reserved, NOTHING, number((jsstr_number){jsstr_reserved(&w->one).status, jsstr_reserved(&w->one).words})) \
   ROW(from_latin1, BYTES, jsstr_from_latin1(&w->one, LATIN1)) \
   ROW(from_latin1_unchecked, BYTES, jsstr_from_latin1_unchecked(&w->one, LATIN1)) \

@@ -1,5 +1,6 @@
-/* Ids and words that an agent reserves, from which its later strings are taken: what is used, and when, and what becomes
-   of the rest; by calls in both forms, also where the heap is full but for what an agent reserved. Prints "ok". */
+/* Ids and words that an agent reserves, from which its later strings are taken, and renews by blocks: what is used, and
+   when, and what becomes of the rest; by calls in both forms, also where the heap is full but for what an agent reserved.
+   Prints "ok". */
 #include "jsstr.h"
 #include <stdio.h>
 #include <stdlib.h>
@@ -8,6 +9,7 @@
 #define CHECK(c) do { if (!(c)) { printf("line %d: %s\n", __LINE__, #c); exit(1); } } while (0)
 
 static const char LONG[] = "a string of 24 units, 3w";
+static const char LONGER[] = "a string of 64 units, which are 8 words, so more than a block is";
 
 /* What all agents used, and what this one has in reserve. */
 static int has(jsstr_agent *a, uint32_t used_ids, uint32_t used_words, uint32_t ids, uint32_t words) {
@@ -142,6 +144,68 @@ static void share(void) {
   CHECK(jsstr_free(&a) == JSSTR_DONE);
 }
 
+/* Blocks that are claimed where a new string finds no id, or too few words; each kind of string, and what needs none. */
+static void renew(void) {
+  jsstr_agent a = {0}, none = {0};
+  CHECK(jsstr_renew(&none, 1, 1) == JSSTR_BAD_ARGUMENT && !none.at);
+  CHECK(jsstr_make((jsstr_size){30, 40, 7}, 1, 100, &a) == JSSTR_DONE && jsstr_renew(&a, 4, 6) == JSSTR_DONE && has(&a, 0, 0, 0, 0));
+  jsstr_id one = id_of(made(&a, "short"));
+  CHECK(one == 0 && has(&a, 4, 6, 3, 5));
+  jsstr_id b = id_of(made(&a, LONG)), c = id_of(made(&a, LONG));
+  CHECK(b == 1 && c == 2 && has(&a, 4, 12, 1, 5)); /* the words go on where those before end */
+  CHECK(id_of(jsstr_concat(&a, b, c)) == 3 && has(&a, 4, 12, 0, 5));
+  CHECK(id_of(jsstr_concat_unchecked(&a, c, b)) == 4 && has(&a, 8, 12, 3, 5));
+  CHECK(id_of(jsstr_slice(&a, b, 2, 20)) == 5 && has(&a, 8, 12, 2, 5));
+  CHECK(strlen(LONGER) == 64 && id_of(made(&a, LONGER)) == 6 && has(&a, 8, 20, 1, 5)); /* as many words as it needs */
+  CHECK(id_of(jsstr_concat(&a, one, one)) == 7 && has(&a, 8, 20, 0, 3));
+  CHECK(id_of(jsstr_slice(&a, b, 0, 24)) == b && jsstr_length(&a, b).value == 24 && has(&a, 8, 20, 0, 3)); /* no new string */
+  CHECK(jsstr_concat(&a, 6, 6).status == JSSTR_TOO_LONG && has(&a, 8, 20, 0, 3));
+  jsstr_id empty = id_of(made(&a, ""));
+  CHECK(empty == 8 && has(&a, 12, 20, 3, 3) && id_of(jsstr_concat(&a, empty, b)) == b && has(&a, 12, 20, 3, 3));
+  jsstr_renew_unchecked(&a, 0, 6); /* where no id is left it claims nothing */
+  for (jsstr_id i = 9; i < 12; i++) CHECK(id_of(made(&a, "")) == i);
+  CHECK(id_of(made(&a, "")) == 12 && has(&a, 13, 20, 0, 3) && id_of(made(&a, LONG)) == 13 && has(&a, 14, 23, 0, 3));
+  CHECK(id_of(made(&a, LONGER)) == 14 && has(&a, 15, 31, 0, 3));
+  CHECK(jsstr_renew(&a, 4, 0) == JSSTR_DONE && id_of(made(&a, LONGER)) == 15 && has(&a, 16, 39, 0, 3));
+  CHECK(id_of(made(&a, "short")) == 16 && has(&a, 20, 39, 3, 2));
+  CHECK(jsstr_renew(&a, 0, 0) == JSSTR_DONE && is_refused(made(&a, LONG), JSSTR_NO_WORDS, 39, 3, 40) && has(&a, 20, 39, 3, 2));
+  CHECK(jsstr_renew(&a, 4, 6) == JSSTR_DONE && is_refused(made(&a, LONG), JSSTR_NO_WORDS, 39, 3, 40) && has(&a, 20, 39, 3, 2));
+  CHECK(id_of(made(&a, "short")) == 17 && id_of(made(&a, "short")) == 18 && has(&a, 20, 39, 1, 0));
+  CHECK(id_of(made(&a, "short")) == 20 && has(&a, 21, 40, 1, 0)); /* no whole block is left, but the word is */
+  CHECK(is_refused(made(&a, "short"), JSSTR_NO_WORDS, 40, 1, 40) && id_of(made(&a, "")) == 19 && has(&a, 21, 40, 0, 0));
+  for (jsstr_id i = 21; i < 30; i++) CHECK(id_of(made(&a, "")) == i); /* the last block is of one id */
+  CHECK(has(&a, 30, 40, 0, 0) && is_refused(made(&a, ""), JSSTR_NO_IDS, 30, 1, 30) && has(&a, 30, 40, 0, 0));
+  CHECK(jsstr_free(&a) == JSSTR_DONE);
+}
+
+/* Blocks of more than is left, of one agent of two, and what becomes of them as agents are split off and joined. */
+static void renew_beside(void) {
+  jsstr_agent a = {0}, b = {0};
+  CHECK(jsstr_make((jsstr_size){20, 20, 7}, 2, 100, &a) == JSSTR_DONE && jsstr_renew(&a, 1, 1) == JSSTR_DONE);
+  CHECK(id_of(made(&a, "short")) == 0 && has(&a, 1, 1, 0, 0));
+  CHECK(id_of(jsstr_intern(&a, 0)) == 1 && has(&a, 2, 1, 0, 0)); /* interning renews nothing */
+  CHECK(jsstr_free(&a) == JSSTR_DONE);
+
+  CHECK(jsstr_make((jsstr_size){20, 20, 7}, 2, 100, &a) == JSSTR_DONE && jsstr_renew(&a, 100, 21) == JSSTR_DONE);
+  CHECK(id_of(made(&a, LONG)) == 0 && has(&a, 1, 3, 0, 0)); /* no id either, as the string took none of them */
+  CHECK(id_of(jsstr_slice(&a, 0, 1, 24)) == 1 && has(&a, 20, 3, 18, 0));
+  CHECK(jsstr_free(&a) == JSSTR_DONE);
+
+  CHECK(jsstr_make((jsstr_size){20, 20, 7}, 2, 100, &a) == JSSTR_DONE && jsstr_renew(&a, 3, 3) == JSSTR_DONE);
+  CHECK(jsstr_split(&a, 1, &b) == JSSTR_DONE && id_of(made(&b, "b")) == 0 && has(&b, 1, 1, 0, 0)); /* it has no blocks yet */
+  CHECK(id_of(made(&a, "a")) == 1 && has(&a, 4, 4, 2, 2) && jsstr_renew(&b, 5, 5) == JSSTR_DONE);
+  CHECK(id_of(made(&b, "b")) == 4 && has(&b, 9, 9, 4, 4) && has(&a, 9, 9, 2, 2));
+  CHECK(id_of(made(&a, LONG)) == 2 && has(&a, 9, 12, 1, 0)); /* the two words before are lost */
+  CHECK(jsstr_join(&a, &b) == JSSTR_DONE && has(&a, 9, 12, 1, 4) && id_of(made(&a, "a")) == 3 && has(&a, 9, 12, 0, 3));
+  CHECK(id_of(made(&a, "a")) == 9 && has(&a, 12, 12, 2, 2)); /* by its own blocks still */
+  CHECK(jsstr_split(&a, 1, &b) == JSSTR_DONE && is_done(jsstr_reserve(&b, 8, 8)) && has(&b, 20, 20, 8, 8));
+  CHECK(id_of(made(&a, "a")) == 10 && id_of(made(&a, "a")) == 11 && has(&a, 20, 20, 0, 0)); /* the heap is full but for what b reserved */
+  CHECK(is_refused(made(&a, "a"), JSSTR_NO_WORDS, 20, 1, 20) && is_refused(made(&a, ""), JSSTR_NO_IDS, 20, 1, 20) && has(&a, 20, 20, 0, 0));
+  CHECK(jsstr_renew(&b, 2, 2) == JSSTR_DONE && id_of(made(&b, LONG)) == 12 && has(&b, 20, 20, 7, 5));
+  CHECK(id_of(made(&b, LONG)) == 13 && is_refused(made(&b, LONG), JSSTR_NO_WORDS, 20, 3, 20) && has(&b, 20, 20, 6, 2));
+  CHECK(jsstr_free(&b) == JSSTR_DONE && jsstr_free(&a) == JSSTR_DONE);
+}
+
 int main(void) {
   take();
   below();
@@ -149,6 +213,8 @@ int main(void) {
   keys();
   last();
   share();
+  renew();
+  renew_beside();
   puts("ok");
   return 0;
 }

@@ -1,6 +1,6 @@
 // Eight threads, each with an agent, make, join, cut, read and intern strings for some seconds, and compare
 // each answer with std::u16string. They put the slots of keys on a board, from which the others adopt them, and
-// look how full the heap is, and reserve ids and words for later strings. In the end all have the same number for the same key.
+// look how full the heap is, and reserve ids and words for later strings, or blocks by which that is renewed. In the end all have the same number for the same key.
 //
 //     stress [SECONDS [THREADS]]
 #include "jsstr.h"
@@ -59,6 +59,9 @@ struct alignas(64) Worker {
     CHECK(!enough || (s.status == JSSTR_DONE && jsstr_reserved(&agent).ids == before.ids - 1));
     return answered(s, text) ? s.id : UINT32_MAX;
   }
+
+  // What is missing then is renewed by these blocks, or isn't renewed.
+  void renew() { CHECK(jsstr_renew(&agent, chance(2) ? chance(20) : 0, chance(2) ? chance(60) : 0) == JSSTR_DONE); }
 
   // A few ids and words for what is made later. What isn't there is reported, and less of it is reserved.
   void reserve() {
@@ -152,7 +155,7 @@ struct alignas(64) Worker {
   void step() {
     jsstr_id a = ids[chance(uint32_t(ids.size()))], b = ids[chance(uint32_t(ids.size()))];
     const Text left = texts[a], right = texts[b];
-    switch (chance(11)) {
+    switch (chance(12)) {
     case 0: {
       jsstr_answer s = jsstr_concat(&agent, a, b);
       if (left.size() + right.size() > 2000) { CHECK(s.status == JSSTR_TOO_LONG); break; }
@@ -207,6 +210,9 @@ struct alignas(64) Worker {
       break;
     case 9:
       reserve();
+      break;
+    case 10:
+      renew();
       break;
     default:
       CHECK(jsstr_length(&agent, UINT32_MAX - chance(9)).status == JSSTR_BAD_ARGUMENT);

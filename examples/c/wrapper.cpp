@@ -106,13 +106,16 @@ static void interns_many() {
   CHECK(agent.intern_many(u"one", {4}).error().why == status::bad_argument && agent.intern_many(u"onenew", {3, 6}).error().why == status::no_ids);
 }
 
-// What is reserved is used at once, and taken by strings later.
+// What is reserved, or renewed, is used at once, and taken by strings later.
 static void reserves() {
   jsstr::agent agent = jsstr::agent::make({3, 9, 7}).value(), gone = jsstr::agent::make({1, 1, 1}).value(), moved = std::move(gone);
   CHECK(agent.reserve(2, 4) && agent.reserved().value().ids == 2 && agent.reserved().value().words == 4 && agent.room().value().ids == 2);
   CHECK(agent.from(u"one"_js) && agent.reserved().value().ids == 1 && agent.reserved().value().words == 3 && agent.room().value().ids == 2);
   CHECK(agent.reserve(1, 6).error().why == status::no_words && agent.reserve(1, 6).error().want == 6 && agent.reserve(9, 0).error().why == status::no_ids);
   CHECK(gone.reserve(1, 1).error().why == status::bad_argument && gone.reserved().error().why == status::bad_argument);
+  jsstr::agent other = jsstr::agent::make({5, 9, 7}).value();
+  CHECK(other.renew(3, 4) && other.reserved().value().ids == 0 && other.from(u"one"_js) && other.reserved().value().ids == 2 && other.reserved().value().words == 3);
+  CHECK(other.room().value().ids == 3 && other.room().value().words == 4 && other.renew(0, 0) && gone.renew(1, 1).error().why == status::bad_argument);
 }
 
 // What one agent interned the other adopts by its slot; each sees how full the heap is.

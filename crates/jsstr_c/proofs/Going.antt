@@ -25,6 +25,7 @@ marks_trans x y z a b = record {
   number = b.number ∙ a.number;
   giver = b.giver ∙ a.giver;
   reserve = b.reserve ∙ a.reserve;
+  blocks = b.blocks ∙ a.blocks;
 }
 
 leaves_trans : (x y z : Held) → LeavesStrings x y → LeavesStrings y z → LeavesStrings x z

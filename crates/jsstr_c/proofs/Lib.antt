@@ -10,4 +10,5 @@ pub mod Decoded
 pub mod Copied
 pub mod Slots
 pub mod Entering
+pub mod Made
 pub mod Texts

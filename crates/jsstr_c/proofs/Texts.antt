@@ -121,7 +121,7 @@ looks_at (Some x) r = let v = view_by x in record {
     held = r;
     same = same_there x.text r.there;
     continues = continues_reads v v (same_loads v);
-    marks = record { known = λ i h. h; interned = λ i h. h; number = refl; giver = refl; reserve = refl };
+    marks = record { known = λ i h. h; interned = λ i h. h; number = refl; giver = refl; reserve = refl; blocks = refl };
   };
   loads = same_loads v;
   marks = (refl, refl);

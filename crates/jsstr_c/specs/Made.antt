@@ -16,7 +16,7 @@ use Rattle.jsstr_c.specs.Checked.{MarksResult, MarksKey, MarksNone, RefusesSettl
 use Rattle.jsstr_c.specs.Reports.{DONE, join_answer, table_answer, text_answer}
 
 -- Strings a and b were joined, with r as the answer. A new string takes what it needs from what was reserved,
--- where that suffices.
+-- where that suffices; where it doesn't, that is renewed first, if there are blocks.
 pub record JoinsStrings (o p : Option Held) (a b : ℕ) (r : JsAnswer) : Type 0 where
   pub spends : HandleSpends o p
   pub marks : MarksResult o p r

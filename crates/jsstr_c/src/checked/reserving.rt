@@ -1,14 +1,16 @@
 // Ids and content words that an agent claims in advance.
 ghost use Rattle.std.specs.Prelude.{◌≡◌, ◌≢◌, ◌↔◌};
 ghost use Rattle.heap_agents.specs.Ready.{IsReady};
-ghost use Rattle.heap_agents.specs.Spending.{handle_reserved_ids, handle_reserved_words};
+ghost use Rattle.heap_agents.specs.Spending.{HandleSetsBlocks, handle_reserved_ids, handle_reserved_words};
 ghost use Rattle.jsstr_c.specs.Handles.{IsHandle};
 ghost use Rattle.jsstr_c.specs.Reports as reports;
 ghost use Rattle.jsstr_c.specs.Reserving.{IsReserving};
 
 use crate::agent::JsAgent;
 use crate::answer::{BAD_ARGUMENT, DONE, JsAnswer, JsTotals, bad_argument, without_totals};
-use crate::unchecked::reserving::{jsstr_reserve_unchecked, jsstr_reserved_unchecked};
+use crate::unchecked::reserving::{
+    jsstr_renew_unchecked, jsstr_reserve_unchecked, jsstr_reserved_unchecked,
+};
 use std::alloc::Global;
 
 /// Claims so many content words in one piece, and then so many ids, from which later strings are taken.
@@ -53,4 +55,23 @@ pub extern "C" fn jsstr_reserved(alloc: Global, agent: &mut JsAgent) -> JsTotals
         ids: kept.ids,
         words: kept.words,
     }
+}
+
+/// Sets how many ids and content words the agent claims at once from now on, where a new string finds too few
+/// in reserve; 0 and 0 to stop that.
+#[unsafe(no_mangle)]
+pub extern "C" fn jsstr_renew(alloc: Global, agent: &mut JsAgent, ids: u32, words: u32) -> u32
+    requires { IsHandle agent.old }
+    ensures handle { IsHandle agent.new }
+    ensures bad { result ≡ reports.BAD_ARGUMENT ↔ ¬ (IsReady agent.old.at.value) }
+    ensures unchanged { result ≡ reports.BAD_ARGUMENT → agent.new.at.value ≡ agent.old.at.value }
+    ensures status { result ≢ reports.BAD_ARGUMENT → result ≡ reports.DONE }
+    ensures sets { result ≢ reports.BAD_ARGUMENT
+        → HandleSetsBlocks agent.old.at.value agent.new.at.value ids words }
+{
+    if agent.is_empty() {
+        return BAD_ARGUMENT;
+    }
+    jsstr_renew_unchecked(alloc, agent, ids, words);
+    DONE
 }

@@ -1,7 +1,7 @@
 // Ids and content words that an agent claims in advance.
 ghost use Rattle.std.specs.Prelude.{◌≡◌, ◌≢◌};
 ghost use Rattle.heap_agents.specs.Ready.{IsReady};
-ghost use Rattle.heap_agents.specs.Spending.{handle_reserved_ids, handle_reserved_words};
+ghost use Rattle.heap_agents.specs.Spending.{HandleSetsBlocks, handle_reserved_ids, handle_reserved_words};
 ghost use Rattle.jsstr_c.specs.Handles.{IsHandle};
 ghost use Rattle.jsstr_c.specs.Reports as reports;
 ghost use Rattle.jsstr_c.specs.Reserving.{IsReserving};
@@ -42,4 +42,17 @@ pub extern "C" fn jsstr_reserved_unchecked(alloc: Global, agent: &mut JsAgent) -
     let (ids, words) = held.reserved();
     agent.put(held);
     JsUse { ids, words }
+}
+
+/// Sets how many ids and content words the agent claims at once from now on, where a new string finds too few
+/// in reserve; 0 and 0 to stop that.
+#[unsafe(no_mangle)]
+pub extern "C" fn jsstr_renew_unchecked(alloc: Global, agent: &mut JsAgent, ids: u32, words: u32)
+    requires ready { IsReady agent.old.at.value }
+    ensures handle { IsHandle agent.new }
+    ensures sets { HandleSetsBlocks agent.old.at.value agent.new.at.value ids words }
+{
+    let mut held = agent.take(alloc);
+    held.renew(ids, words);
+    agent.put(held);
 }
