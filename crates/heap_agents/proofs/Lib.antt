@@ -1,4 +1,3 @@
-pub mod Bits
 pub mod Interned
 pub mod Settled
 pub mod Refusing

@@ -28,9 +28,9 @@ use Rattle.heap_reserve.specs.declared.reserve.Reserve.{Reserve}
 use Rattle.heap_reserve.specs.Reserves.{IsReserve, kept_ids}
 use Rattle.heap_reserve.proofs.Kept.{ids_few, reserve_kept}
 use Rattle.heap_intern.specs.Seats.{AreSeats, IsSeated}
-use Rattle.heap_agents.specs.declared.ids.IdSet.{IdSet}
+use Rattle.heap_ids.specs.declared.ids.IdSet.{IdSet}
 use Rattle.heap_agents.specs.declared.seats.Seats.{Seats}
-use Rattle.heap_agents.specs.Sets.{Covers, IsIn}
+use Rattle.heap_ids.specs.Sets.{Covers, IsIn}
 use Rattle.heap_agents.specs.declared.held.Held.{Held}
 use Rattle.heap_agents.specs.Held.{IsHeld, IsMarked, IsSame, KeepsMarks, LeavesStrings, SpendsReserve, share_by, held_size, view_by}
 use Rattle.heap_agents.specs.Interned.{KeepsCalls}

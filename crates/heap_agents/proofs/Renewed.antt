@@ -29,8 +29,8 @@ use Rattle.heap_reserve.proofs.Kept.{taken_after}
 use Rattle.heap_agents.specs.declared.held.Held.{Held}
 use Rattle.heap_agents.specs.Held.{IsHeld, IsSame, LeavesStrings, MarksMade, MarksNothing, MarksOnly, SpendsReserve, StaysMarked, held_size, limit_by, view_by}
 use Rattle.heap_agents.specs.Preparing.{IsPrepared, Prepares}
-use Rattle.heap_agents.specs.Sets.{IsIn}
-use Rattle.heap_agents.specs.declared.ids.IdSet.{IdSet}
+use Rattle.heap_ids.specs.Sets.{IsIn}
+use Rattle.heap_ids.specs.declared.ids.IdSet.{IdSet}
 use Rattle.heap_agents.specs.Shared.{IsSameText, IsThere, SharedText, limit_if, view_if}
 use Rattle.heap_agents.specs.Spending.{AreClaimedFor, CutsRenewing, IsRenewalDue, JoinsRenewing, MakesRenewing, Renews, RenewsForBoth, RenewsForPart, most_words}
 use Rattle.heap_agents.proofs.Marks.{possible_in, same_sizes, same_trans}

@@ -9,8 +9,8 @@ use Rattle.heap_rule.specs.declared.view.View.{View}
 use Rattle.heap_read.specs.Reads.{Continues}
 use Rattle.heap_read.specs.declared.string.JsStr.{JsStr}
 use Rattle.heap_reserve.specs.Reserves.{IsReserve}
-use Rattle.heap_agents.specs.declared.ids.IdSet.{IdSet}
-use Rattle.heap_agents.specs.Sets.{Covers, IsIn}
+use Rattle.heap_ids.specs.declared.ids.IdSet.{IdSet}
+use Rattle.heap_ids.specs.Sets.{Covers, IsIn}
 use Rattle.heap_agents.specs.declared.held.Held.{Held}
 use Rattle.heap_agents.specs.Shared.{IsSameText, IsThere, limit_if, share_if, size_if, view_if}
 use Rattle.heap_agents.specs.Noted.{AreNoted}

@@ -1,4 +1,3 @@
-pub mod Sets
 pub mod Shared
 pub mod Interned
 pub mod Searched

@@ -3,7 +3,7 @@ use Rattle.std.specs.Prelude.{◌≡◌, ℕ, Option, None, Some}
 use Rattle.heap_rule.specs.Agents.{spent}
 use Rattle.heap_rule.specs.declared.size.HeapSize.{HeapSize}
 use Rattle.heap_rule.specs.declared.view.View.{View}
-use Rattle.heap_agents.specs.Sets.{IsIn}
+use Rattle.heap_ids.specs.Sets.{IsIn}
 use Rattle.heap_agents.specs.declared.held.Held.{Held}
 use Rattle.heap_agents.specs.Held.{IsHeld, IsSame, KeepsMarks, LeavesStrings, LeavesSearched, SpendsReserve}
 use Rattle.heap_agents.specs.Held.{StaysMarked, limit_by, share_by, held_size, view_by}

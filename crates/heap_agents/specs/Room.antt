@@ -5,7 +5,7 @@ use Rattle.heap_rule.specs.declared.size.Counter.TheVariants.{Ids, Words}
 use Rattle.heap_agents.specs.declared.held.Held.{Held}
 use Rattle.heap_agents.specs.declared.room.Room.{Room}
 use Rattle.heap_agents.specs.Held.{IsHeld, IsSame, KeepsMarks, MarksNothing, held_size, view_by}
-use Rattle.heap_agents.specs.Sets.{set_size}
+use Rattle.heap_ids.specs.Sets.{set_size}
 
 -- a number that a counter had: no less than what the agent saw of it before and than what it claimed, and at
 -- most the size of the heap

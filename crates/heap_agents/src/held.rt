@@ -3,11 +3,11 @@ ghost use Rattle.std.specs.Prelude.{◌≡◌, ◌↔◌, ℕ, List, Contains, I
 ghost use Rattle.heap_rule.specs.Maps.{HasKey};
 ghost use Rattle.heap_rule.specs.Views.{history};
 ghost use Rattle.heap_agents.specs.Held.{IsHeld, KeepsMarks, MarksOnly, MarksOnlyKey, view_by};
-ghost use Rattle.heap_agents.specs.Sets.{IsIn};
+ghost use Rattle.heap_ids.specs.Sets.{IsIn};
 
-use crate::ids::IdSet;
-use crate::renewing::Blocks;
+use crate::renewing::ReserveBlocks;
 use crate::seats::Seats;
+use heap_ids::IdSet;
 use heap_reserve::Reserve;
 use heap_table::Heap;
 use heap_text::Text;
@@ -29,7 +29,7 @@ pub struct Held {
     pub(crate) interned: IdSet,
     pub(crate) seats: Seats,
     pub(crate) reserve: Reserve,
-    pub(crate) blocks: Blocks,
+    pub(crate) blocks: ReserveBlocks,
     pub(crate) numbers: Arc<AtomicU64, Global>,
     pub(crate) number: u64,
     pub(crate) giver: u64,

@@ -12,12 +12,12 @@ ghost use Rattle.heap_agents.specs.Spending.{ReservesNothing};
 ghost use Rattle.heap_reserve.specs.Reserves.{IsReserve, TakesOverReserve};
 ghost use Rattle.heap_rule.specs.declared.view.View as view;
 ghost use Rattle.heap_agents.specs.Shared.{IsSameText, IsThere, heap_of, share_if, view_if};
-ghost use Rattle.heap_agents.specs.Sets.{Covers, IsIn};
+ghost use Rattle.heap_ids.specs.Sets.{Covers, IsIn};
 
 use crate::held::Held;
-use crate::ids::IdSet;
-use crate::renewing::Blocks;
+use crate::renewing::ReserveBlocks;
 use crate::seats::Seats;
+use heap_ids::IdSet;
 use heap_read::{HeapRef, Reader};
 use heap_reserve::Reserve;
 use heap_rule::{HeapSize, MAX};
@@ -163,7 +163,7 @@ impl Held {
             interned,
             seats: Seats::none(alloc),
             reserve: Reserve::new(alloc),
-            blocks: Blocks { ids: 0, words: 0 },
+            blocks: ReserveBlocks { ids: 0, words: 0 },
             numbers,
             number: 1,
             giver: 0,
@@ -225,7 +225,7 @@ impl Held {
             interned,
             seats: Seats::none(alloc),
             reserve: Reserve::new(alloc),
-            blocks: Blocks { ids: 0, words: 0 },
+            blocks: ReserveBlocks { ids: 0, words: 0 },
             numbers,
             number: 0,
             giver: self.number,

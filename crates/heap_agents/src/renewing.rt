@@ -18,7 +18,7 @@ use js_units::{has_wide, words_for};
 /// How many ids, and how many content words, an agent claims at once where it renews its reserve; 0 and 0:
 /// it doesn't.
 #[derive(Clone, Copy)]
-pub struct Blocks {
+pub struct ReserveBlocks {
     pub ids: u32,
     pub words: u32,
 }
@@ -36,7 +36,7 @@ impl Held {
         ensures held { IsHeld self.new }
         ensures sets { SetsBlocks self.old self.new ids words }
     {
-        self.blocks = Blocks { ids, words };
+        self.blocks = ReserveBlocks { ids, words };
     }
 
     // Renews for a string with these units.
@@ -137,7 +137,7 @@ impl Held {
         ensures renews { Prepares (IsRenewalDue self.old words) self.old self.new words }
     {
         if self.is_due(words) {
-            let Blocks {
+            let ReserveBlocks {
                 ids: more_ids,
                 words: more_words,
             } = self.blocks_for(words);
@@ -157,11 +157,11 @@ impl Held {
     }
 
     // What is claimed for such a string.
-    fn blocks_for(&self, words: u32) -> Blocks
+    fn blocks_for(&self, words: u32) -> ReserveBlocks
         ensures { AreClaimedFor self.now words result.ids result.words }
     {
         let few_words = self.reserve.words_left() < words;
-        Blocks {
+        ReserveBlocks {
             ids: if self.reserve.ids_left() == 0 {
                 self.blocks.ids
             } else {

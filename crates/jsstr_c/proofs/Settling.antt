@@ -17,8 +17,8 @@ use Rattle.heap_text.specs.declared.faults.TextFull.{TextFull}
 use Rattle.heap_text.specs.Settling.{IsBitOf, IsFlattened, IsNoRoom, IsSettling}
 use Rattle.heap_text.specs.Texts.{IsSpared, KeepsOwn, text_words_wanted}
 use Rattle.heap_agents.specs.declared.held.Held.{Held}
-use Rattle.heap_agents.specs.declared.ids.IdSet.{IdSet}
-use Rattle.heap_agents.specs.Sets.{IsIn}
+use Rattle.heap_ids.specs.declared.ids.IdSet.{IdSet}
+use Rattle.heap_ids.specs.Sets.{IsIn}
 use Rattle.heap_agents.specs.Held.{LeavesStrings, MarksOnly, view_by}
 use Rattle.heap_agents.specs.Ready.{HandleLeaves, HandleKnows, size_in, handle_view}
 use Rattle.heap_agents.specs.Shared.{IsSameText, SharedText, size_if}

@@ -5,7 +5,7 @@ use Rattle.heap_rule.specs.declared.size.HeapSize.{HeapSize}
 use Rattle.heap_rule.specs.declared.size.Counter.TheVariants.{Ids, Words}
 use Rattle.heap_rule.specs.Claims.{loaded_counter}
 use Rattle.heap_agents.specs.Room.{IsCounterAt}
-use Rattle.heap_agents.specs.Sets.{set_size}
+use Rattle.heap_ids.specs.Sets.{set_size}
 use Rattle.heap_agents.specs.Shared.{SharedText, size_if, view_if}
 use Rattle.heap_agents.proofs.Marks.{counted_known, counted_own, held_counted, kept_marks, same_text, told}
 use Rattle.heap_agents.proofs.held.Held.room.Goals as goal

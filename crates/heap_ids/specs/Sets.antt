@@ -2,7 +2,7 @@
 use Rattle.std.specs.Prelude.{◌≡◌, ℕ, ◌+◌, ◌*◌, ◌/◌, ◌%◌, ◌≤◌, List, count_ones, length, slice_index}
 use Rattle.std.specs.Prelude.{sum_by, take}
 use Rattle.std.specs.Int.{bit_at}
-use Rattle.heap_agents.specs.declared.ids.IdSet.{IdSet}
+use Rattle.heap_ids.specs.declared.ids.IdSet.{IdSet}
 
 abbrev pub has_bit : List ℕ → ℕ → Type 0
 has_bit words i = bit_at (slice_index words (i / 64)) (i % 64) ≡ 1

@@ -1,7 +1,7 @@
 // A set of numbers below a bound that is given when it is made, a bit for each: what an agent of the heap
 // keeps of the ids that it may use.
 ghost use Rattle.std.specs.Prelude.{◌≡◌, ◌↔◌, ◌⊎◌, ℕ, ◌<◌, ◌^◌, IfOk, IsTrue};
-ghost use Rattle.heap_agents.specs.Sets.{Covers, IsIn, set_size};
+ghost use Rattle.heap_ids.specs.Sets.{Covers, IsIn, set_size};
 
 use std::alloc::{AllocError, Global};
 

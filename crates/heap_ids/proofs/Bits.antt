@@ -7,7 +7,7 @@ use Rattle.std.specs.List.{AllZip}
 use Rattle.std.proofs.lemmas.List.{get_or-replicate, length-replicate}
 use Rattle.std.proofs.Math.ListN.{get_or-eq_default}
 use Rattle.std.proofs.lemmas.Nat.Bits.{bit_at_set_same, bit_at_set_other, bit_at_or, bit_at-zero, bit_at-lt}
-use Rattle.heap_agents.specs.Sets.{has_bit}
+use Rattle.heap_ids.specs.Sets.{has_bit}
 
 absurd_one : (n : ℕ) → n ≡ 0 → n ≡ 1 → ⊥
 absurd_one n z e = omega (arith, z, e)

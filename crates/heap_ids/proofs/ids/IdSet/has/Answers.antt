@@ -3,9 +3,9 @@ use borrow.Author.Tests.{ltb-true}
 use Rattle.std.specs.Int.{bit_at}
 use Rattle.std.proofs.lemmas.List.{get_or_read_under}
 use Rattle.std.proofs.lemmas.Nat.Bits.{shr_and_one}
-use Rattle.heap_agents.specs.Sets.{IsIn}
-use Rattle.heap_agents.proofs.Bits.{has_word}
-use Rattle.heap_agents.proofs.ids.IdSet.has.Goals as goal
+use Rattle.heap_ids.specs.Sets.{IsIn}
+use Rattle.heap_ids.proofs.Bits.{has_word}
+use Rattle.heap_ids.proofs.ids.IdSet.has.Goals as goal
 
 pub returns-then-place-len : goal.returns-then-place-len
 unfolding IsIn

@@ -1,7 +1,7 @@
 use Rattle.std.proofs.Common.{arith}
-use Rattle.heap_agents.specs.Sets.{Covers, IsIn}
-use Rattle.heap_agents.proofs.Bits.{has_word, laid_kept, laid_only, laid_there}
-use Rattle.heap_agents.proofs.ids.IdSet.add_all.Goals as goal
+use Rattle.heap_ids.specs.Sets.{Covers, IsIn}
+use Rattle.heap_ids.proofs.Bits.{has_word, laid_kept, laid_only, laid_there}
+use Rattle.heap_ids.proofs.ids.IdSet.add_all.Goals as goal
 
 pub returns-clause-room : goal.returns-clause-room
 unfolding Covers

@@ -1,5 +1,5 @@
 use Rattle.std.proofs.Common.{◌≡◌, ◌*◌, ◌≤◌, count_ones, sum_by, take}
-use Rattle.heap_agents.proofs.ids.IdSet.count.Given as goal
+use Rattle.heap_ids.proofs.ids.IdSet.count.Given as goal
 
 abbrev pub invariant-loop-i : goal.invariant-loop-i
 invariant-loop-i l = record {

@@ -3,8 +3,8 @@ use Rattle.std.proofs.lemmas.Bool.{cases_lt}
 use Rattle.std.proofs.lemmas.List.{take_all}
 use Rattle.std.proofs.lemmas.List.Sums.{sum_by_more}
 use Rattle.std.proofs.lemmas.Nat.{ones-le}
-use Rattle.heap_agents.specs.Sets.{set_size}
-use Rattle.heap_agents.proofs.ids.IdSet.count.Goals as goal
+use Rattle.heap_ids.specs.Sets.{set_size}
+use Rattle.heap_ids.proofs.ids.IdSet.count.Goals as goal
 
 -- the first elements, of which there may be fewer
 front : (n m k : ℕ) (ws : List ℕ) → m ≡ min n (length ws) → m ≤ k → k ≤ m → take k ws ≡ take n ws

@@ -1,5 +1,5 @@
 use Rattle.std.proofs.Common.{◌≡◌, ℕ, ◌<◌, ◌≤◌, length, get_or, bit_or}
-use Rattle.heap_agents.proofs.ids.IdSet.add_all.Given as goal
+use Rattle.heap_ids.proofs.ids.IdSet.add_all.Given as goal
 
 abbrev pub invariant-loop-i : goal.invariant-loop-i
 invariant-loop-i l = record {

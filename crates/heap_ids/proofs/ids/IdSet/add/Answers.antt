@@ -1,9 +1,9 @@
 use Rattle.std.proofs.Common.{ℕ, ◌/◌, ◌<◌, length, arith}
 use Rattle.std.proofs.Math.ListN.{length-set}
 use Rattle.std.proofs.lemmas.List.{get_or_read_under}
-use Rattle.heap_agents.specs.Sets.{Covers, IsIn}
-use Rattle.heap_agents.proofs.Bits.{kept, only, there}
-use Rattle.heap_agents.proofs.ids.IdSet.add.Goals as goal
+use Rattle.heap_ids.specs.Sets.{Covers, IsIn}
+use Rattle.heap_ids.proofs.Bits.{kept, only, there}
+use Rattle.heap_ids.proofs.ids.IdSet.add.Goals as goal
 
 pub returns-then-place-len-clause-room : goal.returns-then-place-len-clause-room
 unfolding Covers

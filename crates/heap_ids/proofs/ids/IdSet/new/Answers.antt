@@ -1,7 +1,7 @@
 use Rattle.std.proofs.Common.{arith, ◌+◌, ◌/◌}
-use Rattle.heap_agents.specs.Sets.{Covers, IsIn}
-use Rattle.heap_agents.proofs.Bits.{none}
-use Rattle.heap_agents.proofs.ids.IdSet.new.Goals as goal
+use Rattle.heap_ids.specs.Sets.{Covers, IsIn}
+use Rattle.heap_ids.proofs.Bits.{none}
+use Rattle.heap_ids.proofs.ids.IdSet.new.Goals as goal
 
 pub returns-clause-empty : goal.returns-clause-empty
 unfolding IsIn

@@ -1,7 +1,7 @@
 use Rattle.std.proofs.Common.{◌*◌, ◌≤◌, ℕ, List, length, subst, sym}
-use Rattle.heap_agents.specs.Sets.{Covers, IsIn, has_bit}
-use Rattle.heap_agents.proofs.Bits.{same_items}
-use Rattle.heap_agents.proofs.ids.IdSet.try_clone.Goals as goal
+use Rattle.heap_ids.specs.Sets.{Covers, IsIn, has_bit}
+use Rattle.heap_ids.proofs.Bits.{same_items}
+use Rattle.heap_ids.proofs.ids.IdSet.try_clone.Goals as goal
 
 pub returns-clause-room : goal.returns-clause-room
 unfolding Covers
