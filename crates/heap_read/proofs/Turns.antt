@@ -6,7 +6,8 @@ use Rattle.js_units.specs.Lanes.{lane_count}
 use Rattle.heap_rule.specs.declared.view.View.{View}
 use Rattle.heap_rule.specs.Sound.{IsPossible}
 use Rattle.heap_read.specs.declared.string.Window.{Window}
-use Rattle.heap_read.specs.Windows.{BeginsWord, IsFrozenWindow, IsWindow}
+use Rattle.heap_read.specs.Shifted.{BeginsWord}
+use Rattle.heap_read.specs.Windows.{IsFrozenWindow, IsWindow}
 use Rattle.heap_read.proofs.Showing.{word_small}
 
 -- the first unit of the word that is k words behind

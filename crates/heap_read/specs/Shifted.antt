@@ -1,7 +1,8 @@
 -- Helpers: no public contract reaches these definitions.
--- Words whose lowest lanes hold units.
-use Rattle.std.specs.Prelude.{◌≡◌, ℕ, ◌<◌, ◌^◌, Bool, true, false}
-use Rattle.js_units.specs.Lanes.{lane_base, lane_of}
+-- Words whose lowest lanes hold units, and the word whose lowest lane is that of a unit.
+use Rattle.std.specs.Prelude.{◌≡◌, ℕ, ◌+◌, ◌/◌, ◌%◌, ◌<◌, ◌^◌, Bool, true, false}
+use Rattle.js_units.specs.Lanes.{lane_base, lane_count, lane_of}
+use Rattle.heap_read.specs.declared.string.Window.{Window}
 
 -- the bits of a lane
 abbrev pub lane_bits : Bool → ℕ
@@ -12,3 +13,8 @@ lane_bits false = 8
 pub record HoldsLanes (wide : Bool) (word count : ℕ) (unit : ℕ → ℕ) : Type 0 where
   pub small : word < lane_base wide ^ count
   pub each : (k : ℕ) → k < count → lane_of wide word k ≡ unit k
+
+-- unit i of the window is in the lowest lane of content word `at`
+pub record BeginsWord (w : Window) (i at : ℕ) : Type 0 where
+  pub lowest : (w.offset + i) % lane_count w.wide ≡ 0
+  pub place : at ≡ w.start + (w.offset + i) / lane_count w.wide

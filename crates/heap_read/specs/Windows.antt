@@ -1,5 +1,5 @@
 -- What a window shows, by what an agent knows.
-use Rattle.std.specs.Prelude.{◌≡◌, ℕ, ◌+◌, ◌/◌, ◌%◌, ◌<◌, ◌≤◌, ◌⊎◌, Bool, List, length}
+use Rattle.std.specs.Prelude.{◌≡◌, ℕ, ◌+◌, ◌/◌, ◌<◌, ◌≤◌, ◌⊎◌, Bool, List, length}
 use Rattle.js_units.specs.Lanes.{lane_count, words_over}
 use Rattle.js_header.specs.declared.form.Form.TheVariants.{Flat, Sliced, Thin}
 use Rattle.heap_rule.specs.declared.view.View.{View}
@@ -12,11 +12,6 @@ use Rattle.heap_read.specs.declared.string.Window.{Window}
 abbrev pub IsFrozenWindow : View → Window → Type 0
 IsFrozenWindow v w = (c : ℕ) → w.start + w.offset / lane_count w.wide ≤ c
     → c < w.start + words_over w.wide (w.offset + w.len) → IsFrozen v c
-
--- unit i of the window is in the lowest lane of content word `at`
-pub record BeginsWord (w : Window) (i at : ℕ) : Type 0 where
-  pub lowest : (w.offset + i) % lane_count w.wide ≡ 0
-  pub place : at ≡ w.start + (w.offset + i) / lane_count w.wide
 
 -- The string i is p, or p forwards to it.
 abbrev pub StandsFor : View → ℕ → ℕ → Type 0

@@ -7,7 +7,8 @@ ghost use Rattle.heap_table.specs.Agents.{size_of};
 ghost use Rattle.heap_read.specs.Frozen.{HasOther, HasUnits, IsLearned};
 ghost use Rattle.heap_read.specs.Readers.{MovesView, view_in};
 ghost use Rattle.heap_read.specs.Reads.{KeepsForms, OnlyLoads};
-ghost use Rattle.heap_read.specs.Windows.{BeginsWord, IsFrozenWindow, IsWindow};
+ghost use Rattle.heap_read.specs.Shifted.{BeginsWord};
+ghost use Rattle.heap_read.specs.Windows.{IsFrozenWindow, IsWindow};
 ghost use Rattle.heap_read.specs.Written.{HasAt, held_unit};
 
 use crate::heap_ref::HeapRef;

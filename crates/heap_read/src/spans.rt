@@ -6,7 +6,8 @@ ghost use Rattle.heap_table.specs.Agents.{size_of};
 ghost use Rattle.heap_read.specs.Readers.{MovesView, view_in};
 ghost use Rattle.heap_read.specs.Reads.{KeepsForms, OnlyLoads};
 ghost use Rattle.js_units.specs.Units.{IsFirstUnit};
-ghost use Rattle.heap_read.specs.Windows.{BeginsWord, IsFrozenWindow, IsWindow};
+ghost use Rattle.heap_read.specs.Shifted.{BeginsWord};
+ghost use Rattle.heap_read.specs.Windows.{IsFrozenWindow, IsWindow};
 ghost use Rattle.heap_read.specs.Written.{ShowsFrom, ShowsOn};
 
 use crate::heap_ref::HeapRef;

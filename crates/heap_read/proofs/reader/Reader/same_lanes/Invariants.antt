@@ -1,7 +1,8 @@
 use Rattle.std.proofs.Common.{◌≡◌, ℕ, ◌-◌, ◌<◌, List, get_or}
 use Rattle.heap_read.specs.Readers.{view_in}
 use Rattle.heap_read.specs.Reads.{KeepsForms, OnlyLoads}
-use Rattle.heap_read.specs.Windows.{BeginsWord, IsWindow}
+use Rattle.heap_read.specs.Shifted.{BeginsWord}
+use Rattle.heap_read.specs.Windows.{IsWindow}
 use Rattle.heap_read.proofs.reader.Reader.same_lanes.Given as goal
 
 abbrev pub invariant-loop-i : goal.invariant-loop-i
