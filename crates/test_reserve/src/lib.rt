@@ -5,4 +5,6 @@
 #[cfg(test)]
 mod beside;
 #[cfg(test)]
+mod interning;
+#[cfg(test)]
 mod taking;

@@ -1,0 +1,72 @@
+// Units that are interned with what their agent claimed in advance.
+ghost use Rattle.std.specs.Prelude.{◌≤◌, length};
+
+use heap_bytes::Spelling;
+use heap_intern::{Key, TableFull};
+use heap_reserve::Reserve;
+use heap_rule::{HeapSize, MAX};
+use heap_table::Heap;
+use heap_text::{JsStr, Text, TextFull};
+use std::alloc::Global;
+
+// What was answered, what is left of the reserve, and a string that is made without it.
+#[derive(Clone, Copy, PartialEq, Eq)]
+struct Interned {
+    answers: [Result<u32, TableFull>; 4],
+    left: (usize, u32),
+    next: Result<JsStr, TextFull>,
+}
+
+// Two keys that take what is kept, one that is there by then, and one behind them.
+#[tactic(auto, using(heap_intern::proofs::Hashes::no_hashes))]
+fn intern_four(alloc: Global, slots: u32, last: &[u16]) -> Option<Interned>
+    requires { length last.now ≤ 1 }
+{
+    let size = HeapSize {
+        ids: 8,
+        words: 8,
+        slots,
+    };
+    let Ok((heap, agent)) = Heap::make(alloc, size, 1) else {
+        return None;
+    };
+    let mut text = Text::new(&heap, agent, MAX);
+    let mut reserve = Reserve::new(alloc);
+    let Ok(()) = reserve.claim(&mut text, 3, 2) else {
+        return None;
+    };
+    let narrow = reserve.intern(&mut text, &Key::Units(&[0x61, 0x62]), &mut []);
+    let again = reserve.intern(&mut text, &Key::Spelled(Spelling::Latin1(b"ab")), &mut []);
+    let wide = reserve.intern(&mut text, &Key::Units(&[0x100]), &mut []);
+    let end = reserve.intern(&mut text, &Key::Units(last), &mut []);
+    let left = (reserve.ids_left(), reserve.words_left());
+    let next = text.make_flat(&[]);
+    Some(Interned {
+        answers: [narrow, again, wide, end],
+        left,
+        next,
+    })
+}
+
+#[test]
+fn keys_take_what_is_kept(rt: HostRuntime) {
+    let claimed = Interned {
+        answers: [Ok(0), Ok(0), Ok(1), Ok(3)],
+        left: (1, 0),
+        next: Ok(JsStr { id: 4 }),
+    };
+    assert!(&rt; intern_four(rt.alloc(), 4, &[0x63]) == Some(claimed));
+    let empty = Interned {
+        answers: [Ok(0), Ok(0), Ok(1), Ok(2)],
+        left: (0, 0),
+        next: Ok(JsStr { id: 3 }),
+    };
+    assert!(&rt; intern_four(rt.alloc(), 4, &[]) == Some(empty));
+    let full = TableFull::Slots { slots: 1 };
+    let kept = Interned {
+        answers: [Ok(0), Ok(0), Err(full), Err(full)],
+        left: (2, 1),
+        next: Ok(JsStr { id: 3 }),
+    };
+    assert!(&rt; intern_four(rt.alloc(), 1, &[0x63]) == Some(kept));
+}
