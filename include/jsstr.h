@@ -30,8 +30,8 @@
    JSSTR_NO_WORDS.
 
    MEMORY. jsstr_make, jsstr_split and jsstr_reserve allocate; a call that appends to a text may; and for its own
-   duration one that copies into another heap. These alone may answer JSSTR_NO_MEMORY. jsstr_intern and
-   the calls that intern or look for units or bytes may allocate too, as do those that renew what is reserved (jsstr_renew),
+   duration one that copies into another heap. These alone may answer JSSTR_NO_MEMORY. jsstr_intern, the calls
+   that intern or look for units or bytes, and those that renew what is reserved (jsstr_renew) may allocate too,
    and answer the same where they are refused that.
    That no other call allocates is tested, not proved.
 
@@ -156,12 +156,13 @@ jsstr_number jsstr_share(jsstr_agent *agent);
    that were left are lost. */
 jsstr_answer jsstr_reserve(jsstr_agent *agent, uint32_t ids, uint32_t words);
 
-/* Sets the blocks by which what is reserved is renewed; with 0 and 0, as an agent begins, it isn't. A call that makes,
-   joins, cuts or copies, and whose new string finds too few words there, or no id, first claims `words` words, or as many
-   as the string needs where these are more, and `ids` ids: what is missing of the two, and nothing where the block of
-   what is missing is 0. For jsstr_concat and jsstr_slice a copy needs a word for 4 units. Where the heap has not that many
-   words no id is claimed either, and the call goes on as if nothing were renewed; where it has fewer ids, these are
-   claimed. Interning and settling renew nothing. At a join `agent` keeps its blocks. Answers DONE. */
+/* Sets the blocks by which what is reserved is renewed; with 0 and 0, as an agent begins, it isn't. A call that
+   makes, joins, cuts or copies, and whose new string finds too few words there, or no id, first claims `words` words,
+   or as many as the string needs where these are more, and `ids` ids: what is missing of the two, and nothing where
+   the block of what is missing is 0. For jsstr_concat and jsstr_slice a copy needs a word for 4 units. Where the heap
+   has not that many words no id is claimed either, and the call goes on as if nothing were renewed; where it has
+   fewer ids, these are claimed. Interning and settling renew nothing. At a join `agent` keeps its blocks. Answers
+   DONE. */
 uint32_t jsstr_renew(jsstr_agent *agent, uint32_t ids, uint32_t words);
 
 /* How many ids and words are reserved, and left. */
