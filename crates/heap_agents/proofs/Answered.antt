@@ -32,7 +32,7 @@ module _ (x : Held) (m : Option SharedText) (seats : Seats) (r : Reserve) (held 
   refused_units f g = let l = leaves (view_by x) (view_if m) x.reserve r us (Err f) g in record {
     held = held_interned (Err f) g;
     same = same;
-    marks = record { known = λ i h. h; interned = λ i h. h; number = λ i. x.number; giver = λ i. x.giver };
+    marks = record { known = λ i h. h; interned = λ i h. h; number = λ i. x.number; giver = λ i. x.giver; blocks = λ i. x.blocks };
     marked = (refl, refl);
     known = l.known;
     calls = l.calls;
@@ -47,7 +47,7 @@ module _ (x : Held) (m : Option SharedText) (seats : Seats) (r : Reserve) (held 
     interned_marked g = let l = leaves (view_by x) (view_if m) x.reserve r us (Ok i) g in record {
       held = own;
       same = subst (λ (n : Option SharedText). IsSameText x.text n) (sym is) same;
-      marks = record { known = keeps.known; interned = keeps.interned; number = keeps.number; giver = keeps.giver };
+      marks = record { known = keeps.known; interned = keeps.interned; number = keeps.number; giver = keeps.giver; blocks = keeps.blocks };
       marked = record { known = marked.known; interned = marked.interned; only = marked.only; only_interned = marked.only_interned };
       known = subst (λ (n : Option SharedText). KeepsKnown (view_by x) (view_if n)) (sym is) l.known;
       calls = subst (λ (n : Option SharedText). KeepsCalls (view_by x) (view_if n)) (sym is) l.calls;
