@@ -7,7 +7,7 @@ MINUTES = {
     "quick run": 1.6,
     "--test": 7.3,
     "--build": 60,
-    "--library": 27,
+    "--library": 25,
     "gate": 108,
 }
 
