@@ -108,9 +108,10 @@ walking_on a v us r q before now reach p = record {
 }
 
 -- a visit of a slot that isn't noted with another hash
-pub apart_on : (a v w : View) (hashes : List ℕ) (slot mark most before after : ℕ) → (IsNotedApart hashes slot mark → ⊥) → LoadsOne v w slot most before after →
+pub apart_on : (a v w : View) (hashes : List ℕ) (slot place mark most before after : ℕ) → slot ≡ place → (IsNotedApart hashes place mark → ⊥) → LoadsOne v w slot most before after →
     ((k : ℕ) → IsNotedApart hashes k mark → loads_at v k ≡ loads_at a k) → (k : ℕ) → IsNotedApart hashes k mark → loads_at w k ≡ loads_at a k
-apart_on a v w hashes slot mark most before after never h none k apart = h.others k (λ e. never (subst (λ (i : ℕ). IsNotedApart hashes i mark) e apart)) ∙ none k apart
+apart_on a v w hashes slot place mark most before after lies never h none k apart =
+    h.others k (λ e. never (subst (λ (i : ℕ). IsNotedApart hashes i mark) (e ∙ lies) apart)) ∙ none k apart
 
 -- the slot of the answer is noted after the walk
 module _ (v w : View) (p : IsPossible w) (us : List ℕ) (hashes later : List ℕ) (hash : ℕ) (is : hash ≡ hash_of us) (known : KeepsKnown v w) (right : AreHashes v hashes)
@@ -168,10 +169,10 @@ notes_then v w x p us id slot hashes later at known e h = record {
 }
 
 -- the slots of ranks, before the end of the table and behind it
-wrap_none : (start j n : ℕ) → start + j < n → (start + j) % n ≡ start + j
+pub wrap_none : (start j n : ℕ) → start + j < n → (start + j) % n ≡ start + j
 wrap_none start j n l = mod-eq_of_lt l
 
-wrap_over : (start j n x : ℕ) → start + j ≡ x + n → x < n → (start + j) % n ≡ x
+pub wrap_over : (start j n x : ℕ) → start + j ≡ x + n → x < n → (start + j) % n ≡ x
 wrap_over start j n x e l = ap (λ (y : ℕ). y % n) e ∙ (add-mod_right x n ∙ mod-eq_of_lt l)
 
 module _ (hashes : List ℕ) (start n mark r m : ℕ) where

@@ -14,7 +14,7 @@ ghost use Rattle.heap_intern.specs.Wanted.{IsWanted, wanted_plan};
 ghost use Rattle.heap_read.specs.Readers.{view_in};
 ghost use Rattle.heap_read.specs.Reads.{HoldsForms};
 
-use crate::table::hashes::{next_rank, note_hash};
+use crate::table::hashes::{next_rank, note_hash, slot_at};
 use crate::table::probing::{Seat, Visit, visit_used};
 use crate::table::wanted::Wanted;
 use heap_bytes::Spelling;
@@ -82,7 +82,7 @@ pub(crate) fn walk_path<L: Ledger, H: HeapRef>(
     let mark = hash.max(1);
     let mut r = next_rank(hashes, start, n, mark, 0);
     while r < n {
-        let slot = (start + r) % n;
+        let slot = slot_at(start, r, n);
         let visit = match look(reader, wanted, slot, steps) {
             Some(visit) => visit,
             None => return WalkEnd::Free { slot, rank: r },

@@ -81,6 +81,19 @@ fn count_apart(hashes: &[u32], from: u32, to: u32, mark: u32) -> u32
     (blocks + singles) as u32
 }
 
+// The slot of a rank on the path that begins at a slot: behind the last slot comes slot 0.
+pub(crate) fn slot_at(start: u32, rank: u32, slots: u32) -> u32
+    requires start { start < slots }
+    requires rank { rank < slots }
+    ensures { result ≡ (start + rank) % slots }
+{
+    let before_end = slots - start;
+    if rank < before_end {
+        return start + rank;
+    }
+    rank - before_end
+}
+
 // The first rank from one on whose slot isn't noted with another hash; n where there is none.
 pub(crate) fn next_rank(hashes: &[u32], start: u32, n: u32, mark: u32, r: u32) -> u32
     requires start { start < n }
