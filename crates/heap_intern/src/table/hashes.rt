@@ -1,6 +1,7 @@
 // Hashes of strings by their slots. A string stays in its slot, so an agent that has noted what it hashes to
 // knows from then on that it isn't one with another hash.
-ghost use Rattle.std.specs.Prelude.{◌≡◌, ◌⊎◌, ℕ, ◌+◌, ◌%◌, ◌≤◌, ◌<◌, ◌^◌, IsTrue, length, slice_index};
+ghost use Rattle.std.specs.Prelude.{◌≡◌, ◌≢◌, ◌⊎◌, ℕ, ◌+◌, ◌%◌, ◌≤◌, ◌<◌, ◌^◌, IsTrue, length, slice_index};
+ghost use Rattle.std.specs.Bool.{MatchBool};
 ghost use Rattle.heap_intern.specs.Hashes.{IsNotedApart};
 
 // Notes the hash of the string in a slot, where there is room for its number.
@@ -64,7 +65,15 @@ fn count_singly(hashes: &[u32], from: usize, to: usize, mark: u32) -> usize
     to - from
 }
 
-// How many slots from one on, and before another, are noted with another hash, up to the first that isn't.
+// Whether something is noted, and it is another hash.
+fn is_apart(hash: u32, mark: u32) -> bool
+    ensures { MatchBool result ((0 < hash) × (hash ≢ mark)) ((hash ≡ 0) ⊎ (hash ≡ mark)) }
+{
+    hash != 0 && hash != mark
+}
+
+// How many slots from one on, and before another, are noted with another hash, up to the first that isn't. The
+// first one is compared alone, since most paths end there.
 fn count_apart(hashes: &[u32], from: u32, to: u32, mark: u32) -> u32
     requires { from ≤ to }
     ensures within { from + result ≤ to }
@@ -74,6 +83,9 @@ fn count_apart(hashes: &[u32], from: u32, to: u32, mark: u32) -> u32
     let start = from as usize;
     let end = hashes.len().min(to as usize);
     if end <= start {
+        return 0;
+    }
+    if !is_apart(hashes[start], mark) {
         return 0;
     }
     let blocks = count_blocks(hashes, start, end, mark);
