@@ -81,7 +81,7 @@ fn make_given<H: HeapRef>(reader: &mut Reader<H>, key: &Key, given: Given)
 
 // A fixed Flat that is there is put into a slot that was found free; where that is lost, and the winner's
 // string differs, the probe goes on behind it.
-fn place<L: Ledger, H: HeapRef>(
+pub(crate) fn place<L: Ledger, H: HeapRef>(
     reader: &mut Reader<H>,
     wanted: &Wanted,
     header: u32,
@@ -119,7 +119,7 @@ fn place<L: Ledger, H: HeapRef>(
 }
 
 // What was given is born, and put into a slot that was found free.
-fn settle<L: Ledger, H: HeapRef>(
+pub(crate) fn settle<L: Ledger, H: HeapRef>(
     reader: &mut Reader<H>,
     key: &Key,
     given: Given,

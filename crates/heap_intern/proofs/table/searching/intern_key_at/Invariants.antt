@@ -1,0 +1,4 @@
+use Rattle.heap_intern.proofs.table.searching.intern_key_at.Given as goal
+
+abbrev pub ghosts-intern_key_at_by : goal.ghosts-intern_key_at_by
+ghosts-intern_key_at_by g a = record { name = a.blank.name; parts = a.blank.parts }

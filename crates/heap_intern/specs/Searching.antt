@@ -1,0 +1,49 @@
+-- Looking for units before anything is claimed for them, and going on from there.
+use Rattle.std.specs.Prelude.{◌≡◌, ℕ, ◌+◌, ◌<◌, ◌≤◌, IsTrue, List, Option, Some, None}
+use Rattle.std.specs.FinMap.{get}
+use Rattle.js_units.specs.Lanes.{hash_of}
+use Rattle.heap_rule.specs.declared.view.View.{View}
+use Rattle.heap_rule.specs.Paths.{rank}
+use Rattle.heap_rule.specs.SlotTests.{shut}
+use Rattle.heap_rule.specs.Slots.{IsShutAt}
+use Rattle.heap_intern.specs.declared.table.searching.KeySearch.{KeySearch}
+use Rattle.heap_intern.specs.declared.table.searching.KeySearch.TheVariants.{Found, Open, Shut}
+use Rattle.heap_intern.specs.declared.table.searching.Opening.{Opening}
+use Rattle.heap_intern.specs.Given.{FindsGiven}
+use Rattle.heap_intern.specs.SlotLoads.{loads_at}
+
+-- An opening for the units us: a slot that is not known to be used, with its rank on the path of us, where
+-- each slot before it is known to be used by a string that differs; and what the units hash to.
+pub record IsOpening (v : View) (us : List ℕ) (o : Opening) : Type 0 where
+  pub hash : o.hash ≡ hash_of us
+  pub inside : o.slot < v.sizes.slots
+  pub at : rank us v.sizes.slots o.slot ≡ o.rank
+  pub passed : (j : ℕ) → j < v.sizes.slots → rank us v.sizes.slots j < o.rank → IsShutAt v us j
+  pub free : get v.slots o.slot ≡ None
+
+-- the string that was found, if any
+abbrev pub found_key : KeySearch → Option ℕ
+found_key (Found i) = Some i
+found_key (Open o) = None
+found_key (Shut n) = None
+
+-- up to the opening each slot was loaded at most once, and none behind it
+pub record LoadsUpTo (v w : View) (us : List ℕ) (o : Opening) : Type 0 where
+  pub once : (k : ℕ) → loads_at w k ≤ loads_at v k + 1
+  pub ahead : (k : ℕ) → o.rank < rank us w.sizes.slots k → loads_at w k ≡ loads_at v k
+
+-- from the opening on each slot was loaded at most twice, and once up to it
+pub record LoadsFrom (v w : View) (us : List ℕ) (o : Opening) : Type 0 where
+  pub once : (k : ℕ) → rank us v.sizes.slots k ≤ o.rank → loads_at w k ≤ loads_at v k + 1
+  pub most : (k : ℕ) → loads_at w k ≤ loads_at v k + 2
+
+abbrev pub EndsSearch : View → View → List ℕ → KeySearch → Type 0
+EndsSearch v w us (Found i) = Unit {0}
+EndsSearch v w us (Open o) = IsOpening w us o × LoadsUpTo v w us o
+EndsSearch v w us (Shut n) = (n ≡ w.sizes.slots) × IsTrue (shut w us w.sizes.slots)
+
+-- The units us were looked for: their string was found, or there is an opening for them, or every slot is
+-- known to be used by a string that differs. Nothing was used.
+pub record SearchesKey (v w : View) (us : List ℕ) (s : KeySearch) : Type 0 where
+  pub finds : FindsGiven v w us (found_key s)
+  pub ends : EndsSearch v w us s

@@ -1,0 +1,233 @@
+// Looking for units before anything is claimed for them, and putting a string with them into the slot that was
+// found free.
+ghost use Rattle.std.specs.Prelude.{◌≡◌, ◌≢◌, ℕ, ◌+◌, ◌≤◌, ◌<◌, IfOk, max};
+ghost use Rattle.heap_rule.specs.Paths.{rank};
+ghost use Rattle.heap_read.specs.Readers.{view_in};
+ghost use Rattle.heap_read.specs.Reads.{HoldsForms};
+ghost use Rattle.heap_intern.specs.Answers.{IsInternAnswer, UsesNothing, copy_plan};
+ghost use Rattle.heap_intern.specs.Hashes.{AreHashes, IsNotedApart, NotesHash};
+ghost use Rattle.heap_intern.specs.Keys.{IsKey, units_of_key};
+ghost use Rattle.heap_intern.specs.Searching.{IsOpening, LoadsFrom, SearchesKey, found_key};
+ghost use Rattle.heap_intern.specs.SlotLoads.{answered, loads_at};
+ghost use Rattle.heap_intern.specs.Taking.{HasGiven, IsGivenTaken};
+ghost use Rattle.heap_intern.specs.Visits.{StandsAt, id_in};
+
+use crate::table::faults::TableFull;
+use crate::table::finding::{WalkEnd, walk_path};
+use crate::table::given::{Given, place, settle};
+use crate::table::hashes::note_hash;
+use crate::table::header::make_header;
+use crate::table::key::Key;
+use crate::table::probing::Seat;
+use heap_read::{HeapRef, Reader, Steps};
+use std::marker::Brand;
+use std::sync::ledger::{Blank, Ledger};
+
+/// A slot that was found free, its rank on the path of the units that were looked for, and what these hash to.
+#[derive(Clone, Copy)]
+pub struct Opening {
+    pub(crate) slot: u32,
+    pub(crate) rank: u32,
+    pub(crate) hash: u32,
+}
+
+/// What looking for units ends with: the number of their string; a slot that was found free behind slots with
+/// strings that differ; or every slot has such a string, and so many slots there are.
+#[derive(Clone, Copy)]
+pub enum KeySearch {
+    Found { id: u32 },
+    Open(Opening),
+    Shut { slots: u32 },
+}
+
+// The ledger of a caller that counts nothing.
+fn search_key_by<L: Ledger, H: HeapRef>(
+    reader: &mut Reader<H>,
+    key: &Key,
+    hashes: &mut [u32],
+    blank: Blank,
+) -> KeySearch
+    requires name { blank.name ≡ L.name }
+    requires parts { blank.parts ≡ L.parts }
+    requires some { 0 < blank.parts }
+    requires key { IsKey key.now }
+    requires hashed { AreHashes (view_in reader.old) hashes.old }
+    ensures heap { reader.new.heap ≡ reader.old.heap }
+    ensures searches { SearchesKey (view_in reader.old) (view_in reader.new) (units_of_key key.now) result }
+    ensures notes { NotesHash (view_in reader.old) (view_in reader.new) (units_of_key key.now)
+        (found_key result) hashes.old hashes.new }
+{
+    let mut steps = Steps::<L>::start(blank);
+    let hash = key.hash();
+    match walk_path(reader, &key.wanted(), hash, hashes, &mut steps) {
+        WalkEnd::Found(seat) => {
+            note_hash(hashes, seat.slot, hash.max(1));
+            KeySearch::Found { id: seat.id }
+        }
+        WalkEnd::Free { slot, rank } => KeySearch::Open(Opening { slot, rank, hash }),
+        WalkEnd::Shut => KeySearch::Shut {
+            slots: reader.heap.heap().size().slots,
+        },
+    }
+}
+
+/// Looks for units in the table, before anything is claimed for a string of theirs, and notes hashes, as
+/// [`intern_key_noted`](crate::intern_key_noted) does. Where their string is not there, interning goes on from
+/// the opening, by [`intern_given_at`] or [`intern_key_at`]; no slot is then loaded more than twice by both.
+pub fn search_key<H: HeapRef>(reader: &mut Reader<H>, key: &Key, hashes: &mut [u32]) -> KeySearch
+    requires key { IsKey key.now }
+    requires hashed { AreHashes (view_in reader.old) hashes.old }
+    ensures heap { reader.new.heap ≡ reader.old.heap }
+    ensures searches { SearchesKey (view_in reader.old) (view_in reader.new) (units_of_key key.now) result }
+    ensures notes { NotesHash (view_in reader.old) (view_in reader.new) (units_of_key key.now)
+        (found_key result) hashes.old hashes.new }
+{
+    search_key_by::<Brand, _>(reader, key, hashes, Blank::new(1))
+}
+
+// The ledger of a caller that counts nothing.
+fn intern_given_at_by<L: Ledger, H: HeapRef>(
+    reader: &mut Reader<H>,
+    key: &Key,
+    opening: Opening,
+    given: Given,
+    hashes: &mut [u32],
+    blank: Blank,
+) -> Result<u32, TableFull>
+    requires name { blank.name ≡ L.name }
+    requires parts { blank.parts ≡ L.parts }
+    requires some { 0 < blank.parts }
+    requires key { IsKey key.now }
+    requires opening { IsOpening (view_in reader.old) (units_of_key key.now) opening }
+    requires given { HasGiven (view_in reader.old) (units_of_key key.now) given }
+    requires hashed { AreHashes (view_in reader.old) hashes.old }
+    ensures heap { reader.new.heap ≡ reader.old.heap }
+    ensures interns { IsGivenTaken (view_in reader.old) (view_in reader.new) (units_of_key key.now) given
+        result }
+    ensures nothing { UsesNothing (view_in reader.old) (view_in reader.new) }
+    ensures forms { HoldsForms (view_in reader.old) (view_in reader.new) }
+    ensures loads { LoadsFrom (view_in reader.old) (view_in reader.new) (units_of_key key.now) opening }
+    ensures notes { NotesHash (view_in reader.old) (view_in reader.new) (units_of_key key.now)
+        (answered result) hashes.old hashes.new }
+{
+    let mut steps = Steps::<L>::start(blank);
+    let Opening { slot, rank, hash } = opening;
+    match settle(reader, key, given, slot, rank, hash, hashes, &mut steps) {
+        Ok(seat) => {
+            note_hash(hashes, seat.slot, hash.max(1));
+            Ok(seat.id)
+        }
+        Err(full) => Err(full),
+    }
+}
+
+/// Interns units for which there is an opening, with an id and content words that the agent has claimed before.
+/// The id is born as a fixed Flat of the units over the words, and put into the opening; where that is lost, the
+/// probe goes on behind it. No counter of the heap is touched.
+pub fn intern_given_at<H: HeapRef>(
+    reader: &mut Reader<H>,
+    key: &Key,
+    opening: Opening,
+    given: Given,
+    hashes: &mut [u32],
+) -> Result<u32, TableFull>
+    requires key { IsKey key.now }
+    requires opening { IsOpening (view_in reader.old) (units_of_key key.now) opening }
+    requires given { HasGiven (view_in reader.old) (units_of_key key.now) given }
+    requires hashed { AreHashes (view_in reader.old) hashes.old }
+    ensures heap { reader.new.heap ≡ reader.old.heap }
+    ensures interns { IsGivenTaken (view_in reader.old) (view_in reader.new) (units_of_key key.now) given
+        result }
+    ensures nothing { UsesNothing (view_in reader.old) (view_in reader.new) }
+    ensures forms { HoldsForms (view_in reader.old) (view_in reader.new) }
+    ensures loads { LoadsFrom (view_in reader.old) (view_in reader.new) (units_of_key key.now) opening }
+    ensures notes { NotesHash (view_in reader.old) (view_in reader.new) (units_of_key key.now)
+        (answered result) hashes.old hashes.new }
+{
+    intern_given_at_by::<Brand, _>(reader, key, opening, given, hashes, Blank::new(1))
+}
+
+// A fixed Flat is made by claims, and put into the opening.
+fn settle_new<L: Ledger, H: HeapRef>(
+    reader: &mut Reader<H>,
+    key: &Key,
+    opening: Opening,
+    hashes: &[u32],
+    steps: &mut Steps<L>,
+) -> Result<Seat, TableFull>
+    requires key { IsKey key.now }
+    requires opening { IsOpening (view_in reader.old) (units_of_key key.now) opening }
+    requires hashed { AreHashes (view_in reader.old) hashes.now }
+    ensures heap { reader.new.heap ≡ reader.old.heap }
+    ensures forms { HoldsForms (view_in reader.old) (view_in reader.new) }
+    ensures interns { IsInternAnswer (view_in reader.old) (view_in reader.new) (units_of_key key.now)
+        (copy_plan (units_of_key key.now)) (id_in result) }
+    ensures stands { IfOk result (λ s. StandsAt (view_in reader.new) (units_of_key key.now) s.slot s.id) }
+    ensures once { (k : ℕ) → rank (units_of_key key.now) (view_in reader.old).sizes.slots k ≤ opening.rank
+        → loads_at (view_in reader.new) k ≤ loads_at (view_in reader.old) k + 1 }
+    ensures most { (k : ℕ) → loads_at (view_in reader.new) k ≤ loads_at (view_in reader.old) k + 2 }
+    ensures apart { (k : ℕ) → k ≢ opening.slot → IsNotedApart hashes.now k (max opening.hash 1)
+        → loads_at (view_in reader.new) k ≡ loads_at (view_in reader.old) k }
+{
+    let wanted = key.wanted();
+    let header = match make_header(reader, &wanted) {
+        Ok(header) => header,
+        Err(full) => return Err(full),
+    };
+    let Opening { slot, rank, hash } = opening;
+    place(reader, &wanted, header, slot, rank, hash, hashes, steps)
+}
+
+// The ledger of a caller that counts nothing.
+fn intern_key_at_by<L: Ledger, H: HeapRef>(
+    reader: &mut Reader<H>,
+    key: &Key,
+    opening: Opening,
+    hashes: &mut [u32],
+    blank: Blank,
+) -> Result<u32, TableFull>
+    requires name { blank.name ≡ L.name }
+    requires parts { blank.parts ≡ L.parts }
+    requires some { 0 < blank.parts }
+    requires key { IsKey key.now }
+    requires opening { IsOpening (view_in reader.old) (units_of_key key.now) opening }
+    requires hashed { AreHashes (view_in reader.old) hashes.old }
+    ensures heap { reader.new.heap ≡ reader.old.heap }
+    ensures interns { IsInternAnswer (view_in reader.old) (view_in reader.new) (units_of_key key.now)
+        (copy_plan (units_of_key key.now)) result }
+    ensures forms { HoldsForms (view_in reader.old) (view_in reader.new) }
+    ensures loads { LoadsFrom (view_in reader.old) (view_in reader.new) (units_of_key key.now) opening }
+    ensures notes { NotesHash (view_in reader.old) (view_in reader.new) (units_of_key key.now)
+        (answered result) hashes.old hashes.new }
+{
+    let mut steps = Steps::<L>::start(blank);
+    match settle_new(reader, key, opening, hashes, &mut steps) {
+        Ok(seat) => {
+            note_hash(hashes, seat.slot, opening.hash.max(1));
+            Ok(seat.id)
+        }
+        Err(full) => Err(full),
+    }
+}
+
+/// Interns units for which there is an opening, as [`intern_units`](crate::intern_units) makes a string of
+/// them: by claims.
+pub fn intern_key_at<H: HeapRef>(
+    reader: &mut Reader<H>,
+    key: &Key,
+    opening: Opening,
+    hashes: &mut [u32],
+) -> Result<u32, TableFull>
+    requires key { IsKey key.now }
+    requires opening { IsOpening (view_in reader.old) (units_of_key key.now) opening }
+    requires hashed { AreHashes (view_in reader.old) hashes.old }
+    ensures heap { reader.new.heap ≡ reader.old.heap }
+    ensures interns { IsInternAnswer (view_in reader.old) (view_in reader.new) (units_of_key key.now)
+        (copy_plan (units_of_key key.now)) result }
+    ensures forms { HoldsForms (view_in reader.old) (view_in reader.new) }
+    ensures loads { LoadsFrom (view_in reader.old) (view_in reader.new) (units_of_key key.now) opening }
+    ensures notes { NotesHash (view_in reader.old) (view_in reader.new) (units_of_key key.now)
+        (answered result) hashes.old hashes.new }
+{
+    intern_key_at_by::<Brand, _>(reader, key, opening, hashes, Blank::new(1))
+}
