@@ -5,7 +5,7 @@ use Rattle.heap_rule.specs.Maps.{Has}
 use Rattle.heap_read.specs.Reads.{HoldsForms}
 use Rattle.heap_intern.specs.declared.table.faults.TableFull.{TableFull}
 use Rattle.heap_intern.specs.declared.table.given.Given.{Given}
-use Rattle.heap_intern.specs.Answers.{StandsInSlot, UsesNothing}
+use Rattle.heap_intern.specs.Answers.{IsInternAnswer, StandsInSlot, UsesNothing, copy_plan}
 use Rattle.heap_intern.specs.Given.{InternsGiven}
 use Rattle.heap_intern.specs.SlotLoads.{loads_at}
 use Rattle.heap_intern.specs.Taking.{IsGivenTaken, IsKeyAnswer}
@@ -44,3 +44,10 @@ module _ (v w : View) (r s : Reserve) (us : List ℕ) (answer : Result ℕ Table
     pub enough : HasEnough r (words_holding us) → InternsByReserve
     pub claimed : (HasEnough r (words_holding us) → ⊥) → (s ≡ r) × InternsGiven v w us answer
     pub again : (i : ℕ) → Has v.units i us → StandsInSlot v us i → IsOk answer × UsesNothing v w × (s ≡ r)
+
+  -- Interning that goes on from an opening for the units: with the reserve, where it has enough; else it
+  -- stays, and what is needed is claimed.
+  pub record InternsAt : Type 0 where
+    pub enough : HasEnough r (words_holding us) → IsKeyTaken
+    pub claimed : (HasEnough r (words_holding us) → ⊥) → (s ≡ r) × IsInternAnswer v w us (copy_plan us) answer
+    pub forms : HoldsForms v w

@@ -76,7 +76,7 @@ impl Reserve {
 
     // Whether it has an id, and the content words that hold the units. The units are read only where it has
     // few words.
-    fn covers(&self, key: &Key) -> bool
+    pub(crate) fn covers(&self, key: &Key) -> bool
         requires { IsKey key.now }
         ensures { IsTrue result ↔ HasEnough self.now (words_holding (units_of_key key.now)) }
     {
@@ -91,7 +91,7 @@ impl Reserve {
     }
 
     // Its first id, and the first of the content words for so many units, which stay in it.
-    fn offer(&self, units: u32) -> Given
+    pub(crate) fn offer(&self, units: u32) -> Given
         requires { 0 < length (kept_ids self.now) }
         ensures { IsOffered self.now units result }
     {

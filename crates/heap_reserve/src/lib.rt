@@ -14,6 +14,7 @@ mod faults;
 mod interning;
 mod joining;
 mod making;
+mod opening;
 mod reserve;
 mod slicing;
 

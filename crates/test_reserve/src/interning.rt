@@ -2,7 +2,7 @@
 ghost use Rattle.std.specs.Prelude.{◌≤◌, length};
 
 use heap_bytes::Spelling;
-use heap_intern::{Key, TableFull};
+use heap_intern::{Key, KeySearch, TableFull, search_key};
 use heap_reserve::Reserve;
 use heap_rule::{HeapSize, MAX};
 use heap_table::Heap;
@@ -69,4 +69,45 @@ fn keys_take_what_is_kept(rt: HostRuntime) {
         next: Ok(JsStr { id: 3 }),
     };
     assert!(&rt; intern_four(rt.alloc(), 1, &[0x63]) == Some(kept));
+}
+
+// A key that is looked for before anything is claimed, and then takes what was: its string, what is left, and
+// whether it is found afterwards.
+#[tactic(auto, using(heap_intern::proofs::Hashes::no_hashes))]
+fn intern_opened(
+    alloc: Global,
+    ids: u32,
+    words: u32,
+) -> Option<(Result<u32, TableFull>, (usize, u32), bool)> {
+    let size = HeapSize {
+        ids: 8,
+        words: 8,
+        slots: 4,
+    };
+    let Ok((heap, agent)) = Heap::make(alloc, size, 1) else {
+        return None;
+    };
+    let mut text = Text::new(&heap, agent, MAX);
+    let mut reserve = Reserve::new(alloc);
+    let key = Key::Units(&[0x61, 0x62]);
+    let KeySearch::Open(opening) = search_key(&mut text.reader, &key, &mut []) else {
+        return None;
+    };
+    let Ok(()) = reserve.claim(&mut text, ids, words) else {
+        return None;
+    };
+    let answer = reserve.intern_at(&mut text, &key, opening, &mut []);
+    let left = (reserve.ids_left(), reserve.words_left());
+    let found = match search_key(&mut text.reader, &key, &mut []) {
+        KeySearch::Found { id } => answer == Ok(id),
+        KeySearch::Open(_) => false,
+        KeySearch::Shut { .. } => false,
+    };
+    Some((answer, left, found))
+}
+
+#[test]
+fn an_opening_takes_what_is_kept(rt: HostRuntime) {
+    assert!(&rt; intern_opened(rt.alloc(), 3, 2) == Some((Ok(0), (2, 1), true)));
+    assert!(&rt; intern_opened(rt.alloc(), 3, 0) == Some((Ok(3), (3, 0), true)));
 }

@@ -1,0 +1,31 @@
+use Rattle.std.proofs.Common.{◌≡◌, ◌∙◌, ℕ, List, length, subst}
+use Rattle.js_units.specs.Lanes.{words_over}
+use Rattle.heap_rule.specs.declared.view.View.{View}
+use Rattle.heap_intern.specs.Keys.{units_of_key}
+use Rattle.heap_reserve.specs.Interning.{IsOffered}
+use Rattle.heap_reserve.specs.Making.{words_holding}
+use Rattle.heap_reserve.specs.Reserves.{IsTakenFrom}
+use Rattle.heap_reserve.proofs.Interned.{taken_from}
+use Rattle.heap_reserve.proofs.Kept.{reserve_taken}
+use Rattle.heap_reserve.proofs.reserve.Reserve.intern_at_with.Goals as goal
+
+pub returns-clause-reserve : goal.returns-clause-reserve
+returns-clause-reserve g c = let v : View = c.args.text.now.reader.agent.seat.me.0 in let w : View = c.intern_given_at-answer.new.reader.agent.seat.me.0 in
+    let us : List ℕ = units_of_key c.args.key.now in let p = c.offer-given.result in let answer = c.intern_given_at-answer.result in
+    let r = c.args.self.now in let s = c.take.new.self in let e = c.take.ensures in let h = c.intern_given_at-answer.ensures in
+    let offered : IsOffered r (length us) p = subst (λ (m : ℕ). IsOffered r m p) c.len.ensures c.offer-given.ensures in
+    let all : c.words_for.result ≡ words_holding us = c.words_for.ensures ∙ (λ j. words_over (c.is_wide.ensures j) (c.len-2.ensures j)) in
+    let taken : IsTakenFrom v w r s p.id (words_holding us) = taken_from v w r s us p c.take.result.0 c.words_for.result answer offered h.interns.settled h.nothing all e.ids e.words in
+    reserve_taken v w r s p.id (words_holding us) c.requires.reserve taken (e.ordered c.requires.reserve.ordered)
+
+pub returns-clause-interns : goal.returns-clause-interns
+returns-clause-interns g c = let v : View = c.args.text.now.reader.agent.seat.me.0 in let w : View = c.intern_given_at-answer.new.reader.agent.seat.me.0 in
+    let us : List ℕ = units_of_key c.args.key.now in let p = c.offer-given.result in let answer = c.intern_given_at-answer.result in
+    let r = c.args.self.now in let s = c.take.new.self in let e = c.take.ensures in let h = c.intern_given_at-answer.ensures in
+    let offered : IsOffered r (length us) p = subst (λ (m : ℕ). IsOffered r m p) c.len.ensures c.offer-given.ensures in
+    let all : c.words_for.result ≡ words_holding us = c.words_for.ensures ∙ (λ j. words_over (c.is_wide.ensures j) (c.len-2.ensures j)) in record {
+      given = p;
+      offered = offered;
+      interned = h.interns;
+      taken = taken_from v w r s us p c.take.result.0 c.words_for.result answer offered h.interns.settled h.nothing all e.ids e.words;
+    }
