@@ -157,12 +157,13 @@ jsstr_number jsstr_share(jsstr_agent *agent);
 jsstr_answer jsstr_reserve(jsstr_agent *agent, uint32_t ids, uint32_t words);
 
 /* Sets the blocks by which what is reserved is renewed; with 0 and 0, as an agent begins, it isn't. A call that
-   makes, joins, cuts or copies, and whose new string finds too few words there, or no id, first claims `words` words,
-   or as many as the string needs where these are more, and `ids` ids: what is missing of the two, and nothing where
-   the block of what is missing is 0. For jsstr_concat and jsstr_slice a copy needs a word for 4 units. Where the heap
-   has not that many words no id is claimed either, and the call goes on as if nothing were renewed; where it has
-   fewer ids, these are claimed. Interning and settling renew nothing. At a join `agent` keeps its blocks. Answers
-   DONE. */
+   makes, joins, cuts, copies, or interns units or bytes, and whose new string finds too few words there, or no id,
+   first claims `words` words, or as many as the string needs where these are more, and `ids` ids: what is missing of
+   the two, and nothing where the block of what is missing is 0. For jsstr_concat and jsstr_slice a copy needs a word
+   for 4 units. Where the heap has not that many words no id is claimed either, and the call goes on as if nothing were
+   renewed; where it has fewer ids, these are claimed. Units or bytes whose string is in the table renew nothing, nor
+   do those for which no slot is free; interning a string and settling never do. At a join `agent` keeps its blocks.
+   Answers DONE. */
 uint32_t jsstr_renew(jsstr_agent *agent, uint32_t ids, uint32_t words);
 
 /* How many ids and words are reserved, and left. */

@@ -447,7 +447,7 @@ static void key(agent *a) {
   if (!a->handle.live) { CHECK(one.status == JSSTR_BAD_ARGUMENT); return; }
   lawful++;
   if (is_refused(&g, one)) return;
-  if (!find && is_new(g.units, g.len)) CHECK(is_taken(a, before, one, g.units, g.len));
+  if (!find && is_new(g.units, g.len)) CHECK(is_renewed(a, before, one, g.units, g.len, 0));
   if (find && !is_used(slot_for(g.units, g.len))) CHECK(one.status == JSSTR_NONE && !one.id);
   else interned(a, one, g.units, g.len);
 }
@@ -467,8 +467,10 @@ static void many(agent *a) {
   if (!a->handle.live || wrong) { CHECK(all.status == JSSTR_BAD_ARGUMENT && !all.id && ids[0] == UINT32_MAX); return; }
   lawful++;
   CHECK(all.id <= count && (all.status == JSSTR_DONE) == (all.id == count));
+  int renews = a->blocks.ids || a->blocks.words; /* what was renewed in between is believed */
+  if (renews) a->ids = jsstr_reserved(&a->handle).ids, a->words = jsstr_reserved(&a->handle).words;
   for (uint32_t i = 0, at = 0; i < all.id; at = ends[i++]) {
-    if (is_new(g.units + at, ends[i] - at)) takes(a, g.units + at, ends[i] - at);
+    if (!renews && is_new(g.units + at, ends[i] - at)) takes(a, g.units + at, ends[i] - at);
     interned(a, (jsstr_answer){JSSTR_DONE, ids[i], 0, 0, 0}, g.units + at, ends[i] - at);
   }
   for (uint32_t i = all.id; i < count; i++) CHECK(ids[i] == UINT32_MAX);
@@ -545,7 +547,7 @@ static void finish(agent *a) {
   jsstr_use before = used(a);
   jsstr_answer s = (interns ? jsstr_built_interned : jsstr_built)(&built.handle, here ? &a->handle : &stranger.handle);
   if (here && a->handle.live && !interns) CHECK(is_renewed(a, before, s, built.units, built.len, 0));
-  if (here && a->handle.live && interns && is_new(built.units, built.len)) CHECK(is_taken(a, before, s, built.units, built.len));
+  if (here && a->handle.live && interns && is_new(built.units, built.len)) CHECK(is_renewed(a, before, s, built.units, built.len, 0));
   if (here && !a->handle.live) CHECK(s.status == JSSTR_BAD_ARGUMENT);
   else if (here) (interns ? interned : answered)(a, s, built.units, built.len);
   else CHECK(s.status == JSSTR_DONE || s.status == JSSTR_NO_IDS || s.status == JSSTR_NO_WORDS || s.status == JSSTR_NO_SLOTS);

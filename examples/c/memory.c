@@ -52,6 +52,7 @@ static const uint8_t latin1[] = "Latin-1 \xE9", utf8[] = "UTF-8 \xC3\xA9 \xF0\x9
   ROW(renew, NOTHING, told(jsstr_renew(&w->one, 3, 4))) \
   ROW(renew_unchecked, NOTHING, (jsstr_renew_unchecked(&w->one, 3, 4), told(JSSTR_DONE))) \
   ROW(renewing, NOTED, (jsstr_renew_unchecked(&w->one, 3, 4), told(jsstr_from_units(&w->one, UNITS).status))) \
+  ROW(renewing_key, NOTED, (jsstr_renew_unchecked(&w->one, 3, 4), told(jsstr_intern_units(&w->one, UNITS).status))) \
   ROW(reserved, NOTHING, number((jsstr_number){jsstr_reserved(&w->one).status, jsstr_reserved(&w->one).words})) \
   ROW(from_latin1, BYTES, jsstr_from_latin1(&w->one, LATIN1)) \
   ROW(from_latin1_unchecked, BYTES, jsstr_from_latin1_unchecked(&w->one, LATIN1)) \

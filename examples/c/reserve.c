@@ -183,7 +183,7 @@ static void renew_beside(void) {
   jsstr_agent a = {0}, b = {0};
   CHECK(jsstr_make((jsstr_size){20, 20, 7}, 2, 100, &a) == JSSTR_DONE && jsstr_renew(&a, 1, 1) == JSSTR_DONE);
   CHECK(id_of(made(&a, "short")) == 0 && has(&a, 1, 1, 0, 0));
-  CHECK(id_of(jsstr_intern(&a, 0)) == 1 && has(&a, 2, 1, 0, 0)); /* interning renews nothing */
+  CHECK(id_of(jsstr_intern(&a, 0)) == 1 && has(&a, 2, 1, 0, 0)); /* interning a string renews nothing */
   CHECK(jsstr_free(&a) == JSSTR_DONE);
 
   CHECK(jsstr_make((jsstr_size){20, 20, 7}, 2, 100, &a) == JSSTR_DONE && jsstr_renew(&a, 100, 21) == JSSTR_DONE);
@@ -206,6 +206,24 @@ static void renew_beside(void) {
   CHECK(jsstr_free(&b) == JSSTR_DONE && jsstr_free(&a) == JSSTR_DONE);
 }
 
+/* Interning renews what is reserved only where a string is made for a free slot; a hit, and a full table, claim nothing. */
+static void renew_keys(void) {
+  static const char other[] = "a key of 24 units, words";
+  jsstr_agent a = {0};
+  CHECK(jsstr_make((jsstr_size){20, 20, 3}, 1, 100, &a) == JSSTR_DONE && jsstr_renew(&a, 4, 6) == JSSTR_DONE);
+  CHECK(interned(&a, "short") == 0 && has(&a, 4, 6, 3, 5) && interned(&a, "short") == 0 && has(&a, 4, 6, 3, 5));
+  CHECK(interned(&a, LONG) == 1 && has(&a, 4, 6, 2, 2) && interned(&a, LONG) == 1 && has(&a, 4, 6, 2, 2));
+  CHECK(strlen(other) == 24 && interned(&a, other) == 2 && has(&a, 4, 12, 1, 5)); /* the words go on where those before end */
+  CHECK(id_of(made(&a, "")) == 3 && has(&a, 4, 12, 0, 5) && interned(&a, "short") == 0 && interned(&a, LONG) == 1 && has(&a, 4, 12, 0, 5));
+  CHECK(jsstr_intern_latin1(&a, (const uint8_t *)"more", 4).status == JSSTR_NO_SLOTS && has(&a, 4, 12, 0, 5));
+  CHECK(jsstr_free(&a) == JSSTR_DONE);
+
+  CHECK(jsstr_make((jsstr_size){5, 2, 7}, 1, 100, &a) == JSSTR_DONE && jsstr_renew(&a, 2, 3) == JSSTR_DONE);
+  CHECK(interned(&a, "a") == 0 && has(&a, 1, 1, 0, 0) && interned(&a, "b") == 1 && has(&a, 2, 2, 0, 0)); /* no whole block is left, but the words are */
+  CHECK(is_refused(jsstr_intern_latin1(&a, (const uint8_t *)"c", 1), JSSTR_NO_WORDS, 2, 1, 2) && has(&a, 2, 2, 0, 0) && interned(&a, "a") == 0);
+  CHECK(interned(&a, "") == 2 && has(&a, 4, 2, 1, 0) && interned(&a, "") == 2 && jsstr_free(&a) == JSSTR_DONE);
+}
+
 int main(void) {
   take();
   below();
@@ -215,6 +233,7 @@ int main(void) {
   share();
   renew();
   renew_beside();
+  renew_keys();
   puts("ok");
   return 0;
 }

@@ -6,5 +6,6 @@ pub mod NotesStay
 pub mod Marks
 pub mod Renewed
 pub mod Answered
+pub mod Opened
 pub mod Boarded
 pub mod Batched

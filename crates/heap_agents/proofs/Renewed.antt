@@ -47,7 +47,7 @@ same_limit (Some a) (Some b) s = s.1
 own_trans : (u v w : View) → KeepsOwn u v → KeepsOwn v w → KeepsOwn u w
 own_trans u v w a b = record { ids = λ i n h. b.ids i n (a.ids i n h); words = λ c x h. b.words c x (a.words c x h) }
 
-stays_trans : (x y z : Held) → StaysMarked x y → StaysMarked y z → StaysMarked x z
+pub stays_trans : (x y z : Held) → StaysMarked x y → StaysMarked y z → StaysMarked x z
 stays_trans x y z a b = record {
   known = λ i h. b.known i (a.known i h);
   interned = λ i h. b.interned i (a.interned i h);

@@ -1,13 +1,21 @@
 -- What interning units that are in no string, and looking for them in the string table, leave and answer.
-use Rattle.std.specs.Prelude.{◌≡◌, ℕ, List, Option, Some, None, Result, Ok, Err, IfOk, IfSome}
+use Rattle.std.specs.Prelude.{◌≡◌, ◌⊎◌, ℕ, ◌+◌, ◌≤◌, List, Option, Some, None, Result, Ok, Err, IfOk, IfSome}
+use Rattle.std.specs.Prelude.{IsOk}
 use Rattle.heap_rule.specs.Maps.{Has}
 use Rattle.heap_table.specs.Known.{KeepsKnown}
 use Rattle.heap_intern.specs.declared.table.faults.TableFull.{TableFull}
-use Rattle.heap_intern.specs.Answers.{FindsString, StandsInSlot}
-use Rattle.heap_reserve.specs.Interning.{InternsKept}
+use Rattle.heap_intern.specs.declared.table.searching.KeySearch.TheVariants.{Open}
+use Rattle.heap_intern.specs.declared.table.searching.Opening.{Opening}
+use Rattle.heap_intern.specs.Answers.{FindsString, StandsInSlot, UsesNothing}
+use Rattle.heap_intern.specs.Searching.{SearchesKey}
+use Rattle.heap_intern.specs.SlotLoads.{loads_at}
+use Rattle.heap_intern.specs.Taking.{IsKeyAnswer}
+use Rattle.heap_reserve.specs.Interning.{InternsAt, InternsKept}
+use Rattle.heap_reserve.specs.Making.{words_holding}
 use Rattle.heap_agents.specs.declared.held.Held.{Held}
 use Rattle.heap_agents.specs.Held.{IsHeld, IsSame, KeepsMarks, MarksNothing, MarksOnlyKey, StaysMarked, view_by}
 use Rattle.heap_agents.specs.Interned.{HasEntered, KeepsCalls}
+use Rattle.heap_agents.specs.Spending.{IsRenewalDue, Renews}
 
 -- the answer gets both marks; a refusal marks nothing
 abbrev pub MarksAnswer : Held → Held → Result ℕ TableFull → Type 0
@@ -19,8 +27,36 @@ abbrev pub MarksFound : Held → Held → Option ℕ → Type 0
 MarksFound x y (Some i) = MarksOnlyKey x y i
 MarksFound x y None = MarksNothing x y
 
--- The units us were interned, with r as the answer, by what was reserved where that suffices. Where their
--- string was seen at its place in the table, it is answered, and nothing used or taken.
+-- the units us were looked for, and there is an opening for them; nothing was used, marked or taken
+pub record FindsOpening (x u : Held) (us : List ℕ) (o : Opening) : Type 0 where
+  pub held : IsHeld u
+  pub same : IsSame x u
+  pub marks : KeepsMarks x u
+  pub marked : MarksNothing x u
+  pub searched : SearchesKey (view_by x) (view_by u) us (Open o)
+
+-- no string was made: the one of the units was in the table, or no slot is free; nothing was used or taken
+abbrev pub MakesNoKey : Held → Held → List ℕ → Result ℕ TableFull → Type 0
+MakesNoKey x y us r = (y.reserve ≡ x.reserve) × UsesNothing (view_by x) (view_by y)
+    × IsKeyAnswer (view_by x) (view_by y) us r
+
+-- there was an opening, which left u; then what is reserved was renewed, which left z; a string was made
+abbrev pub MakesKeyRenewing : Held → Held → List ℕ → Result ℕ TableFull → Type 0
+MakesKeyRenewing x y us r = (u : Held) × (z : Held) × (o : Opening) × FindsOpening x u us o
+    × Renews u z (words_holding us) × InternsAt (view_by z) (view_by y) z.reserve y.reserve us r
+
+-- The units us were interned, by what was reserved where that suffices. Where it doesn't, it was renewed, if
+-- there are blocks, but only once an opening was found. Where their string was seen at its place in the
+-- table, it is answered, and nothing used or taken. No slot was loaded more than twice.
+pub record InternsRenewing (x y : Held) (us : List ℕ) (r : Result ℕ TableFull) : Type 0 where
+  pub kept : (IsRenewalDue x (words_holding us) → ⊥)
+      → InternsKept (view_by x) (view_by y) x.reserve y.reserve us r
+  pub renewed : IsRenewalDue x (words_holding us) → MakesNoKey x y us r ⊎ MakesKeyRenewing x y us r
+  pub again : (i : ℕ) → Has (view_by x).units i us → StandsInSlot (view_by x) us i
+      → IsOk r × UsesNothing (view_by x) (view_by y) × (y.reserve ≡ x.reserve)
+  pub few : (k : ℕ) → loads_at (view_by y) k ≤ loads_at (view_by x) k + 2
+
+-- the units us were interned, with r as the answer
 pub record InternedUnits (x y : Held) (us : List ℕ) (r : Result ℕ TableFull) : Type 0 where
   pub held : IsHeld y
   pub same : IsSame x y
@@ -29,7 +65,7 @@ pub record InternedUnits (x y : Held) (us : List ℕ) (r : Result ℕ TableFull)
   pub known : KeepsKnown (view_by x) (view_by y)
   pub calls : KeepsCalls (view_by x) (view_by y)
   pub entered : IfOk r (λ i. HasEntered (view_by y) us i)
-  pub interns : InternsKept (view_by x) (view_by y) x.reserve y.reserve us r
+  pub interns : InternsRenewing x y us r
 
 -- The units us were looked for, with r as the answer, and nothing was used. Where their string was seen at
 -- its place in the table, it is found.

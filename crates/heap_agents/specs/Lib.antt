@@ -5,10 +5,11 @@ pub mod Words
 pub mod Looking
 pub mod Noted
 pub mod Held
+pub mod Spending
 pub mod Keys
 pub mod Batch
 pub mod Ready
-pub mod Spending
 pub mod Preparing
+pub mod Openings
 pub mod Board
 pub mod Room

@@ -8,6 +8,7 @@ ghost use Rattle.heap_agents.specs.Held.{IsHeld, MarksMade, SpendsReserve, view_
 ghost use Rattle.heap_agents.specs.Spending.{CutsRenewing, JoinsRenewing, MakesRenewing};
 
 use crate::held::Held;
+use heap_intern::Key;
 use heap_text::{JoinFault, JsStr, TextFull};
 
 impl Held {
@@ -22,7 +23,7 @@ impl Held {
         ensures settled { IfOk result (λ s. IsSeenSettled (view_by self.new) s.id) }
         ensures made { MakesRenewing self.old self.new units.now result }
     {
-        self.renew_for_units(units);
+        self.renew_for_key(&Key::Units(units));
         self.take_flat(units)
     }
 

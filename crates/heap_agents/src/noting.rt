@@ -1,67 +1,69 @@
 // Units that are in no string, interned and looked for by an agent that notes what the strings in slots hash
 // to.
-ghost use Rattle.heap_intern.specs.Given.{FindsGiven};
 ghost use Rattle.heap_intern.specs.Keys.{IsKey, units_of_key};
-ghost use Rattle.heap_reserve.specs.Interning.{InternsKept};
+ghost use Rattle.heap_intern.specs.Searching.{IsOpening, LoadsFrom, SearchesKey};
+ghost use Rattle.heap_reserve.specs.Interning.{InternsAt};
 ghost use Rattle.heap_reserve.specs.Reserves.{IsReserve};
 ghost use Rattle.heap_agents.specs.Noted.{AreNoted};
 ghost use Rattle.heap_agents.specs.Shared.{IsSameText, IsThere, view_if};
 
 use crate::seats::Seats;
-use heap_intern::{Key, TableFull};
+use heap_intern::{Key, KeySearch, Opening, TableFull};
 use heap_reserve::Reserve;
 use heap_table::Heap;
 use heap_text::Text;
 use std::alloc::Global;
 use std::sync::Arc;
 
-// Interns units, by what is in reserve where that suffices.
-pub(crate) fn intern_key(
+// Looks for units, before anything is claimed for a string of theirs.
+pub(crate) fn search_key(
     text: &mut Option<Text<Arc<Heap, Global>>>,
     seats: &mut Seats,
-    reserve: &mut Reserve,
     key: &Key,
-) -> Result<u32, TableFull>
+) -> KeySearch
     requires there { IsThere text.old }
     requires key { IsKey key.now }
     requires noted { AreNoted (view_if text.old) seats.old }
-    requires reserved { IsReserve (view_if text.old) reserve.old }
     ensures there { IsThere text.new }
     ensures same { IsSameText text.old text.new }
-    ensures interns { InternsKept (view_if text.old) (view_if text.new) reserve.old reserve.new
-        (units_of_key key.now) result }
+    ensures searches { SearchesKey (view_if text.old) (view_if text.new) (units_of_key key.now) result }
     ensures noted { AreNoted (view_if text.new) seats.new }
-    ensures reserved { IsReserve (view_if text.new) reserve.new }
 {
     match text {
         Some(text) => {
             seats.reach_hashes(text.reader.heap().size().slots);
             let hashes = seats.hashes.as_mut_slice();
-            reserve.intern(text, key, hashes)
+            heap_intern::search_key(&mut text.reader, key, hashes)
         }
         None => unreachable!(),
     }
 }
 
-// Looks for units.
-pub(crate) fn find_key(
+// Interns units for which there is an opening, by what is in reserve where that suffices.
+pub(crate) fn intern_at(
     text: &mut Option<Text<Arc<Heap, Global>>>,
     seats: &mut Seats,
+    reserve: &mut Reserve,
     key: &Key,
-) -> Option<u32>
+    opening: Opening,
+) -> Result<u32, TableFull>
     requires there { IsThere text.old }
     requires key { IsKey key.now }
+    requires opening { IsOpening (view_if text.old) (units_of_key key.now) opening }
     requires noted { AreNoted (view_if text.old) seats.old }
+    requires reserved { IsReserve (view_if text.old) reserve.old }
     ensures there { IsThere text.new }
     ensures same { IsSameText text.old text.new }
-    ensures finds { FindsGiven (view_if text.old) (view_if text.new) (units_of_key key.now) result }
+    ensures interns { InternsAt (view_if text.old) (view_if text.new) reserve.old reserve.new
+        (units_of_key key.now) result }
+    ensures loads { LoadsFrom (view_if text.old) (view_if text.new) (units_of_key key.now) opening }
     ensures noted { AreNoted (view_if text.new) seats.new }
+    ensures reserved { IsReserve (view_if text.new) reserve.new }
 {
     match text {
         Some(text) => {
-            seats.reach_hashes(text.reader.heap().size().slots);
             let hashes = seats.hashes.as_mut_slice();
-            heap_intern::find_key_noted(&mut text.reader, key, hashes)
+            reserve.intern_at(text, key, opening, hashes)
         }
         None => unreachable!(),
     }

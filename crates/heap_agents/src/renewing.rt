@@ -1,19 +1,19 @@
 // What an agent has in reserve, renewed by blocks before a string is made that finds too little there.
 ghost use Rattle.std.specs.Prelude.{◌≡◌, ◌↔◌, ◌⊎◌, ℕ, ◌+◌, ◌-◌, ◌<◌, ◌≤◌, false, IsTrue, List, length};
 ghost use Rattle.js_units.specs.Lanes.{words_over};
-ghost use Rattle.heap_bytes.specs.Spellings.{IsReadable, spelling_units};
 ghost use Rattle.heap_rule.specs.Layout.{MAX};
 ghost use Rattle.heap_rule.specs.Maps.{Has, HasKey};
 ghost use Rattle.heap_read.specs.Reads.{OnlyLoads};
+ghost use Rattle.heap_intern.specs.Keys.{IsKey, units_of_key};
 ghost use Rattle.heap_reserve.specs.Making.{words_holding};
 ghost use Rattle.heap_agents.specs.Held.{IsHeld, LeavesStrings, MarksNothing, limit_by, view_by};
 ghost use Rattle.heap_agents.specs.Preparing.{IsPrepared, Prepares};
 ghost use Rattle.heap_agents.specs.Spending.{AreClaimedFor, AreIdsDue, AreWordsDue, IsRenewalDue, Renews, RenewsForBoth, RenewsForPart, SetsBlocks, most_words};
 
 use crate::held::Held;
-use heap_bytes::Spelling;
+use heap_intern::Key;
 use heap_text::{JsStr, MIN_CONS};
-use js_units::{has_wide, words_for};
+use js_units::words_for;
 
 /// How many ids, and how many content words, an agent claims at once where it renews its reserve; 0 and 0:
 /// it doesn't.
@@ -27,8 +27,8 @@ pub struct ReserveBlocks {
 const SHORT_WORDS: u32 = 3;
 
 impl Held {
-    /// Sets the blocks by which it renews its reserve from now on: before a string is made, joined or cut
-    /// that finds no id, or too few content words, there. Then it claims a block of ids if it has none, and a
+    /// Sets the blocks by which it renews its reserve from now on: before a string is made, joined or cut, or
+    /// made for units that are interned, that finds no id, or too few content words, there. Then it claims a block of ids if it has none, and a
     /// block of words, or as many as the string needs where these are more, if it has too few; but nothing
     /// if it has too little of what it has no block of. Where the heap has less, the string is made as ever.
     pub fn renew(&mut self, ids: u32, words: u32)
@@ -39,32 +39,20 @@ impl Held {
         self.blocks = ReserveBlocks { ids, words };
     }
 
-    // Renews for a string with these units.
-    pub(crate) fn renew_for_units(&mut self, units: &[u16])
+    // Renews for a string with units that are given as a list or as bytes. They are read only where the reserve
+    // may lack something.
+    pub(crate) fn renew_for_key(&mut self, key: &Key)
         requires held { IsHeld self.old }
-        requires short { length units.now ≤ MAX }
+        requires key { IsKey key.now }
         ensures prepared { IsPrepared self.old self.new }
-        ensures renews { Prepares (IsRenewalDue self.old (words_holding units.now)) self.old self.new
-            (words_holding units.now) }
+        ensures renews { Prepares (IsRenewalDue self.old (words_holding (units_of_key key.now))) self.old
+            self.new (words_holding (units_of_key key.now)) }
+        ensures left { (IsRenewalDue self.old (words_holding (units_of_key key.now)) → ⊥)
+            → self.new ≡ self.old }
     {
-        let n = units.len() as u32;
+        let n = key.len();
         if self.may_lack(words_for(n, true)) {
-            self.renew_for(words_for(n, has_wide(units)));
-        }
-    }
-
-    // Renews for a string with the units that bytes spell.
-    pub(crate) fn renew_for_spelled(&mut self, source: &Spelling)
-        requires held { IsHeld self.old }
-        requires read { IsReadable source.now }
-        requires short { length (spelling_units source.now) ≤ MAX }
-        ensures prepared { IsPrepared self.old self.new }
-        ensures renews { Prepares (IsRenewalDue self.old (words_holding (spelling_units source.now))) self.old
-            self.new (words_holding (spelling_units source.now)) }
-    {
-        let n = source.len();
-        if self.may_lack(words_for(n, true)) {
-            self.renew_for(words_for(n, source.is_wide()));
+            self.renew_for(words_for(n, key.is_wide()));
         }
     }
 
@@ -135,6 +123,7 @@ impl Held {
         requires held { IsHeld self.old }
         ensures prepared { IsPrepared self.old self.new }
         ensures renews { Prepares (IsRenewalDue self.old words) self.old self.new words }
+        ensures left { (IsRenewalDue self.old words → ⊥) → self.new ≡ self.old }
     {
         if self.is_due(words) {
             let ReserveBlocks {

@@ -31,12 +31,13 @@ impl Held {
         ensures settled { IfOk result (λ s. IsSeenSettled (view_by self.new) s.id) }
         ensures made { MakesRenewing self.old self.new (spelling_units source.now) result }
     {
-        self.renew_for_spelled(source);
+        self.renew_for_key(&Key::Spelled(*source));
         self.take_spelled(source)
     }
 
     /// The one string of the table with the units that bytes spell. Where it is there, nothing is used. Else
-    /// it takes what it needs from what was claimed in advance, where that suffices.
+    /// it takes what it needs from what was claimed in advance, where that suffices. Where it doesn't, it is
+    /// renewed first.
     pub fn intern_from(&mut self, source: &Spelling) -> Result<u32, TableFull>
         requires held { IsHeld self.old }
         requires read { IsReadable source.now }

@@ -9,22 +9,26 @@ use Rattle.heap_agents.proofs.Interned.{entered_found}
 use Rattle.heap_agents.proofs.held.Held.find_key.Goals as goal
 
 pub mark_interned-requires-clause-held : goal.mark_interned-requires-clause-held
-mark_interned-requires-clause-held c = let call = c.find_key-found in let e = call.ensures in
-    held_found c.args.self.now call.new.text call.new.seats c.requires.held e.there e.same e.noted (units_of_key c.args.key.now) call.result e.finds.answer
+mark_interned-requires-clause-held c = let call = c.search_key in let e = call.ensures in
+    held_found c.args.self.now call.new.text call.new.seats c.requires.held e.there e.same e.noted (units_of_key c.args.key.now) (Some c.in-Found.id) c.in-Found.ensures.searches.finds.answer
 
 pub mark_interned-requires-clause-known : goal.mark_interned-requires-clause-known
-mark_interned-requires-clause-known c = let v : View = view_by c.args.self.now in let w : View = view_if c.find_key-found.new.text in let us : List ℕ = (units_of_key c.args.key.now) in
-    key_of w.units c.in-Some.id us (entered_found v w us (Some c.in-Some.id) c.in-Some.ensures.finds.answer).units
+mark_interned-requires-clause-known c = let v : View = view_by c.args.self.now in let w : View = view_if c.search_key.new.text in let us : List ℕ = (units_of_key c.args.key.now) in
+    key_of w.units c.in-Found.id us (entered_found v w us (Some c.in-Found.id) c.in-Found.ensures.searches.finds.answer).units
 
 pub mark_interned-requires-clause-call : goal.mark_interned-requires-clause-call
-mark_interned-requires-clause-call c = let v : View = view_by c.args.self.now in let w : View = view_if c.find_key-found.new.text in let us : List ℕ = (units_of_key c.args.key.now) in
-    (us, (entered_found v w us (Some c.in-Some.id) c.in-Some.ensures.finds.answer).call)
+mark_interned-requires-clause-call c = let v : View = view_by c.args.self.now in let w : View = view_if c.search_key.new.text in let us : List ℕ = (units_of_key c.args.key.now) in
+    (us, (entered_found v w us (Some c.in-Found.id) c.in-Found.ensures.searches.finds.answer).call)
 
-pub returns-in-Some : goal.returns-in-Some
-returns-in-Some c = let call = c.find_key-found in let e = call.ensures in let mark = c.mark_interned in
+pub returns-in-Found : goal.returns-in-Found
+returns-in-Found c = let call = c.search_key in let e = call.ensures in let mark = c.mark_interned in
     found_marked c.args.self.now call.new.text call.new.seats c.requires.held e.there e.same e.noted (units_of_key c.args.key.now)
-    mark.new.self mark.ensures.text c.in-Some.id mark.ensures.held mark.ensures.marks mark.ensures.marked c.in-Some.ensures.finds
+    mark.new.self mark.ensures.text c.in-Found.id mark.ensures.held mark.ensures.marks mark.ensures.marked c.in-Found.ensures.searches.finds
 
-pub returns-in-None : goal.returns-in-None
-returns-in-None c = let call = c.find_key-found in let e = call.ensures in
-    missing_units c.args.self.now call.new.text call.new.seats c.requires.held e.there e.same e.noted (units_of_key c.args.key.now) c.in-None.ensures.finds
+pub returns-in-Open : goal.returns-in-Open
+returns-in-Open c = let call = c.search_key in let e = call.ensures in
+    missing_units c.args.self.now call.new.text call.new.seats c.requires.held e.there e.same e.noted (units_of_key c.args.key.now) c.in-Open.ensures.searches.finds
+
+pub returns-in-Shut : goal.returns-in-Shut
+returns-in-Shut c = let call = c.search_key in let e = call.ensures in
+    missing_units c.args.self.now call.new.text call.new.seats c.requires.held e.there e.same e.noted (units_of_key c.args.key.now) c.in-Shut.ensures.searches.finds

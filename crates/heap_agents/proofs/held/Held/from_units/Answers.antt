@@ -2,11 +2,11 @@ use Rattle.heap_agents.proofs.Renewed.{makes_then, marks_then, spends_trans}
 use Rattle.heap_agents.proofs.held.Held.from_units.Goals as goal
 
 pub returns-clause-spends : goal.returns-clause-spends
-returns-clause-spends c = spends_trans c.args.self.now c.renew_for_units.new.self c.take_flat.new.self c.renew_for_units.ensures.prepared.spends c.take_flat.ensures.spends
+returns-clause-spends c = spends_trans c.args.self.now c.renew_for_key.new.self c.take_flat.new.self c.renew_for_key.ensures.prepared.spends c.take_flat.ensures.spends
 
 pub returns-clause-marked : goal.returns-clause-marked
-returns-clause-marked c = marks_then c.args.self.now c.renew_for_units.new.self c.take_flat.new.self c.renew_for_units.ensures.prepared c.take_flat.result c.take_flat.ensures.marked
+returns-clause-marked c = marks_then c.args.self.now c.renew_for_key.new.self c.take_flat.new.self c.renew_for_key.ensures.prepared c.take_flat.result c.take_flat.ensures.marked
 
 pub returns-clause-made : goal.returns-clause-made
-returns-clause-made c = let x = c.args.self.now in let z = c.renew_for_units.new.self in let y = c.take_flat.new.self in let p = c.renew_for_units.ensures in let t = c.take_flat.ensures in
+returns-clause-made c = let x = c.args.self.now in let z = c.renew_for_key.new.self in let y = c.take_flat.new.self in let p = c.renew_for_key.ensures in let t = c.take_flat.ensures in
     makes_then x z y p.prepared c.args.units.now c.take_flat.result p.renews t.made

@@ -1,32 +1,59 @@
-use Rattle.std.proofs.Common.{ℕ, List, Ok}
-use Rattle.std.proofs.lemmas.Result.{err_from_is_err_and}
+use Rattle.std.proofs.Common.{ℕ, ◌+◌, ◌≤◌, List, Option, Some, None, subst, sym}
 use Rattle.heap_rule.specs.declared.view.View.{View}
 use Rattle.heap_rule.proofs.MapLemmas.{key_of}
 use Rattle.heap_intern.specs.Keys.{units_of_key}
+use Rattle.heap_intern.specs.SlotLoads.{loads_at}
+use Rattle.heap_intern.proofs.Opened.{opening_kept}
+use Rattle.heap_read.specs.Reads.{HoldsForms}
+use Rattle.heap_agents.specs.declared.held.Held.{Held}
 use Rattle.heap_agents.specs.Held.{view_by}
-use Rattle.heap_agents.specs.Shared.{view_if}
-use Rattle.heap_agents.proofs.Answered.{held_interned, interned_marked, refused_units}
-use Rattle.heap_agents.proofs.Interned.{leaves}
+use Rattle.heap_agents.specs.Shared.{SharedText, view_if}
+use Rattle.heap_agents.proofs.Answered.{found_marked, held_found, missing_units}
+use Rattle.heap_agents.proofs.Interned.{entered_found}
+use Rattle.heap_agents.proofs.Marks.{possible_in}
+use Rattle.heap_agents.proofs.Opened.{found_renewing, opened_renewing, opening_found, shut_renewing}
 use Rattle.heap_agents.proofs.held.Held.intern_key.Goals as goal
 
 pub mark_interned-requires-clause-held : goal.mark_interned-requires-clause-held
-mark_interned-requires-clause-held c = let call = c.intern_key-answer in let e = call.ensures in
-    held_interned c.args.self.now call.new.text call.new.seats call.new.reserve c.requires.held e.there e.same e.noted e.reserved (units_of_key c.args.key.now) call.result e.interns
+mark_interned-requires-clause-held c = let call = c.search_key in let e = call.ensures in
+    held_found c.args.self.now call.new.text call.new.seats c.requires.held e.there e.same e.noted (units_of_key c.args.key.now) (Some c.in-Found.id) c.in-Found.ensures.searches.finds.answer
 
 pub mark_interned-requires-clause-known : goal.mark_interned-requires-clause-known
-mark_interned-requires-clause-known c = let v : View = view_by c.args.self.now in let w : View = view_if c.intern_key-answer.new.text in let us : List ℕ = units_of_key c.args.key.now in
-    key_of w.units c.in_ok-id.id us (leaves v w c.args.self.now.reserve c.intern_key-answer.new.reserve us (Ok c.in_ok-id.id) c.in_ok-id.ensures.interns).entered.units
+mark_interned-requires-clause-known c = let v : View = view_by c.args.self.now in let w : View = view_if c.search_key.new.text in let us : List ℕ = units_of_key c.args.key.now in
+    key_of w.units c.in-Found.id us (entered_found v w us (Some c.in-Found.id) c.in-Found.ensures.searches.finds.answer).units
 
 pub mark_interned-requires-clause-call : goal.mark_interned-requires-clause-call
-mark_interned-requires-clause-call c = let v : View = view_by c.args.self.now in let w : View = view_if c.intern_key-answer.new.text in let us : List ℕ = units_of_key c.args.key.now in
-    (us, (leaves v w c.args.self.now.reserve c.intern_key-answer.new.reserve us (Ok c.in_ok-id.id) c.in_ok-id.ensures.interns).entered.call)
+mark_interned-requires-clause-call c = let v : View = view_by c.args.self.now in let w : View = view_if c.search_key.new.text in let us : List ℕ = units_of_key c.args.key.now in
+    (us, (entered_found v w us (Some c.in-Found.id) c.in-Found.ensures.searches.finds.answer).call)
 
-pub returns : goal.returns
-returns c = let call = c.intern_key-answer in let e = call.ensures in let mark = c.mark_interned in
-    interned_marked c.args.self.now call.new.text call.new.seats call.new.reserve c.requires.held e.there e.same e.noted e.reserved (units_of_key c.args.key.now)
-    mark.new.self mark.ensures.text c.in_ok-id.id mark.ensures.held mark.ensures.marks mark.ensures.marked c.in_ok-id.ensures.interns
+pub returns-in-Found : goal.returns-in-Found
+returns-in-Found c = let x = c.args.self.now in let call = c.search_key in let e = call.ensures in let mark = c.mark_interned in let us : List ℕ = units_of_key c.args.key.now in
+    let f = c.in-Found.ensures.searches.finds in
+    found_renewing x mark.new.self us c.in-Found.id
+    (found_marked x call.new.text call.new.seats c.requires.held e.there e.same e.noted us mark.new.self mark.ensures.text c.in-Found.id mark.ensures.held mark.ensures.marks mark.ensures.marked f)
+    (subst (λ (n : Option SharedText). HoldsForms (view_by x) (view_if n)) (sym mark.ensures.text) f.forms)
+    (subst (λ (n : Option SharedText). (k : ℕ) → loads_at (view_if n) k ≤ loads_at (view_by x) k + 2) (sym mark.ensures.text) f.few)
 
-pub returns-in_err-id : goal.returns-in_err-id
-returns-in_err-id c = let call = c.intern_key-answer in let e = call.ensures in let p = err_from_is_err_and c.from_residual.result c.from_residual.ensures.1 in
-    rw (p.1, p.2) (refused_units c.args.self.now call.new.text call.new.seats call.new.reserve c.requires.held e.there e.same e.noted e.reserved (units_of_key c.args.key.now)
-    c.in_err-id.field-0.0 c.in_err-id.ensures.interns)
+pub renew_for_key-requires-clause-held : goal.renew_for_key-requires-clause-held
+renew_for_key-requires-clause-held c = let call = c.search_key in let e = call.ensures in
+    held_found c.args.self.now call.new.text call.new.seats c.requires.held e.there e.same e.noted (units_of_key c.args.key.now) None c.in-Open.ensures.searches.finds.answer
+
+pub take_key-requires-clause-opening : goal.take_key-requires-clause-opening
+take_key-requires-clause-opening c = let call = c.search_key in let e = call.ensures in let p = c.renew_for_key.ensures.prepared.spends.continues in
+    opening_kept (view_if call.new.text) (view_by c.renew_for_key.new.self) (units_of_key c.args.key.now) c.in-Open.opening (possible_in call.new.text e.there) p.known p.sizes p.slots
+    c.in-Open.ensures.searches.ends.0
+
+pub returns-in-Open : goal.returns-in-Open
+returns-in-Open c = let x = c.args.self.now in let call = c.search_key in let e = call.ensures in let us : List ℕ = units_of_key c.args.key.now in
+    let u : Held = record x { text = call.new.text; seats = call.new.seats } in let z = c.renew_for_key.new.self in
+    opened_renewing x u z c.take_key.new.self us c.in-Open.opening c.take_key.result
+    (opening_found x call.new.text call.new.seats c.requires.held e.there e.same e.noted us c.in-Open.opening c.in-Open.ensures.searches)
+    c.renew_for_key.ensures.prepared c.take_key.ensures
+    (λ d. record { due = d.due; ids = d.ids; words = d.words }) (λ d. record { due = d.due; ids = d.ids; words = d.words })
+    c.renew_for_key.ensures.renews c.renew_for_key.ensures.left
+
+pub returns-in-Shut : goal.returns-in-Shut
+returns-in-Shut c = let x = c.args.self.now in let call = c.search_key in let e = call.ensures in let us : List ℕ = units_of_key c.args.key.now in
+    let s = c.in-Shut.ensures.searches in
+    shut_renewing x (record x { text = call.new.text; seats = call.new.seats }) us c.in-Shut.slots
+    (missing_units x call.new.text call.new.seats c.requires.held e.there e.same e.noted us s.finds) s.ends.0 s.ends.1 s.finds.forms s.finds.few

@@ -3,11 +3,11 @@ use Rattle.heap_agents.proofs.Renewed.{makes_then, marks_then, spends_trans}
 use Rattle.heap_agents.proofs.held.Held.make_from.Goals as goal
 
 pub returns-clause-spends : goal.returns-clause-spends
-returns-clause-spends c = spends_trans c.args.self.now c.renew_for_spelled.new.self c.take_spelled.new.self c.renew_for_spelled.ensures.prepared.spends c.take_spelled.ensures.spends
+returns-clause-spends c = spends_trans c.args.self.now c.renew_for_key.new.self c.take_spelled.new.self c.renew_for_key.ensures.prepared.spends c.take_spelled.ensures.spends
 
 pub returns-clause-marked : goal.returns-clause-marked
-returns-clause-marked c = marks_then c.args.self.now c.renew_for_spelled.new.self c.take_spelled.new.self c.renew_for_spelled.ensures.prepared c.take_spelled.result c.take_spelled.ensures.marked
+returns-clause-marked c = marks_then c.args.self.now c.renew_for_key.new.self c.take_spelled.new.self c.renew_for_key.ensures.prepared c.take_spelled.result c.take_spelled.ensures.marked
 
 pub returns-clause-made : goal.returns-clause-made
-returns-clause-made c = let x = c.args.self.now in let z = c.renew_for_spelled.new.self in let y = c.take_spelled.new.self in let p = c.renew_for_spelled.ensures in let t = c.take_spelled.ensures in
+returns-clause-made c = let x = c.args.self.now in let z = c.renew_for_key.new.self in let y = c.take_spelled.new.self in let p = c.renew_for_key.ensures in let t = c.take_spelled.ensures in
     makes_then x z y p.prepared (spelling_units c.args.source.now) c.take_spelled.result p.renews t.made
