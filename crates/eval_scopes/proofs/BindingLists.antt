@@ -1,66 +1,50 @@
--- The bindings in use, in front of those that were left in place, with their index and their mask.
-use Rattle.std.proofs.Common.{arith, ◌≡◌, ℕ, ◌+◌, ◌<◌, ◌≤◌, zero, suc, max, true, false, Bool, List, [], ◌∷◌, ◌++◌, length, map, refl, ap, sym, ◌∙◌, subst}
-use Rattle.std.proofs.Common.{Some, None, slice_get, get_or, set, take, bytes_eq, ◌⊎◌, inl, inr}
-use Rattle.std.specs.Prelude.{IsSome, bit_or}
-use Rattle.std.specs.Int.{bit_at}
+-- The bindings in use, in front of those that were left in place, with their index and their first places.
+use Rattle.std.proofs.Common.{arith, ◌≡◌, ℕ, ◌+◌, ◌<◌, ◌≤◌, zero, suc, true, Bool, List, [], ◌∷◌, ◌++◌, length, map, refl, ap, sym, ◌∙◌, subst}
+use Rattle.std.proofs.Common.{Some, slice_get, get_or, set, take, bytes_eq, ◌⊎◌, inl, inr}
+use Rattle.std.specs.Prelude.{IsSome}
 use Rattle.std.specs.Ordering.{nat_cmp}
 use Rattle.std.specs.Map.{lookup}
 use Rattle.std.specs.BTreeMap.{is_at}
 use Rattle.std.proofs.lemmas.Bool.Decides.{leb_tells}
 use Rattle.std.proofs.lemmas.List.{map-append, length-map}
-use Rattle.std.proofs.lemmas.Nat.Bits.{bit_at_or, bit_at-lt}
 use Rattle.std.proofs.lemmas.Slice.Eq.{bytes_eq-Decides}
 use Rattle.eval_tree.specs.Keys.{key_of}
 use Rattle.eval_scopes.specs.declared.binding_list.Binding.{Binding}
-use Rattle.eval_scopes.specs.Bindings.{Bound, bound_in, is_among}
+use Rattle.eval_scopes.specs.Bindings.{Bound}
 use Rattle.eval_scopes.specs.BindingList.{IsBindingList}
-use Rattle.eval_scopes.specs.Index.{few, binding_names, IsIndexTo, IsIndex}
-use Rattle.eval_scopes.specs.Mask.{Marks, MarksTo}
+use Rattle.eval_scopes.specs.Index.{few, binding_names, IsIndexTo, IsIndex, NoneAmong, NoneNamed}
+use Rattle.eval_scopes.specs.Marks.{mark_number, AreFirsts}
 use Rattle.eval_scopes.specs.Seen.{bound_of, bounds_of, put, IsLeft}
-use Rattle.eval_scopes.proofs.Indexes.{front_get, last_get, index_push, false_unless, names_get, bounds_names, names_put, names_push, none_among}
-use Rattle.eval_scopes.proofs.Places.{none_at, one_more}
+use Rattle.eval_scopes.proofs.Indexes.{front_get, last_get, index_push, false_unless, bounds_names, names_put, names_push, named_among}
 use Rattle.eval_scopes.proofs.Stacked.{map_taken, length_taken}
 
--- bits that are set stay
-max_one : (x : ℕ) → x < 2 → max 1 x ≡ 1
-max_one x l = omega (arith, l)
-
-pub bit_kept : (a b i : ℕ) → bit_at a i ≡ 1 → bit_at (bit_or a b) i ≡ 1
-bit_kept a b i m = bit_at_or a b i ∙ (ap (λ (q : ℕ). max q (bit_at b i)) m ∙ max_one (bit_at b i) (bit_at-lt b i))
-
--- the mask of one more name
-pub marks_next : (bits more : ℕ) (ns : List (List ℕ)) (i : ℕ) (n : List ℕ) → i < length ns → n ≡ get_or ns i n → Marks more
-    (key_of n) → ((k : ℕ) → Marks bits k → Marks more k) → MarksTo bits ns i → MarksTo more ns (i + 1)
-marks_next bits more ns i n l p here kept h = one_more (λ m. Marks more (key_of m)) ns i n l p here (λ j m k e. kept (key_of m) (h j m k e))
-
-marks_push : (bits more : ℕ) (ns : List (List ℕ)) (x : List ℕ) (n : ℕ) → n ≡ length ns → Marks more
-    (key_of x) → ((k : ℕ) → Marks bits k → Marks more k) → MarksTo bits ns n → MarksTo more (ns ++ x ∷ []) (n + 1)
-marks_push bits more ns x n s here kept h = λ j m l e. elim (leb_tells n j) [
-  | inr q ↦ kept (key_of m) (h j m q.1 (front_get ns x m j (omega (arith, q.1, s)) e))
+-- the first places with one more name
+firsts_push : (before after : List ℕ) (ns : List (List ℕ)) (x : List ℕ) (n : ℕ) → n ≡ length ns → mark_number after
+    (key_of x) ≤ n → ((k : ℕ) → mark_number after k ≤ mark_number before k) → AreFirsts before ns n → AreFirsts after (ns ++ x ∷ []) (n + 1)
+firsts_push before after ns x n s here kept h = λ j m l e. elim (leb_tells n j) [
+  | inr q ↦ omega (arith, kept (key_of m), h j m q.1 (front_get ns x m j (omega (arith, q.1, s)) e))
   | inl q ↦ (
       let same : j ≡ length ns = omega (arith, l, q.1, s) in
       let there : slice_get (ns ++ x ∷ []) (length ns) ≡ Some m = subst (λ (i : ℕ). slice_get (ns ++ x ∷ []) i ≡ Some m) same e in
       let one : x ≡ m = cc (last_get ns x, there) in
-      subst (λ (q : List ℕ). Marks more (key_of q)) one here)
+      let at : mark_number after (key_of m) ≤ n = subst (λ (q : List ℕ). mark_number after (key_of q) ≤ n) one here in
+      omega (arith, at, q.1))
 ]
 
--- a name whose bit isn't there
-differs : (n x : List ℕ) (bits key : ℕ) (r : Bool) → key ≡ key_of x → (Marks bits key → r ≡ true) → r ≡ false → Marks bits (key_of n) → bytes_eq n x ≡ false
-differs n x bits key r e t f m =
-    false_unless (bytes_eq n x) (λ s.
-    let same : key_of n ≡ key = ap key_of ((bytes_eq-Decides n x).0 s) ∙ sym e in
-    let no : r ≡ true = t (subst (λ (q : ℕ). Marks bits q) same m) in
-    cc (no, f))
-
-pub unmarked_names : (ns : List (List ℕ)) (x : List ℕ) (bits key : ℕ) (r : Bool) → key ≡ key_of x → (Marks bits key → r ≡ true) → r ≡ false → MarksTo bits ns (length ns) → is_among ns x ≡ false
-unmarked_names ns x bits key r e t f h = none_among ns x (λ j n l g. differs n x bits key r e t f (h j n l g))
+-- no name is before the first place of its mark
+none_before : (table : List ℕ) (ns : List (List ℕ)) (x : List ℕ) (m i : ℕ) → AreFirsts table ns m → i ≤ m → i ≤ mark_number table (key_of x) → NoneAmong ns x i
+none_before table ns x m i h l w = λ j n k g. false_unless (bytes_eq n x) (λ t.
+    let same : n ≡ x = (bytes_eq-Decides n x).0 t in
+    let at : mark_number table (key_of x) ≤ j = subst (λ (q : List ℕ). mark_number table (key_of q) ≤ j) same (h j n (omega (arith, k, l)) g) in
+    omega (arith, at, k, w))
 
 module _ {T : Type 0} where
-  pub unmarked : (all bs : List (Binding T)) (n : ℕ) (first : List (ℕ × ℕ)) (x : List ℕ) (bits key : ℕ) (r : Bool) → take n all ≡ bs →
-      IsBindingList all n first bits → key ≡ key_of x → (Marks bits key → r ≡ true) → r ≡ false → bound_in (bounds_of bs) x ≡ None
-  unmarked all bs n first x bits key r v h e t f =
-      subst (λ (q : List (Binding T)). bound_in (bounds_of q) x ≡ None) v
-      (none_at (take n all) x (λ j b l g. differs b.name x bits key r e t f (h.marks j b.name (omega (arith, l, length_taken n all h.within)) (names_get (take n all) j b g))))
+  pub none_first : (all bs : List (Binding T)) (n : ℕ) (first : List (ℕ × ℕ)) (table : List ℕ) (x : List ℕ) (key i : ℕ) → take n all ≡ bs →
+      IsBindingList all n first table → key ≡ key_of x → i ≤ n → i ≤ mark_number table key → NoneNamed bs x i
+  none_first all bs n first table x key i v h e l w =
+      let here : i ≤ mark_number table (key_of x) = subst (λ (q : ℕ). i ≤ mark_number table q) e w in
+      subst (λ (q : List (Binding T)). NoneNamed q x i) v
+      (named_among (take n all) x i (none_before table (binding_names (take n all)) x n i h.firsts l here))
 
   -- another value for one of the first n
   put_first : (n : ℕ) (bs : List (Bound T)) (i : ℕ) (v : T) → take n (put bs i v) ≡ put (take n bs) i v
@@ -80,25 +64,25 @@ module _ {T : Type 0} where
   set_length : (bs cs : List (Binding T)) (i : ℕ) (v : T) → bounds_of cs ≡ put (bounds_of bs) i v → length cs ≡ length bs
   set_length bs cs i v e = sym (length-map cs bound_of) ∙ (ap length e ∙ (put_length (bounds_of bs) i v ∙ length-map bs bound_of))
 
-  pub set_list : (n : ℕ) (bs cs : List (Binding T)) (i : ℕ) (v : T) (first : List (ℕ × ℕ)) (mask : ℕ) → bounds_of cs ≡ put (bounds_of bs) i
-      v → IsBindingList bs n first mask → IsBindingList cs n first mask
-  set_list n bs cs i v first mask e h =
+  pub set_list : (n : ℕ) (bs cs : List (Binding T)) (i : ℕ) (v : T) (first : List (ℕ × ℕ)) (table : List ℕ) → bounds_of cs ≡ put (bounds_of bs) i
+      v → IsBindingList bs n first table → IsBindingList cs n first table
+  set_list n bs cs i v first table e h =
       let names : binding_names (take n cs) ≡ binding_names (take n bs) = names_put (take n bs) (take n cs) i v (set_used n bs cs i v e) in
       record {
         within = omega (arith, h.within, set_length bs cs i v e);
         index = subst (λ (q : List (List ℕ)). IsIndex first q) (sym names) h.index;
-        marks = subst (λ (q : List (List ℕ)). MarksTo mask q n) (sym names) h.marks;
+        firsts = subst (λ (q : List (List ℕ)). AreFirsts table q n) (sym names) h.firsts;
       }
 
   pub used_within : (n i : ℕ) (all bs : List (Binding T)) → take n all ≡ bs → n ≤ length all → i < length bs → i < length all
   used_within n i all bs v w l = omega (arith, l, ap length v, w, length_taken n all w)
 
   -- one more binding in use
-  pub grown_list : (n : ℕ) (bs cs : List (Binding T)) (x : List ℕ) (first next : List (ℕ × ℕ)) (mask more key : ℕ) → key ≡ key_of x →
+  pub grown_list : (n : ℕ) (bs cs : List (Binding T)) (x : List ℕ) (first next : List (ℕ × ℕ)) (table more : List ℕ) (key : ℕ) → key ≡ key_of x →
       binding_names (take (n + 1) cs) ≡ binding_names (take n bs) ++ x ∷ [] → n + 1 ≤ length cs → IsBindingList bs
-      n first mask → ((ns : List (List ℕ)) → n ≤ length ns → IsIndexTo first ns n → IsIndexTo next ns n) → IsSome
-      (lookup (is_at (nat_cmp key)) next) ⊎ (n < few) → Marks more key → ((k : ℕ) → Marks mask k → Marks more k) → IsBindingList cs (n + 1) next more
-  grown_list n bs cs x first next mask more key e names w h indexed found here kept =
+      n first table → ((ns : List (List ℕ)) → n ≤ length ns → IsIndexTo first ns n → IsIndexTo next ns n) → IsSome
+      (lookup (is_at (nat_cmp key)) next) ⊎ (n < few) → mark_number more key ≤ n → ((k : ℕ) → mark_number more k ≤ mark_number table k) → IsBindingList cs (n + 1) next more
+  grown_list n bs cs x first next table more key e names w h indexed found here kept =
       let ns : List (List ℕ) = binding_names (take n bs) in
       let many : n ≡ length ns = sym (length-map (take n bs) (λ b. b.name) ∙ length_taken n bs h.within) in
       let old : IsIndexTo first ns n = subst (λ (q : ℕ). IsIndexTo first ns q) (sym many) h.index in
@@ -109,7 +93,7 @@ module _ {T : Type 0} where
       record {
         within = w;
         index = subst (λ (q : List (List ℕ)). IsIndex next q) (sym names) (index_push next ns x there new);
-        marks = subst (λ (q : List (List ℕ)). MarksTo more q (n + 1)) (sym names) (marks_push mask more ns x n many (subst (λ (q : ℕ). Marks more q) e here) kept h.marks);
+        firsts = subst (λ (q : List (List ℕ)). AreFirsts more q (n + 1)) (sym names) (firsts_push table more ns x n many (subst (λ (q : ℕ). mark_number more q ≤ n) e here) kept h.firsts);
       }
 
   pub names_pushed : (n : ℕ) (bs cs : List (Binding T)) (b : Binding T) → take (n + 1) cs ≡ take n bs ++ b ∷ [] → binding_names (take (n + 1) cs) ≡ binding_names (take n bs) ++ b.name ∷ []

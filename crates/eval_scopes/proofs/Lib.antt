@@ -3,3 +3,4 @@ mod Places
 mod Indexes
 mod Stacked
 mod BindingLists
+mod Walks

@@ -21,13 +21,13 @@ length_taken zero xs l = refl
 length_taken (suc n) [] l = absurd (omega (arith, l))
 length_taken (suc n) (x ∷ xs) l = ap (λ q. suc q) (length_taken n xs (omega (arith, l)))
 
-set_taken : {X : Type 0} (n : ℕ) (xs : List X) (k : ℕ) (y : X) → take n (set xs k y) ≡ set (take n xs) k y
+pub set_taken : {X : Type 0} (n : ℕ) (xs : List X) (k : ℕ) (y : X) → take n (set xs k y) ≡ set (take n xs) k y
 set_taken zero xs k y = refl
 set_taken (suc n) [] k y = refl
 set_taken (suc n) (x ∷ xs) zero y = refl
 set_taken (suc n) (x ∷ xs) (suc k) y = ap (λ q. x ∷ q) (set_taken n xs k y)
 
-get_taken : {X : Type 0} (n : ℕ) (xs : List X) (k : ℕ) (y : X) → k < n → get_or (take n xs) k y ≡ get_or xs k y
+pub get_taken : {X : Type 0} (n : ℕ) (xs : List X) (k : ℕ) (y : X) → k < n → get_or (take n xs) k y ≡ get_or xs k y
 get_taken zero xs k y l = absurd (omega (arith, l))
 get_taken (suc n) [] k y l = refl
 get_taken (suc n) (x ∷ xs) zero y l = refl
@@ -97,7 +97,7 @@ declare_taken_kept {T} r fs k f g l p m o e =
     (declare_kept r (take (k + 1) fs) k f g (length_taken (k + 1) fs (omega (arith, l))) (p ∙ sym (get_taken (k + 1) fs k f (omega arith))) m e))
 
 -- the block that comes next
-set_next : {X : Type 0} (xs : List X) (k : ℕ) (y : X) → k < length xs → take (suc k) (set xs k y) ≡ take k xs ++ y ∷ []
+pub set_next : {X : Type 0} (xs : List X) (k : ℕ) (y : X) → k < length xs → take (suc k) (set xs k y) ≡ take k xs ++ y ∷ []
 set_next [] k y l = absurd (omega (arith, l))
 set_next (x ∷ xs) zero y l = refl
 set_next (x ∷ xs) (suc k) y l = ap (λ q. x ∷ q) (set_next xs k y (omega (arith, l)))

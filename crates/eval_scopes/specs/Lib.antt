@@ -3,5 +3,6 @@ pub mod Blocks
 pub mod Changes
 pub mod Seen
 pub mod Index
-pub mod Mask
+pub mod Marks
 pub mod BindingList
+pub mod Starts

@@ -1,11 +1,11 @@
 // The bindings of a script's top, and of a block.
-ghost use Rattle.std.specs.Prelude.{◌≡◌, ◌<◌, ◌≤◌, ◌+◌, ◌∷◌, ◌++◌, [], true, None, List, ℕ, length, min, take, MatchOption, IfOk, OnOk, OnErr};
+ghost use Rattle.std.specs.Prelude.{◌≡◌, ◌<◌, ◌≤◌, ◌+◌, ◌∷◌, ◌++◌, [], true, None, List, ℕ, length, min, take, MatchOption, IfSome, IfOk, OnOk, OnErr};
 ghost use Rattle.eval_scopes.specs.Index.{few, IsIndex, NoneNamed};
 ghost use Rattle.eval_scopes.specs.Bindings.{bound_in};
 ghost use Rattle.eval_scopes.specs.Seen.{bound_of, bounds_of, put, IsAt, IsOnly, IsLeft};
 
+use crate::firsts::Firsts;
 use crate::index::{FEW, Index};
-use crate::mask::Mask;
 use eval_tree::Name;
 use js_units::NoMemory;
 use std::alloc::Global;
@@ -19,9 +19,9 @@ pub struct Binding<T> {
     pub value: T,
 }
 
-/// Bindings in the order of their declarations. Contracts see them as a list. A mask shows of most names
-/// that none is there. The first few are looked at one after another; behind them a name is sought from
-/// the first one on that has its key, so that thousands of names cost little.
+/// Bindings in the order of their declarations. Contracts see them as a list. A name is sought at the first
+/// place that one with its mark has. Then the first few are looked at one after another; behind them a name
+/// is sought from the first one on that has its key, so that thousands of names cost little.
 #[derive(Drop)]
 pub struct BindingList<T> {
     // those in use, and behind them what was left in place for later ones of the same names
@@ -29,7 +29,7 @@ pub struct BindingList<T> {
     used: usize,
     // behind the first few, the place from which the names of a key begin
     first: Index,
-    mask: Mask,
+    firsts: Firsts,
 }
 
 impl<T> Model for BindingList<T> {
@@ -41,7 +41,7 @@ impl<T> Model for BindingList<T> {
 
     ghost view = { λ b. take b.used b.all.items };
 
-    ghost invariant = { λ b. IsBindingList b.all.items b.used b.first b.mask };
+    ghost invariant = { λ b. IsBindingList b.all.items b.used b.first b.firsts.places };
 }
 
 impl<T: Drop> BindingList<T> {
@@ -53,7 +53,7 @@ impl<T: Drop> BindingList<T> {
             all: Vec::new(alloc),
             used: 0,
             first: Index::new(),
-            mask: Mask::new(),
+            firsts: Firsts::new(),
         }
     }
 
@@ -71,18 +71,37 @@ impl<T: Drop> BindingList<T> {
         ensures { MatchOption result (bound_in (bounds_of self.now) name.now ≡ None)
             (λ i. IsAt (bounds_of self.now) name.now i) }
     {
-        if !self.mask.may_have(name.key()) {
-            return None;
+        match self.at_first(name) {
+            Some(index) => Some(index),
+            None => self.position_in_list(name),
         }
-        self.position_in_list(name)
     }
 
-    // The same where the mask doesn't decide.
+    // The same, if it is the first place that a name of this mark has.
     #[inline(always)]
+    pub(crate) fn at_first(&self, name: &Name) -> Option<usize>
+        ensures { IfSome result (λ i. IsAt (bounds_of self.now) name.now i) }
+    {
+        let list = self.list();
+        let place = self.firsts.get(name.key());
+        if place >= list.len() {
+            return None;
+        }
+        if list[place].name.is(name) {
+            return Some(place);
+        }
+        None
+    }
+
+    // The same at any place.
+    #[inline(never)]
     fn position_in_list(&self, name: &Name) -> Option<usize>
         ensures { MatchOption result (bound_in (bounds_of self.now) name.now ≡ None)
             (λ i. IsAt (bounds_of self.now) name.now i) }
     {
+        if self.firsts.get(name.key()) >= self.used {
+            return None;
+        }
         let all = self.used;
         match position_in(self.list(), 0, FEW.min(all), name) {
             Some(index) => Some(index),
@@ -120,7 +139,7 @@ impl<T: Drop> BindingList<T> {
         let alloc = *self.all.allocator();
         self.first.note(alloc, key, place)?;
         put_behind(&mut self.all, place, binding)?;
-        self.mask.add(key);
+        self.firsts.add(key, place);
         self.used += 1;
         Ok(())
     }
@@ -137,7 +156,7 @@ impl<T: Drop> BindingList<T> {
         let alloc = *self.all.allocator();
         self.first.note(alloc, key, place)?;
         bind_behind(&mut self.all, place, name, constant, value)?;
-        self.mask.add(key);
+        self.firsts.add(key, place);
         self.used += 1;
         Ok(())
     }
@@ -163,7 +182,7 @@ impl<T: Drop> BindingList<T> {
     {
         self.used = 0;
         self.first = Index::new();
-        self.mask = Mask::new();
+        self.firsts = Firsts::new();
     }
 
     /// Another value for one binding.

@@ -1,9 +1,12 @@
 // Blocks: all that were entered. One that declares nothing has no frame and is only counted, so that
 // entering and leaving it costs next to nothing, and names are sought past it.
 ghost use Rattle.eval_scopes.specs.Changes.{all_but_first};
-ghost use Rattle.std.specs.Prelude.{◌≡◌, ◌+◌, ◌∷◌, [], false, length, List, OnOk, OnErr};
+ghost use Rattle.std.specs.Prelude.{◌≡◌, ◌≤◌, ◌+◌, ◌∷◌, [], false, length, slice_get, ℕ, List, Some, OnOk, OnErr};
 ghost use Rattle.eval_scopes.specs.Bindings.{Bound, declare};
 ghost use Rattle.eval_scopes.specs.Seen.{blocks_of, put_in_frame, InBlock};
+ghost use Rattle.eval_scopes.specs.Starts.{ArePast};
+ghost use Rattle.eval_scopes.specs.declared.frames.Frame.{Frame as CodeFrame};
+ghost use Rattle.eval_tree.specs.Keys.{key_of};
 
 use crate::frames::{Frame, Frames};
 use crate::index::Declared;
@@ -36,6 +39,15 @@ impl<'a, T: Drop> Blocks<'a, T> {
         ensures { result.now ≡ self.now.frames }
     {
         self.frames.as_slice()
+    }
+
+    // No frame from this one on says anything of names with this key.
+    #[inline(always)]
+    pub(crate) fn start(&self, key: u64) -> usize
+        ensures within { result ≤ length self.now.frames }
+        ensures past { (x : List ℕ) → key_of x ≡ key → ArePast self.now.frames result x }
+    {
+        self.frames.start(key)
     }
 
     // Another value for a binding of a frame.

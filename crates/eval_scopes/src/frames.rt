@@ -1,12 +1,17 @@
 // Frames: the blocks that were entered and have one. Those that were left stay in their places, so that
 // one that is entered there later reuses their memory.
 ghost use Rattle.eval_scopes.specs.Changes.{all_but_first};
-ghost use Rattle.std.specs.Prelude.{◌≡◌, ◌<◌, ◌≤◌, ◌+◌, ◌∷◌, [], true, false, length, map, reverse, take, unwrap_or, List, OnOk, OnErr};
+ghost use Rattle.std.specs.Prelude.{◌≡◌, ◌<◌, ◌≤◌, ◌+◌, ◌∷◌, [], true, false, length, map, reverse, slice_get, take, unwrap_or, ℕ, List, Some, OnOk, OnErr};
 ghost use Rattle.eval_scopes.specs.Bindings.{Bound, declare};
 ghost use Rattle.eval_scopes.specs.Seen.{bounds_of, frame_names, frame_of, outsides_of, hollows, with_hollows, stacked, put_in, InBlock, IsOnly};
+ghost use Rattle.eval_scopes.specs.declared.frames.Frame.{Frame as CodeFrame};
+ghost use Rattle.eval_tree.specs.Keys.{key_of};
+ghost use Rattle.eval_scopes.specs.Marks.{mark_number};
+ghost use Rattle.eval_scopes.specs.Starts.{AreStarts, KeepsReach, ReachesTo, ArePast};
 
 use crate::binding_list::BindingList;
 use crate::index::Declared;
+use crate::starts::Starts;
 use eval_tree::Name;
 use js_units::NoMemory;
 use std::alloc::Global;
@@ -62,23 +67,26 @@ impl<'a, T: Drop> Frame<'a, T> {
     }
 }
 
-/// The frames of the blocks that were entered, the innermost at the end. Contracts see them as a list.
+/// The frames of the blocks that were entered, the innermost at the end. Contracts see them as a list. The
+/// walk for a name begins at the innermost frame that may have it.
 #[derive(Drop)]
 pub struct Frames<'a, T> {
     all: Vec<Frame<'a, T>>,
     // as many were entered and not left
     entered: usize,
+    starts: Starts,
 }
 
 impl<'a, T> Model for Frames<'a, T> {
-    ghost use Rattle.std.specs.Prelude.{List, ◌≤◌, length, take};
+    ghost use Rattle.std.specs.Prelude.{List, take};
     ghost use Rattle.eval_scopes.specs.declared.frames.Frame.{Frame as CodeFrame};
+    ghost use Rattle.eval_scopes.specs.Starts.{AreFrames};
 
     ghost Value = { List (CodeFrame T) };
 
     ghost view = { λ f. take f.entered f.all.items };
 
-    ghost invariant = { λ f. f.entered ≤ length f.all.items };
+    ghost invariant = { λ f. AreFrames f.all.items f.entered f.starts.counts };
 }
 
 impl<'a, T: Drop> Frames<'a, T> {
@@ -89,6 +97,7 @@ impl<'a, T: Drop> Frames<'a, T> {
         Frames {
             all: Vec::new(alloc),
             entered: 0,
+            starts: Starts::new(),
         }
     }
 
@@ -101,6 +110,15 @@ impl<'a, T: Drop> Frames<'a, T> {
         ensures { result.now ≡ self.now }
     {
         &self.all[..self.entered]
+    }
+
+    // No frame from this one on says anything of names with this key.
+    #[inline(always)]
+    pub(crate) fn start(&self, key: u64) -> usize
+        ensures within { result ≤ length self.now }
+        ensures past { (x : List ℕ) → key_of x ≡ key → ArePast self.now result x }
+    {
+        self.entered.min(self.starts.get(key))
     }
 
     // Another value for a binding of a block.
@@ -126,6 +144,7 @@ impl<'a, T: Drop> Frames<'a, T> {
             (record { name = name.now; constant = constant; value = value })) }
         ensures refused { OnErr result (stacked self.new ≡ stacked self.old) }
     {
+        self.starts.mark(name.key(), self.entered);
         declare_in_block(&mut self.all, last, name, constant, value)
     }
 
@@ -142,6 +161,7 @@ impl<'a, T: Drop> Frames<'a, T> {
         ensures refused { OnErr result (self.new ≡ self.old) }
     {
         make_room(alloc, &mut self.all, self.entered)?;
+        mark_declared(&mut self.starts, &names, self.entered + 1);
         enter_at(&mut self.all, self.entered, outside, names);
         self.entered += 1;
         Ok(())
@@ -162,6 +182,7 @@ impl<'a, T: Drop> Frames<'a, T> {
         ensures refused { OnErr result (self.new ≡ self.old) }
     {
         make_room(alloc, &mut self.all, self.entered)?;
+        self.starts.mark(name.key(), self.entered + 1);
         enter_turn_at(&mut self.all, self.entered, outside, name, value)?;
         self.entered += 1;
         Ok(())
@@ -185,6 +206,8 @@ fn set_in_block<T: Drop>(blocks: &mut Vec<Frame<T>>, block: usize, index: usize,
     ensures put { map frame_of blocks.new.items ≡ put_in (map frame_of blocks.old.items) block index value }
     ensures outsides { map (λ f. f.outside) blocks.new.items ≡ map (λ f. f.outside) blocks.old.items }
     ensures as_many { length blocks.new.items ≡ length blocks.old.items }
+    ensures starts { (counts : List ℕ) (n : ℕ) → AreStarts counts (take n blocks.old.items)
+        → AreStarts counts (take n blocks.new.items) }
 {
     blocks[block].bound.set(index, value)
 }
@@ -205,6 +228,9 @@ fn declare_in_block<T: Drop>(
     ensures refused { OnErr result (stacked (take (last + 1) blocks.new.items)
         ≡ stacked (take (last + 1) blocks.old.items)) }
     ensures as_many { length blocks.new.items ≡ length blocks.old.items }
+    ensures starts { (before after : List ℕ) → KeepsReach before after (last + 1)
+        → last + 1 ≤ mark_number after (key_of name.now) → AreStarts before (take (last + 1) blocks.old.items)
+        → AreStarts after (take (last + 1) blocks.new.items) }
 {
     blocks[last].bound.bind(name, constant, value)
 }
@@ -233,6 +259,17 @@ fn make_room<'a, T: Drop>(
     }
 }
 
+// The last of so many frames is to have the names that a block declares.
+fn mark_declared(starts: &mut Starts, names: &Option<Declared>, frames: usize)
+    ensures marked { ReachesTo starts.new.counts (unwrap_or names.now []) frames
+        (length (unwrap_or names.now [])) }
+    ensures kept { KeepsReach starts.old.counts starts.new.counts frames }
+{
+    if let Some(names) = names {
+        starts.mark_all(names.as_slice(), frames);
+    }
+}
+
 // A block is entered in the place of one that was left.
 fn enter_at<'a, T: Drop>(
     all: &mut Vec<Frame<'a, T>>,
@@ -245,6 +282,9 @@ fn enter_at<'a, T: Drop>(
         ≡ record { names = unwrap_or names.entry []; bound = [] }
         ∷ hollows outside (stacked (take place all.old.items)) }
     ensures as_many { length all.new.items ≡ length all.old.items }
+    ensures starts { (before after : List ℕ) → KeepsReach before after (place + 1)
+        → ReachesTo after (unwrap_or names.entry []) (place + 1) (length (unwrap_or names.entry []))
+        → AreStarts before (take place all.old.items) → AreStarts after (take (place + 1) all.new.items) }
 {
     all[place].enter(outside, names)
 }
@@ -263,6 +303,9 @@ fn enter_turn_at<T: Drop>(
     } ∷ hollows outside (stacked (take place all.old.items))) }
     ensures kept { take place all.new.items ≡ take place all.old.items }
     ensures as_many { length all.new.items ≡ length all.old.items }
+    ensures starts { (before after : List ℕ) → KeepsReach before after (place + 1)
+        → place + 1 ≤ mark_number after (key_of name.now) → AreStarts before (take place all.old.items)
+        → OnOk result (AreStarts after (take (place + 1) all.new.items)) }
 {
     all[place].enter_turn(outside, name, value)
 }

@@ -4,10 +4,8 @@ ghost use Rattle.std.specs.Ordering.{nat_cmp};
 ghost use Rattle.std.specs.Map.{lookup};
 ghost use Rattle.std.specs.BTreeMap.{is_at};
 ghost use Rattle.eval_scopes.specs.Index.{few, IsIndexTo, NoneAmong};
-ghost use Rattle.eval_scopes.specs.Mask.{MarksTo};
 ghost use Rattle.eval_scopes.specs.Bindings.{is_among};
 
-use crate::mask::Mask;
 use eval_tree::{Name, Names};
 use js_units::NoMemory;
 use std::alloc::Global;
@@ -51,6 +49,7 @@ impl Index {
     }
 
     /// A key that is new gets its place. The first few places get none.
+    #[inline(always)]
     pub(crate) fn note(&mut self, alloc: Global, key: u64, place: usize) -> Result<(), NoMemory>
         ensures indexed { (ns : List (List ℕ)) → place ≤ length ns → IsIndexTo self.old ns place
             → IsIndexTo self.new ns place }
@@ -59,6 +58,16 @@ impl Index {
         if place < FEW {
             return Ok(());
         }
+        self.note_behind(alloc, key, place)
+    }
+
+    // The same behind the first few.
+    #[inline(never)]
+    fn note_behind(&mut self, alloc: Global, key: u64, place: usize) -> Result<(), NoMemory>
+        ensures indexed { (ns : List (List ℕ)) → place ≤ length ns → IsIndexTo self.old ns place
+            → IsIndexTo self.new ns place }
+        ensures found { OnOk result (IsSome (lookup (is_at (nat_cmp key)) self.new)) }
+    {
         match &mut self.map {
             Some(map) => index_key(map, key, place),
             None => {
@@ -98,24 +107,22 @@ fn index_key(map: &mut BTreeMap<u64, usize>, key: u64, place: usize) -> Result<(
 }
 
 /// The names that a block declares. Contracts see them as a list. As in `BindingList`, those behind the first
-/// few are sought by their keys, and a mask shows of most names that they aren't there.
+/// few are sought by their keys.
 #[derive(Drop)]
 pub struct Declared<'a> {
     names: &'a Names,
     first: Index,
-    mask: Mask,
 }
 
 impl<'a> Model for Declared<'a> {
-    ghost use Rattle.std.specs.Prelude.{List, ℕ, length};
+    ghost use Rattle.std.specs.Prelude.{List, ℕ};
     ghost use Rattle.eval_scopes.specs.Index.{IsIndex};
-    ghost use Rattle.eval_scopes.specs.Mask.{MarksTo};
 
     ghost Value = { List (List ℕ) };
 
     ghost view = { λ d. d.names.now };
 
-    ghost invariant = { λ d. IsIndex d.first d.names.now × MarksTo d.mask d.names.now (length d.names.now) };
+    ghost invariant = { λ d. IsIndex d.first d.names.now };
 }
 
 impl<'a> Declared<'a> {
@@ -124,23 +131,18 @@ impl<'a> Declared<'a> {
         ensures { IfOk result (λ d. d ≡ names.now) }
     {
         let first = index_of(alloc, names.as_slice())?;
-        let mask = mask_of(names.as_slice());
-        Ok(Declared { names, first, mask })
+        Ok(Declared { names, first })
+    }
+
+    // The names.
+    pub(crate) fn as_slice(&self) -> &[Name]
+        ensures { result.now ≡ self.now }
+    {
+        self.names.as_slice()
     }
 
     /// Whether a name is one of them.
     pub fn has(&self, name: &Name) -> bool
-        ensures { result ≡ is_among self.now name.now }
-    {
-        if !self.mask.may_have(name.key()) {
-            return false;
-        }
-        self.has_one(name)
-    }
-
-    // The same where the mask doesn't decide.
-    #[inline(always)]
-    fn has_one(&self, name: &Name) -> bool
         ensures { result ≡ is_among self.now name.now }
     {
         let names = self.names.as_slice();
@@ -179,17 +181,6 @@ fn index_of(alloc: Global, names: &[Name]) -> Result<Index, NoMemory>
         first.note(alloc, names[place].key(), place)?;
     }
     Ok(first)
-}
-
-// The mask of names.
-fn mask_of(names: &[Name]) -> Mask
-    ensures { MarksTo result names.now (length names.now) }
-{
-    let mut mask = Mask::new();
-    for name in names {
-        mask.add(name.key());
-    }
-    mask
 }
 
 // Whether a name, which none of those before `start` is, is among those before `end`.

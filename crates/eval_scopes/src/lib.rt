@@ -6,10 +6,11 @@
 
 mod binding_list;
 mod blocks;
+mod firsts;
 mod frames;
 mod index;
-mod mask;
 mod scope;
+mod starts;
 
 pub use binding_list::{Binding, BindingList};
 pub use blocks::Blocks;

@@ -1,7 +1,8 @@
 // The blocks that were entered, over the top.
-ghost use Rattle.std.specs.Prelude.{◌≡◌, Some, None, MatchOption, OnOk, OnErr};
+ghost use Rattle.std.specs.Prelude.{◌≡◌, ◌≤◌, length, Some, None, MatchOption, IfSome, OnOk, OnErr};
 ghost use Rattle.eval_scopes.specs.Bindings.{is_among, meant, declared, entered, turned, outer};
 ghost use Rattle.eval_scopes.specs.Seen.{bound_of, frame_names, bindings_of, bound_at, put_at, IsPlaceIn, IsPlace};
+ghost use Rattle.eval_scopes.specs.Starts.{ArePast};
 
 use crate::binding_list::{Binding, BindingList};
 use crate::blocks::Blocks;
@@ -27,12 +28,49 @@ pub enum Place {
 impl<'a, T: Drop> Scope<'a, T> {
     /// Where the binding of a name is, in the innermost block that declares it. Where there is
     /// none, reading or assigning the name is a ReferenceError.
+    #[inline(always)]
     pub fn place_of(&self, name: &Name) -> Option<Place>
         ensures { MatchOption result (meant (bindings_of self.now) name.now ≡ None)
             (λ p. IsPlace self.now name.now p) }
     {
+        let start = self.blocks.start(name.key());
+        match self.place_before(name, start) {
+            Some(place) => Some(place),
+            None => self.walk(name, start),
+        }
+    }
+
+    // The same, if it is at the first place that a name of this mark has, in the last of so many frames or
+    // at the top.
+    #[inline(always)]
+    fn place_before(&self, name: &Name, start: usize) -> Option<Place>
+        requires within { start ≤ length self.now.blocks.frames }
+        requires past { ArePast self.now.blocks.frames start name.now }
+        ensures { IfSome result (λ p. IsPlace self.now name.now p) }
+    {
+        if start == 0 {
+            return match self.top.at_first(name) {
+                Some(index) => Some(Place::Top { index }),
+                None => None,
+            };
+        }
+        let block = start - 1;
+        match self.blocks.frames()[block].bound.at_first(name) {
+            Some(index) => Some(Place::Block { block, index }),
+            None => None,
+        }
+    }
+
+    // The same, frame by frame.
+    #[inline(never)]
+    fn walk(&self, name: &Name, start: usize) -> Option<Place>
+        requires within { start ≤ length self.now.blocks.frames }
+        requires past { ArePast self.now.blocks.frames start name.now }
+        ensures { MatchOption result (meant (bindings_of self.now) name.now ≡ None)
+            (λ p. IsPlace self.now name.now p) }
+    {
         let frames = self.blocks.frames();
-        for block in (0..frames.len()).rev() {
+        for block in (0..start).rev() {
             let frame = &frames[block];
             if let Some(index) = frame.bound.position(name) {
                 return Some(Place::Block { block, index });
@@ -47,7 +85,35 @@ impl<'a, T: Drop> Scope<'a, T> {
         }
     }
 
+    /// The binding of a name, in the innermost block that declares it, as at its place.
+    #[inline(always)]
+    pub fn find(&self, name: &Name) -> Option<&Binding<T>>
+        ensures { MatchOption result (meant (bindings_of self.now) name.now ≡ None)
+            (λ b. meant (bindings_of self.now) name.now ≡ Some (bound_of b.now)) }
+    {
+        let start = self.blocks.start(name.key());
+        match self.place_before(name, start) {
+            Some(place) => Some(self.at(place)),
+            None => self.find_by_walk(name, start),
+        }
+    }
+
+    // The same, frame by frame.
+    #[inline(never)]
+    fn find_by_walk(&self, name: &Name, start: usize) -> Option<&Binding<T>>
+        requires within { start ≤ length self.now.blocks.frames }
+        requires past { ArePast self.now.blocks.frames start name.now }
+        ensures { MatchOption result (meant (bindings_of self.now) name.now ≡ None)
+            (λ b. meant (bindings_of self.now) name.now ≡ Some (bound_of b.now)) }
+    {
+        match self.walk(name, start) {
+            Some(place) => Some(self.at(place)),
+            None => None,
+        }
+    }
+
     /// The binding at a place.
+    #[inline(always)]
     pub fn at(&self, place: Place) -> &Binding<T>
         requires { IsPlaceIn self.now place }
         ensures { Some (bound_of result.now) ≡ bound_at self.now place }

@@ -9,7 +9,7 @@ set_value-requires g c = used_within c.self.inside.used c.args.index c.self.insi
 
 pub invariant_of-self : goal.invariant_of-self
 invariant_of-self g c = set_list c.self.inside.used c.self.inside.all.items c.set_value.new.bound.items c.args.index c.args.value
-    c.self.inside.first c.self.inside.mask c.set_value.ensures c.self.invariant
+    c.self.inside.first c.self.inside.firsts.places c.set_value.ensures c.self.invariant
 
 pub returns : goal.returns
 returns g c =

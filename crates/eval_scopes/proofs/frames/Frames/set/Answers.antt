@@ -1,4 +1,4 @@
-use Rattle.std.proofs.Common.{◌≡◌, List, map, reverse, take, subst, sym}
+use Rattle.std.proofs.Common.{arith, ◌≡◌, List, map, reverse, take, subst, sym}
 use Rattle.eval_scopes.specs.declared.frames.Frame.{Frame as CodeFrame}
 use Rattle.eval_scopes.specs.Seen.{frame_of, outsides_of, with_hollows, stacked, put_in, InBlock}
 use Rattle.eval_scopes.proofs.Stacked.{in_taken, put_in_stack}
@@ -16,3 +16,9 @@ returns g c =
     let n = c.self.inside.entered in
     subst (λ (q : List (CodeFrame g.row.T.Denot)). stacked (take n new) ≡ with_hollows (outsides_of q) (reverse (put_in (map frame_of q) c.args.block c.args.index c.args.value))) c.self.view_is
     (put_in_stack n old new c.args.block c.args.index c.args.value c.set_in_block.ensures.put c.set_in_block.ensures.outsides)
+
+pub invariant_of-self : goal.invariant_of-self
+invariant_of-self g c =
+    let h = c.self.invariant in
+    let e = c.set_in_block.ensures in
+    record { within = omega (arith, h.within, e.as_many); starts = e.starts c.self.inside.starts.counts c.self.inside.entered h.starts }

@@ -10,7 +10,7 @@ is_one_of-requires-clause-before c =
     let ns = c.self.inside.names.now in
     let none = subst (λ (q : List (List ℕ)). NoneAmong q x (min few (length q))) (sym c.self.view_is) c.requires in
     subst (λ (q : List (List ℕ)). NoneAmong q x c.in-Some.start) (sym c.as_slice-names.ensures)
-    (start_at c.self.inside.first ns x c.key.result (min few (length ns)) c.in-Some.start c.key.ensures refl none c.self.invariant.0 (sym c.in-Some.is ∙ c.start.ensures))
+    (start_at c.self.inside.first ns x c.key.result (min few (length ns)) c.in-Some.start c.key.ensures refl none c.self.invariant (sym c.in-Some.is ∙ c.start.ensures))
 
 pub returns-in-Some : goal.returns-in-Some
 returns-in-Some c =
@@ -25,5 +25,5 @@ returns-in-None c =
     let x = c.args.name.now in
     let ns = c.self.inside.names.now in
     let none = subst (λ (q : List (List ℕ)). NoneAmong q x (min few (length q))) (sym c.self.view_is) c.requires in
-    let all = no_start_at c.self.inside.first ns x c.key.result (min few (length ns)) c.key.ensures refl none c.self.invariant.0 (sym c.in-None.is ∙ c.start.ensures) in
+    let all = no_start_at c.self.inside.first ns x c.key.result (min few (length ns)) c.key.ensures refl none c.self.invariant (sym c.in-None.is ∙ c.start.ensures) in
     subst (λ (q : List (List ℕ)). false ≡ is_among q x) c.self.view_is (sym (none_among ns x all))

@@ -1,6 +1,6 @@
 use Rattle.std.proofs.Common.{◌≡◌, ℕ, List, [], subst, sym}
 use Rattle.eval_scopes.specs.Index.{IsIndexTo}
-use Rattle.eval_scopes.proofs.index.Index.note.Goals as goal
+use Rattle.eval_scopes.proofs.index.Index.note_behind.Goals as goal
 
 pub returns-in_ok-one_key-in-None-clause-indexed : goal.returns-in_ok-one_key-in-None-clause-indexed
 returns-in_ok-one_key-in-None-clause-indexed c =
