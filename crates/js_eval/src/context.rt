@@ -37,25 +37,25 @@ pub fn look_up<'a, S: Strings>(
         (meant (context_bindings (S.state _store.now) S.number context.now) name.now)
         ≡ Some (seen (S.state _store.now) S.number v.now)) }
 {
-    match context.scope.place_of(name) {
-        Some(place) => Some(&context.scope.at(place).value),
+    match context.scope.find(name) {
+        Some(binding) => Some(&binding.value),
         None => None,
     }
 }
 
 /// The value of a name, as its own. A string or a number allocates nothing.
 pub fn read<S: Strings>(
-    store: &S,
+    _store: &S,
     context: &Context<S::Ref>,
     name: &Name,
 ) -> Result<Value<S::Ref>, Stop>
-    requires { ContextFine (S.state store.now) S.number context.now }
-    ensures fine { IfOk result (λ v. IsFine (S.state store.now) S.number v) }
-    ensures did { GivesValue S.number (S.state store.now) (S.state store.now) result
-        (read_out (meant (context_bindings (S.state store.now) S.number context.now) name.now)) }
+    requires { ContextFine (S.state _store.now) S.number context.now }
+    ensures fine { IfOk result (λ v. IsFine (S.state _store.now) S.number v) }
+    ensures did { GivesValue S.number (S.state _store.now) (S.state _store.now) result
+        (read_out (meant (context_bindings (S.state _store.now) S.number context.now) name.now)) }
 {
-    match context.scope.place_of(name) {
-        Some(place) => read_at(store, context, place),
+    match context.scope.find(name) {
+        Some(binding) => Ok(binding.value.copy()?),
         None => Err(Stop::Threw(Kind::ReferenceError)),
     }
 }
