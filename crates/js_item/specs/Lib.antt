@@ -4,4 +4,5 @@ pub mod Views
 pub mod Falls
 pub mod Fine
 pub mod Puts
+pub mod Indexed
 pub mod Seen

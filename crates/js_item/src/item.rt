@@ -66,7 +66,7 @@ impl<R: Copy> Object<R> {
     {
         Object {
             members: Vec::new(alloc),
-            index: Index::new(),
+            index: Index::none(),
         }
     }
 
@@ -82,12 +82,14 @@ impl<R: Copy> Object<R> {
         &self.index
     }
 
-    // Gives a number a place in the index.
-    pub(crate) fn note(&mut self, number: u32, place: u32) -> Result<(), NoMemory>
-        ensures { self.new ≡ self.old }
+    // The same object with this index.
+    pub(crate) fn with_index(self, index: Index) -> Object<R>
+        ensures { result ≡ self }
     {
-        let alloc = self.alloc();
-        self.index.note(alloc, number, place)
+        Object {
+            members: self.members,
+            index,
+        }
     }
 
     // Adds a member at the end.

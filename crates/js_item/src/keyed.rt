@@ -1,15 +1,14 @@
 // The members of objects, by their keys.
-ghost use Rattle.std.specs.Prelude.{◌≡◌, ◌+◌, ◌<◌, ◌≤◌, OnOk, OnErr, MatchOption, IfSome, None, Some, is_some, bytes_eq};
+ghost use Rattle.std.specs.Prelude.{◌≡◌, ◌<◌, MatchOption, IfSome, None, Some, is_some, bytes_eq};
 ghost use Rattle.js_store.specs.State.{text};
 ghost use Rattle.js_store.specs.Faults.{Uses};
 ghost use Rattle.js_item.specs.Fine.{strings_of, KeyFine, KeysFine, KeysDiffer};
-ghost use Rattle.js_item.specs.Puts.{width, has_units, names_key, place_by, value_by, put_by};
+ghost use Rattle.js_item.specs.Puts.{width, has_units, names_key, place_by, value_by};
 ghost use Rattle.js_item.specs.Views.{content_of, fields_of};
 
-use crate::index::FEW;
-use crate::item::{Item, Member, Object};
+use crate::index::Index;
+use crate::item::{Item, Object};
 use js_store::Strings;
-use js_units::NoMemory;
 
 impl<R: Copy> Object<R> {
     /// The place of the member whose key has the units of `key`, if there is one. It compares
@@ -23,14 +22,36 @@ impl<R: Copy> Object<R> {
         ensures place { result ≡ place_by (names_key (S.state store.old) S.number key) self.now }
         ensures uses { Uses (S.state store.old) (S.state store.new) None 0 0 }
     {
-        match self.find_by_index(store, key) {
+        self.find_with(self.index(), store, key)
+    }
+
+    // The same by another index.
+    pub(crate) fn find_with<S: Strings<Ref = R>>(
+        &self,
+        index: &Index,
+        store: &mut S,
+        key: R,
+    ) -> Option<u32>
+        requires few { width self.now < 4294967296 }
+        requires keys { KeysFine (strings_of (S.state store.old)) S.number self.now }
+        requires apart { KeysDiffer (strings_of (S.state store.old)) S.number self.now }
+        requires key { KeyFine (strings_of (S.state store.old)) (S.number key) }
+        ensures place { result ≡ place_by (names_key (S.state store.old) S.number key) self.now }
+        ensures uses { Uses (S.state store.old) (S.state store.new) None 0 0 }
+    {
+        match self.find_by_index(index, store, key) {
             Some(place) => Some(place),
             None => self.find_one_by_one(store, key),
         }
     }
 
     // The place that the index has for the key's number, if the member there has the key.
-    fn find_by_index<S: Strings<Ref = R>>(&self, store: &mut S, key: R) -> Option<u32>
+    fn find_by_index<S: Strings<Ref = R>>(
+        &self,
+        index: &Index,
+        store: &mut S,
+        key: R,
+    ) -> Option<u32>
         requires keys { KeysFine (strings_of (S.state store.old)) S.number self.now }
         requires apart { KeysDiffer (strings_of (S.state store.old)) S.number self.now }
         requires key { KeyFine (strings_of (S.state store.old)) (S.number key) }
@@ -39,7 +60,7 @@ impl<R: Copy> Object<R> {
         ensures uses { Uses (S.state store.old) (S.state store.new) None 0 0 }
     {
         let number = store.id_of(key)?;
-        let place = self.index().place(number)?;
+        let place = index.place(number)?;
         let members = self.members();
         if place as usize >= members.len() {
             return None;
@@ -80,72 +101,6 @@ impl<R: Copy> Object<R> {
         match self.find(store, key) {
             Some(place) => Some(&self.members()[place as usize].value),
             None => None,
-        }
-    }
-
-    /// Puts the value in the place of the one whose key has the units of `key`, or else a new
-    /// member at the end. A refusal leaves the object as it was. Afterwards its keys are fine and
-    /// differ, so that a caller may find, get and insert again.
-    pub fn insert<S: Strings<Ref = R>>(
-        &mut self,
-        store: &mut S,
-        key: R,
-        value: Item<R>,
-    ) -> Result<(), NoMemory>
-        requires few { width self.old < 4294967295 }
-        requires keys { KeysFine (strings_of (S.state store.old)) S.number self.old }
-        requires apart { KeysDiffer (strings_of (S.state store.old)) S.number self.old }
-        requires key { KeyFine (strings_of (S.state store.old)) (S.number key) }
-        ensures added { OnOk result
-            (self.new ≡ put_by (names_key (S.state store.old) S.number key) key (content_of value) self.old) }
-        ensures unchanged { OnErr result (self.new ≡ self.old) }
-        ensures keys { KeysFine (strings_of (S.state store.new)) S.number self.new }
-        ensures apart { KeysDiffer (strings_of (S.state store.new)) S.number self.new }
-        ensures few { width self.new ≤ width self.old + 1 }
-        ensures uses { Uses (S.state store.old) (S.state store.new) None 0 0 }
-    {
-        match self.find(store, key) {
-            Some(place) => {
-                self.replace(place, value);
-                Ok(())
-            }
-            None => {
-                self.enter(store, key)?;
-                self.push(Member { key, value })
-            }
-        }
-    }
-
-    // Enters a key in the index as that of the next member, which is behind the first few. With the
-    // first such member those before it are entered.
-    fn enter<S: Strings<Ref = R>>(&mut self, store: &S, key: R) -> Result<(), NoMemory>
-        requires { width self.old < 4294967295 }
-        ensures { self.new ≡ self.old }
-    {
-        let next = self.members().len() as u32;
-        if next < FEW {
-            return Ok(());
-        }
-        if next == FEW {
-            for place in 0..FEW {
-                let first = self.members()[place as usize].key;
-                self.enter_at(store, first, place)?;
-            }
-        }
-        self.enter_at(store, key, next)
-    }
-
-    fn enter_at<S: Strings<Ref = R>>(
-        &mut self,
-        store: &S,
-        key: R,
-        place: u32,
-    ) -> Result<(), NoMemory>
-        ensures { self.new ≡ self.old }
-    {
-        match store.id_of(key) {
-            Some(number) => self.note(number, place),
-            None => Ok(()),
         }
     }
 

@@ -10,9 +10,11 @@
 #![tactic(auto)]
 
 mod bounds;
+mod builder;
 mod copying;
 mod index;
 mod item;
 mod keyed;
 
+pub use builder::ObjectBuilder;
 pub use item::{Item, Member, Object};

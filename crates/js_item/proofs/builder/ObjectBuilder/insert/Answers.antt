@@ -5,7 +5,7 @@ use Rattle.js_item.specs.Views.{content_of}
 use Rattle.js_item.proofs.Finding.{place_within, put_there, put_last}
 use Rattle.js_item.proofs.Sizes.{width_with, width_either}
 use Rattle.js_item.proofs.Still.{keys_with, keys_without, keys_either, differ_with, differ_without, differ_either}
-use Rattle.js_item.proofs.item.Object.insert.Goals as goal
+use Rattle.js_item.proofs.builder.ObjectBuilder.insert.Goals as goal
 
 pub replace-requires : goal.replace-requires
 replace-requires g c =

@@ -1,7 +1,7 @@
 use Rattle.std.proofs.Common.{◌∙◌}
 use Rattle.js_item.proofs.Still.{keys_still}
 use Rattle.js_item.proofs.Finding.{place_still}
-use Rattle.js_item.proofs.item.Object.find.Goals as goal
+use Rattle.js_item.proofs.item.Object.find_with.Goals as goal
 
 pub find_one_by_one-requires-clause-keys : goal.find_one_by_one-requires-clause-keys
 find_one_by_one-requires-clause-keys g c =
