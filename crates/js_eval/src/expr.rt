@@ -23,7 +23,7 @@ use eval_builtins::call_builtin;
 use eval_members::{call, present, read_description, read_index, read_length, read_property};
 use eval_tree::{Builtin, Expr, Link, Name, PostStep};
 use eval_values::{Kind, Stop, Value, apply_unary, number_value, push};
-use js_item::Object;
+use js_item::{Object, ObjectBuilder};
 use js_number::Num;
 use js_store::Strings;
 use js_units::Units;
@@ -219,11 +219,11 @@ fn members_of<S: Strings>(
         (entries_paid (entries_tree members.now)
         (scope_of (S.state store.old) S.number context.now) no_fields) }
 {
-    let mut object = Object::new(alloc);
+    let mut object = ObjectBuilder::new(alloc);
     for member in members {
         object = with_member(alloc, store, context, member, object)?;
     }
-    Ok(object)
+    Ok(object.finish())
 }
 
 #[cycle(expr)]
@@ -232,8 +232,8 @@ fn with_member<S: Strings>(
     store: &mut S,
     context: &Context<S::Ref>,
     member: &(Units, Expr),
-    object: Object<S::Ref>,
-) -> Result<Object<S::Ref>, Stop>
+    object: ObjectBuilder<S::Ref, S>,
+) -> Result<ObjectBuilder<S::Ref, S>, Stop>
     requires context { ContextFine (S.state store.old) S.number context.now }
     requires object { FineFields (strings_of (S.state store.old)) S.number object }
     ensures grows { Grows (S.state store.old) (S.state store.new) }

@@ -12,7 +12,7 @@ ghost use Rattle.js_eval.specs.Paid.{key_paid, GivesKey, Makes};
 
 use crate::context::Context;
 use eval_values::{Kind, Stop, Value};
-use js_item::Object;
+use js_item::{Object, ObjectBuilder};
 use js_store::{StoreFault, Strings};
 
 /// The interned string of a key.
@@ -38,10 +38,10 @@ pub fn intern_key<S: Strings>(
 /// The object with one more member, or with another value of the member that has this key.
 pub fn put<S: Strings>(
     store: &mut S,
-    object: Object<S::Ref>,
+    object: ObjectBuilder<S::Ref, S>,
     key: S::Ref,
     value: Value<S::Ref>,
-) -> Result<Object<S::Ref>, Stop>
+) -> Result<ObjectBuilder<S::Ref, S>, Stop>
     requires object { FineFields (strings_of (S.state store.old)) S.number object }
     requires key { KeyFine (strings_of (S.state store.old)) (S.number key) }
     requires value { IsFine (S.state store.old) S.number value }
@@ -53,7 +53,7 @@ pub fn put<S: Strings>(
         (fields_mapped (says (S.state store.old) S.number) object)) free) }
 {
     let mut object = object;
-    if object.members().len() >= u32::MAX as usize {
+    if object.len() >= u32::MAX as usize {
         return Err(Stop::Store(StoreFault::Memory));
     }
     object.insert(store, key, value)?;

@@ -11,7 +11,7 @@ use Rattle.js_item.specs.Views.{content_of, fields_of}
 use Rattle.js_item.specs.Fine.{KnownStrings, strings_of, units_at, KeyFine, NoKey, KeysFine, KeysDiffer}
 use Rattle.js_item.specs.Puts.{width, one_on, place_by, value_by, put_by, has_units, with_value}
 
-none_head : (b : Bool) (o : Option ℕ) → (if b then Some 0 else one_on o) ≡ None → (b ≡ false) × (o ≡ None)
+pub none_head : (b : Bool) (o : Option ℕ) → (if b then Some 0 else one_on o) ≡ None → (b ≡ false) × (o ≡ None)
 none_head true o e = cc
 none_head false None e = (refl, refl)
 none_head false (Some n) e = cc
@@ -20,7 +20,7 @@ if_true : (b : Bool) (o : Option ℕ) → b ≡ true → (if b then Some 0 else 
 if_true true o e = refl
 if_true false o e = cc
 
-if_false : (b : Bool) (o p : Option ℕ) → b ≡ false → o ≡ p → (if b then Some 0 else one_on o) ≡ one_on p
+pub if_false : (b : Bool) (o p : Option ℕ) → b ≡ false → o ≡ p → (if b then Some 0 else one_on o) ≡ one_on p
 if_false true o p e f = cc
 if_false false o p e f = ap one_on f
 
@@ -52,7 +52,7 @@ keys_at s name [] i m h e k = absurd (omega arith)
 keys_at s name (n ∷ ms) zero m h e k = let P : Member _ → Type 0 = λ p. KeyFine s (name p.key) in subst P (sym e) k.0
 keys_at s name (n ∷ ms) (suc i) m h e k = keys_at s name ms i m (omega arith) e k.1
 
-false_unless : (b : Bool) → (b ≡ true → false ≡ true) → b ≡ false
+pub false_unless : (b : Bool) → (b ≡ true → false ≡ true) → b ≡ false
 false_unless true h = sym (h refl)
 false_unless false h = refl
 
@@ -68,7 +68,7 @@ told_units a b name g key r t k l e =
     cc (text_still g (name key) k.known, text_still g (name r) l.known)
 
 -- a member that has the key is the first one that has it, since keys differ
-no_key_at : {R : Type 0} (s : KnownStrings) (name : R → ℕ) (u : List ℕ) (ms : List (Member R)) (i : ℕ) (m : Member R) → i < length ms → m ≡
+pub no_key_at : {R : Type 0} (s : KnownStrings) (name : R → ℕ) (u : List ℕ) (ms : List (Member R)) (i : ℕ) (m : Member R) → i < length ms → m ≡
     get_or ms i m → NoKey s name u (fields_of ms) → units_at s (name m.key) ≡ u → ⊥
 no_key_at s name u [] i m h e k = absurd (omega arith)
 no_key_at s name u (n ∷ ms) zero m h e k = let P : Member _ → Type 0 = λ p. units_at s (name p.key) ≡ u → ⊥ in subst P (sym e) k.0

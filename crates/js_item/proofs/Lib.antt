@@ -3,3 +3,4 @@ pub mod Sizes
 pub mod Still
 pub mod Finding
 pub mod Values
+pub mod Indexing

@@ -74,16 +74,7 @@ impl<R: Copy, S: Strings<Ref = R>> ObjectBuilder<R, S> {
         ensures few { width self.new ≤ width self.old + 1 }
         ensures uses { Uses (S.state store.old) (S.state store.new) None 0 0 }
     {
-        match find(store, &self.object, &self.index, key) {
-            Some(place) => {
-                self.object.replace(place, value);
-                Ok(())
-            }
-            None => {
-                self.index.enter(store, &self.object, key)?;
-                self.object.push(Member { key, value })
-            }
-        }
+        put(store, &mut self.object, &mut self.index, key, value)
     }
 
     /// The object.
@@ -91,6 +82,40 @@ impl<R: Copy, S: Strings<Ref = R>> ObjectBuilder<R, S> {
         ensures { result ≡ self }
     {
         self.object.with_index(self.index)
+    }
+}
+
+// What `insert` does to the parts of a builder.
+fn put<S: Strings>(
+    store: &mut S,
+    object: &mut Object<S::Ref>,
+    index: &mut Index,
+    key: S::Ref,
+    value: Item<S::Ref>,
+) -> Result<(), NoMemory>
+    requires few { width object.old < 4294967295 }
+    requires keys { KeysFine (strings_of (S.state store.old)) S.number object.old }
+    requires apart { KeysDiffer (strings_of (S.state store.old)) S.number object.old }
+    requires key { KeyFine (strings_of (S.state store.old)) (S.number key) }
+    requires indexed { IsIndexed S.number index.old object.old }
+    ensures added { OnOk result
+        (object.new ≡ put_by (names_key (S.state store.old) S.number key) key (content_of value) object.old) }
+    ensures unchanged { OnErr result (object.new ≡ object.old) }
+    ensures keys { KeysFine (strings_of (S.state store.new)) S.number object.new }
+    ensures apart { KeysDiffer (strings_of (S.state store.new)) S.number object.new }
+    ensures few { width object.new ≤ width object.old + 1 }
+    ensures indexed { IsIndexed S.number index.new object.new }
+    ensures uses { Uses (S.state store.old) (S.state store.new) None 0 0 }
+{
+    match find(store, object, index, key) {
+        Some(place) => {
+            object.replace(place, value);
+            Ok(())
+        }
+        None => {
+            index.enter(store, object, key)?;
+            object.push(Member { key, value })
+        }
     }
 }
 

@@ -1,5 +1,5 @@
 // The index by which a member is found among many.
-ghost use Rattle.std.specs.Prelude.{◌≡◌, ◌<◌, ℕ, [], None, Some, IsTrue, IfOk, OnOk, OnErr};
+ghost use Rattle.std.specs.Prelude.{◌≡◌, ◌<◌, ℕ, [], length, None, Some, IsTrue, IfOk, OnOk, OnErr};
 ghost use Rattle.js_item.specs.Contents.{Content, add};
 ghost use Rattle.js_item.specs.Fine.{strings_of, KeysFine, KeysDiffer};
 ghost use Rattle.js_item.specs.Indexed.{Lacks, IsNoted, IsIndexed};
@@ -128,7 +128,8 @@ fn index_of<S: Strings>(
     store: &S,
     members: &[Member<S::Ref>],
 ) -> Result<Index, NoMemory>
-    requires { KeysDiffer (strings_of (S.state store.now)) S.number (fields_of members.now) }
+    requires few { length members.now < 4294967296 }
+    requires apart { KeysDiffer (strings_of (S.state store.now)) S.number (fields_of members.now) }
     ensures { IfOk result (λ i. IsIndexed S.number i (fields_of members.now)) }
 {
     let mut index = Index::empty(alloc)?;
