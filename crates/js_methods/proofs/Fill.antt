@@ -14,11 +14,11 @@ use Rattle.js_methods.specs.Building.{filling}
 use Rattle.js_methods.proofs.Copies.{repeat-add, length-copies}
 use Rattle.js_methods.proofs.Uses.{uses_within, uses_after}
 
-take_front : (m r : ℕ) (f : List ℕ) → r ≤ length f → (m ≡ 0 → r ≡ 0) → take r (repeat m f) ≡ take r f
+pub take_front : (m r : ℕ) (f : List ℕ) → r ≤ length f → (m ≡ 0 → r ≡ 0) → take r (repeat m f) ≡ take r f
 take_front zero r f h z = ap (λ k. take k (repeat 0 f)) (z refl) ∙ sym (ap (λ k. take k f) (z refl))
 take_front (suc m) r f h z = take-append-le r f (repeat m f) h
 
-long_enough : (n : ℕ) (f : List ℕ) → 1 ≤ length f → n ≤ length (repeat n f)
+pub long_enough : (n : ℕ) (f : List ℕ) → 1 ≤ length f → n ≤ length (repeat n f)
 long_enough n f h = let m : n * 1 ≤ n * length f = mul-le-mul_left n h in omega (arith, m, length-copies n f)
 
 pub length-filling : (n : ℕ) (f : List ℕ) → 1 ≤ length f → length (filling f n) ≡ n

@@ -1,3 +1,4 @@
+pub mod Again
 pub mod Blanks
 pub mod Copies
 pub mod Counted

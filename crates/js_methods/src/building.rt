@@ -20,6 +20,9 @@ use js_texts::{Cause, MethodFault};
 use js_units::{NoMemory, Units, is_lead, is_trail};
 use std::alloc::Global;
 
+// As many units of filler are put together at once.
+const AT_ONCE: usize = 32;
+
 /// The units of `s` followed by those of `t` ("String.prototype.concat" with one argument).
 pub fn concat<S: Strings>(store: &mut S, s: S::Ref, t: S::Ref) -> Result<S::Ref, MethodFault>
     requires left { IsKnown (S.state store.old) (S.number s) }
@@ -162,6 +165,80 @@ fn padded_length(len: u64, max: u64, size: u32) -> u64
 
 // The filler repeated and cut to `room` units.
 fn filled<S: Strings>(store: &mut S, filler: S::Ref, room: u32) -> Result<S::Ref, StoreFault>
+    requires known { IsKnown (S.state store.old) (S.number filler) }
+    requires units { 1 ≤ length (text (S.state store.old) (S.number filler)) }
+    requires some { 1 ≤ room }
+    requires short { room ≤ (S.state store.old).limit }
+    ensures value { IfOk result
+        (λ r. NamesUnits (S.state store.new) (S.number r)
+        (filling (text (S.state store.old) (S.number filler)) room)) }
+    ensures settled { 1 ≤ room % length (text (S.state store.old) (S.number filler))
+        → OnOk result (IsSettled (S.state store.new) (S.number filler)) }
+    ensures uses { Uses (S.state store.old) (S.state store.new) (fault_of result)
+        64 (2 * wide_words (length (text (S.state store.old) (S.number filler))) + 256) }
+{
+    if room as usize <= AT_ONCE {
+        return filled_at_once(store, filler, room);
+    }
+    filled_by_doubling(store, filler, room)
+}
+
+// The same of few units, which are put together outside the store.
+fn filled_at_once<S: Strings>(
+    store: &mut S,
+    filler: S::Ref,
+    room: u32,
+) -> Result<S::Ref, StoreFault>
+    requires known { IsKnown (S.state store.old) (S.number filler) }
+    requires units { 1 ≤ length (text (S.state store.old) (S.number filler)) }
+    requires some { 1 ≤ room }
+    requires few { room ≤ 32 }
+    requires short { room ≤ (S.state store.old).limit }
+    ensures value { IfOk result
+        (λ r. NamesUnits (S.state store.new) (S.number r)
+        (filling (text (S.state store.old) (S.number filler)) room)) }
+    ensures settled { OnOk result (IsSettled (S.state store.new) (S.number filler)) }
+    ensures uses { Uses (S.state store.old) (S.state store.new) (fault_of result)
+        64 (2 * wide_words (length (text (S.state store.old) (S.number filler))) + 256) }
+{
+    store.settle(filler)?;
+    let mut units = [0; AT_ONCE];
+    let units = &mut units[..room as usize];
+    read_filling(store, filler, units);
+    store.from_units(units)
+}
+
+// Fills a list with the units of a settled filler, repeated and cut.
+fn read_filling<S: Strings>(store: &mut S, filler: S::Ref, into: &mut [u16])
+    requires known { IsKnown (S.state store.old) (S.number filler) }
+    requires settled { IsSettled (S.state store.old) (S.number filler) }
+    requires units { 1 ≤ length (text (S.state store.old) (S.number filler)) }
+    requires some { 1 ≤ length into.old }
+    ensures units { into.new ≡ filling (text (S.state store.old) (S.number filler)) (length into.old) }
+    ensures uses { Uses (S.state store.old) (S.state store.new) None 0 0 }
+{
+    let size = into.len().min(store.len(filler) as usize);
+    store.read(filler, 0, &mut into[..size]);
+    repeat_front(into, size);
+}
+
+// Puts the first units of a list behind them, again and again.
+fn repeat_front(units: &mut [u16], size: usize)
+    requires some { 1 ≤ size }
+    requires within { size ≤ length units.old }
+    ensures { units.new ≡ filling (take size units.old) (length units.old) }
+{
+    for i in size..units.len() {
+        units[i] = units[i - size];
+    }
+}
+
+// The filler repeated and cut to `room` units, of copies that are doubled and a front of it.
+fn filled_by_doubling<S: Strings>(
+    store: &mut S,
+    filler: S::Ref,
+    room: u32,
+) -> Result<S::Ref, StoreFault>
     requires known { IsKnown (S.state store.old) (S.number filler) }
     requires units { 1 ≤ length (text (S.state store.old) (S.number filler)) }
     requires some { 1 ≤ room }

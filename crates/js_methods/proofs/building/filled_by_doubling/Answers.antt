@@ -2,7 +2,7 @@ use Rattle.std.proofs.Common.{◌≡◌, arith, rules}
 use Rattle.std.specs.Prelude.{Some, None, ◌/◌, ◌%◌}
 use Rattle.js_methods.proofs.Copies.{ok_map}
 use Rattle.js_methods.proofs.Fill.{front_value, repeats_room, repeats_value, repeats_use, repeats_within, front_known, front_within, front_use, front_within_use, last_room, last_value, last_use}
-use Rattle.js_methods.proofs.building.filled.Goals as goal
+use Rattle.js_methods.proofs.building.filled_by_doubling.Goals as goal
 
 pub returns-then-whole-eq0-clause-value : goal.returns-then-whole-eq0-clause-value
 returns-then-whole-eq0-clause-value g c =
