@@ -11,7 +11,7 @@ use Rattle.js_item.specs.declared.item.Member.{Member}
 use Rattle.js_item.specs.Views.{content_of, fields_of}
 use Rattle.js_item.specs.Fine.{KnownStrings, strings_of, units_at, KeyFine, KeysFine, KeysDiffer}
 use Rattle.js_item.specs.Puts.{width, with_value, place_by, names_key}
-use Rattle.js_item.specs.Indexed.{Lacks, IsNoted, LeadsTo, IsIndexed}
+use Rattle.js_item.specs.Indexed.{Lacks, IsNoted, HasPlacesFrom, IsIndexed}
 use Rattle.js_item.proofs.Members.{fields_take}
 use Rattle.js_item.proofs.Finding.{none_head, if_false, false_unless, no_key_at, width_is}
 
@@ -25,7 +25,7 @@ module _ {R : Type 0} (name : R → ℕ) where
   Fresh n (field key value rest) = (name key ≡ n → ⊥) × Fresh n rest
 
   module _ (es fs : List (ℕ × ℕ)) (n place : ℕ) (noted : IsNoted (Some es) (Some fs) n place) where
-    leads_on : (i : ℕ) (gs : Fields R) → Fresh n gs → LeadsTo es name i gs → LeadsTo fs name i gs
+    leads_on : (i : ℕ) (gs : Fields R) → Fresh n gs → HasPlacesFrom es name i gs → HasPlacesFrom fs name i gs
     leads_on i no_fields f h = tt
     leads_on i (field key value rest) f h =
         let other : nat_eq n (name key) ≡ false = ne_eqb n (name key) (λ e. f.0 (sym e)) in
@@ -34,8 +34,8 @@ module _ {R : Type 0} (name : R → ℕ) where
     has_place : lookup (nat_eq n) fs ≡ Some place
     has_place = noted n ∙ ap (λ b. cond b (Some place) (lookup (nat_eq n) es)) (same_number n)
 
-  leads_next : (es : List (ℕ × ℕ)) (key : R) (value : Content R) (i : ℕ) (gs : Fields R) → LeadsTo es name i gs →
-      lookup (nat_eq (name key)) es ≡ Some (i + width gs) → LeadsTo es name i (add key value gs)
+  leads_next : (es : List (ℕ × ℕ)) (key : R) (value : Content R) (i : ℕ) (gs : Fields R) → HasPlacesFrom es name i gs →
+      lookup (nat_eq (name key)) es ≡ Some (i + width gs) → HasPlacesFrom es name i (add key value gs)
   leads_next es key value i no_fields h e = let here : i + 0 ≡ i = omega arith in (e ∙ ap Some here, tt)
   leads_next es key value i (field k v rest) h e =
       let on : i + (width rest + 1) ≡ i + 1 + width rest = omega arith in
@@ -69,14 +69,14 @@ module _ {R : Type 0} (name : R → ℕ) where
   indexed_then old new key gs (Err x) p f h = tt
 
   -- another value of a member
-  leads_with : (es : List (ℕ × ℕ)) (place : ℕ) (value : Content R) (i : ℕ) (gs : Fields R) → LeadsTo es name i gs → LeadsTo es name i (with_value place value gs)
+  leads_with : (es : List (ℕ × ℕ)) (place : ℕ) (value : Content R) (i : ℕ) (gs : Fields R) → HasPlacesFrom es name i gs → HasPlacesFrom es name i (with_value place value gs)
   leads_with es place value i no_fields h = tt
   leads_with es zero value i (field k v rest) h = h
   leads_with es (suc place) value i (field k v rest) h = (h.0, leads_with es place value (i + 1) rest h.1)
 
   pub indexed_with : (o : Option (List (ℕ × ℕ))) (place : ℕ) (value : Content R) (gs hs : Fields R) → hs ≡ with_value place value gs → IsIndexed name o gs → IsIndexed name o hs
   indexed_with None place value gs hs e h = tt
-  indexed_with (Some es) place value gs hs e h = subst (λ (q : Fields R). LeadsTo es name 0 q) (sym e) (leads_with es place value 0 gs h)
+  indexed_with (Some es) place value gs hs e h = subst (λ (q : Fields R). HasPlacesFrom es name 0 q) (sym e) (leads_with es place value 0 gs h)
 
   -- a member that was added, or not
   pub indexed_either : (o : Option (List (ℕ × ℕ))) (gs hs : Fields R) (key : R) (value : Content R) {A E : Type 0} (r : Result A E) → IsIndexed name o gs →
@@ -122,7 +122,7 @@ module _ {F R : Type 0} (s : State F) (sound : Sound s) (name : R → ℕ) (key 
       let interned : Interned s (text s (name key)) (name r) = subst (λ (u : List ℕ). Interned s u (name r)) units l.interned in
       sound.one_number (text s (name key)) (name r) (name key) interned k.interned
 
-  leads_absent : (es : List (ℕ × ℕ)) (i : ℕ) (gs : Fields R) → lookup (nat_eq (name key)) es ≡ None → LeadsTo es name i gs →
+  leads_absent : (es : List (ℕ × ℕ)) (i : ℕ) (gs : Fields R) → lookup (nat_eq (name key)) es ≡ None → HasPlacesFrom es name i gs →
       KeysFine (strings_of s) name gs → place_by (names_key s name key) gs ≡ None
   leads_absent es i no_fields e h l = refl
   leads_absent es i (field r v rest) e h l =

@@ -15,13 +15,13 @@ IsNoted (Some es) None n place = ⊥
 IsNoted (Some es) (Some fs) n place =
     (q : ℕ) → lookup (nat_eq q) fs ≡ cond (nat_eq n q) (Some place) (lookup (nat_eq q) es)
 
--- the entries lead from the number of each key to the place of its member, where the first one has the place i
-abbrev pub LeadsTo : {R : Type 0} → List (ℕ × ℕ) → (R → ℕ) → ℕ → Fields R → Type 0
-LeadsTo es name i no_fields = Unit {0}
-LeadsTo es name i (field key value rest) =
-    (lookup (nat_eq (name key)) es ≡ Some i) × LeadsTo es name (i + 1) rest
+-- the entries have for each key's number the place of its member, where the first one has the place i
+abbrev pub HasPlacesFrom : {R : Type 0} → List (ℕ × ℕ) → (R → ℕ) → ℕ → Fields R → Type 0
+HasPlacesFrom es name i no_fields = Unit {0}
+HasPlacesFrom es name i (field key value rest) =
+    (lookup (nat_eq (name key)) es ≡ Some i) × HasPlacesFrom es name (i + 1) rest
 
 -- if there is an index, it leads to each member
 abbrev pub IsIndexed : {R : Type 0} → (R → ℕ) → Option (List (ℕ × ℕ)) → Fields R → Type 0
 IsIndexed name None fs = Unit {0}
-IsIndexed name (Some es) fs = LeadsTo es name 0 fs
+IsIndexed name (Some es) fs = HasPlacesFrom es name 0 fs

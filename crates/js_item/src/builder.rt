@@ -140,7 +140,7 @@ fn find<S: Strings>(
     object.find_with(index, store, key)
 }
 
-// Whether the index tells that no member has the key.
+// Whether the index shows that no member has the key.
 fn is_new<S: Strings>(store: &S, object: &Object<S::Ref>, index: &Index, key: S::Ref) -> bool
     requires keys { KeysFine (strings_of (S.state store.now)) S.number object.now }
     requires key { KeyFine (strings_of (S.state store.now)) (S.number key) }
