@@ -528,8 +528,8 @@ members_of-loop-member-preserved g t c =
 pub members_of-returns-clause-did : goal.members_of-returns-clause-did
 members_of-returns-clause-did g t c =
     let past = drop_of_length-le c.args.members.now {i = c.loop-member.member-index} c.loop-member-test.false in
-    c.loop-member.invariant.completes (g.S.Strings.state c.loop-member.store) (Ok c.loop-member.object)
-    (rw past (record { is = refl; good = c.loop-member.invariant.fine; ran = ran_free (g.S.Strings.state c.loop-member.store) }))
+    rw c.finish.ensures (c.loop-member.invariant.completes (g.S.Strings.state c.loop-member.store) (Ok c.loop-member.object)
+    (rw past (record { is = refl; good = c.loop-member.invariant.fine; ran = ran_free (g.S.Strings.state c.loop-member.store) })))
 
 pub with_member-returns-in_err-key-clause-did : goal.with_member-returns-in_err-key-clause-did
 with_member-returns-in_err-key-clause-did g t c =
