@@ -3,6 +3,7 @@ use Rattle.eval_members.specs.Parts.{lacking, keyed}
 use Rattle.std.proofs.Common.{arith, ◌≡◌, ℕ, zero, suc, ◌<◌, Option, Some, None, List, [], ◌∷◌, length, refl, ap, sym, ◌∙◌, subst, Result, Ok, Err, slice_index_or}
 use Rattle.std.specs.Prelude.{unwrap_or, bytes_eq}
 use Rattle.std.specs.Option.{option_map}
+use Rattle.std.proofs.lemmas.List.{append-nil}
 use Rattle.js_store.specs.State.{State, NamesUnits, Grows, IsKnown, text as units_of}
 use Rattle.js_store.specs.Faults.{StoreStep}
 use Rattle.js_store.specs.declared.faults.StoreFault.TheVariants.{Memory}
@@ -19,12 +20,12 @@ use Rattle.js_item.proofs.Still.{fine_by, fine_of_still}
 use Rattle.js_item.proofs.Values.{mapped_still, fields_mapped_still, mapped_value}
 use Rattle.eval_values.specs.declared.value.Stop.{Stop}
 use Rattle.eval_values.specs.declared.value.Stop.TheVariants.{Store}
-use Rattle.eval_values.specs.Outcome.{Out, needing, texts_of, ledger_of}
+use Rattle.eval_values.specs.Outcome.{Out, gave, ended, needing, texts_of, ledger_of}
 use Rattle.eval_values.specs.Need.{nothing, reads}
 use Rattle.eval_values.specs.Conversions.{to_string, string_units}
 use Rattle.eval_values.specs.Ran.{MeetsLedger}
 use Rattle.eval_values.specs.Does.{GivesValue, GivesText}
-use Rattle.eval_values.proofs.Copied.{fine_copy}
+use Rattle.eval_values.proofs.Copied.{seen_copy, fine_copy}
 use Rattle.eval_values.proofs.Compose.{did_before, cut_of_memory, ran_free, ran_of_step, ran_of_text}
 use Rattle.eval_values.proofs.TextArguments.{text_then, text_converts, text_fails}
 use Rattle.eval_members.specs.Properties.{key_out, own, got, property, plain_property}
@@ -122,3 +123,19 @@ keyed_does name a b c g fs fine at v w r d e = text_converts name (reads (string
 pub keyed_fails : {F R : Type 0} (name : R → ℕ) (a b : State F) (fs : Fields (List ℕ)) (at : ℕ) (v : Val) (n : Stop) → GivesText {R = R}
     name a b (Err n) (to_string a.limit v) → GivesValue {R = R} name a b (Err n) (keyed at a.limit fs v)
 keyed_fails name a b fs at v n d = text_fails name (reads (string_units v)) a b n (to_string a.limit v) (λ k. property at k fs) d
+
+-- a value in its place, and then a copy of it
+module _ {F R : Type 0} (name : R → ℕ) (a b : State F) (v : Item R) where
+  pub copied_does : (w : Item R) (o : Out Val) → content_of w ≡ content_of v → GivesValue name a b (Ok v) o → GivesValue name a b (Ok w) o
+  copied_does w (gave x l) c d = record { is = seen_copy b name w v c ∙ d.is; good = fine_copy b name w v c d.good; ran = d.ran }
+  copied_does w (ended e l) c d = absurd d
+
+  pub copied_stops : (o : Out Val) → GivesValue name a b (Ok v) o → GivesValue {R = R} name a b (Err (Store Memory)) o
+  copied_stops (gave x l) d = record {
+    grows = d.ran.grows;
+    honest = tt;
+    history = record { done = l.interned; left = []; split = sym (append-nil l.interned); interns = d.ran.history; next = tt };
+    within_ids = let e = d.ran.within_ids in omega arith;
+    within_words = let e = d.ran.within_words in omega arith;
+  }
+  copied_stops (ended e l) d = absurd d

@@ -1,6 +1,6 @@
 -- Properties of objects, by their keys (ECMA-262, "OrdinaryGet").
 use Rattle.std.specs.Prelude.{ℕ, ◌*◌, List, length, nat_le, if◌then◌else◌, Option, Some, None, unwrap_or}
-use Rattle.std.specs.Prelude.{Bool, ◌||◌, bytes_eq, codes}
+use Rattle.std.specs.Prelude.{Bool, ◌||◌, bytes_eq, codes, Result, Ok, Err}
 use Rattle.js_item.specs.Contents.{Fields, undefined, null, symbol, object}
 use Rattle.js_item.specs.Seen.{Val}
 use Rattle.js_item.specs.Puts.{value_by}
@@ -54,3 +54,8 @@ abbrev pub indexed_object : ℕ → ℕ → Fields (List ℕ) → Val → Out Va
 indexed_object at limit fs (symbol k) = needing (reads 0) undefined
 indexed_object at limit fs i =
     converting (reads (string_units i)) (to_string limit i) (λ key. property at key fs)
+
+-- a result, with its value as what f makes of it
+abbrev pub given_as : {A B E : Type 0} → (A → B) → Result A E → Result B E
+given_as f (Ok v) = Ok (f v)
+given_as f (Err e) = Err e

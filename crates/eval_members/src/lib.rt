@@ -22,4 +22,4 @@ mod trimming;
 pub use indexing::read_index;
 pub use members::{present, read_description, read_length};
 pub use methods::call;
-pub use properties::read_property;
+pub use properties::{look_up_property, read_property};

@@ -7,11 +7,12 @@ ghost use Rattle.js_item.specs.Seen.{seen, says, fields_mapped};
 ghost use Rattle.std.specs.Prelude.{unwrap_or, length};
 ghost use Rattle.js_item.specs.Contents as contents;
 ghost use Rattle.js_item.specs.Contents.{undefined};
+ghost use Rattle.js_item.specs.declared.item.Item.TheVariants as item;
 ghost use Rattle.eval_values.specs.Outcome.{needing};
 ghost use Rattle.eval_values.specs.Need.{nothing};
 ghost use Rattle.eval_values.specs.Does.{GivesValue, GivesText};
 ghost use Rattle.eval_values.specs.Settled.{StringsSettled};
-ghost use Rattle.eval_members.specs.Properties.{is_inherited, key_out, own, got, property, plain_property, property_of, indexed_object};
+ghost use Rattle.eval_members.specs.Properties.{is_inherited, key_out, own, got, property, plain_property, property_of, indexed_object, given_as};
 
 use eval_values::{Kind, Stop, Value, to_text};
 use js_item::Object;
@@ -35,26 +36,50 @@ pub fn read_property<S: Strings>(
         (property_of at (S.state store.old).limit key.now
         (seen (S.state store.old) S.number value.now)) }
 {
+    let absent = Value::Undefined;
+    let found = look_up_property(alloc, store, at, value, key, &absent)?;
+    Ok(found.copy()?)
+}
+
+/// The same property in its place, without a copy; `absent` where an object has none of the key.
+pub fn look_up_property<'a, S: Strings>(
+    alloc: Global,
+    store: &mut S,
+    at: u32,
+    value: &'a Value<S::Ref>,
+    key: &[u16],
+    absent: &'a Value<S::Ref>,
+) -> Result<&'a Value<S::Ref>, Stop>
+    requires fine { IsFine (S.state store.old) S.number value.now }
+    requires absent { absent.now ≡ item.Undefined }
+    ensures grows { Grows (S.state store.old) (S.state store.new) }
+    ensures fine { IfOk result (λ v. IsFine (S.state store.new) S.number v.now) }
+    ensures did { GivesValue S.number (S.state store.old) (S.state store.new) (given_as (λ v. v.now) result)
+        (property_of at (S.state store.old).limit key.now
+        (seen (S.state store.old) S.number value.now)) }
+{
     match value {
         Value::Undefined | Value::Null => Err(Stop::Threw(Kind::TypeError)),
-        Value::Object(object) => read_spelled(alloc, store, at, object, key),
+        Value::Object(object) => look_up_spelled(alloc, store, at, object, key, absent),
         Value::Bool(_) | Value::Number(_) | Value::Text(_) | Value::Symbol(_) | Value::List(_) =>
             Err(Stop::Unsupported { at }),
     }
 }
 
-fn read_spelled<S: Strings>(
+fn look_up_spelled<'a, S: Strings>(
     alloc: Global,
     store: &mut S,
     at: u32,
-    object: &Object<S::Ref>,
+    object: &'a Object<S::Ref>,
     key: &[u16],
-) -> Result<Value<S::Ref>, Stop>
+    absent: &'a Value<S::Ref>,
+) -> Result<&'a Value<S::Ref>, Stop>
     requires fine { FineFields (strings_of (S.state store.old)) S.number object.now }
     requires bounded { Bounded object.now }
+    requires absent { absent.now ≡ item.Undefined }
     ensures grows { Grows (S.state store.old) (S.state store.new) }
-    ensures fine { IfOk result (λ v. IsFine (S.state store.new) S.number v) }
-    ensures did { GivesValue S.number (S.state store.old) (S.state store.new) result
+    ensures fine { IfOk result (λ v. IsFine (S.state store.new) S.number v.now) }
+    ensures did { GivesValue S.number (S.state store.old) (S.state store.new) (given_as (λ v. v.now) result)
         (property_of at (S.state store.old).limit key.now
         (contents.object (fields_mapped (says (S.state store.old) S.number) object.now))) }
 {
@@ -62,7 +87,7 @@ fn read_spelled<S: Strings>(
         return Err(Stop::Threw(Kind::RangeError));
     }
     let key = intern_units(store, key)?;
-    read_own(alloc, store, at, object, key)
+    look_up_own(alloc, store, at, object, key, absent)
 }
 
 /// The property of an object by an index that was evaluated; `at` is the byte offset of the bracket.
@@ -197,9 +222,34 @@ fn read_own<S: Strings>(
         (own (text (S.state store.old) (S.number key))
         (fields_mapped (says (S.state store.old) S.number) object.now))) }
 {
+    let absent = Value::Undefined;
+    let found = look_up_own(alloc, store, at, object, key, &absent)?;
+    Ok(found.copy()?)
+}
+
+// The same in its place.
+fn look_up_own<'a, S: Strings>(
+    alloc: Global,
+    store: &mut S,
+    at: u32,
+    object: &'a Object<S::Ref>,
+    key: S::Ref,
+    absent: &'a Value<S::Ref>,
+) -> Result<&'a Value<S::Ref>, Stop>
+    requires fine { FineFields (strings_of (S.state store.old)) S.number object.now }
+    requires bounded { Bounded object.now }
+    requires key { KeyFine (strings_of (S.state store.old)) (S.number key) }
+    requires absent { absent.now ≡ item.Undefined }
+    ensures grows { Grows (S.state store.old) (S.state store.new) }
+    ensures fine { IfOk result (λ v. IsFine (S.state store.new) S.number v.now) }
+    ensures did { GivesValue S.number (S.state store.old) (S.state store.new) (given_as (λ v. v.now) result)
+        (got at (text (S.state store.old) (S.number key))
+        (own (text (S.state store.old) (S.number key))
+        (fields_mapped (says (S.state store.old) S.number) object.now))) }
+{
     match object.get(store, key) {
-        Some(value) => Ok(value.copy()?),
-        None => lack(alloc, store, at, key),
+        Some(value) => Ok(value),
+        None => lack(alloc, store, at, key, absent),
     }
 }
 
@@ -225,26 +275,28 @@ fn own_or_undefined<S: Strings>(
 }
 
 // An object that has no own property of the key. Only a short key is read.
-fn lack<S: Strings>(
+fn lack<'a, S: Strings>(
     alloc: Global,
     store: &mut S,
     at: u32,
     key: S::Ref,
-) -> Result<Value<S::Ref>, Stop>
-    requires { KeyFine (strings_of (S.state store.old)) (S.number key) }
+    absent: &'a Value<S::Ref>,
+) -> Result<&'a Value<S::Ref>, Stop>
+    requires key { KeyFine (strings_of (S.state store.old)) (S.number key) }
+    requires absent { absent.now ≡ item.Undefined }
     ensures grows { Grows (S.state store.old) (S.state store.new) }
-    ensures fine { IfOk result (λ v. IsFine (S.state store.new) S.number v) }
-    ensures did { GivesValue S.number (S.state store.old) (S.state store.new) result
+    ensures fine { IfOk result (λ v. IsFine (S.state store.new) S.number v.now) }
+    ensures did { GivesValue S.number (S.state store.old) (S.state store.new) (given_as (λ v. v.now) result)
         (lacking at (text (S.state store.old) (S.number key))) }
 {
     if store.len(key) > 20 {
-        return Ok(Value::Undefined);
+        return Ok(absent);
     }
     let units = copied(alloc, store, key)?;
     if is_inherited(units.as_slice()) {
         Err(Stop::Unsupported { at })
     } else {
-        Ok(Value::Undefined)
+        Ok(absent)
     }
 }
 
