@@ -27,6 +27,7 @@ use Rattle.heap_text.proofs.Owned.{own_reads}
 use Rattle.heap_reserve.specs.declared.reserve.Reserve.{Reserve}
 use Rattle.heap_reserve.specs.Reserves.{IsReserve, kept_ids}
 use Rattle.heap_reserve.proofs.Kept.{ids_few, reserve_kept}
+use Rattle.heap_intern.proofs.Going.{left_known}
 use Rattle.heap_intern.specs.Seats.{AreSeats, IsSeated}
 use Rattle.heap_ids.specs.declared.ids.IdSet.{IdSet}
 use Rattle.heap_agents.specs.declared.seats.Seats.{Seats}
@@ -123,18 +124,6 @@ same_seats v l m e h s some = subst (λ (n : ℕ). IsSeated v s (n - 1)) (sym (e
 
 pub same_hashes : (v : View) (l m : List ℕ) → ((k : ℕ) → slice_index m k ≡ slice_index l k) → AreHashes v l → AreHashes v m
 same_hashes v l m e h k some = subst (IsHashed v k) (sym (e k)) (h k (subst (λ (n : ℕ). 0 < n) (e k) some))
-
-pub counted_known : (v : View) (ids words : ℕ) → KeepsKnown v (loaded_counter (loaded_counter v Ids ids) Words words)
-counted_known v ids words = record {
-  units = λ i us h. h;
-  lengths = λ i n h. h;
-  flats = λ i wide start h. h;
-  thins = λ i t h. h;
-  settled = λ i h. h;
-  frozen = λ c x h. h;
-  known = λ i h. h;
-  slots = λ k i h. h;
-}
 
 pub counted_own : (v : View) (ids words : ℕ) → KeepsOwn v (loaded_counter (loaded_counter v Ids ids) Words words)
 counted_own v ids words = record { ids = λ i n h. h; words = λ c x h. h }
@@ -264,22 +253,10 @@ added_here x o held theirs beside known there i h =
 
 -- what a split leaves to both
 module _ (x : Held) (y : Option SharedText) (give : ℕ) (held : IsHeld x) (there : IsThere y) (same : IsSameText x.text y) where
-  left_known : KeepsKnown (view_by x) (left_after_split (view_by x) give)
-  left_known = record {
-    units = λ i us h. h;
-    lengths = λ i n h. h;
-    flats = λ i wide start h. h;
-    thins = λ i t h. h;
-    settled = λ i h. h;
-    frozen = λ c x h. h;
-    known = λ i h. h;
-    slots = λ k i h. h;
-  }
-
   pub left_held : view_if y ≡ left_after_split (view_by x) give → IsHeld (record x { text = y })
   left_held e = still x y held there same (λ i us h. subst (λ (v : View). Has v.units i us) (sym e) h)
       (record { calls = λ u i h. subst (λ (v : View). Contains (history v) (u, i)) (sym e) h }) (ap (λ (v : View). v.agents) e)
-      (seats_still x y held there same (subst (KeepsKnown (view_by x)) (sym e) left_known))
+      (seats_still x y held there same (subst (KeepsKnown (view_by x)) (sym e) (left_known (view_by x) give)))
       (subst (KeepsOwn (view_by x)) (sym e) (record { ids = λ i n h. h; words = λ c n h. h }))
 
   pub right_held : view_if y ≡ right_after_split (view_by x) give → (o z : Held) → ((i : ℕ) → IsIn o.known i ↔ IsIn x.known i) → ((i : ℕ) → IsIn o.interned i ↔ IsIn x.interned i)

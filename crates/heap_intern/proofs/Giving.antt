@@ -41,7 +41,8 @@ use Rattle.heap_rule.specs.Layout.{MAX}
 use Rattle.heap_intern.specs.Keys.{IsKey, units_of_key}
 use Rattle.heap_intern.specs.SlotLoads.{loads_at}
 use Rattle.heap_intern.specs.Taking.{HasGiven, IsKeyAnswer, without_given}
-use Rattle.heap_intern.specs.Visits.{IsNeverUnmade, IsPassed, IsPlace, LoadsOne, id_in}
+use Rattle.heap_intern.specs.Visits.{IsNeverUnmade, IsPassed, IsPlace, LoadsOne}
+use Rattle.heap_intern.specs.Seats.{id_in}
 use Rattle.heap_intern.proofs.Bearing.{known_length, shown_span, without_keeps}
 use Rattle.heap_intern.proofs.Going.{goes_trans}
 use Rattle.heap_intern.proofs.Hashes.{note_of}

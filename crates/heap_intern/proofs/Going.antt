@@ -7,6 +7,9 @@ use Rattle.js_header.specs.declared.form.Form.{Form}
 use Rattle.js_header.specs.declared.form.Form.TheVariants.{Unborn, Flat, Cons, Sliced, Thin}
 use Rattle.heap_rule.specs.declared.view.View.{View}
 use Rattle.heap_rule.specs.declared.size.Counters.{Counters}
+use Rattle.heap_rule.specs.declared.size.Counter.TheVariants.{Ids, Words}
+use Rattle.heap_rule.specs.Agents.{left_after_split}
+use Rattle.heap_rule.specs.Claims.{loaded_counter}
 use Rattle.heap_rule.specs.Forms.{IsLater, IsSliced}
 use Rattle.heap_rule.specs.Maps.{Has}
 use Rattle.heap_rule.specs.Paths.{Calls}
@@ -194,3 +197,28 @@ module _ (v : View) where
 
   pub looks_lost : (w : View) (k i j x : ℕ) → x ≡ j + 1 → KeepsKnown v w → w ≡ learned_all (took_slot v k i x) → LoadsAlone v w × Has w.slots k j × MayUse w j
   looks_lost w k i j x is h e = subst (λ (u : View). LoadsAlone v u × Has u.slots k j × MayUse u j) (sym e) (lost_by k i j x is (subst (KeepsKnown v) e h))
+
+-- what a view knows it knows too where counters alone were read, or a part of its share was given
+pub counted_known : (v : View) (ids words : ℕ) → KeepsKnown v (loaded_counter (loaded_counter v Ids ids) Words words)
+counted_known v ids words = record {
+  units = λ i us h. h;
+  lengths = λ i n h. h;
+  flats = λ i wide start h. h;
+  thins = λ i t h. h;
+  settled = λ i h. h;
+  frozen = λ c x h. h;
+  known = λ i h. h;
+  slots = λ k i h. h;
+}
+
+pub left_known : (v : View) (give : ℕ) → KeepsKnown v (left_after_split v give)
+left_known v give = record {
+  units = λ i us h. h;
+  lengths = λ i n h. h;
+  flats = λ i wide start h. h;
+  thins = λ i t h. h;
+  settled = λ i h. h;
+  frozen = λ c x h. h;
+  known = λ i h. h;
+  slots = λ k i h. h;
+}

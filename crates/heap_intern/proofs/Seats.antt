@@ -1,6 +1,8 @@
 -- Slots that are noted for strings: what a note says, what keeps it, and what a load of the slot answers.
-use Rattle.std.proofs.Common.{◌≡◌, ℕ, ◌+◌, ◌-◌, ◌<◌, ◌⊎◌, inl, inr, ⊎_elim, Bool, true, false, List, [], ◌∷◌, sym, refl, ap, ◌∙◌, subst, arith, Option, Some, None, Ok, IsTrue, eq-eqb, eqb-true}
-use Rattle.std.specs.Prelude.{slice_index}
+use Rattle.std.proofs.Common.{◌≡◌, ℕ, ◌+◌, ◌-◌, ◌<◌, ◌≤◌, ◌⊎◌, inl, inr, ⊎_elim, Bool, true, false, List, [], ◌∷◌, sym, refl, ap, ◌∙◌, subst, arith, Option, Some, None, Ok, IsTrue, eq-eqb, eqb-true}
+use Rattle.std.specs.Prelude.{slice_index, Result, Err, IfOk}
+use mathlib.Core.Logic.{dite}
+use native.Mathlib.Decide.{ℕ_discrete}
 use Rattle.std.specs.FinMap.{get}
 use Rattle.js_header.specs.declared.form.Form.{Form}
 use Rattle.js_header.specs.declared.form.Form.TheVariants.{Unborn, Flat, Cons, Sliced, Thin}
@@ -13,11 +15,20 @@ use Rattle.heap_rule.specs.Sound.{IsPossible}
 use Rattle.heap_rule.proofs.MapLemmas.{has_key, key_of}
 use Rattle.heap_rule.proofs.SlotTests.{shut_at_decides}
 use Rattle.heap_table.specs.Known.{KeepsKnown}
-use Rattle.heap_intern.specs.Answers.{HeaderPlan, IsBehind, IsFixed, IsForwarded, IsFound, IsInternAnswer, IsPlan, UsesNothing}
+use Rattle.heap_intern.specs.Adopted.{LoadsHere}
+use Rattle.heap_intern.specs.Answers.{HeaderPlan, IsBehind, IsFixed, IsForwarded, IsFound, IsInternAnswer, IsPlan, UsesNothing, copy_plan}
+use Rattle.heap_intern.specs.Given.{InternsGiven}
+use Rattle.heap_intern.specs.SlotLoads.{loads_at}
+use Rattle.heap_intern.specs.Visits.{StandsAt}
+use Rattle.heap_intern.specs.declared.table.faults.TableFull.{TableFull}
+use Rattle.heap_intern.specs.declared.table.probing.Seat.{Seat}
+use Rattle.heap_read.specs.Reads.{HoldsForms}
 use Rattle.heap_intern.specs.Goes.{AddsCalls}
-use Rattle.heap_intern.specs.Seats.{AreSeats, IsSeatFor, IsSeated, is_fixed_form, is_forwarded}
+use Rattle.heap_intern.specs.Seats.{AreSeats, IsSeatFor, IsSeatOf, IsSeated, id_in, is_fixed_form, is_forwarded}
 use Rattle.heap_intern.proofs.Adopting.{one_units}
+use Rattle.heap_intern.proofs.Again.{found_again}
 use Rattle.heap_intern.proofs.Going.{goes_slot}
+use Rattle.heap_intern.proofs.Loading.{on_most}
 use Rattle.heap_intern.proofs.Seeking.{one_form}
 use Rattle.heap_intern.proofs.Visiting.{behind_kept, entered_is}
 
@@ -150,5 +161,51 @@ module _ (v w : View) (s k t : ℕ) (x : IsSeat v s k) (known : KeepsKnown v w) 
     again_interns us own = subst (λ (ws : List ℕ). (plan : HeaderPlan) × IsPlan v w s ws plan × IsInternAnswer v w ws plan (Ok t)) (one_units v s x.units us x.here own)
         (plan_by.0, plan_by.1, subst (λ (i : ℕ). IsInternAnswer v w x.units plan_by.0 (Ok i)) (sym same) (answer plan_by.0))
 
+    -- the same as an answer for the units alone
+    pub again_given : IsPossible w → HoldsForms v w → ((j : ℕ) → loads_at w j ≤ loads_at v j + 2) → (us : List ℕ) → Has v.units s us → InternsGiven v w us (Ok t)
+    again_given q forms few us own = subst (λ (ws : List ℕ). InternsGiven v w ws (Ok t)) (one_units v s x.units us x.here own)
+        (let done = subst (λ (i : ℕ). IsInternAnswer v w x.units (copy_plan x.units) (Ok i)) (sym same) (answer (copy_plan x.units)) in record {
+          answer = done;
+          again = λ i u stands. found_again v w x.units p q i u stands (copy_plan x.units) (Ok t) done;
+          forms = forms;
+          few = few;
+        })
+
   pub again_sizes : w.sizes ≡ v.sizes
   again_sizes = goes.0.sizes
+
+-- one load of a slot is fewer than three
+pub here_few : (v w : View) (k : ℕ) → LoadsHere v w k 1 → (j : ℕ) → loads_at w j ≤ loads_at v j + 2
+here_few v w k h j = dite (ℕ_discrete j k)
+    (λ e. subst (λ (i : ℕ). loads_at w i ≤ loads_at v i + 2) (sym e) (let a = h.here in let b = on_most (loads_at v k) 1 in omega arith))
+    (λ ne. let a = h.others j ne in omega arith)
+
+-- an interned string where it stands
+pub seat_itself : (v : View) (us : List ℕ) (x : Seat) → IsFixed v us x.id → StandsAt v us x.slot x.id → IsSeatOf v us x
+seat_itself v us x f s = (
+  s.0,
+  f.1,
+  seated_by v x.id x.slot (record {
+    target = x.id;
+    units = us;
+    here = f.1;
+    fixed = f;
+    stands = s.0;
+    behind = s.1;
+    forwards = inr f.0;
+  }),
+)
+
+-- what is known stays known, so it is there still
+pub seat_stays : (v w : View) → IsPossible v → KeepsKnown v w → w.sizes ≡ v.sizes → (us : List ℕ) (x : Seat) → IsSeatOf v us x → IsSeatOf w us x
+seat_stays v w p known sizes us x h = (
+  known.slots x.slot x.id h.0,
+  known.units x.id us h.1,
+  seated_by w x.id x.slot (seat_kept v w p known sizes x.id x.slot (seat_of v x.id x.slot h.2)),
+)
+
+-- an answer of the table, with the slot where it stands
+pub seated_all : (v w : View) (us : List ℕ) (plan : HeaderPlan) (W : List ℕ → Type 0) (r : Result Seat TableFull) → W us → IsInternAnswer v w us plan (id_in r) →
+    IfOk r (λ s. (ws : List ℕ) → W ws → StandsAt w ws s.slot s.id) → IfOk r (λ s. IsSeatOf w us s)
+seated_all v w us plan W (Ok s) wanted h stands = seat_itself w us s h.3 (stands us wanted)
+seated_all v w us plan W (Err f) wanted h stands = tt

@@ -1,6 +1,7 @@
 -- Which slot has the interned string of which id, as an agent notes it: then interning the string again is
 -- one load of that slot.
 use Rattle.std.specs.Prelude.{ℕ, ◌-◌, ◌<◌, ◌==◌, Bool, false, List, slice_index, Option, Some, None, IsTrue}
+use Rattle.std.specs.Prelude.{Result, Ok, Err}
 use Rattle.std.specs.FinMap.{get}
 use Rattle.js_header.specs.declared.form.Form.{Form}
 use Rattle.js_header.specs.declared.form.Form.TheVariants.{Unborn, Flat, Cons, Sliced, Thin}
@@ -8,6 +9,8 @@ use Rattle.heap_rule.specs.declared.view.View.{View}
 use Rattle.heap_rule.specs.Maps.{Has, HasKey}
 use Rattle.heap_rule.specs.Paths.{rank}
 use Rattle.heap_rule.specs.SlotTests.{shut_at}
+use Rattle.heap_intern.specs.declared.table.faults.TableFull.{TableFull}
+use Rattle.heap_intern.specs.declared.table.probing.Seat.{Seat}
 
 -- the form is known, and is a fixed Flat
 abbrev pub is_fixed_form : Option Form → Bool
@@ -44,3 +47,12 @@ IsSeated v s k = HasKey v.units s × HasKey v.slots k
 -- at each place is 0, or one above the slot for the string of that number
 abbrev pub AreSeats : View → List ℕ → Type 0
 AreSeats v seats = (s : ℕ) → 0 < slice_index seats s → IsSeated v s (slice_index seats s - 1)
+
+-- the number of the string of an answer with its slot
+abbrev pub id_in : Result Seat TableFull → Result ℕ TableFull
+id_in (Ok s) = Ok s.id
+id_in (Err f) = Err f
+
+-- the interned string of the units us, and the slot that it is in
+abbrev pub IsSeatOf : View → List ℕ → Seat → Type 0
+IsSeatOf v us s = Has v.slots s.slot s.id × Has v.units s.id us × IsSeated v s.id s.slot

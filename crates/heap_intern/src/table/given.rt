@@ -14,7 +14,8 @@ ghost use Rattle.heap_intern.specs.Headers.{IsFlat, MayBeOver};
 ghost use Rattle.heap_intern.specs.Keys.{IsKey, units_of_key};
 ghost use Rattle.heap_intern.specs.SlotLoads.{answered, loads_at};
 ghost use Rattle.heap_intern.specs.Taking.{HasGiven, InternsByGiven, IsKeyAnswer, without_given};
-ghost use Rattle.heap_intern.specs.Visits.{IsMade, IsPlace, StandsAt, id_in};
+ghost use Rattle.heap_intern.specs.Seats.{id_in};
+ghost use Rattle.heap_intern.specs.Visits.{IsMade, IsPlace, StandsAt};
 ghost use Rattle.heap_intern.specs.Wanted.{IsWanted, wanted_plan};
 
 use crate::table::faults::TableFull;

@@ -10,7 +10,8 @@ ghost use Rattle.heap_intern.specs.Keys.{IsKey, units_of_key};
 ghost use Rattle.heap_intern.specs.Searching.{IsOpening, LoadsFrom, SearchesKey, found_key};
 ghost use Rattle.heap_intern.specs.SlotLoads.{answered, loads_at};
 ghost use Rattle.heap_intern.specs.Taking.{HasGiven, IsGivenTaken};
-ghost use Rattle.heap_intern.specs.Visits.{StandsAt, id_in};
+ghost use Rattle.heap_intern.specs.Visits.{StandsAt};
+ghost use Rattle.heap_intern.specs.Seats.{id_in};
 
 use crate::table::faults::TableFull;
 use crate::table::finding::{WalkEnd, walk_path};

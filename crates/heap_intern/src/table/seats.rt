@@ -5,17 +5,74 @@ ghost use Rattle.heap_rule.specs.Maps.{Has, HasKey};
 ghost use Rattle.heap_rule.specs.Views.{IsSeenSettled};
 ghost use Rattle.heap_intern.specs.Adopted.{LoadsHere};
 ghost use Rattle.heap_intern.specs.Answers.{HeaderPlan, IsForwarded, IsFoundAgain, IsInternAnswer, IsPlan};
+ghost use Rattle.heap_intern.specs.Given.{InternsGiven};
 ghost use Rattle.heap_intern.specs.Hashes.{AreHashes, NotesHash};
-ghost use Rattle.heap_intern.specs.Seats.{AreSeats, IsSeated};
+ghost use Rattle.heap_intern.specs.Seats.{AreSeats, IsSeatOf, IsSeated, id_in};
 ghost use Rattle.heap_intern.specs.SlotLoads.{answered, loads_at};
-ghost use Rattle.heap_intern.specs.Visits.{StandsAt, id_in};
+ghost use Rattle.heap_intern.specs.Visits.{StandsAt};
 ghost use Rattle.heap_read.specs.Readers.{view_in};
+ghost use Rattle.heap_rule.specs.Layout.{MAX};
 
 use crate::table::faults::TableFull;
-use crate::table::probing::{Seat, intern_seat};
+use crate::table::probing::{Seat, intern_seat, probe};
+use crate::table::wanted::Wanted;
 use heap_read::{HeapRef, Reader, Steps};
+use js_units::hash_units;
 use std::marker::Brand;
 use std::sync::ledger::{Blank, Ledger};
+
+/// Units whose interned string and its slot are noted, by one load of that slot, which enters the call in the
+/// history. Nothing is used.
+pub fn intern_again<H: HeapRef>(reader: &mut Reader<H>, seat: Seat) -> u32
+    requires { (us : List ℕ) × IsSeatOf (view_in reader.old) us seat }
+    ensures heap { reader.new.heap ≡ reader.old.heap }
+    ensures same { result ≡ seat.id }
+    ensures interns { (us : List ℕ) → Has (view_in reader.old).units seat.id us
+        → InternsGiven (view_in reader.old) (view_in reader.new) us (Ok result) }
+    ensures loads { LoadsHere (view_in reader.old) (view_in reader.new) seat.slot 1 }
+{
+    load_again(reader, seat.id, seat.slot)
+}
+
+// The ledger of a caller that counts nothing.
+fn intern_units_seated_by<L: Ledger, H: HeapRef>(
+    reader: &mut Reader<H>,
+    units: &[u16],
+    blank: Blank,
+) -> Result<Seat, TableFull>
+    requires name { blank.name ≡ L.name }
+    requires parts { blank.parts ≡ L.parts }
+    requires some { 0 < blank.parts }
+    requires short { length units.now ≤ MAX }
+    ensures heap { reader.new.heap ≡ reader.old.heap }
+    ensures interns { InternsGiven (view_in reader.old) (view_in reader.new) units.now (id_in result) }
+    ensures seated { IfOk result (λ s. IsSeatOf (view_in reader.new) units.now s) }
+{
+    let mut steps = Steps::<L>::start(blank);
+    let hash = hash_units(0, units);
+    probe(
+        reader,
+        &Wanted::Units(units),
+        None,
+        hash,
+        &mut [],
+        &mut steps,
+    )
+}
+
+/// As [`intern_units`](crate::intern_units), and answers the slot of the interned string too, for a caller
+/// that notes it: [`intern_again`] then interns the same units by one load.
+pub fn intern_units_seated<H: HeapRef>(
+    reader: &mut Reader<H>,
+    units: &[u16],
+) -> Result<Seat, TableFull>
+    requires short { length units.now ≤ MAX }
+    ensures heap { reader.new.heap ≡ reader.old.heap }
+    ensures interns { InternsGiven (view_in reader.old) (view_in reader.new) units.now (id_in result) }
+    ensures seated { IfOk result (λ s. IsSeatOf (view_in reader.new) units.now s) }
+{
+    intern_units_seated_by::<Brand, _>(reader, units, Blank::new(1))
+}
 
 // The slot that is noted for a string, if one is.
 fn seat_in(seats: &[u32], id: u32) -> Option<u32>
@@ -48,9 +105,12 @@ fn note_seat(seats: &mut [u32], id: u32, slot: u32)
 }
 
 // A string whose slot is noted, by one load of that slot.
-fn intern_again<H: HeapRef>(reader: &mut Reader<H>, id: u32, slot: u32) -> u32
+fn load_again<H: HeapRef>(reader: &mut Reader<H>, id: u32, slot: u32) -> u32
     requires { IsSeated (view_in reader.old) id slot }
     ensures heap { reader.new.heap ≡ reader.old.heap }
+    ensures given { (us : List ℕ) → Has (view_in reader.old).units id us
+        → InternsGiven (view_in reader.old) (view_in reader.new) us (Ok result) }
+    ensures there { (t : ℕ) → Has (view_in reader.old).slots slot t → result ≡ t }
     ensures interns { (us : List ℕ) → Has (view_in reader.old).units id us
         → (plan : HeaderPlan) × IsPlan (view_in reader.old) (view_in reader.new) id us plan
         × IsInternAnswer (view_in reader.old) (view_in reader.new) us plan (Ok result) }
@@ -153,7 +213,7 @@ pub fn intern_noted<H: HeapRef>(
         → NotesHash (view_in reader.old) (view_in reader.new) us (answered result) hashes.old hashes.new }
 {
     if let Some(slot) = seat_in(seats, id) {
-        return Ok(intern_again(reader, id, slot));
+        return Ok(load_again(reader, id, slot));
     }
     let seat = match intern_seated(reader, id, hashes) {
         Ok(seat) => seat,

@@ -7,7 +7,8 @@ use Rattle.heap_rule.specs.Claims.{loaded_counter}
 use Rattle.heap_agents.specs.Room.{IsCounterAt}
 use Rattle.heap_ids.specs.Sets.{set_size}
 use Rattle.heap_agents.specs.Shared.{SharedText, size_if, view_if}
-use Rattle.heap_agents.proofs.Marks.{counted_known, counted_own, held_counted, kept_marks, same_text, told}
+use Rattle.heap_intern.proofs.Going.{counted_known}
+use Rattle.heap_agents.proofs.Marks.{counted_own, held_counted, kept_marks, same_text, told}
 use Rattle.heap_agents.proofs.held.Held.room.Goals as goal
 
 pub returns : goal.returns

@@ -1,6 +1,7 @@
 use Rattle.std.proofs.Common.{ap, refl}
 use Rattle.std.specs.Arc.{arc_value}
-use Rattle.heap_agents.proofs.Marks.{counted_known, counted_own, held_counted}
+use Rattle.heap_intern.proofs.Going.{counted_known}
+use Rattle.heap_agents.proofs.Marks.{counted_own, held_counted}
 use Rattle.heap_agents.proofs.held.Held.totals.Goals as goal
 
 pub returns-clause-held : goal.returns-clause-held

@@ -5,7 +5,8 @@ use Rattle.heap_rule.specs.declared.size.HeapSize.{HeapSize}
 use Rattle.heap_rule.proofs.Possible.{possible_lawful}
 use Rattle.std.proofs.lemmas.Result.{IfOk-weaker}
 use Rattle.heap_intern.specs.SlotLoads.{answered}
-use Rattle.heap_intern.specs.Visits.{IsAnswer, IsNext, IsPassed, id_in}
+use Rattle.heap_intern.specs.Visits.{IsAnswer, IsNext, IsPassed}
+use Rattle.heap_intern.specs.Seats.{id_in}
 use Rattle.heap_intern.specs.Wanted.{wanted_plan}
 use Rattle.heap_intern.proofs.Giving.{one_few, place_behind, place_most, place_next, place_once, place_passed, settled_after, settled_by}
 use Rattle.heap_intern.proofs.Hashes.{hashes_kept}

@@ -13,7 +13,8 @@ use Rattle.heap_intern.specs.Answers.{HeaderPlan}
 use Rattle.heap_intern.specs.Keys.{units_of_key}
 use Rattle.heap_intern.specs.SlotLoads.{loads_at}
 use Rattle.heap_intern.specs.Taking.{without_given}
-use Rattle.heap_intern.specs.Visits.{IsMade, IsPlace, id_in}
+use Rattle.heap_intern.specs.Visits.{IsMade, IsPlace}
+use Rattle.heap_intern.specs.Seats.{id_in}
 use Rattle.heap_intern.specs.Wanted.{wanted_plan}
 use Rattle.heap_intern.proofs.Giving.{given_known, header_given, place_kept, settled_after, settled_known}
 use Rattle.heap_intern.proofs.Going.{forms_trans}

@@ -10,32 +10,32 @@ use Rattle.heap_intern.proofs.Hashes.{hashes_kept}
 use Rattle.heap_intern.proofs.Seats.{seats_kept, seats_with}
 use Rattle.heap_intern.proofs.table.seats.intern_noted.Goals as goal
 
-pub intern_again-requires : goal.intern_again-requires
-intern_again-requires g c = let v : View = c.args.reader.now.agent.seat.me.0 in let e : slice_index c.args.seats.now c.args.id ≡ c.in-Some.slot + 1 = c.in-Some.ensures.some c.in-Some.slot refl in
+pub load_again-requires : goal.load_again-requires
+load_again-requires g c = let v : View = c.args.reader.now.agent.seat.me.0 in let e : slice_index c.args.seats.now c.args.id ≡ c.in-Some.slot + 1 = c.in-Some.ensures.some c.in-Some.slot refl in
     let some : 0 < slice_index c.args.seats.now c.args.id = omega arith in let is : slice_index c.args.seats.now c.args.id - 1 ≡ c.in-Some.slot = omega arith in
     subst (IsSeated v c.args.id) is (c.requires.seated c.args.id some)
 
 pub returns-in-Some-clause-again : goal.returns-in-Some-clause-again
 returns-in-Some-clause-again g c us h i u s = let v : View = c.args.reader.now.agent.seat.me.0 in
-    let w : View = c.intern_again.new.reader.agent.seat.me.0 in let t = c.intern_again.ensures.interns us h in
-    found_again v w us c.args.reader.now.belongs.5 c.intern_again.new.reader.belongs.5 i u s t.0 (Ok c.intern_again.result) t.2
+    let w : View = c.load_again.new.reader.agent.seat.me.0 in let t = c.load_again.ensures.interns us h in
+    found_again v w us c.args.reader.now.belongs.5 c.load_again.new.reader.belongs.5 i u s t.0 (Ok c.load_again.result) t.2
 
 pub returns-in-Some-clause-seated : goal.returns-in-Some-clause-seated
 returns-in-Some-clause-seated g c = let v : View = c.args.reader.now.agent.seat.me.0 in
-    let w : View = c.intern_again.new.reader.agent.seat.me.0 in let u = has_key v.units c.args.id c.requires.known in
-    let goes = (c.intern_again.ensures.interns u.0 u.1).2.0 in
+    let w : View = c.load_again.new.reader.agent.seat.me.0 in let u = has_key v.units c.args.id c.requires.known in
+    let goes = (c.load_again.ensures.interns u.0 u.1).2.0 in
     seats_kept v w c.args.reader.now.belongs.5 goes.known goes.sizes c.args.seats.now c.requires.seated
 
 pub returns-in-Some-clause-hashed : goal.returns-in-Some-clause-hashed
 returns-in-Some-clause-hashed g c = let v : View = c.args.reader.now.agent.seat.me.0 in
-    let w : View = c.intern_again.new.reader.agent.seat.me.0 in let u = has_key v.units c.args.id c.requires.known in
-    hashes_kept v w (c.intern_again.ensures.interns u.0 u.1).2.0.known c.args.hashes.now c.requires.hashed
+    let w : View = c.load_again.new.reader.agent.seat.me.0 in let u = has_key v.units c.args.id c.requires.known in
+    hashes_kept v w (c.load_again.ensures.interns u.0 u.1).2.0.known c.args.hashes.now c.requires.hashed
 
 pub returns-in-Some-clause-once : goal.returns-in-Some-clause-once
 returns-in-Some-clause-once g c some = let v : View = c.args.reader.now.agent.seat.me.0 in
-    let w : View = c.intern_again.new.reader.agent.seat.me.0 in
+    let w : View = c.load_again.new.reader.agent.seat.me.0 in
     let e : slice_index c.args.seats.now c.args.id ≡ c.in-Some.slot + 1 = c.in-Some.ensures.some c.in-Some.slot refl in
-    let is : c.in-Some.slot ≡ slice_index c.args.seats.now c.args.id - 1 = omega arith in subst (λ (k : ℕ). LoadsHere v w k 1) is c.intern_again.ensures.loads
+    let is : c.in-Some.slot ≡ slice_index c.args.seats.now c.args.id - 1 = omega arith in subst (λ (k : ℕ). LoadsHere v w k 1) is c.load_again.ensures.loads
 
 pub returns-in-Err-clause-seated : goal.returns-in-Err-clause-seated
 returns-in-Err-clause-seated g c = let v : View = c.args.reader.now.agent.seat.me.0 in

@@ -4,9 +4,10 @@ use Rattle.heap_rule.specs.declared.view.View.{View}
 use Rattle.heap_rule.specs.Slots.{entry_in}
 use Rattle.heap_table.specs.Agents.{size_of}
 use Rattle.heap_rule.proofs.Possible.{possible_inside}
+use Rattle.heap_read.proofs.Showing.{forms_held}
 use Rattle.heap_intern.proofs.Adopting.{here_once}
-use Rattle.heap_intern.proofs.Seats.{again_forwards, again_interns, again_sizes, seat_of}
-use Rattle.heap_intern.proofs.table.seats.intern_again.Goals as goal
+use Rattle.heap_intern.proofs.Seats.{again_forwards, again_given, again_interns, again_sizes, here_few, seat_of}
+use Rattle.heap_intern.proofs.table.seats.load_again.Goals as goal
 
 pub load_slot-requires-clause-inside : goal.load_slot-requires-clause-inside
 load_slot-requires-clause-inside g c = let v : View = c.args.reader.now.agent.seat.me.0 in let x = seat_of v c.args.id c.args.slot c.requires in
@@ -27,3 +28,13 @@ returns-clause-forwards g c = let v : View = c.args.reader.now.agent.seat.me.0 i
 pub returns-clause-loads : goal.returns-clause-loads
 returns-clause-loads g c = let v : View = c.args.reader.now.agent.seat.me.0 in here_once v c.load_slot.new.self.seat.me.0 c.args.slot
     (c.in-Some.target + 1) (entry_in v c.args.slot) c.in-Some.ensures.view
+
+pub returns-clause-given : goal.returns-clause-given
+returns-clause-given g c = let v : View = c.args.reader.now.agent.seat.me.0 in let w : View = c.load_slot.new.self.seat.me.0 in
+    let s : ℕ = c.args.id in let k : ℕ = c.args.slot in let x = seat_of v s k c.requires in let t : ℕ = c.in-Some.target in
+    let one : t + 1 ≡ x.target + 1 = c.in-Some.ensures.found.again x.target x.stands in let same : t ≡ x.target = omega arith in
+    again_given v w s k t x c.load_slot.ensures.known c.in-Some.ensures.view same (again_sizes v w s k t x c.load_slot.ensures.known c.in-Some.ensures.view same) c.args.reader.now.belongs.5
+    c.load_slot.ensures.belongs.5 (forms_held v w c.load_slot.ensures.forms) (here_few v w k (returns-clause-loads g c))
+
+pub returns-clause-there : goal.returns-clause-there
+returns-clause-there g c i h = let one : c.in-Some.target + 1 ≡ i + 1 = c.in-Some.ensures.found.again i h in omega arith
