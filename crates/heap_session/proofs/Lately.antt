@@ -1,5 +1,5 @@
 -- What a session keeps stays true over each call.
-use Rattle.std.proofs.Common.{◌≡◌, ◌∙◌, ℕ, ◌+◌, ◌<◌, ◌≤◌, List, get_or, Some, Ok, Err, Result, subst, sym, arith}
+use Rattle.std.proofs.Common.{◌≡◌, ◌∙◌, ℕ, ◌+◌, ◌<◌, ◌≤◌, List, get_or, Option, Some, None, Ok, Err, Result, subst, sym, arith}
 use Rattle.heap_rule.specs.declared.view.View.{View}
 use Rattle.heap_rule.specs.Maps.{Has}
 use Rattle.heap_rule.proofs.MapLemmas.{has_key, key_of}
@@ -7,7 +7,7 @@ use Rattle.heap_table.specs.Known.{KeepsKnown}
 use Rattle.heap_read.specs.Written.{HoldsUnits, held_unit}
 use Rattle.heap_read.proofs.Comparison.{unit_held_is}
 use Rattle.heap_intern.specs.declared.table.faults.TableFull.{TableFull}
-use Rattle.heap_intern.specs.Answers.{IsInternAnswer, HeaderPlan}
+use Rattle.heap_intern.specs.Answers.{FindsString, IsInternAnswer, HeaderPlan}
 use Rattle.heap_session.specs.declared.kept.KeptWord.{KeptWord}
 use Rattle.heap_session.specs.Lately.{IsWordKept}
 
@@ -32,3 +32,11 @@ kept_unit v l us n i h g same low high = unit_held_is us l.held i ((h (omega ari
 pub interns_known : (v w : View) (us : List ℕ) (plan : HeaderPlan) (r : Result ℕ TableFull) → IsInternAnswer v w us plan r → KeepsKnown v w
 interns_known v w us plan (Ok i) h = h.0.known
 interns_known v w us plan (Err f) h = h.0.known
+
+pub interns_sizes : (v w : View) (us : List ℕ) (plan : HeaderPlan) (r : Result ℕ TableFull) → IsInternAnswer v w us plan r → w.sizes ≡ v.sizes
+interns_sizes v w us plan (Ok i) h = h.0.sizes
+interns_sizes v w us plan (Err f) h = h.0.sizes
+
+pub finds_sizes : (v w : View) (us : List ℕ) (r : Option ℕ) → FindsString v w us r → w.sizes ≡ v.sizes
+finds_sizes v w us (Some i) h = h.0.sizes
+finds_sizes v w us None h = h.0.goes.sizes

@@ -10,3 +10,4 @@ pub mod Sound
 pub mod Lately
 pub mod Singles
 pub mod Recent
+pub mod KeptKeys

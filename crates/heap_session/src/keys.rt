@@ -11,7 +11,7 @@ ghost use Rattle.heap_session.specs.Sessions.{state_in, session_view};
 
 use crate::faults::table_fault;
 use crate::session::Session;
-use heap_intern::{find_units, intern_units};
+use heap_intern::find_units;
 use heap_read::HeapRef;
 use heap_text::JsStr;
 use js_store::StoreFault;
@@ -35,7 +35,7 @@ impl<H: HeapRef> Session<H> {
         ensures few { (k : ℕ) → loads_at (session_view self.new) k ≤ loads_at (session_view self.old) k + 2 }
     {
         let text = &mut self.text;
-        match intern_units(&mut text.reader, units) {
+        match self.keys.intern(&mut text.reader, units) {
             Ok(id) => Ok(JsStr { id }),
             Err(full) => Err(table_fault(full)),
         }

@@ -52,7 +52,7 @@ impl Mark {
     }
 
     // The place of such units.
-    fn place(self) -> usize
+    pub(crate) fn place(self) -> usize
         ensures { result < 64 }
     {
         (self.hash >> 26) as usize

@@ -11,6 +11,7 @@ ghost use Rattle.heap_session.specs.Sessions.{state_by, state_in, table_of, sess
 ghost use Rattle.heap_session.specs.Shares.{BelongsAs, IsSessionJoined, IsWhole, MayJoinSession, giver_after, right_by, total_by};
 
 use crate::kept::KeptWord;
+use crate::kept_keys::KeptKeys;
 use crate::recent::Recent;
 use crate::session::Session;
 use crate::singles::Singles;
@@ -38,6 +39,7 @@ impl<'h> Session<&'h Heap> {
             older: KeptWord::none(),
             singles: Singles::none(),
             recent: Recent::none(),
+            keys: KeptKeys::none(),
         }
     }
 }
@@ -57,6 +59,7 @@ impl<H: HeapRef> Session<H> {
             older: KeptWord::none(),
             singles: Singles::none(),
             recent: Recent::none(),
+            keys: KeptKeys::none(),
         }
     }
 

@@ -4,6 +4,7 @@ use Rattle.js_store.specs.Limits.{limit_units}
 use Rattle.heap_rule.specs.declared.size.HeapSize.{HeapSize}
 use Rattle.heap_intern.specs.Counting.{count_below}
 use Rattle.heap_session.specs.Sessions.{table_of}
+use Rattle.heap_session.proofs.KeptKeys.{keys_by}
 use Rattle.heap_session.proofs.States.{history_looks, step_looks, uses_at}
 use Rattle.heap_rule.specs.declared.view.View.{View}
 use Rattle.heap_session.proofs.Lately.{kept_by}
@@ -35,6 +36,10 @@ invariant_of-self-clause-singles_kept g c = let s = c.args.self.now in let v : V
 pub invariant_of-self-clause-recent_kept : goal.invariant_of-self-clause-recent_kept
 invariant_of-self-clause-recent_kept g c = let s = c.args.self.now in let v : View = s.text.reader.agent.seat.me.0 in
     let w : View = c.count_interned.new.reader.agent.seat.me.0 in recent_by v w (c.count_interned.ensures.looks.goes.known) s.recent.ids s.recent_kept
+
+pub invariant_of-self-clause-keys_kept : goal.invariant_of-self-clause-keys_kept
+invariant_of-self-clause-keys_kept g c = let s = c.args.self.now in let v : View = s.text.reader.agent.seat.me.0 in
+    let w : View = c.count_interned.new.reader.agent.seat.me.0 in keys_by v w s.text.reader.belongs.5 (c.count_interned.ensures.looks.goes.known) (c.count_interned.ensures.looks.goes.sizes) s.keys.all s.keys_kept
 
 pub returns-clause-used : goal.returns-clause-used
 returns-clause-used g c = let w : View = c.count_interned.new.reader.agent.seat.me.0 in

@@ -3,7 +3,8 @@ use Rattle.js_header.specs.declared.form.Form.TheVariants.{Flat}
 use Rattle.js_store.specs.Limits.{limit_units}
 use Rattle.heap_rule.specs.declared.view.View.{View}
 use Rattle.heap_session.specs.Sessions.{table_of}
-use Rattle.heap_session.proofs.Lately.{kept_by}
+use Rattle.heap_session.proofs.KeptKeys.{keys_by}
+use Rattle.heap_session.proofs.Lately.{finds_sizes, kept_by}
 use Rattle.heap_session.proofs.MadeLately.{recent_by}
 use Rattle.heap_session.proofs.OneUnit.{singles_by}
 use Rattle.heap_session.proofs.States.{found_step, history_goes, history_looks, settled_test, step_at, step_looks}
@@ -46,6 +47,7 @@ invariant_of-self g c = let s = c.args.self.now in let v : View = s.text.reader.
       older_kept = kept_by v w k s.older s.older_kept;
       singles_kept = singles_by v w k s.singles.ids s.singles_kept;
       recent_kept = recent_by v w k s.recent.ids s.recent_kept;
+      keys_kept = keys_by v w s.text.reader.belongs.5 k (finds_sizes v w us c.find_units.result c.find_units.ensures.finds) s.keys.all s.keys_kept;
     }
 
 pub returns-in-Some-clause-own : goal.returns-in-Some-clause-own

@@ -9,6 +9,7 @@ use Rattle.heap_table.specs.Agents.{size_of}
 use Rattle.js_units.specs.Lanes as texts
 use Rattle.heap_session.specs.Faults.{fault_in_text}
 use Rattle.heap_session.specs.Sound.{limit_high}
+use Rattle.heap_session.proofs.KeptKeys.{keys_by}
 use Rattle.heap_session.proofs.Calls.{flat_is, never_slots, step_refused, step_used, told_here}
 use Rattle.heap_session.proofs.States.{history_continues, settled_test, uses_at}
 use Rattle.heap_session.proofs.Lately.{kept_by}
@@ -62,6 +63,10 @@ invariant_of-self-clause-singles_kept g c = let s = c.args.self.now in let v : V
 pub invariant_of-self-clause-recent_kept : goal.invariant_of-self-clause-recent_kept
 invariant_of-self-clause-recent_kept g c = let s = c.args.self.now in let v : View = s.text.reader.agent.seat.me.0 in
     let w : View = c.make_flat.new.self.reader.agent.seat.me.0 in recent_by v w (c.make_flat.ensures.continues.known) s.recent.ids s.recent_kept
+
+pub invariant_of-self-clause-keys_kept : goal.invariant_of-self-clause-keys_kept
+invariant_of-self-clause-keys_kept g c = let s = c.args.self.now in let v : View = s.text.reader.agent.seat.me.0 in
+    let w : View = c.make_flat.new.self.reader.agent.seat.me.0 in keys_by v w s.text.reader.belongs.5 (c.make_flat.ensures.continues.known) (c.make_flat.ensures.continues.sizes) s.keys.all s.keys_kept
 
 pub returns-in-Err-clause-spared : goal.returns-in-Err-clause-spared
 returns-in-Err-clause-spared g c = let v : View = c.args.self.now.text.reader.agent.seat.me.0 in let w : View = c.make_flat.new.self.reader.agent.seat.me.0 in let us : List ℕ = c.args.units.now in

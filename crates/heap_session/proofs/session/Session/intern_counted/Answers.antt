@@ -16,6 +16,7 @@ use Rattle.heap_table.specs.Agents.{size_of}
 use Rattle.heap_text.specs.Settling.{IsBitOf, IsNoRoom}
 use Rattle.heap_intern.proofs.Loading.{slots_few, slots_from, slots_most, slots_none}
 use Rattle.heap_session.specs.Counted.{FoundFree, GoesByPlan}
+use Rattle.heap_session.proofs.KeptKeys.{keys_by}
 use Rattle.heap_session.proofs.GoingByPlan.{goes_by_plan}
 use Rattle.heap_read.specs.declared.string.JsStr.{JsStr}
 use Rattle.js_store.specs.declared.faults.StoreFault.{StoreFault}
@@ -25,7 +26,7 @@ use Rattle.heap_session.specs.Settled.{is_settled}
 use Rattle.heap_session.proofs.Calls.{header_most, interned_err, interned_free, interned_ok, settle_free, settle_refused, settled_step, shut_text}
 use Rattle.heap_session.proofs.Rows.{settle_part}
 use Rattle.heap_read.proofs.Loaded.{known_trans}
-use Rattle.heap_session.proofs.Lately.{interns_known, kept_by}
+use Rattle.heap_session.proofs.Lately.{interns_known, interns_sizes, kept_by}
 use Rattle.heap_session.proofs.OneUnit.{singles_by}
 use Rattle.heap_session.proofs.MadeLately.{recent_by}
 use Rattle.heap_session.proofs.States.{history_continues, history_goes, settled_test, step_at, text_is}
@@ -211,6 +212,14 @@ invariant_of-self-2-clause-recent_kept g c = let s = c.args.self.now in let v : 
     (let found = c.intern_counted.ensures.interns u.0 (e.continues.known.units c.args.s.id u.0 u.1) in recent_by v w
     (known_trans v x w e.continues.known (interns_known x w u.0 found.0 c.intern_counted.result found.2)) s.recent.ids s.recent_kept)
 
+pub invariant_of-self-2-clause-keys_kept : goal.invariant_of-self-2-clause-keys_kept
+invariant_of-self-2-clause-keys_kept g c = let s = c.args.self.now in let v : View = s.text.reader.agent.seat.me.0 in
+    let x : View = c.settle.new.self.reader.agent.seat.me.0 in let w : View = c.intern_counted.new.reader.agent.seat.me.0 in
+    let e = c.settle.ensures in let u = has_key v.units c.args.s.id c.requires in
+    (let found = c.intern_counted.ensures.interns u.0 (e.continues.known.units c.args.s.id u.0 u.1) in keys_by v w s.text.reader.belongs.5
+    (known_trans v x w e.continues.known (interns_known x w u.0 found.0 c.intern_counted.result found.2))
+    (interns_sizes x w u.0 found.0 c.intern_counted.result found.2 ∙ e.continues.sizes) s.keys.all s.keys_kept)
+
 pub invariant_of-self : goal.invariant_of-self
 invariant_of-self g c = let s = c.args.self.now in let v : View = s.text.reader.agent.seat.me.0 in
     let w : View = c.settle.new.self.reader.agent.seat.me.0 in let k = c.settle.ensures.continues.known in record {
@@ -219,6 +228,7 @@ invariant_of-self g c = let s = c.args.self.now in let v : View = s.text.reader.
       older_kept = kept_by v w k s.older s.older_kept;
       singles_kept = singles_by v w k s.singles.ids s.singles_kept;
       recent_kept = recent_by v w k s.recent.ids s.recent_kept;
+      keys_kept = keys_by v w s.text.reader.belongs.5 k c.settle.ensures.continues.sizes s.keys.all s.keys_kept;
     }
 
 pub returns-in-Ok-intern_counted-clause-grown : goal.returns-in-Ok-intern_counted-clause-grown

@@ -14,54 +14,55 @@ use Rattle.heap_session.proofs.States.{history_goes, settled_test, step_at}
 use Rattle.heap_session.proofs.Owning.{own_goes}
 use Rattle.heap_session.proofs.session.Session.intern_list.Goals as goal
 
-pub intern_units-requires : goal.intern_units-requires
-intern_units-requires g c = let s = c.args.self.now in let a = s.one_limit in let b = s.text.within in omega arith
+pub intern-requires-clause-short : goal.intern-requires-clause-short
+intern-requires-clause-short g c = let s = c.args.self.now in let a = s.one_limit in let b = s.text.within in omega arith
 
 pub returns-in-Ok-clause-ok : goal.returns-in-Ok-clause-ok
-returns-in-Ok-clause-ok g c = let w : View = c.intern_units.new.reader.agent.seat.me.0 in let i = c.in-Ok.ensures.interns in let id = c.in-Ok.id in
+returns-in-Ok-clause-ok g c = let w : View = c.intern.new.reader.agent.seat.me.0 in let i = c.in-Ok.ensures.interns.answer in let id = c.in-Ok.id in
     (i.3.1, settled_test w id (Flat i.3.0.0 i.3.0.1 true, i.3.0.2, λ x. x))
 
 pub returns-in-Ok-clause-step : goal.returns-in-Ok-clause-step
 returns-in-Ok-clause-step g c = let s = c.args.self.now in let v : View = s.text.reader.agent.seat.me.0 in
-    let w : View = c.intern_units.new.reader.agent.seat.me.0 in let l = limit_units s.limit in let t = table_of (g.H.HeapRef.reached s.text.reader.heap) in
-    let us : List ℕ = c.args.units.now in let i = c.in-Ok.ensures.interns in let most : words_of_copy us ≤ flat_words us = (let e = flat_is us in omega arith) in
-    step_at v w l t (table_of (g.H.HeapRef.reached c.intern_units.new.reader.heap)) None 1 (flat_words us) (ap (λ y. table_of (g.H.HeapRef.reached y)) c.intern_units.ensures.heap)
+    let w : View = c.intern.new.reader.agent.seat.me.0 in let l = limit_units s.limit in let t = table_of (g.H.HeapRef.reached s.text.reader.heap) in
+    let us : List ℕ = c.args.units.now in let i = c.in-Ok.ensures.interns.answer in let most : words_of_copy us ≤ flat_words us = (let e = flat_is us in omega arith) in
+    step_at v w l t (table_of (g.H.HeapRef.reached c.intern.new.reader.heap)) None 1 (flat_words us) (ap (λ y. table_of (g.H.HeapRef.reached y)) c.intern.ensures.heap)
     (interned_ok v w l t ((us, c.in-Ok.id) ∷ []) (words_of_copy us) (flat_words us) most s.text.reader.belongs.5 i.0 i.1 i.2)
 
 pub returns-in-Ok-clause-grown : goal.returns-in-Ok-clause-grown
-returns-in-Ok-clause-grown g c = history_goes c.args.self.now.text.reader.agent.seat.me.0 c.intern_units.new.reader.agent.seat.me.0 ((c.args.units.now, c.in-Ok.id) ∷ []) c.in-Ok.ensures.interns.0
+returns-in-Ok-clause-grown g c = history_goes c.args.self.now.text.reader.agent.seat.me.0 c.intern.new.reader.agent.seat.me.0 ((c.args.units.now, c.in-Ok.id) ∷ []) c.in-Ok.ensures.interns.answer.0
 
 pub returns-in-Err-clause-step : goal.returns-in-Err-clause-step
 returns-in-Err-clause-step g c = let s = c.args.self.now in let v : View = s.text.reader.agent.seat.me.0 in
-    let w : View = c.intern_units.new.reader.agent.seat.me.0 in let l = limit_units s.limit in let t = table_of (g.H.HeapRef.reached s.text.reader.heap) in
-    let us : List ℕ = c.args.units.now in let i = c.in-Err.ensures.interns in let f = c.in-Err.full in let most : words_of_copy us ≤ flat_words us = (let e = flat_is us in omega arith) in
-    rw c.table_fault.ensures (step_at v w l t (table_of (g.H.HeapRef.reached c.intern_units.new.reader.heap)) (Some (fault_in_table f)) 1
-    (flat_words us) (ap (λ y. table_of (g.H.HeapRef.reached y)) c.intern_units.ensures.heap)
+    let w : View = c.intern.new.reader.agent.seat.me.0 in let l = limit_units s.limit in let t = table_of (g.H.HeapRef.reached s.text.reader.heap) in
+    let us : List ℕ = c.args.units.now in let i = c.in-Err.ensures.interns.answer in let f = c.in-Err.full in let most : words_of_copy us ≤ flat_words us = (let e = flat_is us in omega arith) in
+    rw c.table_fault.ensures (step_at v w l t (table_of (g.H.HeapRef.reached c.intern.new.reader.heap)) (Some (fault_in_table f)) 1
+    (flat_words us) (ap (λ y. table_of (g.H.HeapRef.reached y)) c.intern.ensures.heap)
     (interned_err v w us (copy_plan us) l t f (flat_words us) most s.text.reader.belongs.5 i.0 i.1))
 
 pub returns-in-Err-clause-shut : goal.returns-in-Err-clause-shut
 returns-in-Err-clause-shut g c = let s = c.args.self.now in let v : View = s.text.reader.agent.seat.me.0 in
-    let w : View = c.intern_units.new.reader.agent.seat.me.0 in let us : List ℕ = c.args.units.now in
-    rw c.table_fault.ensures (interned_shut v w us (copy_plan us) (limit_units s.limit) (table_of (g.H.HeapRef.reached c.intern_units.new.reader.heap)) c.in-Err.full c.in-Err.ensures.interns.1)
+    let w : View = c.intern.new.reader.agent.seat.me.0 in let us : List ℕ = c.args.units.now in
+    rw c.table_fault.ensures (interned_shut v w us (copy_plan us) (limit_units s.limit) (table_of (g.H.HeapRef.reached c.intern.new.reader.heap)) c.in-Err.full c.in-Err.ensures.interns.answer.1)
 
 pub returns-in-Ok-clause-plan : goal.returns-in-Ok-clause-plan
-returns-in-Ok-clause-plan g c = let i = c.in-Ok.ensures.interns in (i.5, i.4)
+returns-in-Ok-clause-plan g c = let i = c.in-Ok.ensures.interns.answer in (i.5, i.4)
 
 pub returns-in-Err-clause-plan : goal.returns-in-Err-clause-plan
-returns-in-Err-clause-plan g c = (c.in-Err.full, c.table_fault.ensures, c.in-Err.ensures.interns.1)
+returns-in-Err-clause-plan g c = (c.in-Err.full, c.table_fault.ensures, c.in-Err.ensures.interns.answer.1)
 
 pub invariant_of-self : goal.invariant_of-self
-invariant_of-self g c = let s = c.args.self.now in let v : View = s.text.reader.agent.seat.me.0 in let w : View = c.intern_units.new.reader.agent.seat.me.0 in let us : List ℕ = c.args.units.now in
-    let k = interns_known v w us (copy_plan us) c.intern_units.result c.intern_units.ensures.interns in record {
+invariant_of-self g c = let s = c.args.self.now in let v : View = s.text.reader.agent.seat.me.0 in let w : View = c.intern.new.reader.agent.seat.me.0 in let us : List ℕ = c.args.units.now in
+    let k = interns_known v w us (copy_plan us) c.intern.result c.intern.ensures.interns.answer in record {
       one_limit = s.one_limit;
       last_kept = kept_by v w k s.last s.last_kept;
       older_kept = kept_by v w k s.older s.older_kept;
       singles_kept = singles_by v w k s.singles.ids s.singles_kept;
       recent_kept = recent_by v w k s.recent.ids s.recent_kept;
+      keys_kept = c.intern.ensures.kept;
     }
 
 pub returns-in-Ok-clause-own : goal.returns-in-Ok-clause-own
-returns-in-Ok-clause-own g c = own_goes c.args.self.now.text.reader.agent.seat.me.0 c.intern_units.new.reader.agent.seat.me.0 ((c.args.units.now, c.in-Ok.id) ∷ []) c.in-Ok.ensures.interns.0
+returns-in-Ok-clause-own g c = own_goes c.args.self.now.text.reader.agent.seat.me.0 c.intern.new.reader.agent.seat.me.0 ((c.args.units.now, c.in-Ok.id) ∷ []) c.in-Ok.ensures.interns.answer.0
 
 pub returns-in-Err-clause-own : goal.returns-in-Err-clause-own
-returns-in-Err-clause-own g c = own_goes c.args.self.now.text.reader.agent.seat.me.0 c.intern_units.new.reader.agent.seat.me.0 [] c.in-Err.ensures.interns.0
+returns-in-Err-clause-own g c = own_goes c.args.self.now.text.reader.agent.seat.me.0 c.intern.new.reader.agent.seat.me.0 [] c.in-Err.ensures.interns.answer.0

@@ -5,6 +5,7 @@ use Rattle.heap_rule.specs.declared.view.View.{View}
 use Rattle.heap_table.specs.Known.{KeepsKnown}
 use Rattle.heap_session.specs.Sessions.{state_by, table_of}
 use Rattle.heap_session.specs.Shares.{IsSessionJoined}
+use Rattle.heap_session.proofs.KeptKeys.{keys_by}
 use Rattle.heap_session.proofs.Shares.{belongs_here, sizes_are, state_joined}
 use Rattle.heap_session.proofs.Lately.{kept_by}
 use Rattle.heap_session.proofs.OneUnit.{singles_by}
@@ -47,3 +48,7 @@ invariant_of-self-clause-singles_kept g c = let s = c.args.self.now in let v : V
 pub invariant_of-self-clause-recent_kept : goal.invariant_of-self-clause-recent_kept
 invariant_of-self-clause-recent_kept g c = let s = c.args.self.now in let v : View = s.text.reader.agent.seat.me.0 in
     let w : View = c.join.new.self.reader.agent.seat.me.0 in recent_by v w c.join.ensures.known.0 s.recent.ids s.recent_kept
+
+pub invariant_of-self-clause-keys_kept : goal.invariant_of-self-clause-keys_kept
+invariant_of-self-clause-keys_kept g c = let s = c.args.self.now in let v : View = s.text.reader.agent.seat.me.0 in
+    let w : View = c.join.new.self.reader.agent.seat.me.0 in keys_by v w s.text.reader.belongs.5 c.join.ensures.known.0 (ap (λ (u : View). u.sizes) c.join.ensures.view) s.keys.all s.keys_kept

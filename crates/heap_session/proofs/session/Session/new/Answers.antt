@@ -10,6 +10,7 @@ invariant_of-result g c = record {
   older_kept = kept_none c.new.result.reader.agent.seat.me.0 c.none-2.result c.none-2.ensures;
   singles_kept = c.none-3.ensures c.new.result.reader.agent.seat.me.0;
   recent_kept = c.none-4.ensures c.new.result.reader.agent.seat.me.0;
+  keys_kept = c.none-5.ensures c.new.result.reader.agent.seat.me.0;
 }
 
 pub new-requires-clause-most : goal.new-requires-clause-most

@@ -20,6 +20,7 @@ invariant_of-self-in-Ok g c = let p = c.part_of.new.self in let x : View = c.uni
       older_kept = p.older_kept;
       singles_kept = c.keep.ensures w p.singles_kept (one, ok.1);
       recent_kept = p.recent_kept;
+      keys_kept = p.keys_kept;
     }
 
 pub returns-in-Ok-clause-own : goal.returns-in-Ok-clause-own

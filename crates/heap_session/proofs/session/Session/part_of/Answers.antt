@@ -11,6 +11,7 @@ use Rattle.heap_table.specs.Agents.{size_of}
 use Rattle.heap_text.specs.Joins.{IsCut}
 use Rattle.heap_session.specs.Faults.{fault_in_text}
 use Rattle.heap_session.specs.Sessions.{state_by}
+use Rattle.heap_session.proofs.KeptKeys.{keys_by}
 use Rattle.heap_session.proofs.Calls.{cut_err, cut_ok, never_slots}
 use Rattle.heap_session.proofs.States.{history_continues, settled_test, test_settled, text_is, uses_at}
 use Rattle.heap_session.proofs.Lately.{kept_by}
@@ -81,6 +82,10 @@ invariant_of-self-clause-singles_kept g c = let s = c.args.self.now in let v : V
 pub invariant_of-self-clause-recent_kept : goal.invariant_of-self-clause-recent_kept
 invariant_of-self-clause-recent_kept g c = let s = c.args.self.now in let v : View = s.text.reader.agent.seat.me.0 in
     let w : View = c.slice.new.self.reader.agent.seat.me.0 in recent_by v w (c.slice.ensures.continues.known) s.recent.ids s.recent_kept
+
+pub invariant_of-self-clause-keys_kept : goal.invariant_of-self-clause-keys_kept
+invariant_of-self-clause-keys_kept g c = let s = c.args.self.now in let v : View = s.text.reader.agent.seat.me.0 in
+    let w : View = c.slice.new.self.reader.agent.seat.me.0 in keys_by v w s.text.reader.belongs.5 (c.slice.ensures.continues.known) (c.slice.ensures.continues.sizes) s.keys.all s.keys_kept
 
 pub returns-in-Err-clause-spared : goal.returns-in-Err-clause-spared
 returns-in-Err-clause-spared g c = let s = c.args.self.now in let v : View = s.text.reader.agent.seat.me.0 in

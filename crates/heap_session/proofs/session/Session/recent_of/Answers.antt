@@ -2,6 +2,7 @@ use Rattle.std.proofs.Common.{◌∙◌, None, ap}
 use Rattle.js_store.specs.Limits.{limit_units}
 use Rattle.heap_rule.specs.declared.view.View.{View}
 use Rattle.heap_session.specs.Sessions.{table_of}
+use Rattle.heap_session.proofs.KeptKeys.{keys_by}
 use Rattle.heap_session.proofs.Lately.{kept_by}
 use Rattle.heap_session.proofs.OneUnit.{singles_by}
 use Rattle.heap_session.proofs.MadeLately.{recent_by}
@@ -20,6 +21,7 @@ invariant_of-self g c = let s = c.args.self.now in let v : View = s.text.reader.
       older_kept = kept_by v w k s.older s.older_kept;
       singles_kept = singles_by v w k s.singles.ids s.singles_kept;
       recent_kept = recent_by v w k s.recent.ids s.recent_kept;
+      keys_kept = keys_by v w s.text.reader.belongs.5 k c.has_units.ensures.reads.sizes s.keys.all s.keys_kept;
     }
 
 pub returns-then-has_units-clause-uses : goal.returns-then-has_units-clause-uses

@@ -1,5 +1,6 @@
 use Rattle.std.proofs.Common.{◌∙◌}
 use Rattle.heap_rule.specs.declared.view.View.{View}
+use Rattle.heap_session.proofs.KeptKeys.{keys_by}
 use Rattle.heap_session.proofs.Lately.{kept_by}
 use Rattle.heap_session.proofs.OneUnit.{singles_by}
 use Rattle.heap_session.proofs.MadeLately.{recent_by}
@@ -13,6 +14,7 @@ invariant_of-self g c = let s = c.args.self.now in let v : View = s.text.reader.
       older_kept = kept_by v w e.reads.known s.older s.older_kept;
       singles_kept = singles_by v w e.reads.known s.singles.ids s.singles_kept;
       recent_kept = recent_by v w e.reads.known s.recent.ids s.recent_kept;
+      keys_kept = keys_by v w s.text.reader.belongs.5 e.reads.known e.reads.sizes s.keys.all s.keys_kept;
     }
 
 pub invariant_of-self-2 : goal.invariant_of-self-2
@@ -23,4 +25,5 @@ invariant_of-self-2 g c = let s = c.args.self.now in let v : View = s.text.reade
       older_kept = kept_by v w e.reads.known s.last s.last_kept;
       singles_kept = singles_by v w e.reads.known s.singles.ids s.singles_kept;
       recent_kept = recent_by v w e.reads.known s.recent.ids s.recent_kept;
+      keys_kept = keys_by v w s.text.reader.belongs.5 e.reads.known e.reads.sizes s.keys.all s.keys_kept;
     }

@@ -1,4 +1,7 @@
-use Rattle.std.proofs.Common.{◌∙◌, subst, sym}
+use Rattle.std.proofs.Common.{◌∙◌, ap, subst, sym}
+use Rattle.heap_table.specs.Known.{KeepsKnown}
+use Rattle.heap_session.proofs.KeptKeys.{keys_by}
+use Rattle.heap_intern.proofs.Going.{left_known}
 use Rattle.js_store.specs.Limits.{limit_units}
 use Rattle.heap_rule.specs.declared.view.View.{View}
 use Rattle.heap_session.specs.Sessions.{state_by, table_of}
@@ -16,6 +19,7 @@ invariant_of-result c = record {
   older_kept = kept_none c.split.result.reader.agent.seat.me.0 c.none-2.result c.none-2.ensures;
   singles_kept = c.none-3.ensures c.split.result.reader.agent.seat.me.0;
   recent_kept = c.none-4.ensures c.split.result.reader.agent.seat.me.0;
+  keys_kept = c.none-5.ensures c.split.result.reader.agent.seat.me.0;
 }
 
 pub returns-clause-left : goal.returns-clause-left
@@ -37,3 +41,8 @@ invariant_of-self-clause-singles_kept c = let s = c.args.self.now in subst (λ (
 
 pub invariant_of-self-clause-recent_kept : goal.invariant_of-self-clause-recent_kept
 invariant_of-self-clause-recent_kept c = let s = c.args.self.now in subst (λ (w : View). AreRecent w s.recent.ids) (sym c.split.ensures.left) s.recent_kept
+
+pub invariant_of-self-clause-keys_kept : goal.invariant_of-self-clause-keys_kept
+invariant_of-self-clause-keys_kept c = let s = c.args.self.now in let v : View = s.text.reader.agent.seat.me.0 in let w : View = c.split.new.self.reader.agent.seat.me.0 in
+    keys_by v w s.text.reader.belongs.5 (subst (KeepsKnown v) (sym c.split.ensures.left) (left_known v c.args.give))
+    (ap (λ (u : View). u.sizes) c.split.ensures.left) s.keys.all s.keys_kept

@@ -8,6 +8,7 @@ use Rattle.heap_rule.specs.declared.view.View.{View}
 use Rattle.heap_table.specs.Agents.{size_of}
 use Rattle.heap_session.specs.Faults.{fault_in_join}
 use Rattle.heap_session.specs.Sessions.{table_of}
+use Rattle.heap_session.proofs.KeptKeys.{keys_by}
 use Rattle.heap_session.proofs.Calls.{joined_fits, joined_in, joined_ok, joined_step, joined_told, never_join}
 use Rattle.heap_session.proofs.States.{has_text, history_continues, uses_at}
 use Rattle.heap_session.proofs.Lately.{kept_by}
@@ -76,6 +77,10 @@ invariant_of-self-clause-singles_kept g c = let s = c.args.self.now in let v : V
 pub invariant_of-self-clause-recent_kept : goal.invariant_of-self-clause-recent_kept
 invariant_of-self-clause-recent_kept g c = let s = c.args.self.now in let v : View = s.text.reader.agent.seat.me.0 in
     let w : View = c.concat.new.self.reader.agent.seat.me.0 in recent_by v w c.concat.ensures.continues.known s.recent.ids s.recent_kept
+
+pub invariant_of-self-clause-keys_kept : goal.invariant_of-self-clause-keys_kept
+invariant_of-self-clause-keys_kept g c = let s = c.args.self.now in let v : View = s.text.reader.agent.seat.me.0 in
+    let w : View = c.concat.new.self.reader.agent.seat.me.0 in keys_by v w s.text.reader.belongs.5 c.concat.ensures.continues.known c.concat.ensures.continues.sizes s.keys.all s.keys_kept
 
 pub returns-in-Err-clause-spared : goal.returns-in-Err-clause-spared
 returns-in-Err-clause-spared g c = let s = c.args.self.now in let v : View = s.text.reader.agent.seat.me.0 in let w : View = c.concat.new.self.reader.agent.seat.me.0 in

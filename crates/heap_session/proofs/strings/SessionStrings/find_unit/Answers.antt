@@ -5,6 +5,7 @@ use Rattle.heap_read.proofs.Loaded.{reads_trans}
 use Rattle.js_store.specs.Limits.{limit_units}
 use Rattle.js_units.specs.Units.{IsFirstUnit}
 use Rattle.heap_session.specs.Sessions.{table_of}
+use Rattle.heap_session.proofs.KeptKeys.{keys_by}
 use Rattle.heap_session.proofs.Lately.{kept_by}
 use Rattle.heap_session.proofs.OneUnit.{singles_by}
 use Rattle.heap_session.proofs.MadeLately.{recent_by}
@@ -51,6 +52,11 @@ pub invariant_of-self-clause-recent_kept : goal.invariant_of-self-clause-recent_
 invariant_of-self-clause-recent_kept g c = let s = c.args.self.now in let v : View = s.text.reader.agent.seat.me.0 in
     let x : View = c.window-window.new.self.reader.agent.seat.me.0 in let w : View = c.find_in.new.self.reader.agent.seat.me.0 in
     recent_by v w ((reads_trans v x w c.window-window.ensures.reads c.find_in.ensures.reads).known) s.recent.ids s.recent_kept
+
+pub invariant_of-self-clause-keys_kept : goal.invariant_of-self-clause-keys_kept
+invariant_of-self-clause-keys_kept g c = let s = c.args.self.now in let v : View = s.text.reader.agent.seat.me.0 in
+    let x : View = c.window-window.new.self.reader.agent.seat.me.0 in let w : View = c.find_in.new.self.reader.agent.seat.me.0 in
+    keys_by v w s.text.reader.belongs.5 ((reads_trans v x w c.window-window.ensures.reads c.find_in.ensures.reads).known) ((reads_trans v x w c.window-window.ensures.reads c.find_in.ensures.reads).sizes) s.keys.all s.keys_kept
 
 pub returns-clause-reads : goal.returns-clause-reads
 returns-clause-reads g c = let v : View = c.args.self.now.text.reader.agent.seat.me.0 in

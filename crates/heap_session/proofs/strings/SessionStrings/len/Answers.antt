@@ -4,6 +4,7 @@ use Rattle.js_store.specs.Limits.{limit_units}
 use Rattle.heap_rule.proofs.MapLemmas.{has_key}
 use Rattle.heap_rule.proofs.Possible.{possible_short}
 use Rattle.heap_session.specs.Sessions.{table_of}
+use Rattle.heap_session.proofs.KeptKeys.{keys_by}
 use Rattle.heap_session.proofs.States.{history_reads, step_reads, text_is, uses_at}
 use Rattle.heap_session.proofs.Lately.{kept_by}
 use Rattle.heap_session.proofs.OneUnit.{singles_by}
@@ -40,3 +41,7 @@ invariant_of-self-clause-singles_kept g c = let s = c.args.self.now in let v : V
 pub invariant_of-self-clause-recent_kept : goal.invariant_of-self-clause-recent_kept
 invariant_of-self-clause-recent_kept g c = let s = c.args.self.now in let v : View = s.text.reader.agent.seat.me.0 in
     let w : View = c.len.new.self.reader.agent.seat.me.0 in recent_by v w (c.len.ensures.reads.known) s.recent.ids s.recent_kept
+
+pub invariant_of-self-clause-keys_kept : goal.invariant_of-self-clause-keys_kept
+invariant_of-self-clause-keys_kept g c = let s = c.args.self.now in let v : View = s.text.reader.agent.seat.me.0 in
+    let w : View = c.len.new.self.reader.agent.seat.me.0 in keys_by v w s.text.reader.belongs.5 (c.len.ensures.reads.known) (c.len.ensures.reads.sizes) s.keys.all s.keys_kept

@@ -12,6 +12,7 @@ use Rattle.js_store.specs.Rows.{settle_words}
 use Rattle.heap_session.specs.Faults.{fault_in_text}
 use Rattle.heap_session.specs.Sessions.{state_by, table_of}
 use Rattle.heap_session.specs.Settled.{is_settled}
+use Rattle.heap_session.proofs.KeptKeys.{keys_by}
 use Rattle.heap_session.proofs.Calls.{never_slots, settle_refused, settled_step}
 use Rattle.heap_session.proofs.Lately.{kept_by}
 use Rattle.heap_session.proofs.OneUnit.{singles_by}
@@ -65,6 +66,10 @@ invariant_of-self-clause-singles_kept g c = let s = c.args.self.now in let v : V
 pub invariant_of-self-clause-recent_kept : goal.invariant_of-self-clause-recent_kept
 invariant_of-self-clause-recent_kept g c = let s = c.args.self.now in let v : View = s.text.reader.agent.seat.me.0 in
     let w : View = c.settle.new.self.reader.agent.seat.me.0 in recent_by v w (c.settle.ensures.continues.known) s.recent.ids s.recent_kept
+
+pub invariant_of-self-clause-keys_kept : goal.invariant_of-self-clause-keys_kept
+invariant_of-self-clause-keys_kept g c = let s = c.args.self.now in let v : View = s.text.reader.agent.seat.me.0 in
+    let w : View = c.settle.new.self.reader.agent.seat.me.0 in keys_by v w s.text.reader.belongs.5 (c.settle.ensures.continues.known) (c.settle.ensures.continues.sizes) s.keys.all s.keys_kept
 
 pub returns-in-Ok-clause-settling : goal.returns-in-Ok-clause-settling
 returns-in-Ok-clause-settling g c = c.in-Ok.ensures.used _ (has_text c.args.self.now.text.reader.agent.seat.me.0.units c.args.s.id c.requires)
