@@ -68,8 +68,8 @@ impl Index {
         }
     }
 
-    // If there is an index, gives a number its place, instead of the one that it had.
-    fn note(&mut self, number: u32, place: u32) -> Result<(), NoMemory>
+    /// If there is an index, gives a number its place, instead of the one that it had.
+    pub(crate) fn note(&mut self, number: u32, place: u32) -> Result<(), NoMemory>
         ensures noted { OnOk result (IsNoted self.old self.new number place) }
         ensures unchanged { OnErr result (self.new ≡ self.old) }
     {
@@ -122,8 +122,8 @@ impl Index {
     }
 }
 
-// The index of these members, or none where the store doesn't report a number.
-fn index_of<S: Strings>(
+/// The index of these members, or none where the store doesn't report a number.
+pub(crate) fn index_of<S: Strings>(
     alloc: Global,
     store: &S,
     members: &[Member<S::Ref>],

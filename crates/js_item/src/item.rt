@@ -92,6 +92,20 @@ impl<R: Copy> Object<R> {
         }
     }
 
+    // Another index.
+    pub(crate) fn set_index(&mut self, index: Index)
+        ensures { self.new ≡ self.old }
+    {
+        self.index = index;
+    }
+
+    // Gives a number a place, if there is an index.
+    pub(crate) fn note(&mut self, number: u32, place: u32) -> Result<(), NoMemory>
+        ensures { self.new ≡ self.old }
+    {
+        self.index.note(number, place)
+    }
+
     // Adds a member at the end.
     pub(crate) fn push(&mut self, member: Member<R>) -> Result<(), NoMemory>
         ensures added { OnOk result (self.new ≡ add member.key (content_of member.value) self.old) }

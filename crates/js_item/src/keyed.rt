@@ -1,14 +1,15 @@
 // The members of objects, by their keys.
-ghost use Rattle.std.specs.Prelude.{◌≡◌, ◌<◌, MatchOption, IfSome, None, Some, is_some, bytes_eq};
+ghost use Rattle.std.specs.Prelude.{◌≡◌, ◌+◌, ◌<◌, ◌≤◌, OnOk, OnErr, MatchOption, IfSome, None, Some, is_some, bytes_eq};
 ghost use Rattle.js_store.specs.State.{text};
 ghost use Rattle.js_store.specs.Faults.{Uses};
 ghost use Rattle.js_item.specs.Fine.{strings_of, KeyFine, KeysFine, KeysDiffer};
-ghost use Rattle.js_item.specs.Puts.{width, has_units, names_key, place_by, value_by};
+ghost use Rattle.js_item.specs.Puts.{width, has_units, names_key, place_by, value_by, put_by};
 ghost use Rattle.js_item.specs.Views.{content_of, fields_of};
 
-use crate::index::Index;
-use crate::item::{Item, Object};
+use crate::index::{FEW, Index, index_of};
+use crate::item::{Item, Member, Object};
 use js_store::Strings;
+use js_units::NoMemory;
 
 impl<R: Copy> Object<R> {
     /// The place of the member whose key has the units of `key`, if there is one. It compares
@@ -101,6 +102,58 @@ impl<R: Copy> Object<R> {
         match self.find(store, key) {
             Some(place) => Some(&self.members()[place as usize].value),
             None => None,
+        }
+    }
+
+    /// Puts the value in the place of the one whose key has the units of `key`, or else a new
+    /// member at the end. A refusal leaves the object as it was. Afterwards its keys are fine and
+    /// differ, so that a caller may find, get and insert again. An [`ObjectBuilder`](crate::ObjectBuilder)
+    /// inserts many faster.
+    pub fn insert<S: Strings<Ref = R>>(
+        &mut self,
+        store: &mut S,
+        key: R,
+        value: Item<R>,
+    ) -> Result<(), NoMemory>
+        requires few { width self.old < 4294967295 }
+        requires keys { KeysFine (strings_of (S.state store.old)) S.number self.old }
+        requires apart { KeysDiffer (strings_of (S.state store.old)) S.number self.old }
+        requires key { KeyFine (strings_of (S.state store.old)) (S.number key) }
+        ensures added { OnOk result
+            (self.new ≡ put_by (names_key (S.state store.old) S.number key) key (content_of value) self.old) }
+        ensures unchanged { OnErr result (self.new ≡ self.old) }
+        ensures keys { KeysFine (strings_of (S.state store.new)) S.number self.new }
+        ensures apart { KeysDiffer (strings_of (S.state store.new)) S.number self.new }
+        ensures few { width self.new ≤ width self.old + 1 }
+        ensures uses { Uses (S.state store.old) (S.state store.new) None 0 0 }
+    {
+        match self.find(store, key) {
+            Some(place) => {
+                self.replace(place, value);
+                Ok(())
+            }
+            None => {
+                self.enter(store, key)?;
+                self.push(Member { key, value })
+            }
+        }
+    }
+
+    // Enters a key in the index as that of the next member. The index begins with the first member behind the
+    // first few.
+    fn enter<S: Strings<Ref = R>>(&mut self, store: &S, key: R) -> Result<(), NoMemory>
+        requires few { width self.old < 4294967295 }
+        requires apart { KeysDiffer (strings_of (S.state store.now)) S.number self.old }
+        ensures { self.new ≡ self.old }
+    {
+        let next = self.members().len() as u32;
+        if next == FEW {
+            let index = index_of(self.alloc(), store, self.members())?;
+            self.set_index(index);
+        }
+        match store.id_of(key) {
+            Some(number) => self.note(number, next),
+            None => Ok(()),
         }
     }
 
