@@ -110,6 +110,10 @@ module _ {F R : Type 0} (name : R → ℕ) (a b : State F) (fs : Fields R) (key 
   pub put_stops : Makes {R = R} name a b (Err (Store Memory)) (gave (with_property (text a (name key)) (seen a name v) (fields_mapped (says a name) fs)) free)
   put_stops = cut_of_memory free step history (omega arith) (omega arith)
 
+-- the same object
+pub makes_same : {F R : Type 0} (name : R → ℕ) (a b : State F) (fs gs : Fields R) (o : Out (Fields (List ℕ))) → gs ≡ fs → Makes name a b (Ok fs) o → Makes name a b (Ok gs) o
+makes_same {R = R} name a b fs gs o e m = subst (λ (q : Fields R). Makes name a b (Ok q) o) (sym e) m
+
 -- a key, and then a value, and then a member of both; or an early end
 module _ {F R : Type 0} (name : R → ℕ) (a b : State F) (key : List ℕ) (value : ExprTree) (context : Context R) (fs : Fields R) where
   abbrev made : List ℕ → Val → Out (Fields (List ℕ))

@@ -22,7 +22,7 @@ use Rattle.js_eval.proofs.Expressions.{index_does, index_stops, link_decided, li
 use Rattle.js_eval.proofs.Expressions.{name_does, name_fails, copy_does, copy_stops, links_turn, links_halt, steps_turn, steps_halt, call_does, call_stops}
 use Rattle.js_eval.proofs.Expressions.{call_absent, exprs_are}
 use Rattle.eval_values.proofs.Still.{seen_still, fine_still}
-use Rattle.js_eval.proofs.Making.{key_stops, value_stops, entry_does, entries_turn, entries_halt, literal_does, literal_stops}
+use Rattle.js_eval.proofs.Making.{key_stops, value_stops, entry_does, entries_turn, entries_halt, literal_does, literal_stops, makes_same}
 use Rattle.js_eval.proofs.Stays.{scope_still, context_fine_still}
 use Rattle.js_eval.proofs.expr.+expr.Goals as goal
 
@@ -528,7 +528,9 @@ members_of-loop-member-preserved g t c =
 pub members_of-returns-clause-did : goal.members_of-returns-clause-did
 members_of-returns-clause-did g t c =
     let past = drop_of_length-le c.args.members.now {i = c.loop-member.member-index} c.loop-member-test.false in
-    rw c.finish.ensures (c.loop-member.invariant.completes (g.S.Strings.state c.loop-member.store) (Ok c.loop-member.object)
+    makes_same g.S.Strings.number (g.S.Strings.state c.args.store.now) (g.S.Strings.state c.loop-member.store) c.loop-member.object
+    c.finish.result _ c.finish.ensures
+    (c.loop-member.invariant.completes (g.S.Strings.state c.loop-member.store) (Ok c.loop-member.object)
     (rw past (record { is = refl; good = c.loop-member.invariant.fine; ran = ran_free (g.S.Strings.state c.loop-member.store) })))
 
 pub with_member-returns-in_err-key-clause-did : goal.with_member-returns-in_err-key-clause-did
