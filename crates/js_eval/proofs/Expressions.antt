@@ -1,6 +1,8 @@
 -- One lemma for each kind of expression, and for its early end.
 use Rattle.std.proofs.Common.{arith, ◌≡◌, ℕ, List, [], ◌∷◌, refl, ap, ◌∙◌, sym, subst, ◌<◌, ◌+◌, length, get_or, drop, Bool, true, false, if◌then◌else◌, Option}
 use Rattle.std.proofs.Common.{Some, None, option_map, Vec, Global, Result, Ok, Err}
+use Rattle.std.specs.Prelude.{IfOk}
+use Rattle.std.proofs.Math.ListN.{drop_of_length-le}
 use Rattle.js_store.specs.State.{State, Grows}
 use Rattle.js_store.specs.Faults.{StoreStep}
 use Rattle.js_store.specs.declared.faults.StoreFault.TheVariants.{Memory}
@@ -27,6 +29,7 @@ use Rattle.eval_values.specs.Operators.{unary_out}
 use Rattle.eval_values.specs.Conversions.{to_boolean}
 use Rattle.eval_members.specs.Members.{present, called}
 use Rattle.eval_members.specs.Indexing.{indexed}
+use Rattle.eval_members.specs.Properties.{property_of}
 use Rattle.eval_builtins.specs.Builtins.{built}
 use Rattle.js_eval.specs.Expression.{EvalContext, decides, operated, read_out, expr_out, links_out, link_out, steps_out, step_out, call_out, index_out, exprs_out}
 use Rattle.js_item.specs.Fine.{IsFine}
@@ -141,6 +144,25 @@ module _ {F R : Type 0} (name : R → ℕ) (a b : State F) where
   steps_halt v ss i t s h e n d =
       subst (λ (q : Out Val). GivesValue name a b (Err n) q) (sym (steps_front v ss i t s h e))
       (does_stop n (step_out (step_tree t) s (seen a name v)) (λ x. steps_out (steps_tree (drop (i + 1) ss)) s x) d)
+
+  -- one step alone
+  pub one_does : (v : Item R) (ss : List PostStep) (t : PostStep) (s : EvalContext) → length ss ≡ 1 → t ≡ get_or ss 0 t → (r : Result
+      (Item R) Stop) → IfOk r (λ w. IsFine b name w) → GivesValue name a b r (step_out (step_tree t) s (seen a name v)) → GivesValue name a b r
+      (steps_out (steps_tree ss) s (seen a name v))
+  one_does v ss t s l e (Ok w) h d =
+      let one : 0 < length ss = omega (arith, l) in
+      let past : drop 1 ss ≡ [] = drop_of_length-le ss {i = 1} (omega (arith, l)) in
+      steps_turn b v w ss 0 t s one e d (Ok w)
+      (subst (λ (q : List PostStep). GivesValue name b b (Ok w) (steps_out (steps_tree q) s (seen b name w))) (sym past)
+      (record { is = refl; good = h; ran = ran_free b }))
+  one_does v ss t s l e (Err n) h d = steps_halt v ss 0 t s (omega (arith, l)) e n d
+
+  -- a property, where the greatest length is that of the scope
+  pub property_step : (v : Val) (t : PostStep) (at : ℕ) (key : List ℕ) (limit : ℕ) (s : EvalContext) (r : Result (Item R) Stop) → step_tree t ≡
+      of_property at key → limit ≡ s.limit → GivesValue name a b r (property_of at limit key v) → GivesValue name a b r (step_out (step_tree t) s v)
+  property_step v t at key limit s r e l d =
+      subst (λ (q : StepTree). GivesValue name a b r (step_out q s v)) (sym e)
+      (subst (λ (q : ℕ). GivesValue name a b r (property_of at q key v)) l d)
 
   -- a call: a value that has members, the arguments, and the method
   pub call_does : (c : State F) (v : Item R) (vs : Vec (Item R) Global) (r : Result

@@ -1,10 +1,10 @@
 // Expressions.
-ghost use Rattle.std.specs.Prelude.{◌≡◌, [], IfOk, IfSome, unwrap_or};
+ghost use Rattle.std.specs.Prelude.{◌≡◌, [], IfOk, IfSome, None, unwrap_or};
 ghost use Rattle.eval_scopes.specs.Bindings.{meant};
 ghost use Rattle.eval_values.specs.Outcome.{bind};
 ghost use Rattle.js_store.specs.State.{Grows};
 ghost use Rattle.eval_tree.specs.Tree as tree;
-ghost use Rattle.eval_tree.specs.Tree.{variable, expr_tree, link_tree, links_tree, step_tree, steps_tree, exprs_tree, entries_tree};
+ghost use Rattle.eval_tree.specs.Tree.{variable, of_property, expr_tree, link_tree, links_tree, step_tree, steps_tree, exprs_tree, entries_tree};
 ghost use Rattle.js_eval.specs.Paid.{entry_paid, entries_paid, Makes};
 ghost use Rattle.js_eval.specs.Expression.{read_out, expr_out, links_out, link_out, steps_out, step_out, exprs_out};
 ghost use Rattle.js_item.specs.Contents.{no_fields};
@@ -20,7 +20,9 @@ use crate::object::{bounded, intern_key, put};
 use crate::operators::{apply, is_decided, is_true};
 use crate::short::{at_hand, of_two};
 use eval_builtins::call_builtin;
-use eval_members::{call, present, read_description, read_index, read_length, read_property};
+use eval_members::{
+    call, look_up_property, present, read_description, read_index, read_length, read_property,
+};
 use eval_tree::{Builtin, Expr, Link, Name, PostStep};
 use eval_values::{Kind, Stop, Value, apply_unary, number_value, push};
 use js_item::{Object, ObjectBuilder};
@@ -351,31 +353,69 @@ fn steps<S: Strings>(
         (steps_out (steps_tree rest.now) (scope_of (S.state store.old) S.number context.now)
         (seen (S.state store.old) S.number first.now)) }
 {
+    if rest.len() == 1 {
+        let step = &rest[0];
+        return one_step(alloc, store, context, step, first);
+    }
+    let absent = Value::Undefined;
+    let mut place = first;
     let mut value: Option<Value<S::Ref>> = None;
     for step in rest {
-        let of = latest(store, &value, first);
-        let next = one_step(alloc, store, context, step, of)?;
-        value = Some(next);
+        match property_in_place(step, &value) {
+            Some((at, key)) => {
+                let found = look_up_property(alloc, store, at, place, key, &absent)?;
+                place = found;
+                continue;
+            }
+            None => {
+                let of = latest(store, &value, place);
+                let next = one_step(alloc, store, context, step, of)?;
+                value = Some(next);
+            }
+        }
     }
     match value {
         Some(last) => Ok(last),
-        None => Ok(first.copy()?),
+        None => Ok(place.copy()?),
     }
 }
 
-// The value that the steps so far gave, or the one before them.
+// The place and the key of a property of a value in its place, where the step reads one.
+fn property_in_place<'a, R>(
+    step: &'a PostStep,
+    value: &Option<Value<R>>,
+) -> Option<(u32, &'a [u16])>
+    ensures step { IfSome result (λ p. step_tree step.now ≡ of_property p.0 p.1.now) }
+    ensures value { IfSome result (λ p. value.now ≡ None) }
+{
+    match value {
+        Some(_) => None,
+        None => property_of_step(step),
+    }
+}
+
+fn property_of_step(step: &PostStep) -> Option<(u32, &[u16])>
+    ensures { IfSome result (λ p. step_tree step.now ≡ of_property p.0 p.1.now) }
+{
+    match step {
+        PostStep::Property { at, key } => Some((*at, key.as_slice())),
+        _ => None,
+    }
+}
+
+// The value that the steps so far gave, or the one in its place before them.
 fn latest<'a, S: Strings>(
     _store: &S,
     value: &'a Option<Value<S::Ref>>,
-    first: &'a Value<S::Ref>,
+    place: &'a Value<S::Ref>,
 ) -> &'a Value<S::Ref>
-    requires { IsFine (S.state _store.now) S.number (unwrap_or value.now first.now) }
+    requires { IsFine (S.state _store.now) S.number (unwrap_or value.now place.now) }
     ensures fine { IsFine (S.state _store.now) S.number result.now }
-    ensures is { result.now ≡ unwrap_or value.now first.now }
+    ensures is { result.now ≡ unwrap_or value.now place.now }
 {
     match value {
         Some(value) => value,
-        None => first,
+        None => place,
     }
 }
 

@@ -1,4 +1,4 @@
-use Rattle.std.proofs.Common.{Ok, Err, refl, sym, ◌∙◌, subst, unwrap_or, List}
+use Rattle.std.proofs.Common.{arith, Ok, Err, refl, sym, ◌∙◌, subst, unwrap_or, List}
 use Rattle.std.proofs.lemmas.Result.{err_from_is_err_and}
 use Rattle.std.proofs.Math.ListN.{drop_of_length-le}
 use Rattle.js_store.specs.declared.faults.StoreFault.TheVariants.{Memory}
@@ -19,7 +19,7 @@ use Rattle.eval_values.proofs.Each.{each_turn, each_halt, each_full, fine_turn}
 use Rattle.js_eval.proofs.Leaves.{tree_of_literal, tree_of_number}
 use Rattle.js_eval.proofs.Expressions.{seen_does, written_does, unary_does, chain_does, chain_stops, post_does, post_stops, builtin_does, builtin_stops}
 use Rattle.js_eval.proofs.Expressions.{index_does, index_stops, link_decided, link_does, link_stops, condition_holds, condition_fails, condition_stops}
-use Rattle.js_eval.proofs.Expressions.{name_does, name_fails, copy_does, copy_stops, links_turn, links_halt, steps_turn, steps_halt, call_does, call_stops}
+use Rattle.js_eval.proofs.Expressions.{name_does, name_fails, links_turn, links_halt, steps_turn, steps_halt, one_does, property_step, copy_does, copy_stops, call_does, call_stops}
 use Rattle.js_eval.proofs.Expressions.{call_absent, exprs_are}
 use Rattle.eval_values.proofs.Still.{seen_still, fine_still}
 use Rattle.js_eval.proofs.Making.{key_stops, value_stops, entry_does, entries_turn, entries_halt, literal_does, literal_stops, makes_same}
@@ -151,19 +151,65 @@ one_link-returns-clause-did g t c =
     (state c.expr.new.store) (state c.apply.new.store) c.in_ok-right.right c.apply.result c.args.context.now
     c.in_ok-right.ensures.grows c.requires.context (sym d.value ∙ c.if-is_decided.false) c.in_ok-right.ensures.did c.apply.ensures.did
 
-pub steps-returns-in_err-next-clause-did : goal.steps-returns-in_err-next-clause-did
-steps-returns-in_err-next-clause-did g t c =
+pub steps-returns-then-rest-eq1-clause-did : goal.steps-returns-then-rest-eq1-clause-did
+steps-returns-then-rest-eq1-clause-did g t c =
+    let state = g.S.Strings.state in
+    one_does g.S.Strings.number (state c.args.store.now) (state c.one_step.new.store) c.args.first.now c.args.rest.now c.index-rest-0.result
+    (scope_of (state c.args.store.now) g.S.Strings.number c.args.context.now) (omega arith) c.index-rest-0.is c.one_step.result
+    c.one_step.ensures.fine c.one_step.ensures.did
+
+pub steps-returns-in_err-found-in-Some-clause-did : goal.steps-returns-in_err-found-in-Some-clause-did
+steps-returns-in_err-found-in-Some-clause-did g t c =
     let state = g.S.Strings.state in
     let number = g.S.Strings.number in
     let p = err_from_is_err_and c.from_residual.result c.from_residual.ensures.1 in
     let i = c.loop-step.invariant in
+    let a = state c.args.store.now in
+    let b = state c.loop-step.store in
+    let s = scope_of a number c.args.context.now in
+    let none = c.in-Some.ensures.value in
+    let d = c.in_err-found-in-Some.ensures.did in
+    rw (p.1, p.2) (i.completes (state c.look_up_property.new.store) (Err c.in_err-found-in-Some.field-0.0)
+    (rw none (steps_halt number b (state c.look_up_property.new.store) c.loop-step.place.now c.args.rest.now
+    c.loop-step.step-index c.step-item.result s c.loop-step-test.true c.step-item.is c.in_err-found-in-Some.field-0.0
+    (property_step number b (state c.look_up_property.new.store) (seen b number c.loop-step.place.now) c.step-item.result c.in-Some.at c.in-Some.key.now
+    b.limit s (Err c.in_err-found-in-Some.field-0.0) c.in-Some.ensures.step i.grows.limit d))))
+
+pub steps-loop-step-preserved-in-Some : goal.steps-loop-step-preserved-in-Some
+steps-loop-step-preserved-in-Some g t c =
+    let state = g.S.Strings.state in
+    let number = g.S.Strings.number in
+    let i = c.loop-step.invariant in
+    let a = state c.args.store.now in
+    let b = state c.loop-step.store in
+    let d = state c.look_up_property.new.store in
+    let s = scope_of a number c.args.context.now in
+    let none = c.in-Some.ensures.value in
+    let e = c.in_ok-found-in-Some.ensures in
+    record {
+      grows = grows_trans i.grows e.grows;
+      context = context_fine_still b d number e.grows c.args.context.now i.context;
+      fine = rw none e.fine;
+      completes = λ z r f. i.completes z r (rw none
+          (steps_turn number b d z c.loop-step.place.now c.in_ok-found-in-Some.found.now c.args.rest.now c.loop-step.step-index c.step-item.result s
+          c.loop-step-test.true c.step-item.is
+          (property_step number b d (seen b number c.loop-step.place.now) c.step-item.result c.in-Some.at c.in-Some.key.now b.limit s
+          (Ok c.in_ok-found-in-Some.found.now) c.in-Some.ensures.step i.grows.limit e.did) r (rw none at f)));
+    }
+
+pub steps-returns-in_err-next-in-None-clause-did : goal.steps-returns-in_err-next-in-None-clause-did
+steps-returns-in_err-next-in-None-clause-did g t c =
+    let state = g.S.Strings.state in
+    let number = g.S.Strings.number in
+    let p = err_from_is_err_and c.from_residual-in_err-next-in-None.result c.from_residual-in_err-next-in-None.ensures.1 in
+    let i = c.loop-step.invariant in
     let same = scope_still (state c.args.store.now) (state c.loop-step.store) number i.grows c.args.context.now c.requires.context in
     let of = c.latest-of.ensures.is in
-    let d = c.in_err-next.ensures.did in
-    rw (p.1, p.2) (i.completes (state c.one_step.new.store) (Err c.in_err-next.field-0.0)
-    (steps_halt number (state c.loop-step.store) (state c.one_step.new.store) (unwrap_or c.loop-step.value c.args.first.now) c.args.rest.now
+    let d = c.in_err-next-in-None.ensures.did in
+    rw (p.1, p.2) (i.completes (state c.one_step-in-None.new.store) (Err c.in_err-next-in-None.field-0.0)
+    (steps_halt number (state c.loop-step.store) (state c.one_step-in-None.new.store) (unwrap_or c.loop-step.value c.loop-step.place.now) c.args.rest.now
     c.loop-step.step-index c.step-item.result (scope_of (state c.args.store.now) number c.args.context.now)
-    c.loop-step-test.true c.step-item.is c.in_err-next.field-0.0 (rw (same, of) at d)))
+    c.loop-step-test.true c.step-item.is c.in_err-next-in-None.field-0.0 (rw (same, of) at d)))
 
 pub steps-loop-step-preserved : goal.steps-loop-step-preserved
 steps-loop-step-preserved g t c =
@@ -172,26 +218,42 @@ steps-loop-step-preserved g t c =
     let i = c.loop-step.invariant in
     let same = scope_still (state c.args.store.now) (state c.loop-step.store) number i.grows c.args.context.now c.requires.context in
     let of = c.latest-of.ensures.is in
-    let d = c.in_ok-next.ensures.did in
+    let d = c.in_ok-next-in-None.ensures.did in
     record {
-      grows = grows_trans i.grows c.in_ok-next.ensures.grows;
-      context = c.in_ok-next.ensures.context;
-      fine = c.in_ok-next.ensures.fine;
+      grows = grows_trans i.grows c.in_ok-next-in-None.ensures.grows;
+      context = c.in_ok-next-in-None.ensures.context;
+      fine = c.in_ok-next-in-None.ensures.fine;
       completes = λ e r f. i.completes e r
-          (steps_turn number (state c.loop-step.store) (state c.one_step.new.store) e (unwrap_or c.loop-step.value c.args.first.now)
-          c.in_ok-next.next c.args.rest.now c.loop-step.step-index c.step-item.result (scope_of (state c.args.store.now) number c.args.context.now)
+          (steps_turn number (state c.loop-step.store) (state c.one_step-in-None.new.store) e (unwrap_or c.loop-step.value c.loop-step.place.now)
+          c.in_ok-next-in-None.next c.args.rest.now c.loop-step.step-index c.step-item.result (scope_of (state c.args.store.now) number c.args.context.now)
           c.loop-step-test.true c.step-item.is (rw (same, of) at d) r f);
     }
 
-pub steps-returns-in-Some-clause-fine : goal.steps-returns-in-Some-clause-fine
-steps-returns-in-Some-clause-fine g t c = rw c.in-Some.is at c.loop-step.invariant.fine
+pub steps-returns-in-Some-value-clause-fine : goal.steps-returns-in-Some-value-clause-fine
+steps-returns-in-Some-value-clause-fine g t c = rw c.in-Some-value.is at c.loop-step.invariant.fine
 
-pub steps-returns-in-Some-clause-did : goal.steps-returns-in-Some-clause-did
-steps-returns-in-Some-clause-did g t c =
+pub steps-returns-in-Some-value-clause-did : goal.steps-returns-in-Some-value-clause-did
+steps-returns-in-Some-value-clause-did g t c =
     let past = drop_of_length-le c.args.rest.now {i = c.loop-step.step-index} c.loop-step-test.false in
     let k = c.loop-step.invariant.fine in
-    c.loop-step.invariant.completes (g.S.Strings.state c.loop-step.store) (Ok c.in-Some.last)
-    (rw (past, c.in-Some.is) (record { is = refl; good = rw c.in-Some.is at k; ran = ran_free (g.S.Strings.state c.loop-step.store) }))
+    c.loop-step.invariant.completes (g.S.Strings.state c.loop-step.store) (Ok c.in-Some-value.last)
+    (rw (past, c.in-Some-value.is) (record { is = refl; good = rw c.in-Some-value.is at k; ran = ran_free (g.S.Strings.state c.loop-step.store) }))
+
+pub steps-returns-in_err-copy-in-None-value-clause-did : goal.steps-returns-in_err-copy-in-None-value-clause-did
+steps-returns-in_err-copy-in-None-value-clause-did g t c =
+    let state = g.S.Strings.state in
+    let past = drop_of_length-le c.args.rest.now {i = c.loop-step.step-index} c.loop-step-test.false in
+    let p = err_from_is_err_and c.from_residual-in_err-copy-in-None-value.result c.from_residual-in_err-copy-in-None-value.ensures.1 in
+    rw (p.1, p.2) (c.loop-step.invariant.completes (state c.loop-step.store) (Err (Store Memory))
+    (rw past (copy_stops g.S.Strings.number (state c.loop-step.store) c.loop-step.place.now)))
+
+pub steps-returns-clause-did : goal.steps-returns-clause-did
+steps-returns-clause-did g t c =
+    let state = g.S.Strings.state in
+    let past = drop_of_length-le c.args.rest.now {i = c.loop-step.step-index} c.loop-step-test.false in
+    let k = c.loop-step.invariant.fine in
+    c.loop-step.invariant.completes (state c.loop-step.store) (Ok c.in_ok-copy-in-None-value.field-0)
+    (rw (past, c.in-None-value.is) (copy_does g.S.Strings.number (state c.loop-step.store) c.loop-step.place.now c.in_ok-copy-in-None-value.field-0 c.in_ok-copy-in-None-value.ensures (rw c.in-None-value.is at k)))
 
 pub one_step-returns-in-Length-clause-context : goal.one_step-returns-in-Length-clause-context
 one_step-returns-in-Length-clause-context g t c =
@@ -418,22 +480,6 @@ post-returns-in_ok-value-in-None-clause-did g t c =
     (post_does g.S.Strings.number (state c.args.store.now) (state c.expr.new.store) (state c.steps.new.store) c.in_ok-value-in-None.value
     c.steps.result (expr_tree c.args.of.now) (steps_tree c.args.rest.now) c.args.context.now c.in_ok-value-in-None.ensures.grows c.requires i k)
 
-pub steps-returns-in_err-copy-in-None-clause-did : goal.steps-returns-in_err-copy-in-None-clause-did
-steps-returns-in_err-copy-in-None-clause-did g t c =
-    let state = g.S.Strings.state in
-    let past = drop_of_length-le c.args.rest.now {i = c.loop-step.step-index} c.loop-step-test.false in
-    let p = err_from_is_err_and c.from_residual-in_err-copy-in-None.result c.from_residual-in_err-copy-in-None.ensures.1 in
-    rw (p.1, p.2) (c.loop-step.invariant.completes (state c.loop-step.store) (Err (Store Memory))
-    (rw past (copy_stops g.S.Strings.number (state c.loop-step.store) c.args.first.now)))
-
-pub steps-returns-in_ok-copy-in-None-clause-did : goal.steps-returns-in_ok-copy-in-None-clause-did
-steps-returns-in_ok-copy-in-None-clause-did g t c =
-    let state = g.S.Strings.state in
-    let past = drop_of_length-le c.args.rest.now {i = c.loop-step.step-index} c.loop-step-test.false in
-    let k = c.loop-step.invariant.fine in
-    c.loop-step.invariant.completes (state c.loop-step.store) (Ok c.in_ok-copy-in-None.field-0)
-    (rw (past, c.in-None.is) (copy_does g.S.Strings.number (state c.loop-step.store) c.args.first.now c.in_ok-copy-in-None.field-0 c.in_ok-copy-in-None.ensures (rw c.in-None.is at k)))
-
 pub expr-returns-in-Unary-clause-did : goal.expr-returns-in-Unary-clause-did
 expr-returns-in-Unary-clause-did g t c =
     let w = c.unary.ensures.did in
@@ -599,3 +645,8 @@ one_step-returns-in_ok-values-in-Call-clause-grows g t c = grows_trans c.in_ok-v
 pub one_step-read_index-requires-in-None-clause-value : goal.one_step-read_index-requires-in-None-clause-value
 one_step-read_index-requires-in-None-clause-value g t c =
     fine_still (g.S.Strings.state c.args.store.now) (g.S.Strings.state c.expr.new.store) g.S.Strings.number c.in_ok-index-in-None.ensures.grows c.args.value.now c.requires.value
+
+pub steps-returns-in_err-found-in-Some-clause-context : goal.steps-returns-in_err-found-in-Some-clause-context
+steps-returns-in_err-found-in-Some-clause-context g t c =
+    context_fine_still (g.S.Strings.state c.loop-step.store) (g.S.Strings.state c.look_up_property.new.store) g.S.Strings.number
+    c.in_err-found-in-Some.ensures.grows c.args.context.now c.loop-step.invariant.context

@@ -36,10 +36,10 @@ invariant-steps-loop-step g l =
     record {
       grows : Grows (state l.fn.store) (state l.store);
       context : ContextFine (state l.store) number l.context;
-      fine : IsFine (state l.store) number (unwrap_or l.value l.first);
+      fine : IsFine (state l.store) number (unwrap_or l.value l.place);
       completes : (c : State g.S.Strings.Frame) (r : Result (Item g.row.S-Ref.Denot) Stop) →
           GivesValue number (state l.store) c r (steps_out (steps_tree (drop l.step-index l.rest))
-          (scope_of (state l.fn.store) number l.context) (seen (state l.store) number (unwrap_or l.value l.first))) →
+          (scope_of (state l.fn.store) number l.context) (seen (state l.store) number (unwrap_or l.value l.place))) →
           GivesValue number (state l.fn.store) c r (steps_out (steps_tree l.rest) (scope_of (state l.fn.store) number l.context) (seen (state l.fn.store) number l.first));
     }
 
