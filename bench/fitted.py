@@ -19,8 +19,8 @@ from language import engines
 from scripts import LARGE_PAGES, printed, put
 from speed import seconds
 
-ROUNDS = 7
-MOST_IDS, MOST_WORDS = 1 << 25, 1 << 26
+ROUNDS = 5
+MOST_IDS, MOST_SLOTS = 1 << 25, 1_000_003
 BESIDE, STARTS_BESIDE = "node --jitless", "duk"
 
 MEMBERS = ", ".join(f"m{number}: {number}" for number in range(1000))
@@ -80,10 +80,8 @@ ROWS = [
 
 def fewest(runs, most):
     """The fewest, to an eighth, with which it runs; it does with `most`."""
-    low, high = 0, 1024
-    while high < most and not runs(high):
-        low, high = high, 2 * high
-    while high - low > high // 8:
+    low, high = 0, most
+    while high - low > max(1, high // 8):
         middle = (low + high) // 2
         low, high = (low, middle) if runs(middle) else (middle, high)
     return high
@@ -95,16 +93,19 @@ def sizes_of(ids, words, slots):
 
 def heap_of(program, path):
     """The sizes of a heap a fifth larger than the script takes."""
-    status, lines = printed([program, *sizes_of(MOST_IDS, MOST_WORDS, 1_000_003), "--summary", path], 60)
-    if status != 0:
-        sys.exit(f"{path}: status {status}")
-    slots = max(31, int(lines.split()[-1]) * 13 // 5 | 1)
 
-    def runs(ids, words):
+    def runs(ids, words, slots=MOST_SLOTS):
         return printed([program, *sizes_of(ids, words, slots), path], 60)[0] == 0
 
-    ids = fewest(lambda ids: runs(ids, MOST_WORDS), MOST_IDS)
-    words = fewest(lambda words: runs(ids, words), MOST_WORDS)
+    scale = 512
+    while not runs(scale, 4 * scale):
+        scale *= 2
+        if scale > MOST_IDS:
+            sys.exit(f"{path}: no heap of {MOST_IDS} ids is enough")
+    ids = fewest(lambda ids: runs(ids, 4 * scale), scale)
+    words = fewest(lambda words: runs(ids, words), 4 * scale)
+    told = printed([program, *sizes_of(ids, words, MOST_SLOTS), "--summary", path], 60)[1]
+    slots = max(31, int(told.split()[-1]) * 13 // 5 | 1)
     return sizes_of(ids * 6 // 5, words * 6 // 5, slots)
 
 
