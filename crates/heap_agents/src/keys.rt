@@ -1,6 +1,8 @@
 // Units that are in no string: interning them, and looking for them in the string table.
 ghost use Rattle.std.specs.Prelude.{◌≤◌, length};
 ghost use Rattle.heap_rule.specs.Layout.{MAX};
+ghost use Rattle.heap_read.specs.Reads.{HoldsForms};
+ghost use Rattle.heap_intern.specs.Answers.{copy_plan};
 ghost use Rattle.heap_intern.specs.Keys.{IsKey, units_of_key};
 ghost use Rattle.heap_intern.specs.Searching.{IsOpening};
 ghost use Rattle.heap_agents.specs.Held.{IsHeld, view_by};
@@ -33,9 +35,10 @@ impl Held {
         self.find_key(&Key::Units(units))
     }
 
-    // Interns units that are given as a list or as bytes. They are looked for first, so that the reserve is
-    // renewed only where a string has to be made.
-    pub(crate) fn intern_key(&mut self, key: &Key) -> Result<u32, TableFull>
+    /// The one string of the table with the units of a list, or with those that bytes spell, as
+    /// [`intern_units`](Held::intern_units) answers it. They are looked for first, so that the reserve is renewed
+    /// only where a string has to be made.
+    pub fn intern_key(&mut self, key: &Key) -> Result<u32, TableFull>
         requires held { IsHeld self.old }
         requires key { IsKey key.now }
         ensures { InternedUnits self.old self.new (units_of_key key.now) result }
@@ -58,7 +61,9 @@ impl Held {
         requires held { IsHeld self.old }
         requires key { IsKey key.now }
         requires opening { IsOpening (view_by self.old) (units_of_key key.now) opening }
-        ensures { TakesKey self.old self.new (units_of_key key.now) opening result }
+        ensures takes { TakesKey self.old self.new (units_of_key key.now)
+            (copy_plan (units_of_key key.now)) opening result }
+        ensures forms { HoldsForms (view_by self.old) (view_by self.new) }
     {
         let answer = intern_at(
             &mut self.text,
@@ -72,8 +77,8 @@ impl Held {
         Ok(id)
     }
 
-    // Looks for units that are given as a list or as bytes.
-    pub(crate) fn find_key(&mut self, key: &Key) -> Option<u32>
+    /// The same string, if it is there. It uses nothing, also on a full heap.
+    pub fn find_key(&mut self, key: &Key) -> Option<u32>
         requires held { IsHeld self.old }
         requires key { IsKey key.now }
         ensures { FoundUnits self.old self.new (units_of_key key.now) result }

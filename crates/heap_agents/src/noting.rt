@@ -1,5 +1,7 @@
 // Units that are in no string, interned and looked for by an agent that notes what the strings in slots hash
 // to.
+ghost use Rattle.heap_read.specs.Reads.{HoldsForms};
+ghost use Rattle.heap_intern.specs.Answers.{copy_plan};
 ghost use Rattle.heap_intern.specs.Keys.{IsKey, units_of_key};
 ghost use Rattle.heap_intern.specs.Searching.{IsOpening, LoadsFrom, SearchesKey};
 ghost use Rattle.heap_reserve.specs.Interning.{InternsAt};
@@ -27,6 +29,7 @@ pub(crate) fn search_key(
     ensures there { IsThere text.new }
     ensures same { IsSameText text.old text.new }
     ensures searches { SearchesKey (view_if text.old) (view_if text.new) (units_of_key key.now) result }
+    ensures forms { HoldsForms (view_if text.old) (view_if text.new) }
     ensures noted { AreNoted (view_if text.new) seats.new }
 {
     match text {
@@ -55,7 +58,8 @@ pub(crate) fn intern_at(
     ensures there { IsThere text.new }
     ensures same { IsSameText text.old text.new }
     ensures interns { InternsAt (view_if text.old) (view_if text.new) reserve.old reserve.new
-        (units_of_key key.now) result }
+        (units_of_key key.now) (copy_plan (units_of_key key.now)) result }
+    ensures forms { HoldsForms (view_if text.old) (view_if text.new) }
     ensures loads { LoadsFrom (view_if text.old) (view_if text.new) (units_of_key key.now) opening }
     ensures noted { AreNoted (view_if text.new) seats.new }
     ensures reserved { IsReserve (view_if text.new) reserve.new }

@@ -3,7 +3,7 @@ ghost use Rattle.std.specs.Prelude.{◌≡◌, ◌↔◌, ◌⊎◌, ℕ, ◌+�
 ghost use Rattle.js_units.specs.Lanes.{words_over};
 ghost use Rattle.heap_rule.specs.Layout.{MAX};
 ghost use Rattle.heap_rule.specs.Maps.{Has, HasKey};
-ghost use Rattle.heap_read.specs.Reads.{OnlyLoads};
+ghost use Rattle.heap_read.specs.Reads.{HoldsForms, OnlyLoads};
 ghost use Rattle.heap_intern.specs.Keys.{IsKey, units_of_key};
 ghost use Rattle.heap_reserve.specs.Making.{words_holding};
 ghost use Rattle.heap_agents.specs.Held.{IsHeld, LeavesStrings, MarksNothing, limit_by, view_by};
@@ -28,9 +28,10 @@ const SHORT_WORDS: u32 = 3;
 
 impl Held {
     /// Sets the blocks by which it renews its reserve from now on: before a string is made, joined or cut, or
-    /// made for units that are interned, that finds no id, or too few content words, there. Then it claims a block of ids if it has none, and a
-    /// block of words, or as many as the string needs where these are more, if it has too few; but nothing
-    /// if it has too little of what it has no block of. Where the heap has less, the string is made as ever.
+    /// made for what is interned, that finds no id, or too few content words, there. Then it claims a block of
+    /// ids if it has none, and a block of words, or as many as the string needs where these are more, if it has
+    /// too few; but nothing if it has too little of what it has no block of. Where the heap has less, the string
+    /// is made as ever.
     pub fn renew(&mut self, ids: u32, words: u32)
         requires held { IsHeld self.old }
         ensures held { IsHeld self.new }
@@ -49,6 +50,7 @@ impl Held {
             self.new (words_holding (units_of_key key.now)) }
         ensures left { (IsRenewalDue self.old (words_holding (units_of_key key.now)) → ⊥)
             → self.new ≡ self.old }
+        ensures forms { HoldsForms (view_by self.old) (view_by self.new) }
     {
         let n = key.len();
         if self.may_lack(words_for(n, true)) {
@@ -119,11 +121,12 @@ impl Held {
     }
 
     // Renews for a string that needs so many content words, where it is to.
-    fn renew_for(&mut self, words: u32)
+    pub(crate) fn renew_for(&mut self, words: u32)
         requires held { IsHeld self.old }
         ensures prepared { IsPrepared self.old self.new }
         ensures renews { Prepares (IsRenewalDue self.old words) self.old self.new words }
         ensures left { (IsRenewalDue self.old words → ⊥) → self.new ≡ self.old }
+        ensures forms { HoldsForms (view_by self.old) (view_by self.new) }
     {
         if self.is_due(words) {
             let ReserveBlocks {

@@ -1,6 +1,7 @@
 // Ids and content words that an agent claims in advance.
 ghost use Rattle.std.specs.Prelude.{◌≡◌, length};
-ghost use Rattle.heap_agents.specs.Held.{IsHeld};
+ghost use Rattle.heap_read.specs.Reads.{HoldsForms};
+ghost use Rattle.heap_agents.specs.Held.{IsHeld, view_by};
 ghost use Rattle.heap_agents.specs.Spending.{ClaimsInAdvance};
 ghost use Rattle.heap_reserve.specs.Reserves.{kept_ids, words_kept};
 
@@ -9,13 +10,14 @@ use heap_reserve::ReserveFault;
 
 impl Held {
     /// Claims so many content words in one piece, and then so many ids, from which strings that are made,
-    /// joined and cut, and units that are interned, are taken later; 0 claims none. Where the heap has not
+    /// joined, cut and interned are taken later; 0 claims none. Where the heap has not
     /// that many content words, nothing is claimed. Where ids or memory end before, the words and the ids
     /// that were claimed are kept. If the new words do not begin where those in reserve end, the rest of
     /// these is given up.
     pub fn reserve(&mut self, ids: u32, words: u32) -> Result<(), ReserveFault>
         requires held { IsHeld self.old }
-        ensures { ClaimsInAdvance self.old self.new ids words result }
+        ensures claims { ClaimsInAdvance self.old self.new ids words result }
+        ensures forms { HoldsForms (view_by self.old) (view_by self.new) }
     {
         match &mut self.text {
             Some(text) => self.reserve.claim(text, ids, words),

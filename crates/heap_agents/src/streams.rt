@@ -1,5 +1,4 @@
-// Units that bytes spell: strings made of them, interning them, looking for them in the string table, and
-// strings compared with them. No call requests memory but the heap's.
+// Units that bytes spell: strings made of them, and strings compared with them. No call requests memory but the heap's.
 ghost use Rattle.std.specs.Prelude.{◌≡◌, ◌↔◌, ◌≤◌, ℕ, List, length, IfOk, IsTrue};
 ghost use Rattle.js_search.specs.Order.{units_cmp};
 ghost use Rattle.heap_rule.specs.Layout.{MAX};
@@ -9,11 +8,10 @@ ghost use Rattle.heap_read.specs.Reads.{OnlyLoads};
 ghost use Rattle.heap_bytes.specs.Spellings.{IsReadable, spelling_units};
 ghost use Rattle.heap_agents.specs.Held.{IsHeld, LeavesStrings, MarksMade, MarksNothing, SpendsReserve, view_by};
 ghost use Rattle.heap_agents.specs.Spending.{MakesRenewing};
-ghost use Rattle.heap_agents.specs.Keys.{FoundUnits, InternedUnits};
 
 use crate::held::Held;
 use heap_bytes::Spelling;
-use heap_intern::{Key, TableFull};
+use heap_intern::Key;
 use heap_text::{JsStr, TextFull};
 use std::cmp::Ordering;
 
@@ -33,29 +31,6 @@ impl Held {
     {
         self.renew_for_key(&Key::Spelled(*source));
         self.take_spelled(source)
-    }
-
-    /// The one string of the table with the units that bytes spell. Where it is there, nothing is used. Else
-    /// it takes what it needs from what was claimed in advance, where that suffices. Where it doesn't, it is
-    /// renewed first.
-    pub fn intern_from(&mut self, source: &Spelling) -> Result<u32, TableFull>
-        requires held { IsHeld self.old }
-        requires read { IsReadable source.now }
-        requires short { length (spelling_units source.now) ≤ MAX }
-        ensures { InternedUnits self.old self.new (spelling_units source.now) result }
-    {
-        self.intern_key(&Key::Spelled(*source))
-    }
-
-    /// The one string of the table with the units that bytes spell, if it is there. It uses nothing, also
-    /// on a full heap.
-    pub fn find_from(&mut self, source: &Spelling) -> Option<u32>
-        requires held { IsHeld self.old }
-        requires read { IsReadable source.now }
-        requires short { length (spelling_units source.now) ≤ MAX }
-        ensures { FoundUnits self.old self.new (spelling_units source.now) result }
-    {
-        self.find_key(&Key::Spelled(*source))
     }
 
     /// The order of a settled string and the units that bytes spell, where a proper prefix comes first, by

@@ -44,7 +44,7 @@ use Rattle.heap_intern.specs.Taking.{HasGiven, IsKeyAnswer, without_given}
 use Rattle.heap_intern.specs.Visits.{IsNeverUnmade, IsPassed, IsPlace, LoadsOne}
 use Rattle.heap_intern.specs.Seats.{id_in}
 use Rattle.heap_intern.proofs.Bearing.{known_length, shown_span, without_keeps}
-use Rattle.heap_intern.proofs.Going.{goes_trans}
+use Rattle.heap_intern.proofs.Going.{goes_self, goes_trans}
 use Rattle.heap_intern.proofs.Hashes.{note_of}
 use Rattle.heap_intern.proofs.Loading.{on_most}
 use Rattle.heap_intern.proofs.Possibly.{possible_unborn}
@@ -53,11 +53,11 @@ use Rattle.heap_intern.proofs.Visiting.{behind_kept, none_before, shut_kept}
 -- Words are written, and an own id is born over them.
 
 -- a view without what was given, and one that writes to it
-pub goes_written : (v p : View) (us : List ℕ) (x : Given) → WritesOwnWords v p → KeepsBeside x.start (words_of_copy us) v p → AddsCalls (without_given v us x) p []
-goes_written v p us x w beside = let k = w.known in record {
+pub goes_written : (v p : View) (n : ℕ) (x : Given) → WritesOwnWords v p → KeepsBeside x.start n v p → AddsCalls (without_given v n x) p []
+goes_written v p n x w beside = let k = w.known in record {
   known = record { units = k.units; lengths = k.lengths; flats = k.flats; thins = k.thins; settled = k.settled; frozen = k.frozen; known = k.known; slots = k.slots };
-  own_ids = λ i n h. subst (λ (m : FinMap nat_cmp ℕ). Has m i n) (sym w.own_ids) (has_remove v.own_ids x.id i n h).1;
-  own_words = λ c y h. let t = has_without v.own_words x.start (words_of_copy us) c y h in beside c y t.0 t.1;
+  own_ids = λ i m h. subst (λ (o : FinMap nat_cmp ℕ). Has o i m) (sym w.own_ids) (has_remove v.own_ids x.id i m h).1;
+  own_words = λ c y h. let t = has_without v.own_words x.start n c y h in beside c y t.0 t.1;
   sizes = w.sizes;
   agents = w.agents;
   live = w.live;
@@ -73,12 +73,33 @@ goes_written v p us x w beside = let k = w.known in record {
     low : {m n : Counters} → n ≡ m → (f : Counters → ℕ) → f m ≤ f n
     low {m} {n} e f = subst (λ (q : Counters). f m ≤ f q) (sym e) (omega arith)
 
-pub none_given : (v : View) (us : List ℕ) (x : Given) → HasKey (without_given v us x).own_ids x.id → ⊥
-none_given v us x h = let t = has_key (without_given v us x).own_ids x.id h in (has_remove v.own_ids x.id x.id t.0 t.1).0 refl
+pub none_given : (v : View) (n : ℕ) (x : Given) → HasKey (without_given v n x).own_ids x.id → ⊥
+none_given v n x h = let t = has_key (without_given v n x).own_ids x.id h in (has_remove v.own_ids x.id x.id t.0 t.1).0 refl
 
-pub no_words_given : (v : View) (us : List ℕ) (x : Given) (n : ℕ) → n ≡ words_of_copy us → (c : ℕ) → x.start ≤ c → c < x.start + n → HasKey (without_given v us x).own_words c → ⊥
-no_words_given v us x n e c lo hi h = let t = has_key (without_given v us x).own_words c h in let s = has_without v.own_words x.start (words_of_copy us) c t.0 t.1 in
-    ⊎_elim (λ (l : c < x.start). omega (arith, l, lo)) (λ (l : x.start + words_of_copy us ≤ c). omega (arith, l, hi, e)) s.0
+pub no_words_given : (v : View) (m : ℕ) (x : Given) (n : ℕ) → n ≡ m → (c : ℕ) → x.start ≤ c → c < x.start + n → HasKey (without_given v m x).own_words c → ⊥
+no_words_given v m x n e c lo hi h = let t = has_key (without_given v m x).own_words c h in let s = has_without v.own_words x.start m c t.0 t.1 in
+    ⊎_elim (λ (l : c < x.start). omega (arith, l, lo)) (λ (l : x.start + m ≤ c). omega (arith, l, hi, e)) s.0
+
+-- a view without what was given knows what the view knows, and owns the rest
+pub own_without : (v : View) (n : ℕ) (x : Given) (c : ℕ) → HasKey (without_given v n x).own_words c → HasKey v.own_words c
+own_without v n x c h = let t = has_key (without_given v n x).own_words c h in key_of v.own_words c t.0 (has_without v.own_words x.start n c t.0 t.1).1
+
+pub goes_without : (v : View) (n : ℕ) (x : Given) → AddsCalls (without_given v n x) v []
+goes_without v n x = let k = (goes_self v).known in record {
+  known = record { units = k.units; lengths = k.lengths; flats = k.flats; thins = k.thins; settled = k.settled; frozen = k.frozen; known = k.known; slots = k.slots };
+  own_ids = λ i m h. (has_remove v.own_ids x.id i m h).1;
+  own_words = λ c y h. (has_without v.own_words x.start n c y h).1;
+  sizes = refl;
+  agents = refl;
+  live = refl;
+  share = refl;
+  ids_used = omega arith;
+  words_used = omega arith;
+  ids_low = omega arith;
+  words_low = omega arith;
+  seen = refl;
+  mine = sym (append-nil v.mine);
+}
 
 -- The length of an own id is stored, and it is born over these words.
 module _ (v : View) (wide : Bool) (start n : ℕ) (us : List ℕ) (h : MayBeOver v wide start n us) (id : ℕ) where
@@ -152,25 +173,25 @@ settled_known v w us (Err (Ids f)) h = absurd h
 settled_known v w us (Err (Words f)) h = absurd h
 
 -- what was known of a view without what was given is known of the view
-pub given_known : (v w : View) (us : List ℕ) (x : Given) → KeepsKnown (without_given v us x) w → KeepsKnown v w
-given_known v w us x k = record { units = k.units; lengths = k.lengths; flats = k.flats; thins = k.thins; settled = k.settled; frozen = k.frozen; known = k.known; slots = k.slots }
+pub given_known : (v w : View) (n : ℕ) (x : Given) → KeepsKnown (without_given v n x) w → KeepsKnown v w
+given_known v w n x k = record { units = k.units; lengths = k.lengths; flats = k.flats; thins = k.thins; settled = k.settled; frozen = k.frozen; known = k.known; slots = k.slots }
 
 -- loads before it
-module _ (v u : View) (us : List ℕ) (x : Given) (l : AddsCalls v u []) where
-  pub given_later : HasGiven v us x → HasGiven u us x
+module _ (v u : View) (n : ℕ) (x : Given) (l : AddsCalls v u []) where
+  pub given_later : HasGiven v n x → HasGiven u n x
   given_later h = record {
     id = let t = has_key v.own_ids x.id h.id in key_of u.own_ids x.id t.0 (l.own_ids x.id t.0 t.1);
     words = λ q m. l.own_words (x.start + q) 0 (h.words q m);
     none = h.none;
   }
 
-  pub without_later : AddsCalls (without_given v us x) (without_given u us x) []
+  pub without_later : AddsCalls (without_given v n x) (without_given u n x) []
   without_later = let k = l.known in record {
     known = record { units = k.units; lengths = k.lengths; flats = k.flats; thins = k.thins; settled = k.settled; frozen = k.frozen; known = k.known; slots = k.slots };
-    own_ids = λ i n h. let t = has_remove v.own_ids x.id i n h in remove_other u.own_ids x.id i t.0 ∙ l.own_ids i n t.1;
-    own_words = λ c y h. let t = has_without v.own_words x.start (words_of_copy us) c y h in
-        without_keeps u.own_words x.start (words_of_copy us) c y
-        (λ q m d. ⊎_elim (λ (a : c < x.start). omega (arith, a, d)) (λ (a : x.start + words_of_copy us ≤ c). omega (arith, a, d, m)) t.0) (l.own_words c y t.1);
+    own_ids = λ i m h. let t = has_remove v.own_ids x.id i m h in remove_other u.own_ids x.id i t.0 ∙ l.own_ids i m t.1;
+    own_words = λ c y h. let t = has_without v.own_words x.start n c y h in
+        without_keeps u.own_words x.start n c y
+        (λ q m d. ⊎_elim (λ (a : c < x.start). omega (arith, a, d)) (λ (a : x.start + n ≤ c). omega (arith, a, d, m)) t.0) (l.own_words c y t.1);
     sizes = l.sizes;
     agents = l.agents;
     live = l.live;

@@ -155,6 +155,15 @@ notes_from u v w us answer hashes later e h = record {
   passed = λ k apart. h.passed k apart ∙ ap (λ (m : FinMap nat_cmp ℕ). unwrap_or (get m k) 0) e;
 }
 
+pub notes_none_then : (v w x : View) (us hashes : List ℕ) → KeepsKnown w x → x.slot_loads ≡ w.slot_loads → NotesHash v w us None hashes hashes → NotesHash v x us None hashes hashes
+notes_none_then v w x us hashes known e h = record {
+  right = hashes_kept w x known hashes h.right;
+  room = h.room;
+  kept = h.kept;
+  noted = λ i k same. let bad : None ≡ Some i = same in absurd (cc);
+  passed = λ k apart. ap (λ (m : FinMap nat_cmp ℕ). unwrap_or (get m k) 0) e ∙ h.passed k apart;
+}
+
 -- and a step behind it that loads no slot
 pub notes_then : (v w x : View) → IsPossible x → (us : List ℕ) (id slot : ℕ) (hashes later : List ℕ) → Has w.slots slot id → KeepsKnown w x → x.slot_loads ≡ w.slot_loads →
     NotesHash v w us (Some id) hashes later → NotesHash v x us (Some id) hashes later

@@ -1,11 +1,11 @@
 -- Going on from an opening: with what was given, and by claims.
-use Rattle.std.proofs.Common.{◌≡◌, ◌≢◌, ℕ, ◌+◌, ◌≤◌, ◌<◌, inr, List, [], ◌∷◌, ap, sym, ◌∙◌, subst, arith, None, Result, Ok, Err}
+use Rattle.std.proofs.Common.{◌≡◌, ◌≢◌, ℕ, ◌+◌, ◌≤◌, ◌<◌, inr, List, [], ◌∷◌, ap, ◌∙◌, subst, arith, None, Result, Ok, Err}
 use Rattle.std.specs.Prelude.{unwrap_or}
 use mathlib.Core.Logic.{dite}
 use native.Mathlib.Decide.{dec_le}
 use Rattle.std.specs.FinMap.{FinMap, get}
 use Rattle.std.specs.Ordering.{nat_cmp}
-use Rattle.js_units.specs.Lanes.{hash_of, is_wide}
+use Rattle.js_units.specs.Lanes.{hash_of}
 use Rattle.heap_rule.specs.declared.view.View.{View}
 use Rattle.heap_rule.specs.declared.size.HeapSize.{HeapSize}
 use Rattle.heap_rule.specs.Paths.{rank}
@@ -16,7 +16,7 @@ use Rattle.heap_intern.specs.declared.table.faults.TableFull.{TableFull}
 use Rattle.heap_intern.specs.declared.table.faults.TableFull.TheVariants.{Ids, Words, Slots}
 use Rattle.heap_intern.specs.declared.table.given.Given.{Given}
 use Rattle.heap_intern.specs.declared.table.searching.Opening.{Opening}
-use Rattle.heap_intern.specs.Answers.{HasLeft, IsInternAnswer, IsOpen, IsOpenAt, UsesNothing, copy_plan, words_of_copy}
+use Rattle.heap_intern.specs.Answers.{HasLeft, HeaderPlan, IsInternAnswer, IsOpen, IsOpenAt, UsesNothing}
 use Rattle.heap_intern.specs.Goes.{AddsCalls}
 use Rattle.heap_intern.specs.Hashes.{AreHashes, IsNotedApart}
 use Rattle.heap_intern.specs.Headers.{IsFlat, IsNoHeader, IsPlanned}
@@ -49,13 +49,13 @@ opening_apart v w us hashes o mark right h later j apart =
     later j (λ d. free_near v hashes o.slot mark right h.free (subst (λ (i : ℕ). IsNotedApart hashes i mark) d apart)) apart
 
 -- what was given is taken
-pub opening_taken : (v w : View) (us : List ℕ) (x : Given) (r : Result ℕ TableFull) (o : Opening) → IsPossible v → IsOpening v us o → IsKeyAnswer (without_given v us x) w us r
-    → IsFlat w (is_wide us) x.start us x.id → IsGivenTaken v w us x r
-opening_taken v w us x r o p h settles flat = let s = settled_known (without_given v us x) w us r settles in record {
+pub opening_taken : (v w : View) (us : List ℕ) (plan : HeaderPlan) (x : Given) (r : Result ℕ TableFull) (o : Opening) → IsPossible v → IsOpening v us o
+    → IsKeyAnswer (without_given v plan.words x) w us r → IsFlat w plan.wide (unwrap_or plan.start x.start) us x.id → IsGivenTaken v w us plan x r
+opening_taken v w us plan x r o p h settles flat = let s = settled_known (without_given v plan.words x) w us r settles in record {
   settled = settles;
   form = flat.0;
   units = flat.1;
-  opened = opening_open v w us o p h (given_known v w us x s.0) s.1;
+  opened = opening_open v w us o p h (given_known v w plan.words x s.0) s.1;
 }
 
 -- no header could be made
@@ -64,25 +64,25 @@ open_still v u us o p q h g same = let k = o.slot in
     place_open u u u us k o.rank (goes_self u).known q (goes_self u).known (goes_self u).sizes
     (place_kept v u us k o.rank p g.known g.sizes (opening_place v us o h)) (ap (λ (m : FinMap nat_cmp ℕ). get m k) same ∙ h.free)
 
-pub refused_new : (v u : View) (us : List ℕ) (o : Opening) (f : TableFull) → IsPossible v → IsPossible u → IsOpening v us o → AddsCalls v u [] → u.slots ≡ v.slots
-    → IsNoHeader v u (words_of_copy us) f → IsInternAnswer v u us (copy_plan us) (Err f)
-refused_new v u us o (Ids f) p q h g same t = (g, (t.2, t.3, t.0, t.1, open_still v u us o p q h g same, t.4))
-refused_new v u us o (Words f) p q h g same t = (g, (t.2, t.3, t.0, t.1, open_still v u us o p q h g same))
-refused_new v u us o (Slots n) p q h g same t = absurd t
+pub refused_new : (v u : View) (us : List ℕ) (plan : HeaderPlan) (o : Opening) (f : TableFull) → IsPossible v → IsPossible u → IsOpening v us o → AddsCalls v u [] → u.slots ≡ v.slots
+    → IsNoHeader v u plan.words f → IsInternAnswer v u us plan (Err f)
+refused_new v u us plan o (Ids f) p q h g same t = (g, (t.2, t.3, t.0, t.1, open_still v u us o p q h g same, t.4))
+refused_new v u us plan o (Words f) p q h g same t = (g, (t.2, t.3, t.0, t.1, open_still v u us o p q h g same))
+refused_new v u us plan o (Slots n) p q h g same t = absurd t
 
 -- a header was made, and put there
-module _ (v u w : View) (us : List ℕ) (o : Opening) (header : ℕ) (p : IsPossible v) (q : IsPossible u) (h : IsOpening v us o) (g : AddsCalls v u [])
-    (one : u.used.ids ≡ v.used.ids + 1) (made : IsPlanned v u (copy_plan us) us header) (nothing : UsesNothing u w) where
-  left_new : KeepsKnown u w → w.sizes ≡ u.sizes → HasLeft v w us (copy_plan us)
+module _ (v u w : View) (us : List ℕ) (plan : HeaderPlan) (o : Opening) (header : ℕ) (p : IsPossible v) (q : IsPossible u) (h : IsOpening v us o) (g : AddsCalls v u [])
+    (one : u.used.ids ≡ v.used.ids + 1) (made : IsPlanned v u plan us header) (nothing : UsesNothing u w) where
+  left_new : KeepsKnown u w → w.sizes ≡ u.sizes → HasLeft v w us plan
   left_new known z = inr (
     header,
     nothing.0 ∙ one,
     nothing.1 ∙ made.1,
-    header_kept u w q known us (copy_plan us) header made.0,
+    header_kept u w q known us plan header made.0,
     opening_open v w us o p h (known_trans v u w g.known known) (z ∙ g.sizes),
   )
 
-  pub answer_new : (r : Result ℕ TableFull) → IsKeyAnswer u w us r → IsInternAnswer v w us (copy_plan us) r
+  pub answer_new : (r : Result ℕ TableFull) → IsKeyAnswer u w us r → IsInternAnswer v w us plan r
   answer_new (Ok i) t = let a = nothing.0 in let b = nothing.1 in let c = made.1 in
       (goes_trans v u w [] ((us, i) ∷ []) g t.0, omega (arith, a, one), omega (arith, b, c), t.1, t.2, left_new t.0.known t.0.sizes)
   answer_new (Err (Slots n)) t = (goes_trans v u w [] [] g t.0, (t.1, t.2, left_new t.0.known t.0.sizes))

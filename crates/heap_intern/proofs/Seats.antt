@@ -121,8 +121,8 @@ module _ (v w : View) (s k t : ℕ) (x : IsSeat v s k) (known : KeepsKnown v w) 
   goes : AddsCalls v w ((x.units, x.target) ∷ []) × (w.used ≡ v.used)
   goes = goes_slot v w k (t + 1) (entry_in v k) ((x.units, x.target) ∷ []) (entered_is v k x.target x.units x.stands x.fixed.1) known e
 
-  unused : UsesNothing v w
-  unused = (ap (λ (n : Counters). n.ids) goes.1, ap (λ (n : Counters). n.words) goes.1)
+  pub again_unused : UsesNothing v w
+  again_unused = (ap (λ (n : Counters). n.ids) goes.1, ap (λ (n : Counters). n.words) goes.1)
 
   pub again_forwards : IsForwarded w s t
   again_forwards = subst (IsForwarded w s) (sym same) (⊎_elim (λ (a : Has v.forms s (Thin x.target)). inl (known.thins s x.target a))
@@ -139,7 +139,7 @@ module _ (v w : View) (s k t : ℕ) (x : IsSeat v s k) (known : KeepsKnown v w) 
           Thin x.target,
           found_by (Thin x.target) a,
           (refl, (x.fixed.0.1, known.flats x.target x.fixed.0.0 x.fixed.0.1 x.fixed.0.2, λ some. refl)),
-          unused,
+          again_unused,
         ),
       ))
       (λ (b : (wide : Bool) × (start : ℕ) × Has v.forms s (Flat wide start true)).
@@ -148,13 +148,13 @@ module _ (v w : View) (s k t : ℕ) (x : IsSeat v s k) (known : KeepsKnown v w) 
 
   module _ (sizes : w.sizes ≡ v.sizes) (p : IsPossible v) where
     answer : (plan : HeaderPlan) → IsInternAnswer v w x.units plan (Ok x.target)
-    answer plan = let u = unused.0 in let m = unused.1 in (
+    answer plan = let u = again_unused.0 in let m = again_unused.1 in (
       goes.0,
       omega arith,
       omega arith,
       ((x.fixed.0.0, x.fixed.0.1, known.flats x.target x.fixed.0.0 x.fixed.0.1 x.fixed.0.2), known.units x.target x.units x.fixed.1),
       (k, known.slots k x.target x.stands, behind_kept v w p known x.units sizes k x.behind),
-      inl unused,
+      inl again_unused,
     )
 
     pub again_interns : (us : List ℕ) → Has v.units s us → (plan : HeaderPlan) × IsPlan v w s us plan × IsInternAnswer v w us plan (Ok t)

@@ -15,9 +15,9 @@ pub record InternsGiven (v w : View) (us : List ℕ) (r : Result ℕ TableFull) 
   pub forms : HoldsForms v w
   pub few : (k : ℕ) → loads_at w k ≤ loads_at v k + 2
 
--- They are looked for, and whoever has seen the string at its place is answered.
+-- They are looked for, and whoever has seen the string at its place is answered. No slot is loaded more than
+-- twice.
 pub record FindsGiven (v w : View) (us : List ℕ) (r : Option ℕ) : Type 0 where
   pub answer : FindsString v w us r
   pub again : (i : ℕ) → Has v.units i us → StandsInSlot v us i → r ≡ Some i
-  pub forms : HoldsForms v w
   pub few : (k : ℕ) → loads_at w k ≤ loads_at v k + 2

@@ -1,15 +1,25 @@
 -- Looking for units before anything is claimed for them, and going on from there.
-use Rattle.std.specs.Prelude.{◌≡◌, ℕ, ◌+◌, ◌<◌, ◌≤◌, IsTrue, List, Option, Some, None}
+use Rattle.std.specs.Prelude.{◌≡◌, ◌≢◌, ℕ, ◌+◌, ◌<◌, ◌≤◌, IsTrue, List, Option, Some, None}
 use Rattle.std.specs.FinMap.{get}
 use Rattle.js_units.specs.Lanes.{hash_of}
+use Rattle.js_header.specs.declared.form.Form.TheVariants.{Thin}
+use Rattle.heap_read.specs.Frozen.{AreFrozen}
 use Rattle.heap_rule.specs.declared.view.View.{View}
+use Rattle.heap_rule.specs.Maps.{Has}
 use Rattle.heap_rule.specs.Paths.{rank}
 use Rattle.heap_rule.specs.SlotTests.{shut}
 use Rattle.heap_rule.specs.Slots.{IsShutAt}
 use Rattle.heap_intern.specs.declared.table.searching.KeySearch.{KeySearch}
 use Rattle.heap_intern.specs.declared.table.searching.KeySearch.TheVariants.{Found, Open, Shut}
 use Rattle.heap_intern.specs.declared.table.searching.Opening.{Opening}
+use Rattle.heap_intern.specs.declared.table.probing.Seat.{Seat}
+use Rattle.heap_intern.specs.declared.table.strings.StringOpening.{StringOpening}
+use Rattle.heap_intern.specs.declared.table.strings.StringSearch.{StringSearch}
+use Rattle.heap_intern.specs.declared.table.strings.StringSearch.TheVariants as found
+use Rattle.heap_intern.specs.Answers.{HeaderPlan, IsForwarded, IsFound, IsPlan}
 use Rattle.heap_intern.specs.Given.{FindsGiven}
+use Rattle.heap_intern.specs.Headers.{header_plan}
+use Rattle.heap_intern.specs.Seeking.{IsSought}
 use Rattle.heap_intern.specs.SlotLoads.{loads_at}
 
 -- An opening for the units us: a slot that is not known to be used, with its rank on the path of us, where
@@ -47,3 +57,44 @@ EndsSearch v w us (Shut n) = (n ≡ w.sizes.slots) × IsTrue (shut w us w.sizes.
 pub record SearchesKey (v w : View) (us : List ℕ) (s : KeySearch) : Type 0 where
   pub finds : FindsGiven v w us (found_key s)
   pub ends : EndsSearch v w us s
+
+-- An opening for the units us of the string that was sought, which doesn't forward; how wide the header is
+-- that it needs, and how many content words that uses.
+pub record IsStringOpening (v : View) (us : List ℕ) (o : StringOpening) : Type 0 where
+  pub sought : IsSought v o.sought
+  pub units : Has v.units o.sought.id us
+  pub frozen : AreFrozen v o.sought.window
+  pub alone : (t : ℕ) → o.sought.form ≢ Thin t
+  pub wide : o.wide ≡ (header_plan o.sought us).wide
+  pub words : o.words ≡ (header_plan o.sought us).words
+  pub opening : IsOpening v us o.opening
+
+-- the plan of that header
+abbrev pub opening_plan : StringOpening → List ℕ → HeaderPlan
+opening_plan o us = header_plan o.sought us
+
+-- the same search, of the units of the string
+abbrev pub key_search : StringSearch → KeySearch
+key_search (found.Found s) = Found s.id
+key_search (found.Open o) = Open o.opening
+key_search (found.Shut n) = Shut n
+
+-- the string that was found, with its slot
+abbrev pub found_seat : StringSearch → Option Seat
+found_seat (found.Found s) = Some s
+found_seat (found.Open o) = None
+found_seat (found.Shut n) = None
+
+-- The plan goes by the form that was loaded of string id. Where the string of its units was found, it
+-- forwards to that, unless it is a fixed Flat.
+abbrev pub PlansSearch : View → View → ℕ → List ℕ → StringSearch → HeaderPlan → Type 0
+PlansSearch v w id us (found.Found s) plan = IsPlan v w id us plan × IsForwarded w id s.id
+PlansSearch v w id us (found.Open o) plan = (o.sought.id ≡ id) × IsFound v id o.sought.form
+    × (plan ≡ opening_plan o us) × IsStringOpening w us o
+PlansSearch v w id us (found.Shut n) plan = IsPlan v w id us plan
+
+-- The units us of string id were looked for.
+pub record SearchesString (v w : View) (id : ℕ) (us : List ℕ) (s : StringSearch) : Type 0 where
+  pub searched : SearchesKey v w us (key_search s)
+  pub plan : HeaderPlan
+  pub planned : PlansSearch v w id us s plan

@@ -1,5 +1,4 @@
--- Helpers: no public contract reaches these definitions.
--- The string that is looked for, as the crate's own functions see it.
+-- The string that is looked for.
 use Rattle.std.specs.Prelude.{◌≡◌, ℕ, ◌+◌, ◌⊎◌, Bool}
 use Rattle.js_header.specs.declared.form.Form.TheVariants.{Flat, Thin}
 use Rattle.heap_rule.specs.declared.view.View.{View}

@@ -4,7 +4,7 @@ ghost use Rattle.std.specs.VecDeque.{deque_capacity, deque_len};
 ghost use Rattle.heap_table.specs.Agents.{size_of, view_of};
 ghost use Rattle.heap_table.specs.Full.{IsFull};
 ghost use Rattle.heap_read.specs.Readers.{MovesView, view_in};
-ghost use Rattle.heap_read.specs.Reads.{Continues};
+ghost use Rattle.heap_read.specs.Reads.{Continues, HoldsForms};
 ghost use Rattle.heap_text.specs.Keeping.{KeepsText};
 ghost use Rattle.heap_text.specs.Texts.{KeepsOwn};
 ghost use Rattle.heap_reserve.specs.Reserves.{IsClaimed, IsReserve, kept_ids};
@@ -31,6 +31,7 @@ impl Reserve {
         ensures kept { KeepsText text.old text.new }
         ensures continues { Continues (view_of text.old.reader.agent) (view_of text.new.reader.agent) }
         ensures own { KeepsOwn (view_of text.old.reader.agent) (view_of text.new.reader.agent) }
+        ensures forms { HoldsForms (view_of text.old.reader.agent) (view_of text.new.reader.agent) }
         ensures reserve { IsReserve (view_of text.new.reader.agent) self.new }
         ensures answer { IsClaimAnswer (view_of text.old.reader.agent) (view_of text.new.reader.agent)
             (size_of (H.reached text.old.reader.heap)) self.old self.new ids words result }
@@ -50,6 +51,7 @@ impl Reserve {
         requires reserve { IsReserve (view_in reader.old) self.old }
         ensures continues { MovesView Continues reader.old reader.new }
         ensures own { KeepsOwn (view_in reader.old) (view_in reader.new) }
+        ensures forms { HoldsForms (view_in reader.old) (view_in reader.new) }
         ensures reserve { IsReserve (view_in reader.new) self.new }
         ensures ok { OnOk result
             (IsClaimed (view_in reader.old) (view_in reader.new) self.old self.new 0 words) }
@@ -84,6 +86,7 @@ impl Reserve {
         requires reserve { IsReserve (view_in reader.old) self.old }
         ensures continues { MovesView Continues reader.old reader.new }
         ensures own { KeepsOwn (view_in reader.old) (view_in reader.new) }
+        ensures forms { HoldsForms (view_in reader.old) (view_in reader.new) }
         ensures reserve { IsReserve (view_in reader.new) self.new }
         ensures ok { OnOk result
             (IsClaimed (view_in reader.old) (view_in reader.new) self.old self.new ids 0) }
@@ -102,6 +105,7 @@ impl Reserve {
         requires reserve { IsReserve (view_in reader.old) self.old }
         ensures continues { MovesView Continues reader.old reader.new }
         ensures own { KeepsOwn (view_in reader.old) (view_in reader.new) }
+        ensures forms { HoldsForms (view_in reader.old) (view_in reader.new) }
         ensures reserve { IsReserve (view_in reader.new) self.new }
         ensures ok { OnOk result
             (IsClaimed (view_in reader.old) (view_in reader.new) self.old self.new 1 0) }

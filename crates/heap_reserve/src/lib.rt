@@ -5,18 +5,18 @@
 //! [`Reserve::slice`] are the calls of a `Text` of the same names: where the reserve has what a new string
 //! needs, the string takes it from there and uses nothing; else they are those calls. An id serves a rope or
 //! a slice only where it is greater than the ids of the strings of which that is made, so ids are taken in
-//! their order. [`Reserve::intern`] interns units: where their string is in the table, the reserve stays.
-//! [`Reserve::take_over`] is for the join of two agents.
+//! their order. [`Reserve::intern_at`] interns units, and [`Reserve::intern_string_at`] a string, once a search of
+//! the string table has found an opening for them. [`Reserve::take_over`] is for the join of two agents.
 #![tactic(auto)]
 
 mod claiming;
 mod faults;
-mod interning;
 mod joining;
 mod making;
 mod opening;
 mod reserve;
 mod slicing;
+mod strings;
 
 pub use faults::ReserveFault;
 pub use reserve::Reserve;

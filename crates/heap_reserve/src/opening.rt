@@ -1,17 +1,19 @@
 // Interning units for which there is an opening in the string table, with what is kept.
+ghost use Rattle.std.specs.Prelude.{◌↔◌, ◌<◌, IsTrue, length};
 ghost use Rattle.heap_table.specs.Agents.{view_of};
+ghost use Rattle.heap_intern.specs.Answers.{copy_plan};
 ghost use Rattle.heap_intern.specs.Hashes.{AreHashes, NotesHash};
 ghost use Rattle.heap_intern.specs.Keys.{IsKey, units_of_key};
 ghost use Rattle.heap_intern.specs.Searching.{IsOpening, LoadsFrom};
 ghost use Rattle.heap_intern.specs.SlotLoads.{answered};
 ghost use Rattle.heap_text.specs.Keeping.{KeepsText};
-ghost use Rattle.heap_reserve.specs.Interning.{InternsAt, IsKeyTaken};
+ghost use Rattle.heap_reserve.specs.Interning.{InternsAt, IsKeyTaken, IsOffered};
 ghost use Rattle.heap_reserve.specs.Making.{words_holding};
-ghost use Rattle.heap_reserve.specs.Reserves.{HasEnough, IsReserve};
+ghost use Rattle.heap_reserve.specs.Reserves.{HasEnough, IsReserve, kept_ids};
 ghost use Rattle.heap_read.specs.Reads.{HoldsForms};
 
 use crate::reserve::Reserve;
-use heap_intern::{Key, Opening, TableFull, intern_given_at, intern_key_at};
+use heap_intern::{Given, Key, Opening, TableFull, intern_given_at, intern_key_at};
 use heap_read::HeapRef;
 use heap_text::Text;
 use js_units::words_for;
@@ -34,7 +36,8 @@ impl Reserve {
         ensures kept { KeepsText text.old text.new }
         ensures reserve { IsReserve (view_of text.new.reader.agent) self.new }
         ensures interns { InternsAt (view_of text.old.reader.agent) (view_of text.new.reader.agent)
-            self.old self.new (units_of_key key.now) result }
+            self.old self.new (units_of_key key.now) (copy_plan (units_of_key key.now)) result }
+        ensures forms { HoldsForms (view_of text.old.reader.agent) (view_of text.new.reader.agent) }
         ensures loads { LoadsFrom (view_of text.old.reader.agent) (view_of text.new.reader.agent)
             (units_of_key key.now) opening }
         ensures notes { NotesHash (view_of text.old.reader.agent) (view_of text.new.reader.agent)
@@ -62,16 +65,45 @@ impl Reserve {
         ensures kept { KeepsText text.old text.new }
         ensures reserve { IsReserve (view_of text.new.reader.agent) self.new }
         ensures interns { IsKeyTaken (view_of text.old.reader.agent) (view_of text.new.reader.agent)
-            self.old self.new (units_of_key key.now) result }
+            self.old self.new (units_of_key key.now) (copy_plan (units_of_key key.now)) result }
         ensures forms { HoldsForms (view_of text.old.reader.agent) (view_of text.new.reader.agent) }
         ensures loads { LoadsFrom (view_of text.old.reader.agent) (view_of text.new.reader.agent)
             (units_of_key key.now) opening }
         ensures notes { NotesHash (view_of text.old.reader.agent) (view_of text.new.reader.agent)
             (units_of_key key.now) (answered result) hashes.old hashes.new }
     {
-        let given = self.offer(key.len());
+        let words = words_for(key.len(), key.is_wide());
+        let given = self.offer(words);
         let answer = intern_given_at(&mut text.reader, key, opening, given, hashes);
-        self.take(words_for(key.len(), key.is_wide()));
+        self.take(words);
         answer
+    }
+
+    // Whether it has an id, and the content words that hold the units. The units are read only where it has
+    // few words.
+    fn covers(&self, key: &Key) -> bool
+        requires { IsKey key.now }
+        ensures { IsTrue result ↔ HasEnough self.now (words_holding (units_of_key key.now)) }
+    {
+        let n = key.len();
+        if self.has(words_for(n, true)) {
+            return true;
+        }
+        if !self.has(words_for(n, false)) {
+            return false;
+        }
+        self.has(words_for(n, key.is_wide()))
+    }
+
+    // Its first id, and the first of so many content words, which stay in it; 0 where these are none.
+    pub(crate) fn offer(&self, words: u32) -> Given
+        requires { 0 < length (kept_ids self.now) }
+        ensures { IsOffered self.now words result }
+    {
+        let start = if words == 0 { 0 } else { self.start };
+        match self.ids.front() {
+            Some(id) => Given { id: *id, start },
+            None => unreachable!(),
+        }
     }
 }

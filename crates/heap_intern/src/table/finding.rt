@@ -195,6 +195,7 @@ fn find_from_by<L: Ledger, H: HeapRef>(
     requires short { length (spelling_units source.now) ≤ MAX }
     ensures heap { reader.new.heap ≡ reader.old.heap }
     ensures finds { FindsGiven (view_in reader.old) (view_in reader.new) (spelling_units source.now) result }
+    ensures forms { HoldsForms (view_in reader.old) (view_in reader.new) }
 {
     let mut steps = Steps::<L>::start(blank);
     let hash = source.hash();
@@ -208,6 +209,7 @@ pub fn find_from<H: HeapRef>(reader: &mut Reader<H>, source: &Spelling) -> Optio
     requires short { length (spelling_units source.now) ≤ MAX }
     ensures heap { reader.new.heap ≡ reader.old.heap }
     ensures finds { FindsGiven (view_in reader.old) (view_in reader.new) (spelling_units source.now) result }
+    ensures forms { HoldsForms (view_in reader.old) (view_in reader.new) }
 {
     find_from_by::<Brand, _>(reader, source, Blank::new(1))
 }

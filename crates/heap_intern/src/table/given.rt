@@ -7,27 +7,24 @@ ghost use Rattle.heap_rule.specs.Paths.{rank};
 ghost use Rattle.heap_table.specs.Agents.{size_of};
 ghost use Rattle.heap_read.specs.Readers.{view_in};
 ghost use Rattle.heap_read.specs.Reads.{HoldsForms};
-ghost use Rattle.heap_intern.specs.Answers.{UsesNothing};
+ghost use Rattle.heap_intern.specs.Answers.{UsesNothing, words_of_copy};
 ghost use Rattle.heap_intern.specs.Goes.{AddsCalls};
-ghost use Rattle.heap_intern.specs.Hashes.{AreHashes, IsNotedApart, NotesHash};
+ghost use Rattle.heap_intern.specs.Hashes.{AreHashes, IsNotedApart};
 ghost use Rattle.heap_intern.specs.Headers.{IsFlat, MayBeOver};
 ghost use Rattle.heap_intern.specs.Keys.{IsKey, units_of_key};
-ghost use Rattle.heap_intern.specs.SlotLoads.{answered, loads_at};
-ghost use Rattle.heap_intern.specs.Taking.{HasGiven, InternsByGiven, IsKeyAnswer, without_given};
+ghost use Rattle.heap_intern.specs.SlotLoads.{loads_at};
+ghost use Rattle.heap_intern.specs.Taking.{HasGiven, IsKeyAnswer, without_given};
 ghost use Rattle.heap_intern.specs.Seats.{id_in};
 ghost use Rattle.heap_intern.specs.Visits.{IsMade, IsPlace, StandsAt};
 ghost use Rattle.heap_intern.specs.Wanted.{IsWanted, wanted_plan};
 
 use crate::table::faults::TableFull;
-use crate::table::finding::{WalkEnd, walk_path};
-use crate::table::hashes::note_hash;
 use crate::table::key::{Key, write_key};
 use crate::table::probing::{Seat, Visit, probe_path, put};
 use crate::table::wanted::Wanted;
 use heap_read::{HeapRef, Reader, Steps};
 use js_header::Form;
-use std::marker::Brand;
-use std::sync::ledger::{Blank, Ledger};
+use std::sync::ledger::Ledger;
 
 /// An id of the agent's own, and the first of own content words, 0 where none is needed.
 #[derive(Clone, Copy)]
@@ -37,7 +34,13 @@ pub struct Given {
 }
 
 // An own id is born as a fixed Flat of `len` units over the words from `start` on.
-fn bear_given<H: HeapRef>(reader: &mut Reader<H>, id: u32, wide: bool, start: u32, len: u32)
+pub(crate) fn bear_given<H: HeapRef>(
+    reader: &mut Reader<H>,
+    id: u32,
+    wide: bool,
+    start: u32,
+    len: u32,
+)
     requires own { HasKey (view_in reader.old).own_ids id }
     requires over { (us : List ℕ) × MayBeOver (view_in reader.old) wide start len us }
     ensures heap { reader.new.heap ≡ reader.old.heap }
@@ -63,9 +66,10 @@ fn bear_given<H: HeapRef>(reader: &mut Reader<H>, id: u32, wide: bool, start: u3
 // A fixed Flat of units, of what was given. The words are written before it is born.
 fn make_given<H: HeapRef>(reader: &mut Reader<H>, key: &Key, given: Given)
     requires key { IsKey key.now }
-    requires given { HasGiven (view_in reader.old) (units_of_key key.now) given }
+    requires given { HasGiven (view_in reader.old) (words_of_copy (units_of_key key.now)) given }
     ensures heap { reader.new.heap ≡ reader.old.heap }
-    ensures goes { AddsCalls (without_given (view_in reader.old) (units_of_key key.now) given)
+    ensures goes { AddsCalls
+        (without_given (view_in reader.old) (words_of_copy (units_of_key key.now)) given)
         (view_in reader.new) [] }
     ensures forms { HoldsForms (view_in reader.old) (view_in reader.new) }
     ensures slots { (view_in reader.new).slots ≡ (view_in reader.old).slots }
@@ -131,14 +135,15 @@ pub(crate) fn settle<L: Ledger, H: HeapRef>(
     steps: &mut Steps<L>,
 ) -> Result<Seat, TableFull>
     requires key { IsKey key.now }
-    requires given { HasGiven (view_in reader.old) (units_of_key key.now) given }
+    requires given { HasGiven (view_in reader.old) (words_of_copy (units_of_key key.now)) given }
     requires hash { hash ≡ hash_of (units_of_key key.now) }
     requires hashed { AreHashes (view_in reader.old) hashes.now }
     requires place { IsPlace (view_in reader.old) (units_of_key key.now) slot at }
     ensures heap { reader.new.heap ≡ reader.old.heap }
     ensures forms { HoldsForms (view_in reader.old) (view_in reader.new) }
-    ensures settles { IsKeyAnswer (without_given (view_in reader.old) (units_of_key key.now) given)
-        (view_in reader.new) (units_of_key key.now) (id_in result) }
+    ensures settles { IsKeyAnswer
+        (without_given (view_in reader.old) (words_of_copy (units_of_key key.now)) given) (view_in reader.new)
+        (units_of_key key.now) (id_in result) }
     ensures flat { IsFlat (view_in reader.new) (is_wide (units_of_key key.now)) given.start
         (units_of_key key.now) given.id }
     ensures nothing { UsesNothing (view_in reader.old) (view_in reader.new) }
@@ -160,71 +165,4 @@ pub(crate) fn settle<L: Ledger, H: HeapRef>(
         hashes,
         steps,
     )
-}
-
-// The ledger of a caller that counts nothing.
-fn intern_given_by<L: Ledger, H: HeapRef>(
-    reader: &mut Reader<H>,
-    key: &Key,
-    given: Given,
-    hashes: &mut [u32],
-    blank: Blank,
-) -> (Result<u32, TableFull>, bool)
-    requires name { blank.name ≡ L.name }
-    requires parts { blank.parts ≡ L.parts }
-    requires some { 0 < blank.parts }
-    requires key { IsKey key.now }
-    requires given { HasGiven (view_in reader.old) (units_of_key key.now) given }
-    requires hashed { AreHashes (view_in reader.old) hashes.old }
-    ensures heap { reader.new.heap ≡ reader.old.heap }
-    ensures interns { InternsByGiven (view_in reader.old) (view_in reader.new) (units_of_key key.now) given
-        result.1 result.0 }
-    ensures notes { NotesHash (view_in reader.old) (view_in reader.new) (units_of_key key.now)
-        (answered result.0) hashes.old hashes.new }
-{
-    let mut steps = Steps::<L>::start(blank);
-    let hash = key.hash();
-    match walk_path(reader, &key.wanted(), hash, hashes, &mut steps) {
-        WalkEnd::Found(seat) => {
-            note_hash(hashes, seat.slot, hash.max(1));
-            (Ok(seat.id), false)
-        }
-        WalkEnd::Free { slot, rank } => {
-            match settle(reader, key, given, slot, rank, hash, hashes, &mut steps) {
-                Ok(seat) => {
-                    note_hash(hashes, seat.slot, hash.max(1));
-                    (Ok(seat.id), true)
-                }
-                Err(full) => (Err(full), true),
-            }
-        }
-        WalkEnd::Shut => {
-            let slots = reader.heap.heap().size().slots;
-            (Err(TableFull::Slots { slots }), false)
-        }
-    }
-}
-
-/// The interned string of these units, by its number, with an id and content words that the agent has claimed
-/// before, and whether they were taken. They are only where a slot was found free behind slots with strings
-/// that differ: the id is then born as a fixed Flat of the units over the words, and put there. Where the
-/// claim of the slot is lost to the same units, the other string is the answer, and the own one is a string
-/// beside the table. No counter of the heap is touched. The agent notes hashes, as
-/// [`intern_key_noted`](crate::intern_key_noted) does, and no slot is loaded more than twice.
-pub fn intern_given<H: HeapRef>(
-    reader: &mut Reader<H>,
-    key: &Key,
-    given: Given,
-    hashes: &mut [u32],
-) -> (Result<u32, TableFull>, bool)
-    requires key { IsKey key.now }
-    requires given { HasGiven (view_in reader.old) (units_of_key key.now) given }
-    requires hashed { AreHashes (view_in reader.old) hashes.old }
-    ensures heap { reader.new.heap ≡ reader.old.heap }
-    ensures interns { InternsByGiven (view_in reader.old) (view_in reader.new) (units_of_key key.now) given
-        result.1 result.0 }
-    ensures notes { NotesHash (view_in reader.old) (view_in reader.new) (units_of_key key.now)
-        (answered result.0) hashes.old hashes.new }
-{
-    intern_given_by::<Brand, _>(reader, key, given, hashes, Blank::new(1))
 }

@@ -1,10 +1,10 @@
 // Looking for units before anything is claimed for them, and putting a string with them into the slot that was
 // found free.
-ghost use Rattle.std.specs.Prelude.{◌≡◌, ◌≢◌, ℕ, ◌+◌, ◌≤◌, ◌<◌, IfOk, max};
+ghost use Rattle.std.specs.Prelude.{◌≡◌, ◌≢◌, ℕ, ◌+◌, ◌≤◌, ◌<◌, List, IfOk, max};
 ghost use Rattle.heap_rule.specs.Paths.{rank};
 ghost use Rattle.heap_read.specs.Readers.{view_in};
 ghost use Rattle.heap_read.specs.Reads.{HoldsForms};
-ghost use Rattle.heap_intern.specs.Answers.{IsInternAnswer, UsesNothing, copy_plan};
+ghost use Rattle.heap_intern.specs.Answers.{IsInternAnswer, UsesNothing, copy_plan, words_of_copy};
 ghost use Rattle.heap_intern.specs.Hashes.{AreHashes, IsNotedApart, NotesHash};
 ghost use Rattle.heap_intern.specs.Keys.{IsKey, units_of_key};
 ghost use Rattle.heap_intern.specs.Searching.{IsOpening, LoadsFrom, SearchesKey, found_key};
@@ -12,6 +12,7 @@ ghost use Rattle.heap_intern.specs.SlotLoads.{answered, loads_at};
 ghost use Rattle.heap_intern.specs.Taking.{HasGiven, IsGivenTaken};
 ghost use Rattle.heap_intern.specs.Visits.{StandsAt};
 ghost use Rattle.heap_intern.specs.Seats.{id_in};
+ghost use Rattle.heap_intern.specs.Wanted.{IsWanted, wanted_plan};
 
 use crate::table::faults::TableFull;
 use crate::table::finding::{WalkEnd, walk_path};
@@ -20,6 +21,7 @@ use crate::table::hashes::note_hash;
 use crate::table::header::make_header;
 use crate::table::key::Key;
 use crate::table::probing::Seat;
+use crate::table::wanted::Wanted;
 use heap_read::{HeapRef, Reader, Steps};
 use std::marker::Brand;
 use std::sync::ledger::{Blank, Ledger};
@@ -55,6 +57,7 @@ fn search_key_by<L: Ledger, H: HeapRef>(
     requires hashed { AreHashes (view_in reader.old) hashes.old }
     ensures heap { reader.new.heap ≡ reader.old.heap }
     ensures searches { SearchesKey (view_in reader.old) (view_in reader.new) (units_of_key key.now) result }
+    ensures forms { HoldsForms (view_in reader.old) (view_in reader.new) }
     ensures notes { NotesHash (view_in reader.old) (view_in reader.new) (units_of_key key.now)
         (found_key result) hashes.old hashes.new }
 {
@@ -72,14 +75,17 @@ fn search_key_by<L: Ledger, H: HeapRef>(
     }
 }
 
-/// Looks for units in the table, before anything is claimed for a string of theirs, and notes hashes, as
-/// [`intern_key_noted`](crate::intern_key_noted) does. Where their string is not there, interning goes on from
-/// the opening, by [`intern_given_at`] or [`intern_key_at`]; no slot is then loaded more than twice by both.
+/// Looks for units in the table, before anything is claimed for a string of theirs, for a caller that notes
+/// hashes: at the place of each slot is 0, or what its string hashes to, with 1 in place of 0. A slot that is
+/// noted with another hash than that of the units is not loaded, and the slot of the answer is noted, where
+/// there is room for its number. Where their string is not there, interning goes on from the opening, by
+/// [`intern_given_at`] or [`intern_key_at`]; no slot is then loaded more than twice by both.
 pub fn search_key<H: HeapRef>(reader: &mut Reader<H>, key: &Key, hashes: &mut [u32]) -> KeySearch
     requires key { IsKey key.now }
     requires hashed { AreHashes (view_in reader.old) hashes.old }
     ensures heap { reader.new.heap ≡ reader.old.heap }
     ensures searches { SearchesKey (view_in reader.old) (view_in reader.new) (units_of_key key.now) result }
+    ensures forms { HoldsForms (view_in reader.old) (view_in reader.new) }
     ensures notes { NotesHash (view_in reader.old) (view_in reader.new) (units_of_key key.now)
         (found_key result) hashes.old hashes.new }
 {
@@ -100,11 +106,11 @@ fn intern_given_at_by<L: Ledger, H: HeapRef>(
     requires some { 0 < blank.parts }
     requires key { IsKey key.now }
     requires opening { IsOpening (view_in reader.old) (units_of_key key.now) opening }
-    requires given { HasGiven (view_in reader.old) (units_of_key key.now) given }
+    requires given { HasGiven (view_in reader.old) (words_of_copy (units_of_key key.now)) given }
     requires hashed { AreHashes (view_in reader.old) hashes.old }
     ensures heap { reader.new.heap ≡ reader.old.heap }
-    ensures interns { IsGivenTaken (view_in reader.old) (view_in reader.new) (units_of_key key.now) given
-        result }
+    ensures interns { IsGivenTaken (view_in reader.old) (view_in reader.new) (units_of_key key.now)
+        (copy_plan (units_of_key key.now)) given result }
     ensures nothing { UsesNothing (view_in reader.old) (view_in reader.new) }
     ensures forms { HoldsForms (view_in reader.old) (view_in reader.new) }
     ensures loads { LoadsFrom (view_in reader.old) (view_in reader.new) (units_of_key key.now) opening }
@@ -134,11 +140,11 @@ pub fn intern_given_at<H: HeapRef>(
 ) -> Result<u32, TableFull>
     requires key { IsKey key.now }
     requires opening { IsOpening (view_in reader.old) (units_of_key key.now) opening }
-    requires given { HasGiven (view_in reader.old) (units_of_key key.now) given }
+    requires given { HasGiven (view_in reader.old) (words_of_copy (units_of_key key.now)) given }
     requires hashed { AreHashes (view_in reader.old) hashes.old }
     ensures heap { reader.new.heap ≡ reader.old.heap }
-    ensures interns { IsGivenTaken (view_in reader.old) (view_in reader.new) (units_of_key key.now) given
-        result }
+    ensures interns { IsGivenTaken (view_in reader.old) (view_in reader.new) (units_of_key key.now)
+        (copy_plan (units_of_key key.now)) given result }
     ensures nothing { UsesNothing (view_in reader.old) (view_in reader.new) }
     ensures forms { HoldsForms (view_in reader.old) (view_in reader.new) }
     ensures loads { LoadsFrom (view_in reader.old) (view_in reader.new) (units_of_key key.now) opening }
@@ -149,34 +155,36 @@ pub fn intern_given_at<H: HeapRef>(
 }
 
 // A fixed Flat is made by claims, and put into the opening.
-fn settle_new<L: Ledger, H: HeapRef>(
+pub(crate) fn settle_new<L: Ledger, H: HeapRef>(
     reader: &mut Reader<H>,
-    key: &Key,
+    wanted: &Wanted,
     opening: Opening,
     hashes: &[u32],
     steps: &mut Steps<L>,
 ) -> Result<Seat, TableFull>
-    requires key { IsKey key.now }
-    requires opening { IsOpening (view_in reader.old) (units_of_key key.now) opening }
+    requires wanted { (us : List ℕ) × IsWanted (view_in reader.old) wanted.now us
+        × IsOpening (view_in reader.old) us opening }
     requires hashed { AreHashes (view_in reader.old) hashes.now }
     ensures heap { reader.new.heap ≡ reader.old.heap }
     ensures forms { HoldsForms (view_in reader.old) (view_in reader.new) }
-    ensures interns { IsInternAnswer (view_in reader.old) (view_in reader.new) (units_of_key key.now)
-        (copy_plan (units_of_key key.now)) (id_in result) }
-    ensures stands { IfOk result (λ s. StandsAt (view_in reader.new) (units_of_key key.now) s.slot s.id) }
-    ensures once { (k : ℕ) → rank (units_of_key key.now) (view_in reader.old).sizes.slots k ≤ opening.rank
+    ensures interns { (us : List ℕ) → IsWanted (view_in reader.old) wanted.now us
+        → IsInternAnswer (view_in reader.old) (view_in reader.new) us (wanted_plan wanted.now us)
+        (id_in result) }
+    ensures stands { IfOk result (λ s. (us : List ℕ) → IsWanted (view_in reader.old) wanted.now us
+        → StandsAt (view_in reader.new) us s.slot s.id) }
+    ensures once { (us : List ℕ) → IsWanted (view_in reader.old) wanted.now us
+        → (k : ℕ) → rank us (view_in reader.old).sizes.slots k ≤ opening.rank
         → loads_at (view_in reader.new) k ≤ loads_at (view_in reader.old) k + 1 }
     ensures most { (k : ℕ) → loads_at (view_in reader.new) k ≤ loads_at (view_in reader.old) k + 2 }
     ensures apart { (k : ℕ) → k ≢ opening.slot → IsNotedApart hashes.now k (max opening.hash 1)
         → loads_at (view_in reader.new) k ≡ loads_at (view_in reader.old) k }
 {
-    let wanted = key.wanted();
-    let header = match make_header(reader, &wanted) {
+    let header = match make_header(reader, wanted) {
         Ok(header) => header,
         Err(full) => return Err(full),
     };
     let Opening { slot, rank, hash } = opening;
-    place(reader, &wanted, header, slot, rank, hash, hashes, steps)
+    place(reader, wanted, header, slot, rank, hash, hashes, steps)
 }
 
 // The ledger of a caller that counts nothing.
@@ -202,7 +210,7 @@ fn intern_key_at_by<L: Ledger, H: HeapRef>(
         (answered result) hashes.old hashes.new }
 {
     let mut steps = Steps::<L>::start(blank);
-    match settle_new(reader, key, opening, hashes, &mut steps) {
+    match settle_new(reader, &key.wanted(), opening, hashes, &mut steps) {
         Ok(seat) => {
             note_hash(hashes, seat.slot, opening.hash.max(1));
             Ok(seat.id)

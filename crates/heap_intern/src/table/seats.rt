@@ -1,20 +1,18 @@
 // Strings of which the slot of the interned one is noted: interning one of them again is one load of that slot,
 // which enters the call in the history.
-ghost use Rattle.std.specs.Prelude.{◌≡◌, ◌⊎◌, ℕ, List, ◌+◌, ◌-◌, ◌≤◌, ◌<◌, ◌^◌, IfOk, Ok, Some, None, length, slice_index};
-ghost use Rattle.heap_rule.specs.Maps.{Has, HasKey};
-ghost use Rattle.heap_rule.specs.Views.{IsSeenSettled};
+ghost use Rattle.std.specs.Prelude.{◌≡◌, ◌⊎◌, ℕ, List, ◌+◌, ◌≤◌, ◌<◌, ◌^◌, IfOk, Ok, Some, None, length, slice_index};
+ghost use Rattle.heap_rule.specs.Maps.{Has};
 ghost use Rattle.heap_intern.specs.Adopted.{LoadsHere};
-ghost use Rattle.heap_intern.specs.Answers.{HeaderPlan, IsForwarded, IsFoundAgain, IsInternAnswer, IsPlan};
+ghost use Rattle.heap_intern.specs.Answers.{HeaderPlan, IsForwarded, IsInternAnswer, IsPlan, UsesNothing};
 ghost use Rattle.heap_intern.specs.Given.{InternsGiven};
 ghost use Rattle.heap_intern.specs.Hashes.{AreHashes, NotesHash};
-ghost use Rattle.heap_intern.specs.Seats.{AreSeats, IsSeatOf, IsSeated, id_in};
-ghost use Rattle.heap_intern.specs.SlotLoads.{answered, loads_at};
-ghost use Rattle.heap_intern.specs.Visits.{StandsAt};
+ghost use Rattle.heap_intern.specs.Seats.{IsSeatOf, IsSeated, id_in};
+ghost use Rattle.heap_intern.specs.SlotLoads.{answered};
 ghost use Rattle.heap_read.specs.Readers.{view_in};
 ghost use Rattle.heap_rule.specs.Layout.{MAX};
 
 use crate::table::faults::TableFull;
-use crate::table::probing::{Seat, intern_seat, probe};
+use crate::table::probing::{Seat, probe};
 use crate::table::wanted::Wanted;
 use heap_read::{HeapRef, Reader, Steps};
 use js_units::hash_units;
@@ -38,15 +36,19 @@ pub fn intern_again<H: HeapRef>(reader: &mut Reader<H>, seat: Seat) -> u32
 fn intern_units_seated_by<L: Ledger, H: HeapRef>(
     reader: &mut Reader<H>,
     units: &[u16],
+    hashes: &mut [u32],
     blank: Blank,
 ) -> Result<Seat, TableFull>
     requires name { blank.name ≡ L.name }
     requires parts { blank.parts ≡ L.parts }
     requires some { 0 < blank.parts }
     requires short { length units.now ≤ MAX }
+    requires hashed { AreHashes (view_in reader.old) hashes.old }
     ensures heap { reader.new.heap ≡ reader.old.heap }
     ensures interns { InternsGiven (view_in reader.old) (view_in reader.new) units.now (id_in result) }
     ensures seated { IfOk result (λ s. IsSeatOf (view_in reader.new) units.now s) }
+    ensures notes { NotesHash (view_in reader.old) (view_in reader.new) units.now
+        (answered (id_in result)) hashes.old hashes.new }
 {
     let mut steps = Steps::<L>::start(blank);
     let hash = hash_units(0, units);
@@ -55,27 +57,32 @@ fn intern_units_seated_by<L: Ledger, H: HeapRef>(
         &Wanted::Units(units),
         None,
         hash,
-        &mut [],
+        hashes,
         &mut steps,
     )
 }
 
 /// As [`intern_units`](crate::intern_units), and answers the slot of the interned string too, for a caller
-/// that notes it: [`intern_again`] then interns the same units by one load.
+/// that notes it: [`intern_again`] then interns the same units by one load. Hashes are noted too, as by
+/// [`search_key`](crate::search_key).
 pub fn intern_units_seated<H: HeapRef>(
     reader: &mut Reader<H>,
     units: &[u16],
+    hashes: &mut [u32],
 ) -> Result<Seat, TableFull>
     requires short { length units.now ≤ MAX }
+    requires hashed { AreHashes (view_in reader.old) hashes.old }
     ensures heap { reader.new.heap ≡ reader.old.heap }
     ensures interns { InternsGiven (view_in reader.old) (view_in reader.new) units.now (id_in result) }
     ensures seated { IfOk result (λ s. IsSeatOf (view_in reader.new) units.now s) }
+    ensures notes { NotesHash (view_in reader.old) (view_in reader.new) units.now
+        (answered (id_in result)) hashes.old hashes.new }
 {
-    intern_units_seated_by::<Brand, _>(reader, units, Blank::new(1))
+    intern_units_seated_by::<Brand, _>(reader, units, hashes, Blank::new(1))
 }
 
 // The slot that is noted for a string, if one is.
-fn seat_in(seats: &[u32], id: u32) -> Option<u32>
+pub(crate) fn seat_in(seats: &[u32], id: u32) -> Option<u32>
     ensures some { (k : ℕ) → result ≡ Some k → slice_index seats.now id ≡ k + 1 }
     ensures none { result ≡ None → slice_index seats.now id ≡ 0 }
 {
@@ -91,7 +98,7 @@ fn seat_in(seats: &[u32], id: u32) -> Option<u32>
 }
 
 // Notes the slot of a string, where there is room for its number.
-fn note_seat(seats: &mut [u32], id: u32, slot: u32)
+pub(crate) fn note_seat(seats: &mut [u32], id: u32, slot: u32)
     requires { slot < 2 ^ 29 }
     ensures room { length seats.new ≡ length seats.old }
     ensures only { (i : ℕ) → (slice_index seats.new i ≡ slice_index seats.old i)
@@ -105,7 +112,7 @@ fn note_seat(seats: &mut [u32], id: u32, slot: u32)
 }
 
 // A string whose slot is noted, by one load of that slot.
-fn load_again<H: HeapRef>(reader: &mut Reader<H>, id: u32, slot: u32) -> u32
+pub(crate) fn load_again<H: HeapRef>(reader: &mut Reader<H>, id: u32, slot: u32) -> u32
     requires { IsSeated (view_in reader.old) id slot }
     ensures heap { reader.new.heap ≡ reader.old.heap }
     ensures given { (us : List ℕ) → Has (view_in reader.old).units id us
@@ -115,110 +122,12 @@ fn load_again<H: HeapRef>(reader: &mut Reader<H>, id: u32, slot: u32) -> u32
         → (plan : HeaderPlan) × IsPlan (view_in reader.old) (view_in reader.new) id us plan
         × IsInternAnswer (view_in reader.old) (view_in reader.new) us plan (Ok result) }
     ensures forwards { IsForwarded (view_in reader.new) id result }
+    ensures stands { Has (view_in reader.new).slots slot result }
+    ensures nothing { UsesNothing (view_in reader.old) (view_in reader.new) }
     ensures loads { LoadsHere (view_in reader.old) (view_in reader.new) slot 1 }
 {
     match reader.agent.load_slot(reader.heap.heap(), slot, true) {
         Some(target) => target,
         None => unreachable!(),
     }
-}
-
-// The ledger of a caller that counts nothing.
-fn intern_seat_by<L: Ledger, H: HeapRef>(
-    reader: &mut Reader<H>,
-    id: u32,
-    hashes: &mut [u32],
-    blank: Blank,
-) -> Result<Seat, TableFull>
-    requires name { blank.name ≡ L.name }
-    requires parts { blank.parts ≡ L.parts }
-    requires some { 0 < blank.parts }
-    requires known { HasKey (view_in reader.old).units id }
-    requires settled { IsSeenSettled (view_in reader.old) id }
-    requires hashed { AreHashes (view_in reader.old) hashes.old }
-    ensures heap { reader.new.heap ≡ reader.old.heap }
-    ensures interns { (us : List ℕ) → Has (view_in reader.old).units id us
-        → (plan : HeaderPlan) × IsPlan (view_in reader.old) (view_in reader.new) id us plan
-        × IsInternAnswer (view_in reader.old) (view_in reader.new) us plan (id_in result) }
-    ensures again { (us : List ℕ) → Has (view_in reader.old).units id us
-        → IsFoundAgain (view_in reader.old) (view_in reader.new) us (id_in result) }
-    ensures forwards { IfOk result (λ s. IsForwarded (view_in reader.new) id s.id) }
-    ensures stands { IfOk result (λ s. (us : List ℕ) → Has (view_in reader.old).units id us
-        → StandsAt (view_in reader.new) us s.slot s.id) }
-    ensures few { (k : ℕ) → loads_at (view_in reader.new) k ≤ loads_at (view_in reader.old) k + 2 }
-    ensures notes { (us : List ℕ) → Has (view_in reader.old).units id us
-        → NotesHash (view_in reader.old) (view_in reader.new) us (answered (id_in result))
-        hashes.old hashes.new }
-{
-    let mut steps = Steps::<L>::start(blank);
-    intern_seat(reader, id, hashes, &mut steps)
-}
-
-// The interned string and its slot, with no count.
-fn intern_seated<H: HeapRef>(
-    reader: &mut Reader<H>,
-    id: u32,
-    hashes: &mut [u32],
-) -> Result<Seat, TableFull>
-    requires known { HasKey (view_in reader.old).units id }
-    requires settled { IsSeenSettled (view_in reader.old) id }
-    requires hashed { AreHashes (view_in reader.old) hashes.old }
-    ensures heap { reader.new.heap ≡ reader.old.heap }
-    ensures interns { (us : List ℕ) → Has (view_in reader.old).units id us
-        → (plan : HeaderPlan) × IsPlan (view_in reader.old) (view_in reader.new) id us plan
-        × IsInternAnswer (view_in reader.old) (view_in reader.new) us plan (id_in result) }
-    ensures again { (us : List ℕ) → Has (view_in reader.old).units id us
-        → IsFoundAgain (view_in reader.old) (view_in reader.new) us (id_in result) }
-    ensures forwards { IfOk result (λ s. IsForwarded (view_in reader.new) id s.id) }
-    ensures stands { IfOk result (λ s. (us : List ℕ) → Has (view_in reader.old).units id us
-        → StandsAt (view_in reader.new) us s.slot s.id) }
-    ensures few { (k : ℕ) → loads_at (view_in reader.new) k ≤ loads_at (view_in reader.old) k + 2 }
-    ensures notes { (us : List ℕ) → Has (view_in reader.old).units id us
-        → NotesHash (view_in reader.old) (view_in reader.new) us (answered (id_in result))
-        hashes.old hashes.new }
-{
-    intern_seat_by::<Brand, _>(reader, id, hashes, Blank::new(1))
-}
-
-/// As [`intern`](crate::intern), for a caller that notes slots: at the place of each number is 0, or one above
-/// the slot that the interned string of that number is in. Where the one for `id` is noted, it is loaded once,
-/// and nothing else is loaded or used; else it is noted once `id` is interned, where there is room for it.
-/// Hashes are noted too, as by [`intern_units_noted`](crate::intern_units_noted).
-pub fn intern_noted<H: HeapRef>(
-    reader: &mut Reader<H>,
-    id: u32,
-    seats: &mut [u32],
-    hashes: &mut [u32],
-) -> Result<u32, TableFull>
-    requires known { HasKey (view_in reader.old).units id }
-    requires settled { IsSeenSettled (view_in reader.old) id }
-    requires seated { AreSeats (view_in reader.old) seats.old }
-    requires hashed { AreHashes (view_in reader.old) hashes.old }
-    ensures heap { reader.new.heap ≡ reader.old.heap }
-    ensures interns { (us : List ℕ) → Has (view_in reader.old).units id us
-        → (plan : HeaderPlan) × IsPlan (view_in reader.old) (view_in reader.new) id us plan
-        × IsInternAnswer (view_in reader.old) (view_in reader.new) us plan result }
-    ensures again { (us : List ℕ) → Has (view_in reader.old).units id us
-        → IsFoundAgain (view_in reader.old) (view_in reader.new) us result }
-    ensures forwards { IfOk result (λ i. IsForwarded (view_in reader.new) id i) }
-    ensures few { (k : ℕ) → loads_at (view_in reader.new) k ≤ loads_at (view_in reader.old) k + 2 }
-    ensures once { 0 < slice_index seats.old id
-        → LoadsHere (view_in reader.old) (view_in reader.new) (slice_index seats.old id - 1) 1 }
-    ensures seated { AreSeats (view_in reader.new) seats.new }
-    ensures noted { id < length seats.old → IfOk result (λ i. 0 < slice_index seats.new id) }
-    ensures room { length seats.new ≡ length seats.old }
-    ensures hashed { AreHashes (view_in reader.new) hashes.new }
-    ensures hash_room { length hashes.new ≡ length hashes.old }
-    ensures notes { slice_index seats.old id ≡ 0 → (us : List ℕ) → Has (view_in reader.old).units id us
-        → NotesHash (view_in reader.old) (view_in reader.new) us (answered result) hashes.old hashes.new }
-{
-    if let Some(slot) = seat_in(seats, id) {
-        return Ok(load_again(reader, id, slot));
-    }
-    let seat = match intern_seated(reader, id, hashes) {
-        Ok(seat) => seat,
-        Err(full) => return Err(full),
-    };
-    note_seat(seats, id, seat.slot);
-    Ok(seat.id)
 }

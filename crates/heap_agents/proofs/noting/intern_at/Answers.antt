@@ -2,6 +2,7 @@ use Rattle.std.proofs.Common.{◌≡◌, ◌∙◌, ℕ, List, Option, length, s
 use Rattle.std.proofs.lemmas.List.{take_at}
 use Rattle.heap_rule.specs.declared.view.View.{View}
 use Rattle.heap_table.specs.Agents.{view_of}
+use Rattle.heap_intern.specs.Answers.{copy_plan}
 use Rattle.heap_intern.specs.Hashes.{AreHashes}
 use Rattle.heap_intern.specs.Keys.{units_of_key}
 use Rattle.heap_intern.specs.Searching.{IsOpening}
@@ -26,7 +27,7 @@ intern_at-requires-clause-hashed c = let v = view_of c.in-Some.text.reader.agent
 pub returns-clause-noted : goal.returns-clause-noted
 returns-clause-noted c = let call = c.intern_at in let s = c.args.seats.now in let t = c.in-Some.text in
     let v : View = view_of t.reader.agent in let w : View = view_of call.new.text.reader.agent in let us : List ℕ = units_of_key c.args.key.now in
-    let l : Leaves v w us call.result = leaves_at v w c.args.reserve.now call.new.self us call.result call.ensures.interns in
+    let l : Leaves v w us call.result = leaves_at v w c.args.reserve.now call.new.self us (copy_plan us) call.result call.ensures.interns in
     let len : length call.new.hashes ≡ s.hashes.len = call.ensures.notes.room ∙ c.as_mut_slice-hashes.ensures.len in (
       seats_kept v w t.reader.belongs.5 l.known l.sizes s.slots.items
           (subst (λ (o : Option SharedText). AreSeats (view_if o) s.slots.items) c.in-Some.is c.requires.noted.0),

@@ -19,7 +19,6 @@ returns-clause-finds g c = let v : View = c.args.reader.now.agent.seat.me.0 in l
     let answer = e.finds us (c.requires.read, refl, c.requires.short) in record {
       answer = answer;
       again = λ i u s. find_again v w us c.args.reader.now.belongs.5 c.walk.new.reader.belongs.5 i u s c.walk.result answer;
-      forms = e.forms;
       few = slots_few v w c.walk.result _ _ e.loads;
     }
 

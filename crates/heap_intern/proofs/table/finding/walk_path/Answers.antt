@@ -9,7 +9,7 @@ use Rattle.heap_intern.specs.Visits.{LoadsOne, Visited, entries}
 use Rattle.heap_intern.proofs.Going.{forms_trans, looks_trans}
 use Rattle.heap_intern.proofs.Hashes.{apart_on, hashes_kept, mark_is, probing_on, walking_on}
 use Rattle.heap_intern.proofs.Loading.{free_ahead, free_once, walked_all, walked_to, walking_next, walking_none}
-use Rattle.heap_intern.proofs.Visiting.{Probing, free_place, free_slot, looks_probing, next_inside, next_rank, next_probing, none_made, probed_all, probed_to, probing_first}
+use Rattle.heap_intern.proofs.Visiting.{Probing, free_place, free_slot, looks_probing, next_inside, next_rank, next_probing, none_made, probed_all, probed_at, probed_to, probing_first}
 use Rattle.heap_table.specs.Agents.{size_of}
 use Rattle.heap_intern.proofs.table.finding.walk_path.Goals as goal
 
@@ -147,11 +147,12 @@ pub returns-clause-apart : goal.returns-clause-apart
 returns-clause-apart g c k apart = c.loop-r.invariant.5 k (subst (IsNotedApart c.args.hashes.now k) (sym c.max-mark.ensures) apart)
 
 pub returns-in-Answer-clause-ends : goal.returns-in-Answer-clause-ends
-returns-in-Answer-clause-ends g c us h = let v : View = c.loop-r.reader.agent.seat.me.0 in
-    let w : View = c.look.new.reader.agent.seat.me.0 in let s = c.args.wanted.now in let i = c.loop-r.invariant.1 us h in
-    let answer = subst (λ (x : Visit). Visited v w us (wanted_plan s us)
-    c.slot_at-slot.result None x) c.in-Answer.is
-    (c.in-Some.ensures.looked us i.wanted).0 in answer.stands
+returns-in-Answer-clause-ends g c us h = let a : View = c.args.reader.now.agent.seat.me.0 in
+    let v : View = c.loop-r.reader.agent.seat.me.0 in let w : View = c.look.new.reader.agent.seat.me.0 in let s = c.args.wanted.now in
+    let i = c.loop-r.invariant.1 us h in let n = c.size-n.result.slots in
+    let slots : n ≡ a.sizes.slots = ap (λ (z : HeapSize). z.slots) ((c.size-n.ensures ∙ ap size_of c.heap.ensures) ∙ sym c.args.reader.now.belongs.1) in
+    probed_at a v s us (wanted_plan s us) None c.loop-r.r None i n c.args.hash slots (c.requires.hash us h) c.slot_at-slot.result c.slot_at-slot.ensures w c.in-Answer.id c.loop-r.reader.belongs.5 c.loop-r-test.true
+    (subst (λ (x : Visit). Visited v w us (wanted_plan s us) c.slot_at-slot.result None x) c.in-Answer.is (c.in-Some.ensures.looked us i.wanted).0)
 
 pub returns-in-None-clause-ends : goal.returns-in-None-clause-ends
 returns-in-None-clause-ends g c us h = let a : View = c.args.reader.now.agent.seat.me.0 in

@@ -35,8 +35,8 @@ bear_given-requires-clause-over g c = let p : View = c.write_key.new.reader.agen
 pub returns-clause-goes : goal.returns-clause-goes
 returns-clause-goes g c = let v : View = c.args.reader.now.agent.seat.me.0 in let p : View = c.write_key.new.reader.agent.seat.me.0 in let us : List ℕ = units_of_key c.args.key.now in
     let x = c.args.given in let words : words_over c.is_wide-wide.result c.len-n.result ≡ words_of_copy us = (λ j. words_over (c.is_wide-wide.ensures j) (c.len-n.ensures j)) in
-    c.bear_given.ensures.goes (without_given v us x) (goes_written v p us x c.write_key.ensures.writes.view (subst (λ (m : ℕ). KeepsBeside x.start m v p) words c.write_key.ensures.others))
-    (none_given v us x) (no_words_given v us x (words_over c.is_wide-wide.result c.len-n.result) words)
+    c.bear_given.ensures.goes (without_given v (words_of_copy us) x) (goes_written v p (words_of_copy us) x c.write_key.ensures.writes.view (subst (λ (m : ℕ). KeepsBeside x.start m v p) words c.write_key.ensures.others))
+    (none_given v (words_of_copy us) x) (no_words_given v (words_of_copy us) x (words_over c.is_wide-wide.result c.len-n.result) words)
 
 pub returns-clause-forms : goal.returns-clause-forms
 returns-clause-forms g c = let v : View = c.args.reader.now.agent.seat.me.0 in let p : View = c.write_key.new.reader.agent.seat.me.0 in

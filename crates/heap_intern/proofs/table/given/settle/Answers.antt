@@ -9,7 +9,7 @@ use Rattle.heap_rule.specs.declared.size.Counters.{Counters}
 use Rattle.heap_rule.specs.declared.size.HeapSize.{HeapSize}
 use Rattle.heap_rule.specs.Paths.{rank}
 use Rattle.heap_table.specs.Known.{KeepsKnown}
-use Rattle.heap_intern.specs.Answers.{HeaderPlan}
+use Rattle.heap_intern.specs.Answers.{HeaderPlan, words_of_copy}
 use Rattle.heap_intern.specs.Keys.{units_of_key}
 use Rattle.heap_intern.specs.SlotLoads.{loads_at}
 use Rattle.heap_intern.specs.Taking.{without_given}
@@ -31,13 +31,13 @@ place-requires-clause-hash g c us h = let x : View = c.make_given.new.reader.age
 
 pub place-requires-clause-hashed : goal.place-requires-clause-hashed
 place-requires-clause-hashed g c = let v : View = c.args.reader.now.agent.seat.me.0 in let x : View = c.make_given.new.reader.agent.seat.me.0 in
-    hashes_kept v x (given_known v x (units_of_key c.args.key.now) c.args.given c.make_given.ensures.goes.known) c.args.hashes.now c.requires.hashed
+    hashes_kept v x (given_known v x (words_of_copy (units_of_key c.args.key.now)) c.args.given c.make_given.ensures.goes.known) c.args.hashes.now c.requires.hashed
 
 pub place-requires-clause-place : goal.place-requires-clause-place
 place-requires-clause-place g c us h = let v : View = c.args.reader.now.agent.seat.me.0 in let x : View = c.make_given.new.reader.agent.seat.me.0 in
     let ks : List ℕ = units_of_key c.args.key.now in
     subst (λ (ws : List ℕ). IsPlace x ws c.args.slot c.args.at) (one_wanted x c.wanted.result ks us (c.wanted.ensures.wanted x) h)
-    (place_kept v x ks c.args.slot c.args.at c.args.reader.now.belongs.5 (given_known v x ks c.args.given c.make_given.ensures.goes.known) c.make_given.ensures.goes.sizes c.requires.place)
+    (place_kept v x ks c.args.slot c.args.at c.args.reader.now.belongs.5 (given_known v x (words_of_copy ks) c.args.given c.make_given.ensures.goes.known) c.make_given.ensures.goes.sizes c.requires.place)
 
 pub place-requires-clause-header : goal.place-requires-clause-header
 place-requires-clause-header g c us h = let x : View = c.make_given.new.reader.agent.seat.me.0 in let ks : List ℕ = units_of_key c.args.key.now in
@@ -51,7 +51,7 @@ returns-clause-forms g c = let v : View = c.args.reader.now.agent.seat.me.0 in l
 pub returns-clause-settles : goal.returns-clause-settles
 returns-clause-settles g c = let v : View = c.args.reader.now.agent.seat.me.0 in let x : View = c.make_given.new.reader.agent.seat.me.0 in let w : View = c.place.new.reader.agent.seat.me.0 in
     let ks : List ℕ = units_of_key c.args.key.now in
-    settled_after (without_given v ks c.args.given) x w ks (id_in c.place.result) c.make_given.ensures.goes (c.place.ensures.settles ks (c.wanted.ensures.wanted x))
+    settled_after (without_given v (words_of_copy ks) c.args.given) x w ks (id_in c.place.result) c.make_given.ensures.goes (c.place.ensures.settles ks (c.wanted.ensures.wanted x))
 
 pub returns-clause-flat : goal.returns-clause-flat
 returns-clause-flat g c = let x : View = c.make_given.new.reader.agent.seat.me.0 in let w : View = c.place.new.reader.agent.seat.me.0 in

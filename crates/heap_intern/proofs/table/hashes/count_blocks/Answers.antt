@@ -1,4 +1,4 @@
-use Rattle.std.proofs.Common.{ℕ, ◌+◌, ◌-◌, ◌≤◌, arith}
+use Rattle.std.proofs.Common.{ℕ, ◌-◌, ◌≤◌, arith}
 use Rattle.heap_intern.proofs.Hashes.{apart_both}
 use Rattle.heap_intern.proofs.table.hashes.count_blocks.Goals as goal
 

@@ -26,7 +26,6 @@ returns-in-Found-clause-searches g c = let v : View = c.args.reader.now.agent.se
       finds = record {
         answer = f;
         again = λ i has stands. find_again v u ks c.args.reader.now.belongs.5 c.walk_path.new.reader.belongs.5 i has stands (Some c.in-Found.seat.id) f;
-        forms = c.walk_path.ensures.forms;
         few = slots_few v u (Some c.in-Found.seat.id) _ _ c.in-Found.ensures.loads;
       };
       ends = tt;
@@ -36,7 +35,7 @@ pub returns-in-Found-clause-notes : goal.returns-in-Found-clause-notes
 returns-in-Found-clause-notes g c = let v : View = c.args.reader.now.agent.seat.me.0 in let u : View = c.walk_path.new.reader.agent.seat.me.0 in let ks : List ℕ = units_of_key c.args.key.now in
     let f : FindsString v u ks (Some c.in-Found.seat.id) = c.in-Found.ensures.finds ks (c.wanted.ensures.wanted v) in let n = c.note_hash.ensures in
     notes_answer v u c.walk_path.new.reader.belongs.5 ks c.args.hashes.now c.note_hash.new.hashes c.hash-hash.result c.hash-hash.ensures f.0.known c.requires.hashed
-    c.walk_path.ensures.apart c.in-Found.seat.slot c.in-Found.seat.id c.max.result c.max.ensures (c.in-Found.ensures.ends ks (c.wanted.ensures.wanted v)) f.2.1 n.room n.only n.there
+    c.walk_path.ensures.apart c.in-Found.seat.slot c.in-Found.seat.id c.max.result c.max.ensures (c.in-Found.ensures.ends ks (c.wanted.ensures.wanted v)).0 f.2.1 n.room n.only n.there
 
 pub returns-in-Free-clause-searches : goal.returns-in-Free-clause-searches
 returns-in-Free-clause-searches g c = let v : View = c.args.reader.now.agent.seat.me.0 in let u : View = c.walk_path.new.reader.agent.seat.me.0 in let ks : List ℕ = units_of_key c.args.key.now in
@@ -45,7 +44,6 @@ returns-in-Free-clause-searches g c = let v : View = c.args.reader.now.agent.sea
       finds = record {
         answer = f;
         again = λ i has stands. find_again v u ks c.args.reader.now.belongs.5 c.walk_path.new.reader.belongs.5 i has stands None f;
-        forms = c.walk_path.ensures.forms;
         few = slots_few v u None _ _ c.in-Free.ensures.loads;
       };
       ends = (opening_of u ks _ c.hash-hash.ensures e.place e.free, record { once = e.once; ahead = e.ahead });
@@ -63,7 +61,6 @@ returns-clause-searches g c = let v : View = c.args.reader.now.agent.seat.me.0 i
       finds = record {
         answer = f;
         again = λ i has stands. find_again v u ks c.args.reader.now.belongs.5 c.walk_path.new.reader.belongs.5 i has stands None f;
-        forms = c.walk_path.ensures.forms;
         few = slots_few v u None _ _ c.in-Shut.ensures.loads;
       };
       ends = (n, c.in-Shut.ensures.ends ks wanted);

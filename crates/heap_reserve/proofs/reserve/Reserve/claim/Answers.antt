@@ -14,3 +14,6 @@ returns-clause-answer g c = let v : View = c.args.text.now.reader.agent.seat.me.
     (λ y. size_of (g.H.HeapRef.reached y)) c.claim_words.ensures.continues.heap in
     claim_answer v w x (size_of (g.H.HeapRef.reached c.args.text.now.reader.heap)) r s t ids c.args.words answer c.in_default.ensures.ok c.claim_ids.ensures.ok
     (subst (λ (z : HeapSize). IfErr answer (λ f. IsIdRefused w x z s t ids 0 f)) same c.claim_ids.ensures.refused)
+
+pub returns-clause-forms : goal.returns-clause-forms
+returns-clause-forms g c i f h = c.claim_ids.ensures.forms i f (c.claim_words.ensures.forms i f h)

@@ -11,6 +11,7 @@ loop-done-init g c = let v : View = c.args.reader.now.agent.seat.me.0 in let r =
   heap = refl;
   continues = continues_reads v v (reads_refl v);
   own = own_refl v;
+  forms = λ i f h. h;
   reserve = c.requires.reserve;
   claimed = claimed_none v v r r refl refl refl refl;
 }
@@ -21,6 +22,7 @@ loop-done-preserved g c = let v : View = c.args.reader.now.agent.seat.me.0 in le
       heap = e.continues.heap ∙ i.heap;
       continues = continues_trans v u w i.continues e.continues.view;
       own = own_trans v u w i.own e.own;
+      forms = λ j f h. e.forms j f (i.forms j f h);
       reserve = e.reserve;
       claimed = claimed_then v u w c.args.self.now c.loop-done.self c.claim_id.new.self c.loop-done._done 1 0 i.claimed c.in_ok-claim_id.ensures.ok;
     }

@@ -1,6 +1,6 @@
 use Rattle.std.proofs.Common.{◌≡◌}
 use Rattle.heap_read.specs.Readers.{view_in}
-use Rattle.heap_read.specs.Reads.{Continues}
+use Rattle.heap_read.specs.Reads.{Continues, HoldsForms}
 use Rattle.heap_text.specs.Texts.{KeepsOwn}
 use Rattle.heap_reserve.specs.Reserves.{IsClaimed, IsReserve}
 use Rattle.heap_reserve.proofs.reserve.Reserve.claim_ids.Given as goal
@@ -10,6 +10,7 @@ invariant-loop-done g l = record {
   heap : l.reader.heap ≡ l.fn.reader.heap;
   continues : Continues (view_in l.fn.reader) (view_in l.reader);
   own : KeepsOwn (view_in l.fn.reader) (view_in l.reader);
+  forms : HoldsForms (view_in l.fn.reader) (view_in l.reader);
   reserve : IsReserve (view_in l.reader) l.self;
   claimed : IsClaimed (view_in l.fn.reader) (view_in l.reader) l.fn.self l.self l._done 0;
 }
