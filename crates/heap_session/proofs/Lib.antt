@@ -9,3 +9,4 @@ pub mod OneUnit
 pub mod MadeLately
 pub mod Whole
 pub mod KeptKeys
+pub mod NotesKept

@@ -11,3 +11,4 @@ pub mod Lately
 pub mod Singles
 pub mod Recent
 pub mod KeptKeys
+pub mod Noted

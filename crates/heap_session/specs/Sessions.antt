@@ -1,5 +1,5 @@
 -- A session as a store of strings: what its agent knows and has, by the agent's view.
-use Rattle.std.specs.Prelude.{ℕ, true}
+use Rattle.std.specs.Prelude.{ℕ, true, List}
 use Rattle.std.specs.FinMap.{get}
 use Rattle.atomic_table.specs.Seated.{TableId}
 use Rattle.js_store.specs.Limits.{limit_units}
@@ -10,6 +10,7 @@ use Rattle.heap_rule.specs.SlotTests.{shut}
 use Rattle.heap_rule.specs.Views.{history}
 use Rattle.heap_table.specs.declared.heap.Heap.{Heap}
 use Rattle.heap_table.specs.Agents.{view_of}
+use Rattle.heap_session.specs.Noted.{hashes_in}
 use Rattle.heap_session.specs.Settled.{is_settled}
 use Rattle.heap_read.specs.declared.heap_ref.HeapRef.{Ghosts}
 use Rattle.heap_session.specs.declared.session.Session.{Session}
@@ -49,3 +50,7 @@ module _ {H : Type 0} {g : Ghosts H} where
 
   abbrev pub state_in : Session H g → State SessionFrame
   state_in s = state_by (session_view s) (limit_units s.limit) (table_of (g.reached s.text.reader.heap))
+
+  -- what the session has noted: at the place of each slot 0, or what its string hashes to
+  abbrev pub noted_in : Session H g → List ℕ
+  noted_in s = hashes_in s.noted

@@ -5,13 +5,13 @@ ghost use Rattle.js_store.specs.Rows.{intern_words};
 ghost use Rattle.js_store.specs.State.{NamesUnits, IsKnown, IsSettled, text};
 ghost use Rattle.heap_text.specs.Texts.{KeepsOwn};
 ghost use Rattle.heap_intern.specs.Answers.{IsForwarded};
+ghost use Rattle.heap_intern.specs.Hashes.{NotesHash};
 ghost use Rattle.heap_intern.specs.SlotLoads.{LoadsSlots, loads_at};
 ghost use Rattle.heap_session.specs.Counted.{FoundFree, GoesByPlan, answered_string};
-ghost use Rattle.heap_session.specs.Sessions.{state_in, session_view};
+ghost use Rattle.heap_session.specs.Sessions.{noted_in, session_view, state_in};
 
 use crate::faults::{table_fault, text_fault};
 use crate::session::Session;
-use heap_intern::intern_counted;
 use heap_read::{HeapRef, Steps};
 use heap_text::JsStr;
 use js_store::StoreFault;
@@ -22,7 +22,8 @@ impl<H: HeapRef> Session<H> {
     /// loaded twice but the one that answers: once more after its units were compared, which
     /// enters the call in the history. The header of `s` then forwards to the answer, unless it is
     /// a fixed Flat. The table is reported full exactly where every slot was found used with other
-    /// units: where an id or words were requested, a slot was found free, or none was loaded.
+    /// units: where an id or words were requested, a slot was found free, or none was loaded. No slot is
+    /// loaded that is noted with another hash, and the slot of the answer is noted where there is room.
     pub fn intern_counted<L: Ledger>(
         &mut self,
         s: JsStr,
@@ -50,13 +51,15 @@ impl<H: HeapRef> Session<H> {
             (answered_string result) steps.old steps.new }
         ensures few { (k : ℕ) → loads_at (session_view self.new) k ≤ loads_at (session_view self.old) k + 2 }
         ensures most { steps.new ≤ steps.old + 2 * (state_in self.old).sizes.slots }
+        ensures notes { NotesHash (session_view self.old) (session_view self.new)
+            (text (state_in self.old) s.id) (answered_string result) (noted_in self.old) (noted_in self.new) }
     {
         match self.text.settle(s) {
             Ok(()) => {}
             Err(full) => return Err(text_fault(full)),
         }
         let text = &mut self.text;
-        match intern_counted(&mut text.reader, s.id, steps) {
+        match self.noted.intern(&mut text.reader, s.id, steps) {
             Ok(id) => Ok(JsStr { id }),
             Err(full) => Err(table_fault(full)),
         }
@@ -90,6 +93,8 @@ impl<H: HeapRef> Session<H> {
         ensures plan { GoesByPlan (session_view self.old) (session_view self.new) s.id
             (text (state_in self.old) s.id) result }
         ensures few { (k : ℕ) → loads_at (session_view self.new) k ≤ loads_at (session_view self.old) k + 2 }
+        ensures notes { NotesHash (session_view self.old) (session_view self.new)
+            (text (state_in self.old) s.id) (answered_string result) (noted_in self.old) (noted_in self.new) }
     {
         let mut steps = Steps::<L>::start(blank);
         self.intern_counted(s, &mut steps)

@@ -5,13 +5,14 @@ ghost use Rattle.js_store.specs.Rows.{flat_words};
 ghost use Rattle.js_store.specs.State.{NamesUnits, IsSettled};
 ghost use Rattle.heap_text.specs.Texts.{KeepsOwn};
 ghost use Rattle.heap_intern.specs.Answers.{FindsString, IsFoundAgain, StandsInSlot, copy_plan};
+ghost use Rattle.heap_intern.specs.Hashes.{NotesHash};
 ghost use Rattle.heap_intern.specs.SlotLoads.{loads_at};
 ghost use Rattle.heap_session.specs.Counted.{LeavesBy, string_id};
-ghost use Rattle.heap_session.specs.Sessions.{state_in, session_view};
+ghost use Rattle.heap_session.specs.Noted.{PassesNoted};
+ghost use Rattle.heap_session.specs.Sessions.{noted_in, session_view, state_in};
 
 use crate::faults::table_fault;
 use crate::session::Session;
-use heap_intern::find_units;
 use heap_read::HeapRef;
 use heap_text::JsStr;
 use js_store::StoreFault;
@@ -33,17 +34,21 @@ impl<H: HeapRef> Session<H> {
         ensures plan { LeavesBy (session_view self.old) (session_view self.new) units.now
             (copy_plan units.now) result }
         ensures few { (k : ℕ) → loads_at (session_view self.new) k ≤ loads_at (session_view self.old) k + 2 }
+        ensures passes { PassesNoted (noted_in self.old) (session_view self.old) (session_view self.new)
+            units.now }
     {
         let text = &mut self.text;
-        match self.keys.intern(&mut text.reader, units) {
+        match self.keys.intern(&mut text.reader, &mut self.noted, units) {
             Ok(id) => Ok(JsStr { id }),
             Err(full) => Err(table_fault(full)),
         }
     }
+
     /// The interned string of these units, if it is in the string table: none exactly where a
     /// slot was found free behind slots with strings that differ, or every slot has such a string.
     /// It uses nothing, also on a full heap. What it found counts as a call of the history, so its
-    /// number may be compared with those that interning answers.
+    /// number may be compared with those that interning answers. No slot is loaded that is noted with another
+    /// hash, and the slot of the answer is noted where there is room.
     pub fn find_units(&mut self, units: &[u16]) -> Option<JsStr>
         requires { length units.now ≤ (state_in self.old).limit }
         ensures ok { IfSome result
@@ -58,9 +63,11 @@ impl<H: HeapRef> Session<H> {
         ensures again { (i : ℕ) → NamesUnits (state_in self.old) i units.now
             → StandsInSlot (session_view self.old) units.now i → string_id result ≡ Some i }
         ensures few { (k : ℕ) → loads_at (session_view self.new) k ≤ loads_at (session_view self.old) k + 2 }
+        ensures notes { NotesHash (session_view self.old) (session_view self.new) units.now
+            (string_id result) (noted_in self.old) (noted_in self.new) }
     {
         let text = &mut self.text;
-        match find_units(&mut text.reader, units) {
+        match self.noted.find(&mut text.reader, units) {
             Some(id) => Some(JsStr { id }),
             None => None,
         }

@@ -3,7 +3,7 @@
 //! strings that any sessions of one heap intern have one number.
 //!
 //! A session is bounded, since its heap has so many ids, content words and slots, and never runs out of
-//! memory: no call allocates. No call locks or waits.
+//! memory: no call allocates but [`Session::note_slots`]. No call locks or waits.
 #![tactic(auto)]
 
 mod counted;
@@ -14,6 +14,8 @@ mod kept;
 mod kept_keys;
 mod keys;
 mod laws;
+mod noted;
+mod noting;
 mod recent;
 mod session;
 mod sharing;

@@ -1,5 +1,5 @@
 // How sessions are made, split and joined, and what they count.
-ghost use Rattle.std.specs.Prelude.{◌≡◌, ◌≤◌, ◌<◌, None};
+ghost use Rattle.std.specs.Prelude.{◌≡◌, ◌≤◌, ◌<◌, [], None};
 ghost use Rattle.std.specs.FinMap.{contains_key};
 ghost use Rattle.js_store.specs.Faults.{Uses};
 ghost use Rattle.js_store.specs.Limits.{limit_units};
@@ -7,11 +7,12 @@ ghost use Rattle.heap_rule.specs.Agents.{joined_view, left_after_split, right_af
 ghost use Rattle.heap_table.specs.Agents.{Belongs, view_of};
 ghost use Rattle.heap_text.specs.Texts.{KeepsOwn};
 ghost use Rattle.heap_intern.specs.Counting.{count_below, different};
-ghost use Rattle.heap_session.specs.Sessions.{state_by, state_in, table_of, session_view};
+ghost use Rattle.heap_session.specs.Sessions.{noted_in, session_view, state_by, state_in, table_of};
 ghost use Rattle.heap_session.specs.Shares.{BelongsAs, IsSessionJoined, IsWhole, MayJoinSession, giver_after, right_by, total_by};
 
 use crate::kept::KeptWord;
 use crate::kept_keys::KeptKeys;
+use crate::noted::Noted;
 use crate::recent::Recent;
 use crate::session::Session;
 use crate::singles::Singles;
@@ -23,7 +24,7 @@ use js_store::Limit;
 
 impl<'h> Session<&'h Heap> {
     /// A new session with a part of the share, which knows all that this one knows and has used
-    /// nothing. Its history is this one's.
+    /// nothing. Its history is this one's. It notes no slots yet.
     pub fn split(&mut self, give: u32) -> Session<&'h Heap>
         requires some { 1 ≤ give }
         requires less { give < (state_in self.old).frame.share }
@@ -31,6 +32,8 @@ impl<'h> Session<&'h Heap> {
         ensures right_view { session_view result ≡ right_after_split (session_view self.old) give }
         ensures left { state_in self.new ≡ giver_after (state_in self.old) give }
         ensures right { state_in result ≡ right_by (state_in self.old) give }
+        ensures notes { noted_in self.new ≡ noted_in self.old }
+        ensures none { noted_in result ≡ [] }
     {
         Session {
             text: self.text.split(give),
@@ -40,6 +43,7 @@ impl<'h> Session<&'h Heap> {
             singles: Singles::none(),
             recent: Recent::none(),
             keys: KeptKeys::none(),
+            noted: Noted::none(),
         }
     }
 }
@@ -51,6 +55,7 @@ impl<H: HeapRef> Session<H> {
         ensures view { session_view result ≡ view_of agent }
         ensures state { state_in result
             ≡ state_by (view_of agent) (limit_units limit) (table_of (H.reached heap)) }
+        ensures none { noted_in result ≡ [] }
     {
         Session {
             text: Text::new(heap, agent, limit.units()),
@@ -60,17 +65,19 @@ impl<H: HeapRef> Session<H> {
             singles: Singles::none(),
             recent: Recent::none(),
             keys: KeptKeys::none(),
+            noted: Noted::none(),
         }
     }
 
     /// Takes over all that another session of this heap knows, has and used, and its calls since
-    /// its split. That was a split off calls that this session knows by now.
+    /// its split. That was a split off calls that this session knows by now. It keeps its own notes of slots.
     pub fn join(&mut self, other: Session<H>)
     where
         H: Drop,
         requires may { MayJoinSession (state_in self.old) (state_in other) }
         ensures view { session_view self.new ≡ joined_view (session_view self.old) (session_view other) }
         ensures joined { IsSessionJoined (state_in self.old) (state_in other) (state_in self.new) }
+        ensures notes { noted_in self.new ≡ noted_in self.old }
     {
         let Session { text, .. } = other;
         self.text.join(text);

@@ -20,10 +20,12 @@ impl<H: HeapRef> Strings for Session<H> {
     ghost use Rattle.heap_text.specs.Settling.{IsSettling};
     ghost use Rattle.heap_text.specs.Texts.{KeepsOwn};
     ghost use Rattle.heap_intern.specs.Answers.{IsForwarded, IsFoundAgain, copy_plan};
+    ghost use Rattle.heap_intern.specs.Hashes.{NotesHash};
     ghost use Rattle.heap_intern.specs.SlotLoads.{loads_at};
-    ghost use Rattle.heap_session.specs.Counted.{FoundFree, GoesByPlan, LeavesBy};
+    ghost use Rattle.heap_session.specs.Counted.{FoundFree, GoesByPlan, LeavesBy, answered_string};
     ghost use Rattle.heap_session.specs.Owning.{ClaimsNoId};
-    ghost use Rattle.heap_session.specs.Sessions.{SessionFrame, state_in, session_view};
+    ghost use Rattle.heap_session.specs.Noted.{PassesNoted};
+    ghost use Rattle.heap_session.specs.Sessions.{SessionFrame, noted_in, session_view, state_in};
     ghost use Rattle.heap_table.specs.Agents.{view_of};
     ghost use Rattle.heap_session.specs.Sessions.{table_of};
     ghost use Rattle.heap_session.specs.Sound.{session_sound};
@@ -178,7 +180,8 @@ impl<H: HeapRef> Strings for Session<H> {
 
     /// As of every store. The header of `s` then forwards to the answer, unless it is a fixed Flat,
     /// and no slot of the string table is loaded more than twice. The table is reported full
-    /// exactly where every slot was found used with other units.
+    /// exactly where every slot was found used with other units. No slot is loaded that is noted with another
+    /// hash, and the slot of the answer is noted where there is room.
     fn intern(&mut self, s: JsStr) -> Result<JsStr, StoreFault>
         requires { IsKnown (state_in self.old) s.id }
         ensures ok { IfOk result
@@ -199,12 +202,15 @@ impl<H: HeapRef> Strings for Session<H> {
         ensures plan { GoesByPlan (session_view self.old) (session_view self.new) s.id
             (text (state_in self.old) s.id) result }
         ensures few { (k : ℕ) → loads_at (session_view self.new) k ≤ loads_at (session_view self.old) k + 2 }
+        ensures notes { NotesHash (session_view self.old) (session_view self.new)
+            (text (state_in self.old) s.id) (answered_string result) (noted_in self.old) (noted_in self.new) }
     {
         self.intern_by::<Brand>(s, Blank::new(1))
     }
 
     /// As of every store, and no string is made first: where the interned one is in the table,
-    /// nothing is used, else one id and the words of the units.
+    /// nothing is used, else one id and the words of the units. No slot is loaded that is noted with another
+    /// hash.
     fn intern_units(&mut self, units: &[u16]) -> Result<JsStr, StoreFault>
         requires { length units.now ≤ (state_in self.old).limit }
         ensures ok { IfOk result
@@ -223,6 +229,8 @@ impl<H: HeapRef> Strings for Session<H> {
         ensures plan { LeavesBy (session_view self.old) (session_view self.new) units.now
             (copy_plan units.now) result }
         ensures few { (k : ℕ) → loads_at (session_view self.new) k ≤ loads_at (session_view self.old) k + 2 }
+        ensures passes { PassesNoted (noted_in self.old) (session_view self.old) (session_view self.new)
+            units.now }
     {
         self.intern_list(units)
     }

@@ -68,6 +68,7 @@ fn run_on(
         places.new.items }
 {
     let mut session = Session::new(heap, agent, limit);
+    let _ = session.note_slots(alloc);
     let first = run_files(alloc, &mut session, prelude, script, places, env);
     whole_has_all(&session);
     session.totals();

@@ -47,7 +47,7 @@ pub(crate) fn run_groups<R: Threads + Sync, S: Shared + Send, G: Gate + Sync>(
     let count = cut(jobs.len(), left, groups);
     let (front, back) = jobs.split_at(count);
     let (low, high) = outcomes.split_at_mut(count);
-    let mut other = session.lend(groups - left);
+    let mut other = session.lend(alloc, groups - left);
     both_halves(
         rt,
         alloc,

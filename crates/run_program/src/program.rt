@@ -58,6 +58,7 @@ pub fn run_program<R: Threads + Sync, G: Gate + Sync>(
         return Err(NoMemory);
     };
     let mut session = Session::new(&heap, agent, setup.limit);
+    let _ = session.note_slots(alloc);
     let first = run_files(
         rt,
         alloc,

@@ -12,8 +12,10 @@ impl<'h> Shared for Session<&'h Heap> {
 
     ghost state = { λ s. state_in s };
 
-    fn lend(&mut self, give: u32) -> Session<&'h Heap> {
-        self.split(give)
+    fn lend(&mut self, alloc: Global, give: u32) -> Session<&'h Heap> {
+        let mut other = self.split(give);
+        let _ = other.note_slots(alloc);
+        other
     }
 
     fn take_back(&mut self, other: Session<&'h Heap>) {

@@ -17,8 +17,8 @@ use std::alloc::Global;
 pub trait Shared {
     ghost state: { Self → State SessionFrame };
 
-    // A new session with a part of the share.
-    fn lend(&mut self, give: u32) -> Self
+    // A new session with a part of the share. It notes slots, if there is memory for that.
+    fn lend(&mut self, alloc: Global, give: u32) -> Self
         requires some { 1 ≤ give }
         requires less { give < (state self.old).frame.share }
         ensures left { state self.new ≡ giver_after (state self.old) give }

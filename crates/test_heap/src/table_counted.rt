@@ -26,7 +26,7 @@ fn counted<L: Ledger>(
     let Ok(s) = text.make_flat(units) else {
         return None;
     };
-    Some(intern_counted(&mut text.reader, s.id, steps))
+    Some(intern_counted(&mut text.reader, s.id, &mut [], steps))
 }
 
 // The answers for two strings in turn, each made and interned twice.
@@ -119,7 +119,7 @@ fn found_again<L: Ledger>(
     let Ok(t) = text.make_flat(units) else {
         return None;
     };
-    let Ok(b) = intern_counted(&mut text.reader, t.id, steps) else {
+    let Ok(b) = intern_counted(&mut text.reader, t.id, &mut [], steps) else {
         return None;
     };
     Some((a, b))

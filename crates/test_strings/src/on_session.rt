@@ -281,6 +281,7 @@ impl<'h> OnSession<'h> {
             "reads" => self.reads(a, behind(words.text)),
             "count" => self.count(),
             "totals" => self.totals(),
+            "note" => Some(yes_if(self.session.note_slots(self.alloc).is_ok())),
             "same" => self.same(a, b),
             _ => None,
         }

@@ -9,6 +9,7 @@
 //     units TEXT · concat A B · slice A FROM TO · intern A      make a string
 //     intern-units TEXT · find-units TEXT                       the string of the table with these units
 //     settle A · reads A TEXT · same A B · count · totals       of `Text`s and of sessions, but `settle`
+//     note                                                      of a session: it notes slots from then on
 //     wide WORD                                                 makes four units by the steps of an agent
 //     doubled N · before A N · behind A N · rope UNIT EMPTY N   make ropes by many joins
 //     len A · ends A · header A · form A · forwards A B · word A · slot K · limit N      load, or set the limit

@@ -145,6 +145,74 @@ count -> Number(2)
 totals -> Both(6, 4)
 ";
 
+// Aa, BB and C# have the hash 2112, and begin at slot 0 of 4, so two of them are noted with one hash. A session
+// that is split off has noted nothing, and notes after `note` what it finds; joined again, the first has its own
+// notes, by which it finds what the other interned, noted or not.
+const NOTED: &str = "== strings of one hash, and one that is not there
+session 9 9 4 1
+note -> Yes
+units Aa -> Made(0)
+intern 0 -> Made(1)
+units BB -> Made(2)
+intern 2 -> Made(3)
+intern 0 -> Made(1)
+intern 2 -> Made(3)
+intern-units Aa -> Made(1)
+intern-units BB -> Made(3)
+find-units Aa -> Made(1)
+find-units BB -> Made(3)
+find-units C# -> Maybe(None)
+find-units a -> Maybe(None)
+intern-units C# -> Made(4)
+find-units C# -> Made(4)
+count -> Number(3)
+totals -> Both(5, 3)
+== slots that were used before they are noted, and notes that are given up
+session 9 9 4 1
+units Aa -> Made(0)
+intern 0 -> Made(1)
+intern-units BB -> Made(2)
+note -> Yes
+find-units C# -> Maybe(None)
+find-units BB -> Made(2)
+intern 0 -> Made(1)
+note -> Yes
+intern-units BB -> Made(2)
+intern-units C# -> Made(3)
+find-units BB -> Made(2)
+count -> Number(3)
+== a full table, noted and not
+session 9 9 2 1
+intern-units a -> Made(0)
+intern-units b -> Made(1)
+note -> Yes
+intern-units c -> NotStored(Full(Slots { slots: 2 }))
+find-units a -> Made(0)
+find-units b -> Made(1)
+intern-units c -> NotStored(Full(Slots { slots: 2 }))
+find-units c -> Maybe(None)
+find-units b -> Made(1)
+== notes of a session that is split off
+session 9 9 4 2
+note -> Yes
+intern-units Aa -> Made(0)
+split
+other find-units Aa -> Made(0)
+other note -> Yes
+other intern-units BB -> Made(1)
+other find-units Aa -> Made(0)
+other find-units BB -> Made(1)
+find-units BB -> Made(1)
+other intern-units C# -> Made(2)
+other find-units C# -> Made(2)
+join
+find-units C# -> Made(2)
+intern-units BB -> Made(1)
+find-units Aa -> Made(0)
+find-units a -> Maybe(None)
+count -> Number(3)
+";
+
 // A call that is refused words claims no id: the next string, a rope that uses no word, has the next one.
 // One that is refused an id has claimed the word of its copy before, which stays claimed; a rope, and a part
 // that is no copy, claim none. 13 letters use two words, 26 use four.
@@ -209,6 +277,7 @@ fn sessions_alone_and_split(rt: HostRuntime) {
     plays(&rt, rt.alloc(), SESSIONS);
     plays(&rt, rt.alloc(), RECENT);
     plays(&rt, rt.alloc(), SPLIT);
+    plays(&rt, rt.alloc(), NOTED);
     plays(&rt, rt.alloc(), REFUSED);
 }
 

@@ -17,16 +17,16 @@ use Rattle.run_here.proofs.here.run_on.Goals as goal
 
 pub returns-clause-belongs : goal.returns-clause-belongs
 returns-clause-belongs c = let h = c.args.heap.now in let setup = one_agent (size_of h) c.args.limit in let f = c.run_files-first in let t = state_in c.totals.new.self in
-    let is : state_in c.new-session.result ≡ begun setup (table_of h) = c.new-session.ensures.state ∙ ap (λ (v : View). state_by v (limit_units c.args.limit) (table_of h)) c.requires.view in
+    let is : state_in c.note_slots.new.self ≡ begun setup (table_of h) = c.note_slots.ensures.state ∙ (c.new-session.ensures.state ∙ ap (λ (v : View). state_by v (limit_units c.args.limit) (table_of h)) c.requires.view) in
     c.into_agent.ensures.belongs h (kept_of setup h (tree_if c.args.prelude) (tree_of c.args.script.now ∷ []) f.result f.new.places.items None
-    (state_in c.new-session.result) (state_in f.new.session) t t
+    (state_in c.note_slots.new.self) (state_in f.new.session) t t
     is refl f.ensures.grows f.ensures.ran c.whole_has_all.ensures c.totals.ensures.state (step_refl t) refl refl)
 
 pub returns-clause-told : goal.returns-clause-told
 returns-clause-told c = let h = c.args.heap.now in let setup = one_agent (size_of h) c.args.limit in let f = c.run_files-first in let s = c.totals.new.self in let t = state_in s in
     let prelude = tree_if c.args.prelude in let trees = tree_of c.args.script.now ∷ [] in let os = f.new.places.items in
-    let a = state_in c.new-session.result in let b = state_in f.new.session in
-    let is : a ≡ begun setup (table_of h) = c.new-session.ensures.state ∙ ap (λ (v : View). state_by v (limit_units c.args.limit) (table_of h)) c.requires.view in
+    let a = state_in c.note_slots.new.self in let b = state_in f.new.session in
+    let is : a ≡ begun setup (table_of h) = c.note_slots.ensures.state ∙ (c.new-session.ensures.state ∙ ap (λ (v : View). state_by v (limit_units c.args.limit) (table_of h)) c.requires.view) in
     let of = kept_of setup h prelude trees f.result os None a b t t is refl f.ensures.grows f.ensures.ran c.whole_has_all.ensures c.totals.ensures.state (step_refl t) refl refl in
     let limit = kept_limit setup h prelude trees f.result os None a b t t is refl f.ensures.grows f.ensures.ran c.whole_has_all.ensures c.totals.ensures.state (step_refl t) refl refl in
     subst (λ (x : State SessionFrame). IsTold setup x prelude trees f.result os None)
@@ -37,8 +37,8 @@ returns-clause-told c = let h = c.args.heap.now in let setup = one_agent (size_o
 pub returns-clause-left : goal.returns-clause-left
 returns-clause-left c = let h = c.args.heap.now in let setup = one_agent (size_of h) c.args.limit in let f = c.run_files-first in let s = c.totals.new.self in let t = state_in s in
     let prelude = tree_if c.args.prelude in let tree = tree_of c.args.script.now in let trees = tree ∷ [] in let os = f.new.places.items in let bounds = bounds_of f.new.env in
-    let a = state_in c.new-session.result in let b = state_in f.new.session in
-    let is : a ≡ begun setup (table_of h) = c.new-session.ensures.state ∙ ap (λ (v : View). state_by v (limit_units c.args.limit) (table_of h)) c.requires.view in
+    let a = state_in c.note_slots.new.self in let b = state_in f.new.session in
+    let is : a ≡ begun setup (table_of h) = c.note_slots.ensures.state ∙ (c.new-session.ensures.state ∙ ap (λ (v : View). state_by v (limit_units c.args.limit) (table_of h)) c.requires.view) in
     let of = kept_of setup h prelude trees f.result os None a b t t is refl f.ensures.grows f.ensures.ran c.whole_has_all.ensures c.totals.ensures.state (step_refl t) refl refl in
     let limit = kept_limit setup h prelude trees f.result os None a b t t is refl f.ensures.grows f.ensures.ran c.whole_has_all.ensures c.totals.ensures.state (step_refl t) refl refl in
     subst (λ (x : State SessionFrame). LeavesMeant x (script_by (limit_units c.args.limit) prelude tree) bounds os)

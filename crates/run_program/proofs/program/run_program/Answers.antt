@@ -13,17 +13,17 @@ use Rattle.run_program.proofs.program.run_program.Goals as goal
 
 pub invariant_of-result : goal.invariant_of-result
 invariant_of-result g c = let h = c.in-Ok.heap in let setup = c.args.setup in let f = c.run_files-first in let k = c.count_if-interned in
-    let is : state_in c.new-session.result ≡ begun setup (table_of h) = c.new-session.ensures.state ∙ ap (λ (v : View). state_by v (limit_units setup.limit) (table_of h)) c.in-Ok.ensures.view in
+    let is : state_in c.note_slots.new.self ≡ begun setup (table_of h) = c.note_slots.ensures.state ∙ (c.new-session.ensures.state ∙ ap (λ (v : View). state_by v (limit_units setup.limit) (table_of h)) c.in-Ok.ensures.view) in
     c.into_agent-agent.ensures.belongs h (kept_of setup h (tree_if c.args.prelude) (job_trees c.deref.result.now) f.result f.new.outcomes.items k.result
-    (state_in c.new-session.result) (state_in f.new.session) (state_in c.totals.new.self) (state_in k.new.session)
+    (state_in c.note_slots.new.self) (state_in f.new.session) (state_in c.totals.new.self) (state_in k.new.session)
     is c.in-Ok.ensures.size f.ensures.grows f.ensures.ran c.whole_has_all.ensures c.totals.ensures.state k.ensures.uses.step k.ensures.uses.history k.ensures.count)
 
 pub returns : goal.returns
 returns g c = let h = c.in-Ok.heap in let setup = c.args.setup in let f = c.run_files-first in let k = c.count_if-interned in let s = k.new.session in let agent = c.into_agent-agent in
     let prelude = tree_if c.args.prelude in let trees = job_trees c.deref.result.now in let os = f.new.outcomes.items in
-    let a = state_in c.new-session.result in let b = state_in f.new.session in let t = state_in c.totals.new.self in let d = state_in s in
+    let a = state_in c.note_slots.new.self in let b = state_in f.new.session in let t = state_in c.totals.new.self in let d = state_in s in
     let size = c.in-Ok.ensures.size in
-    let is : a ≡ begun setup (table_of h) = c.new-session.ensures.state ∙ ap (λ (v : View). state_by v (limit_units setup.limit) (table_of h)) c.in-Ok.ensures.view in
+    let is : a ≡ begun setup (table_of h) = c.note_slots.ensures.state ∙ (c.new-session.ensures.state ∙ ap (λ (v : View). state_by v (limit_units setup.limit) (table_of h)) c.in-Ok.ensures.view) in
     let of = kept_of setup h prelude trees f.result os k.result a b t d
     is size f.ensures.grows f.ensures.ran c.whole_has_all.ensures c.totals.ensures.state k.ensures.uses.step k.ensures.uses.history k.ensures.count in
     let limit = kept_limit setup h prelude trees f.result os k.result a b t d

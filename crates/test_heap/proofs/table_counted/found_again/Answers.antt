@@ -3,6 +3,7 @@ use Rattle.js_header.specs.declared.form.Form.TheVariants.{Flat}
 use Rattle.heap_rule.specs.declared.size.HeapSize.{HeapSize}
 use Rattle.heap_rule.specs.declared.view.View.{View}
 use Rattle.js_units.specs.Lanes.{is_wide}
+use Rattle.heap_intern.proofs.Hashes.{no_hashes}
 use Rattle.test_heap.proofs.First.{first_of}
 use Rattle.test_heap.proofs.table_counted.found_again.Goals as goal
 
@@ -20,3 +21,6 @@ returns g c = let x : View = c.make_flat-2.new.self.reader.agent.seat.me.0 in le
           (first_of x c.make_flat-2.new.self.reader.belongs.5 one us i.4.0 c.in-Ok-intern.a (cont.known.slots i.4.0 c.in-Ok-intern.a i.4.1)
           (cont.known.units c.in-Ok-intern.a us i.3.1));
     }
+
+pub intern_counted-requires-clause-hashed : goal.intern_counted-requires-clause-hashed
+intern_counted-requires-clause-hashed g c = no_hashes c.make_flat-2.new.self.reader.agent.seat.me.0

@@ -11,6 +11,8 @@ use Rattle.heap_session.proofs.Lately.{kept_by}
 use Rattle.heap_session.proofs.OneUnit.{singles_by}
 use Rattle.heap_session.proofs.MadeLately.{recent_by}
 use Rattle.heap_session.proofs.Owning.{own_goes}
+use Rattle.heap_intern.proofs.Hashes.{hashes_kept}
+use Rattle.heap_session.specs.Noted.{hashes_in}
 use Rattle.heap_session.proofs.session.Session.count_interned.Goals as goal
 
 pub returns-clause-uses : goal.returns-clause-uses
@@ -40,6 +42,10 @@ invariant_of-self-clause-recent_kept g c = let s = c.args.self.now in let v : Vi
 pub invariant_of-self-clause-keys_kept : goal.invariant_of-self-clause-keys_kept
 invariant_of-self-clause-keys_kept g c = let s = c.args.self.now in let v : View = s.text.reader.agent.seat.me.0 in
     let w : View = c.count_interned.new.reader.agent.seat.me.0 in keys_by v w s.text.reader.belongs.5 (c.count_interned.ensures.looks.goes.known) (c.count_interned.ensures.looks.goes.sizes) s.keys.all s.keys_kept
+
+pub invariant_of-self-clause-hashes_noted : goal.invariant_of-self-clause-hashes_noted
+invariant_of-self-clause-hashes_noted g c = let s = c.args.self.now in let v : View = s.text.reader.agent.seat.me.0 in
+    let w : View = c.count_interned.new.reader.agent.seat.me.0 in hashes_kept v w (c.count_interned.ensures.looks.goes.known) (hashes_in s.noted) s.hashes_noted
 
 pub returns-clause-used : goal.returns-clause-used
 returns-clause-used g c = let w : View = c.count_interned.new.reader.agent.seat.me.0 in

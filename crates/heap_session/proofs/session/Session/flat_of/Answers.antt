@@ -16,6 +16,8 @@ use Rattle.heap_session.proofs.Lately.{kept_by}
 use Rattle.heap_session.proofs.OneUnit.{singles_by}
 use Rattle.heap_session.proofs.MadeLately.{recent_by}
 use Rattle.heap_session.proofs.Owning.{spares_of}
+use Rattle.heap_intern.proofs.Hashes.{hashes_kept}
+use Rattle.heap_session.specs.Noted.{hashes_in}
 use Rattle.heap_session.proofs.session.Session.flat_of.Goals as goal
 
 pub make_flat-requires : goal.make_flat-requires
@@ -67,6 +69,10 @@ invariant_of-self-clause-recent_kept g c = let s = c.args.self.now in let v : Vi
 pub invariant_of-self-clause-keys_kept : goal.invariant_of-self-clause-keys_kept
 invariant_of-self-clause-keys_kept g c = let s = c.args.self.now in let v : View = s.text.reader.agent.seat.me.0 in
     let w : View = c.make_flat.new.self.reader.agent.seat.me.0 in keys_by v w s.text.reader.belongs.5 (c.make_flat.ensures.continues.known) (c.make_flat.ensures.continues.sizes) s.keys.all s.keys_kept
+
+pub invariant_of-self-clause-hashes_noted : goal.invariant_of-self-clause-hashes_noted
+invariant_of-self-clause-hashes_noted g c = let s = c.args.self.now in let v : View = s.text.reader.agent.seat.me.0 in
+    let w : View = c.make_flat.new.self.reader.agent.seat.me.0 in hashes_kept v w (c.make_flat.ensures.continues.known) (hashes_in s.noted) s.hashes_noted
 
 pub returns-in-Err-clause-spared : goal.returns-in-Err-clause-spared
 returns-in-Err-clause-spared g c = let v : View = c.args.self.now.text.reader.agent.seat.me.0 in let w : View = c.make_flat.new.self.reader.agent.seat.me.0 in let us : List ℕ = c.args.units.now in

@@ -59,6 +59,7 @@ invariant_of-self g c = let s = c.args.self.now in let v : View = s.text.reader.
       singles_kept = singles_by v w k s.singles.ids s.singles_kept;
       recent_kept = recent_by v w k s.recent.ids s.recent_kept;
       keys_kept = c.intern.ensures.kept;
+      hashes_noted = c.intern.ensures.hashed;
     }
 
 pub returns-in-Ok-clause-own : goal.returns-in-Ok-clause-own

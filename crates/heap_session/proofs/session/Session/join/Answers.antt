@@ -10,6 +10,8 @@ use Rattle.heap_session.proofs.Shares.{belongs_here, sizes_are, state_joined}
 use Rattle.heap_session.proofs.Lately.{kept_by}
 use Rattle.heap_session.proofs.OneUnit.{singles_by}
 use Rattle.heap_session.proofs.MadeLately.{recent_by}
+use Rattle.heap_intern.proofs.Hashes.{hashes_kept}
+use Rattle.heap_session.specs.Noted.{hashes_in}
 use Rattle.heap_session.proofs.session.Session.join.Goals as goal
 
 pub join-requires-clause-heap : goal.join-requires-clause-heap
@@ -52,3 +54,7 @@ invariant_of-self-clause-recent_kept g c = let s = c.args.self.now in let v : Vi
 pub invariant_of-self-clause-keys_kept : goal.invariant_of-self-clause-keys_kept
 invariant_of-self-clause-keys_kept g c = let s = c.args.self.now in let v : View = s.text.reader.agent.seat.me.0 in
     let w : View = c.join.new.self.reader.agent.seat.me.0 in keys_by v w s.text.reader.belongs.5 c.join.ensures.known.0 (ap (λ (u : View). u.sizes) c.join.ensures.view) s.keys.all s.keys_kept
+
+pub invariant_of-self-clause-hashes_noted : goal.invariant_of-self-clause-hashes_noted
+invariant_of-self-clause-hashes_noted g c = let s = c.args.self.now in let v : View = s.text.reader.agent.seat.me.0 in
+    let w : View = c.join.new.self.reader.agent.seat.me.0 in hashes_kept v w c.join.ensures.known.0 (hashes_in s.noted) s.hashes_noted

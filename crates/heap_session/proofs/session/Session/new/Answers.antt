@@ -1,6 +1,7 @@
 use Rattle.std.proofs.Common.{◌∙◌, arith}
 use Rattle.heap_session.specs.Sound.{limit_high}
 use Rattle.heap_session.proofs.Lately.{kept_none}
+use Rattle.heap_session.proofs.NotesKept.{none_noted}
 use Rattle.heap_session.proofs.session.Session.new.Goals as goal
 
 pub invariant_of-result : goal.invariant_of-result
@@ -11,6 +12,7 @@ invariant_of-result g c = record {
   singles_kept = c.none-3.ensures c.new.result.reader.agent.seat.me.0;
   recent_kept = c.none-4.ensures c.new.result.reader.agent.seat.me.0;
   keys_kept = c.none-5.ensures c.new.result.reader.agent.seat.me.0;
+  hashes_noted = none_noted c.new.result.reader.agent.seat.me.0 c.none-6.result c.none-6.ensures;
 }
 
 pub new-requires-clause-most : goal.new-requires-clause-most

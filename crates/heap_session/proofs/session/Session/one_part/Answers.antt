@@ -21,6 +21,7 @@ invariant_of-self-in-Ok g c = let p = c.part_of.new.self in let x : View = c.uni
       singles_kept = c.keep.ensures w p.singles_kept (one, ok.1);
       recent_kept = p.recent_kept;
       keys_kept = p.keys_kept;
+      hashes_noted = p.hashes_noted;
     }
 
 pub returns-in-Ok-clause-own : goal.returns-in-Ok-clause-own

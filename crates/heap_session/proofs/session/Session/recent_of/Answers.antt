@@ -8,6 +8,8 @@ use Rattle.heap_session.proofs.OneUnit.{singles_by}
 use Rattle.heap_session.proofs.MadeLately.{recent_by}
 use Rattle.heap_session.proofs.States.{history_reads, step_reads, test_settled, uses_at}
 use Rattle.heap_read.proofs.Loaded.{reads_refl}
+use Rattle.heap_intern.proofs.Hashes.{hashes_kept}
+use Rattle.heap_session.specs.Noted.{hashes_in}
 use Rattle.heap_session.proofs.session.Session.recent_of.Goals as goal
 
 pub has_units-requires-clause-settled : goal.has_units-requires-clause-settled
@@ -22,6 +24,7 @@ invariant_of-self g c = let s = c.args.self.now in let v : View = s.text.reader.
       singles_kept = singles_by v w k s.singles.ids s.singles_kept;
       recent_kept = recent_by v w k s.recent.ids s.recent_kept;
       keys_kept = keys_by v w s.text.reader.belongs.5 k c.has_units.ensures.reads.sizes s.keys.all s.keys_kept;
+      hashes_noted = hashes_kept v w k (hashes_in s.noted) s.hashes_noted;
     }
 
 pub returns-then-has_units-clause-uses : goal.returns-then-has_units-clause-uses

@@ -11,6 +11,8 @@ use Rattle.heap_table.specs.Known.{KeepsKnown}
 use Rattle.heap_session.proofs.KeptKeys.{keys_by}
 use Rattle.heap_intern.proofs.Going.{counted_known}
 use Rattle.heap_text.specs.Texts.{KeepsOwn}
+use Rattle.heap_intern.proofs.Hashes.{hashes_kept}
+use Rattle.heap_session.specs.Noted.{hashes_in}
 use Rattle.heap_session.proofs.session.Session.totals.Goals as goal
 
 pub returns-clause-state : goal.returns-clause-state
@@ -34,6 +36,10 @@ pub invariant_of-self-clause-keys_kept : goal.invariant_of-self-clause-keys_kept
 invariant_of-self-clause-keys_kept g c = let s = c.args.self.now in let v : View = s.text.reader.agent.seat.me.0 in let w : View = c.totals.new.self.reader.agent.seat.me.0 in
     keys_by v w s.text.reader.belongs.5 (subst (KeepsKnown v) (sym c.totals.ensures.view) (counted_known v c.totals.result.0 c.totals.result.1))
     (ap (λ (u : View). u.sizes) c.totals.ensures.view) s.keys.all s.keys_kept
+
+pub invariant_of-self-clause-hashes_noted : goal.invariant_of-self-clause-hashes_noted
+invariant_of-self-clause-hashes_noted g c = let s = c.args.self.now in let v : View = s.text.reader.agent.seat.me.0 in let w : View = c.totals.new.self.reader.agent.seat.me.0 in
+    hashes_kept v w (subst (KeepsKnown v) (sym c.totals.ensures.view) (counted_known v c.totals.result.0 c.totals.result.1)) (hashes_in s.noted) s.hashes_noted
 
 pub returns-clause-own : goal.returns-clause-own
 returns-clause-own g c = let v : View = c.args.self.now.text.reader.agent.seat.me.0 in subst (KeepsOwn v) (sym c.totals.ensures.view) record { ids = λ i n h. h; words = λ d x h. h }

@@ -10,6 +10,9 @@ use Rattle.heap_session.proofs.Lately.{kept_none}
 use Rattle.heap_session.specs.Lately.{IsWordKept}
 use Rattle.heap_session.specs.Singles.{AreSingles}
 use Rattle.heap_session.specs.Recent.{AreRecent}
+use Rattle.heap_intern.proofs.Hashes.{hashes_kept}
+use Rattle.heap_session.specs.Noted.{hashes_in}
+use Rattle.heap_session.proofs.NotesKept.{none_noted}
 use Rattle.heap_session.proofs.sharing.Session+ref+Heap.split.Goals as goal
 
 pub invariant_of-result : goal.invariant_of-result
@@ -20,6 +23,7 @@ invariant_of-result c = record {
   singles_kept = c.none-3.ensures c.split.result.reader.agent.seat.me.0;
   recent_kept = c.none-4.ensures c.split.result.reader.agent.seat.me.0;
   keys_kept = c.none-5.ensures c.split.result.reader.agent.seat.me.0;
+  hashes_noted = none_noted c.split.result.reader.agent.seat.me.0 c.none-6.result c.none-6.ensures;
 }
 
 pub returns-clause-left : goal.returns-clause-left
@@ -46,3 +50,7 @@ pub invariant_of-self-clause-keys_kept : goal.invariant_of-self-clause-keys_kept
 invariant_of-self-clause-keys_kept c = let s = c.args.self.now in let v : View = s.text.reader.agent.seat.me.0 in let w : View = c.split.new.self.reader.agent.seat.me.0 in
     keys_by v w s.text.reader.belongs.5 (subst (KeepsKnown v) (sym c.split.ensures.left) (left_known v c.args.give))
     (ap (λ (u : View). u.sizes) c.split.ensures.left) s.keys.all s.keys_kept
+
+pub invariant_of-self-clause-hashes_noted : goal.invariant_of-self-clause-hashes_noted
+invariant_of-self-clause-hashes_noted c = let s = c.args.self.now in let v : View = s.text.reader.agent.seat.me.0 in let w : View = c.split.new.self.reader.agent.seat.me.0 in
+    hashes_kept v w (subst (KeepsKnown v) (sym c.split.ensures.left) (left_known v c.args.give)) (hashes_in s.noted) s.hashes_noted

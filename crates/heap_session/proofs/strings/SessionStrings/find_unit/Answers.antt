@@ -10,6 +10,8 @@ use Rattle.heap_session.proofs.Lately.{kept_by}
 use Rattle.heap_session.proofs.OneUnit.{singles_by}
 use Rattle.heap_session.proofs.MadeLately.{recent_by}
 use Rattle.heap_session.proofs.States.{history_reads, step_reads, text_is, uses_at}
+use Rattle.heap_intern.proofs.Hashes.{hashes_kept}
+use Rattle.heap_session.specs.Noted.{hashes_in}
 use Rattle.heap_session.proofs.strings.SessionStrings.find_unit.Goals as goal
 
 pub find_in-requires-clause-window : goal.find_in-requires-clause-window
@@ -57,6 +59,11 @@ pub invariant_of-self-clause-keys_kept : goal.invariant_of-self-clause-keys_kept
 invariant_of-self-clause-keys_kept g c = let s = c.args.self.now in let v : View = s.text.reader.agent.seat.me.0 in
     let x : View = c.window-window.new.self.reader.agent.seat.me.0 in let w : View = c.find_in.new.self.reader.agent.seat.me.0 in
     keys_by v w s.text.reader.belongs.5 ((reads_trans v x w c.window-window.ensures.reads c.find_in.ensures.reads).known) ((reads_trans v x w c.window-window.ensures.reads c.find_in.ensures.reads).sizes) s.keys.all s.keys_kept
+
+pub invariant_of-self-clause-hashes_noted : goal.invariant_of-self-clause-hashes_noted
+invariant_of-self-clause-hashes_noted g c = let s = c.args.self.now in let v : View = s.text.reader.agent.seat.me.0 in
+    let x : View = c.window-window.new.self.reader.agent.seat.me.0 in let w : View = c.find_in.new.self.reader.agent.seat.me.0 in
+    hashes_kept v w ((reads_trans v x w c.window-window.ensures.reads c.find_in.ensures.reads).known) (hashes_in s.noted) s.hashes_noted
 
 pub returns-clause-reads : goal.returns-clause-reads
 returns-clause-reads g c = let v : View = c.args.self.now.text.reader.agent.seat.me.0 in

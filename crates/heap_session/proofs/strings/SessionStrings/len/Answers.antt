@@ -9,6 +9,8 @@ use Rattle.heap_session.proofs.States.{history_reads, step_reads, text_is, uses_
 use Rattle.heap_session.proofs.Lately.{kept_by}
 use Rattle.heap_session.proofs.OneUnit.{singles_by}
 use Rattle.heap_session.proofs.MadeLately.{recent_by}
+use Rattle.heap_intern.proofs.Hashes.{hashes_kept}
+use Rattle.heap_session.specs.Noted.{hashes_in}
 use Rattle.heap_session.proofs.strings.SessionStrings.len.Goals as goal
 
 pub returns-clause-value : goal.returns-clause-value
@@ -45,3 +47,7 @@ invariant_of-self-clause-recent_kept g c = let s = c.args.self.now in let v : Vi
 pub invariant_of-self-clause-keys_kept : goal.invariant_of-self-clause-keys_kept
 invariant_of-self-clause-keys_kept g c = let s = c.args.self.now in let v : View = s.text.reader.agent.seat.me.0 in
     let w : View = c.len.new.self.reader.agent.seat.me.0 in keys_by v w s.text.reader.belongs.5 (c.len.ensures.reads.known) (c.len.ensures.reads.sizes) s.keys.all s.keys_kept
+
+pub invariant_of-self-clause-hashes_noted : goal.invariant_of-self-clause-hashes_noted
+invariant_of-self-clause-hashes_noted g c = let s = c.args.self.now in let v : View = s.text.reader.agent.seat.me.0 in
+    let w : View = c.len.new.self.reader.agent.seat.me.0 in hashes_kept v w (c.len.ensures.reads.known) (hashes_in s.noted) s.hashes_noted

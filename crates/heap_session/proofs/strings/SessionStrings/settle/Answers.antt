@@ -19,6 +19,8 @@ use Rattle.heap_session.proofs.OneUnit.{singles_by}
 use Rattle.heap_session.proofs.MadeLately.{recent_by}
 use Rattle.heap_session.proofs.States.{has_text, history_continues, settled_test, text_is, uses_at}
 use Rattle.heap_session.proofs.Owning.{spares_of}
+use Rattle.heap_intern.proofs.Hashes.{hashes_kept}
+use Rattle.heap_session.specs.Noted.{hashes_in}
 use Rattle.heap_session.proofs.strings.SessionStrings.settle.Goals as goal
 
 pub returns-in-Ok-clause-ok : goal.returns-in-Ok-clause-ok
@@ -70,6 +72,10 @@ invariant_of-self-clause-recent_kept g c = let s = c.args.self.now in let v : Vi
 pub invariant_of-self-clause-keys_kept : goal.invariant_of-self-clause-keys_kept
 invariant_of-self-clause-keys_kept g c = let s = c.args.self.now in let v : View = s.text.reader.agent.seat.me.0 in
     let w : View = c.settle.new.self.reader.agent.seat.me.0 in keys_by v w s.text.reader.belongs.5 (c.settle.ensures.continues.known) (c.settle.ensures.continues.sizes) s.keys.all s.keys_kept
+
+pub invariant_of-self-clause-hashes_noted : goal.invariant_of-self-clause-hashes_noted
+invariant_of-self-clause-hashes_noted g c = let s = c.args.self.now in let v : View = s.text.reader.agent.seat.me.0 in
+    let w : View = c.settle.new.self.reader.agent.seat.me.0 in hashes_kept v w (c.settle.ensures.continues.known) (hashes_in s.noted) s.hashes_noted
 
 pub returns-in-Ok-clause-settling : goal.returns-in-Ok-clause-settling
 returns-in-Ok-clause-settling g c = c.in-Ok.ensures.used _ (has_text c.args.self.now.text.reader.agent.seat.me.0.units c.args.s.id c.requires)
