@@ -5,7 +5,7 @@
 -- strings, the list of these, and an object the list of its members.
 use Rattle.std.specs.Prelude.{ℕ, ◌+◌, List, [], ◌∷◌, ◌++◌, nat_le, if◌then◌else◌, pos}
 use Rattle.js_number.specs.declared.Num.TheVariants.{Int}
-use Rattle.js_item.specs.Contents.{undefined, null, bool, number, text, symbol, list, object}
+use Rattle.js_item.specs.Contents.{undefined, number, text, list}
 use Rattle.js_item.specs.Seen.{Val}
 use Rattle.eval_values.specs.declared.value.Kind.{Kind}
 use Rattle.eval_values.specs.Need.{Row, ids_in, words_in}

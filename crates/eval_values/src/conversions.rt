@@ -21,10 +21,9 @@ ghost use Rattle.eval_values.specs.Settled.{IsTextOf, ElementsSettled};
 use crate::lists::push;
 use crate::value::{Abrupt, Kind, Stop, Value};
 use js_item::Object;
-use js_number::{Num, append_text};
-use js_store::{StoreFault, Strings};
+use js_number::{Num, write_text};
+use js_store::Strings;
 use js_texts::MethodFault;
-use js_units::Units;
 use std::alloc::Global;
 
 /// ToString of a value. A string is its own; the elements of an array are settled, and so is a string
@@ -49,15 +48,15 @@ pub fn to_text<S: Strings>(
         (to_string (S.state store.old).limit (seen (S.state store.old) S.number value.now)) }
 {
     match value {
-        Value::Undefined => word(alloc, store, "undefined"),
-        Value::Null => word(alloc, store, "null"),
-        Value::Bool(true) => word(alloc, store, "true"),
-        Value::Bool(false) => word(alloc, store, "false"),
-        Value::Number(n) => number_text(alloc, store, *n),
+        Value::Undefined => word(store, "undefined"),
+        Value::Null => word(store, "null"),
+        Value::Bool(true) => word(store, "true"),
+        Value::Bool(false) => word(store, "false"),
+        Value::Number(n) => number_text(store, *n),
         Value::Text(s) => Ok(*s),
         Value::Symbol(_) => Err(Stop::Threw(Kind::TypeError)),
         Value::List(list) => list_text(alloc, store, list),
-        Value::Object(object) => object_text(alloc, store, object),
+        Value::Object(object) => object_text(store, object),
     }
 }
 
@@ -78,11 +77,7 @@ fn list_text<S: Strings>(alloc: Global, store: &mut S, list: &[S::Ref]) -> Resul
 }
 
 // ToString of an object, whose own `toString` would be no function.
-fn object_text<S: Strings>(
-    alloc: Global,
-    store: &mut S,
-    object: &Object<S::Ref>,
-) -> Result<S::Ref, Stop>
+fn object_text<S: Strings>(store: &mut S, object: &Object<S::Ref>) -> Result<S::Ref, Stop>
     requires { FineFields (strings_of (S.state store.old)) S.number object.now }
     ensures grows { Grows (S.state store.old) (S.state store.new) }
     ensures known { IfOk result (λ r. IsKnown (S.state store.new) (S.number r)) }
@@ -95,7 +90,7 @@ fn object_text<S: Strings>(
     if has_to_string(store, object) {
         Err(Stop::Threw(Kind::TypeError))
     } else {
-        word(alloc, store, "[object Object]")
+        word(store, "[object Object]")
     }
 }
 
@@ -132,7 +127,7 @@ pub fn joined_by_commas<S: Strings>(
     js_texts::join(alloc, store, list, comma)
 }
 
-fn word<S: Strings>(alloc: Global, store: &mut S, word: &str) -> Result<S::Ref, Stop>
+fn word<S: Strings>(store: &mut S, word: &str) -> Result<S::Ref, Stop>
     requires { length word.now ≤ 40 }
     ensures grows { Grows (S.state store.old) (S.state store.new) }
     ensures known { IfOk result (λ r. IsKnown (S.state store.new) (S.number r)) }
@@ -140,14 +135,13 @@ fn word<S: Strings>(alloc: Global, store: &mut S, word: &str) -> Result<S::Ref, 
     ensures settled { IfOk result (λ r. IsSettled (S.state store.new) (S.number r)) }
     ensures did { GivesText S.number (S.state store.old) (S.state store.new) result (spelled word.now) }
 {
-    let mut units = Units::new(alloc);
-    match append_text(&mut units, word) {
-        Ok(()) => spell(store, units.as_slice()),
-        Err(_) => Err(Stop::Store(StoreFault::Memory)),
-    }
+    let mut room = [0; 40];
+    let count = write_text(&mut room, word);
+    spell(store, &room[..count])
 }
 
-fn number_text<S: Strings>(alloc: Global, store: &mut S, n: Num) -> Result<S::Ref, Stop>
+// The string of a number.
+pub(crate) fn number_text<S: Strings>(store: &mut S, n: Num) -> Result<S::Ref, Stop>
     requires { IsLawful n }
     ensures grows { Grows (S.state store.old) (S.state store.new) }
     ensures known { IfOk result (λ r. IsKnown (S.state store.new) (S.number r)) }
@@ -155,11 +149,9 @@ fn number_text<S: Strings>(alloc: Global, store: &mut S, n: Num) -> Result<S::Re
     ensures settled { IfOk result (λ r. IsSettled (S.state store.new) (S.number r)) }
     ensures did { GivesText S.number (S.state store.old) (S.state store.new) result (spelled (text_of n)) }
 {
-    let mut units = Units::new(alloc);
-    match n.to_text(&mut units) {
-        Ok(()) => spell(store, units.as_slice()),
-        Err(_) => Err(Stop::Store(StoreFault::Memory)),
-    }
+    let mut room = [0; 40];
+    let count = n.write_digits(&mut room);
+    spell(store, &room[..count])
 }
 
 fn spell<S: Strings>(store: &mut S, units: &[u16]) -> Result<S::Ref, Stop>

@@ -26,7 +26,8 @@ pad_end_of u most filler = u ++ filling filler (most - length u)
 abbrev pub CutsFiller : ℕ → ℕ → Type 0
 CutsFiller n m = (1 ≤ m) × (1 ≤ n % m)
 
--- what a pad uses at most, where its filler has m units: it settles the filler alone
+-- what a pad uses at most, where its filler has m units: it settles the filler, and else only a string that
+-- is too short for a rope
 abbrev pub pad_used_ids : ℕ
 pad_used_ids = 120
 

@@ -23,6 +23,9 @@ use std::alloc::Global;
 // As many units of filler are put together at once.
 const AT_ONCE: usize = 32;
 
+// A string of fewer units is no rope (V8's `ConsString::kMinLength`), so settling it uses nothing on the heap.
+const SHORTEST_ROPE: u64 = 13;
+
 /// The units of `s` followed by those of `t` ("String.prototype.concat" with one argument).
 pub fn concat<S: Strings>(store: &mut S, s: S::Ref, t: S::Ref) -> Result<S::Ref, MethodFault>
     requires left { IsKnown (S.state store.old) (S.number s) }
@@ -89,6 +92,9 @@ pub fn pad_end<S: Strings>(
     if room == 0 {
         return Ok(s);
     }
+    if is_at_once(max, room) {
+        return Ok(end_at_once(store, s, max as u32, filler)?);
+    }
     let fill = filled(store, filler, room)?;
     Ok(joined(store, s, fill)?)
 }
@@ -121,8 +127,18 @@ pub fn pad_start<S: Strings>(
     if room == 0 {
         return Ok(s);
     }
+    if is_at_once(max, room) {
+        return Ok(start_at_once(store, s, max as u32, filler)?);
+    }
     let fill = filled(store, filler, room)?;
     Ok(joined(store, fill, s)?)
+}
+
+// Whether so many units with the filler are few, and without it too few for a rope.
+fn is_at_once(max: u64, room: u32) -> bool
+    ensures { IsTrue result → max ≤ 32 }
+{
+    max <= AT_ONCE as u64 && max < u64::from(room) + SHORTEST_ROPE
 }
 
 // How many units of filler are to be added.
@@ -161,6 +177,111 @@ fn padded_length(len: u64, max: u64, size: u32) -> u64
     ensures empty { size ≡ 0 → result ≡ len }
 {
     if size == 0 { len } else { len.max(max) }
+}
+
+// The string and behind it the filler, repeated and cut, which are few units together: they are put together
+// outside the store.
+fn end_at_once<S: Strings>(
+    store: &mut S,
+    s: S::Ref,
+    max: u32,
+    filler: S::Ref,
+) -> Result<S::Ref, StoreFault>
+    requires known { IsKnown (S.state store.old) (S.number s) }
+    requires filler_known { IsKnown (S.state store.old) (S.number filler) }
+    requires units { 1 ≤ length (text (S.state store.old) (S.number filler)) }
+    requires some { length (text (S.state store.old) (S.number s)) < max }
+    requires few { max ≤ 32 }
+    requires short { max ≤ (S.state store.old).limit }
+    ensures value { IfOk result
+        (λ r. NamesUnits (S.state store.new) (S.number r)
+        (pad_end_of (text (S.state store.old) (S.number s)) max
+        (text (S.state store.old) (S.number filler)))) }
+    ensures settled { OnOk result (IsSettled (S.state store.new) (S.number filler)) }
+    ensures uses { Uses (S.state store.old) (S.state store.new) (fault_of result)
+        pad_used_ids (pad_used_words (length (text (S.state store.old) (S.number filler)))) }
+{
+    settle_both(store, s, filler)?;
+    let mut units = [0; AT_ONCE];
+    let units = &mut units[..max as usize];
+    read_and_fill(store, s, filler, units);
+    store.from_units(units)
+}
+
+// The same with the filler before the string.
+fn start_at_once<S: Strings>(
+    store: &mut S,
+    s: S::Ref,
+    max: u32,
+    filler: S::Ref,
+) -> Result<S::Ref, StoreFault>
+    requires known { IsKnown (S.state store.old) (S.number s) }
+    requires filler_known { IsKnown (S.state store.old) (S.number filler) }
+    requires units { 1 ≤ length (text (S.state store.old) (S.number filler)) }
+    requires some { length (text (S.state store.old) (S.number s)) < max }
+    requires few { max ≤ 32 }
+    requires short { max ≤ (S.state store.old).limit }
+    ensures value { IfOk result
+        (λ r. NamesUnits (S.state store.new) (S.number r)
+        (pad_start_of (text (S.state store.old) (S.number s)) max
+        (text (S.state store.old) (S.number filler)))) }
+    ensures settled { OnOk result (IsSettled (S.state store.new) (S.number filler)) }
+    ensures uses { Uses (S.state store.old) (S.state store.new) (fault_of result)
+        pad_used_ids (pad_used_words (length (text (S.state store.old) (S.number filler)))) }
+{
+    settle_both(store, s, filler)?;
+    let mut units = [0; AT_ONCE];
+    let units = &mut units[..max as usize];
+    fill_and_read(store, s, filler, units);
+    store.from_units(units)
+}
+
+// Settles both strings.
+fn settle_both<S: Strings>(store: &mut S, s: S::Ref, t: S::Ref) -> Result<(), StoreFault>
+    requires first { IsKnown (S.state store.old) (S.number s) }
+    requires second { IsKnown (S.state store.old) (S.number t) }
+    ensures settled { OnOk result (IsSettled (S.state store.new) (S.number s)) }
+    ensures second_settled { OnOk result (IsSettled (S.state store.new) (S.number t)) }
+    ensures uses { Uses (S.state store.old) (S.state store.new) (fault_of result) 0
+        (wide_words (length (text (S.state store.old) (S.number s)))
+        + wide_words (length (text (S.state store.old) (S.number t)))) }
+{
+    store.settle(s)?;
+    store.settle(t)
+}
+
+// Fills a list with the units of a settled string, and behind them with those of a settled filler.
+fn read_and_fill<S: Strings>(store: &mut S, s: S::Ref, filler: S::Ref, into: &mut [u16])
+    requires known { IsKnown (S.state store.old) (S.number s) }
+    requires settled { IsSettled (S.state store.old) (S.number s) }
+    requires filler_known { IsKnown (S.state store.old) (S.number filler) }
+    requires filler_settled { IsSettled (S.state store.old) (S.number filler) }
+    requires units { 1 ≤ length (text (S.state store.old) (S.number filler)) }
+    requires some { length (text (S.state store.old) (S.number s)) < length into.old }
+    ensures units { into.new ≡ pad_end_of (text (S.state store.old) (S.number s)) (length into.old)
+        (text (S.state store.old) (S.number filler)) }
+    ensures uses { Uses (S.state store.old) (S.state store.new) None 0 0 }
+{
+    let len = store.len(s) as usize;
+    store.read(s, 0, &mut into[..len]);
+    read_filling(store, filler, &mut into[len..]);
+}
+
+// The same with the filler before the string.
+fn fill_and_read<S: Strings>(store: &mut S, s: S::Ref, filler: S::Ref, into: &mut [u16])
+    requires known { IsKnown (S.state store.old) (S.number s) }
+    requires settled { IsSettled (S.state store.old) (S.number s) }
+    requires filler_known { IsKnown (S.state store.old) (S.number filler) }
+    requires filler_settled { IsSettled (S.state store.old) (S.number filler) }
+    requires units { 1 ≤ length (text (S.state store.old) (S.number filler)) }
+    requires some { length (text (S.state store.old) (S.number s)) < length into.old }
+    ensures units { into.new ≡ pad_start_of (text (S.state store.old) (S.number s)) (length into.old)
+        (text (S.state store.old) (S.number filler)) }
+    ensures uses { Uses (S.state store.old) (S.state store.new) None 0 0 }
+{
+    let room = into.len() - store.len(s) as usize;
+    read_filling(store, filler, &mut into[..room]);
+    store.read(s, 0, &mut into[room..]);
 }
 
 // The filler repeated and cut to `room` units.

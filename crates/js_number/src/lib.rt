@@ -6,7 +6,7 @@
 //! [`append_text`] allocate.
 #![tactic(auto)]
 
-ghost use Rattle.std.specs.Prelude.{◌≡◌, ◌<ℤ◌, ◌++◌, ◌≤◌, pos, length, IfSome, OnOk, OnErr};
+ghost use Rattle.std.specs.Prelude.{◌≡◌, ◌<ℤ◌, ◌++◌, ◌≤◌, pos, length, take, IfSome, OnOk, OnErr};
 ghost use Rattle.js_number.specs.Places.{IsLawful, integer_of, clamped, relative};
 ghost use Rattle.js_number.specs.Arith.{modulo, length_of, whole, sum, difference, negative, below, text_of};
 ghost use Rattle.js_number.specs.declared.Num.TheVariants.{Int};
@@ -15,7 +15,7 @@ mod text;
 
 use itoa::Buffer;
 use js_units::{NoMemory, Units};
-pub use text::append_text;
+pub use text::{append_text, write_text};
 
 /// The greatest whole number of the profile, 2^53 - 1 ("Number.MAX_SAFE_INTEGER").
 pub const MAX_SAFE: i64 = 9_007_199_254_740_991;
@@ -167,13 +167,27 @@ impl Num {
         ensures err { OnErr result (out.new ≡ out.old) }
         ensures short { length (text_of self) ≤ 40 }
     {
+        let mut room = [0; 40];
+        let count = self.write_digits(&mut room);
+        out.extend_from_slice(&room[..count])
+    }
+
+    /// Writes the number in decimal digits at the front of a list, and answers how many units these
+    /// are ("Number::toString"). It allocates nothing.
+    pub fn write_digits(self, room: &mut [u16]) -> usize
+        requires lawful { IsLawful self }
+        requires room { length room.old ≡ 40 }
+        ensures count { result ≡ length (text_of self) }
+        ensures units { take result room.new ≡ text_of self }
+        ensures short { result ≤ 40 }
+    {
         match self {
-            Num::NaN => append_text(out, "NaN"),
-            Num::PosInf => append_text(out, "Infinity"),
-            Num::NegInf => append_text(out, "-Infinity"),
+            Num::NaN => write_text(room, "NaN"),
+            Num::PosInf => write_text(room, "Infinity"),
+            Num::NegInf => write_text(room, "-Infinity"),
             Num::Int(n) => {
                 let mut buffer = Buffer::new();
-                append_text(out, buffer.format(n))
+                write_text(room, buffer.format(n))
             }
         }
     }

@@ -3,6 +3,13 @@ use Rattle.std.specs.Prelude.{Some, None}
 use Rattle.js_methods.proofs.Padded.{filler_units, filler_cut, end_value, pad_use}
 use Rattle.js_methods.proofs.building.pad_end.Goals as goal
 
+pub end_at_once-requires-clause-units : goal.end_at_once-requires-clause-units
+end_at_once-requires-clause-units g c =
+    let some : 1 ≤ c.in_ok-room.room = omega (arith, c.if-room-eq0.false) in
+    filler_units (g.S.Strings.state c.args.store.now) (g.S.Strings.state c.missing.new.store) (g.S.Strings.number c.args.s)
+    (g.S.Strings.number c.args.filler) c.args.max c.in_ok-room.room c.requires.known c.requires.filler_known c.in_ok-room.ensures.uses
+    c.in_ok-room.ensures.value some
+
 pub filled-requires-clause-units : goal.filled-requires-clause-units
 filled-requires-clause-units g c =
     let some : 1 ≤ c.in_ok-room.room = omega (arith, c.if-room-eq0.false) in

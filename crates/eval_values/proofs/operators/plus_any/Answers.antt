@@ -4,7 +4,7 @@ use Rattle.eval_values.proofs.Still.{fine_still}
 use Rattle.eval_values.proofs.Sums.{sum_does, first_ends, second_ends}
 use Rattle.eval_values.specs.Settled.{ElementsSettled}
 use Rattle.eval_values.proofs.Settled.{elements_still, on_ok_always}
-use Rattle.eval_values.proofs.operators.plus.Goals as goal
+use Rattle.eval_values.proofs.operators.plus_any.Goals as goal
 
 pub returns-in_err-first-clause-did : goal.returns-in_err-first-clause-did
 returns-in_err-first-clause-did g c =
