@@ -161,6 +161,18 @@ static int is_linked(agent *a, jsstr_use before) {
   return before.ids == after.ids;
 }
 
+/* The same of the header of a string that is interned as a new one: an id, and where the string is a slice the words of a
+   copy. Which of the two it is, what is left says; what was renewed in between is believed. */
+static int is_headed(agent *a, jsstr_answer s, const uint16_t *units, uint32_t len) {
+  jsstr_used kept = jsstr_reserved(&a->handle);
+  uint32_t copy = words_of(units, len), ids = a->ids - kept.ids, words = a->words - kept.words;
+  int lacks = !a->ids || copy > a->words, renews = a->blocks.ids || a->blocks.words;
+  a->ids = kept.ids, a->words = kept.words;
+  if (renews) return 1;
+  if (s.status != JSSTR_DONE || !ids) return !ids && !words && (s.status != JSSTR_DONE || lacks);
+  return ids == 1 && (!words || words == copy);
+}
+
 static int keeps_reserve(agent *a) {
   jsstr_used kept = jsstr_reserved(&a->handle);
   if (!a->handle.live) return kept.status == JSSTR_BAD_ARGUMENT && !kept.ids && !kept.words;
@@ -431,6 +443,7 @@ static void intern(agent *a) {
   jsstr_answer one = jsstr_intern(&a->handle, s);
   if (!knows(a, s)) { CHECK(one.status == JSSTR_BAD_ARGUMENT); return; }
   lawful++;
+  if (is_new(texts[s].units, texts[s].len)) CHECK(is_headed(a, one, texts[s].units, texts[s].len));
   if (!refused_for_room(one.status)) interned(a, one, texts[s].units, texts[s].len);
 }
 

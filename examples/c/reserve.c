@@ -106,8 +106,8 @@ static void keys(void) {
   CHECK(id_of(jsstr_intern_many(&a, many, 5, ends, 4, ids, 4)) == 4 && has(&a, 9, 12, 3, 3));
   CHECK(ids[0] == 3 && ids[1] == 4 && ids[2] == 3 && ids[3] == 5 && has_text(&a, 5, "cd"));
   jsstr_id s = id_of(made(&a, "a string"));
-  CHECK(s == 6 && has(&a, 9, 12, 2, 2) && id_of(jsstr_intern(&a, s)) == 9 && has(&a, 10, 12, 2, 2)); /* a string takes none */
-  CHECK(interned(&a, "a string") == 9 && interned(&a, "") == 7 && has(&a, 10, 12, 1, 2) && interned(&a, LONG) == 0);
+  CHECK(s == 6 && has(&a, 9, 12, 2, 2) && id_of(jsstr_intern(&a, s)) == 7 && has(&a, 9, 12, 1, 2)); /* a string takes an id alone */
+  CHECK(interned(&a, "a string") == 7 && interned(&a, "") == 8 && has(&a, 9, 12, 0, 2) && interned(&a, LONG) == 0);
   CHECK(jsstr_free(&a) == JSSTR_DONE);
 }
 
@@ -183,7 +183,8 @@ static void renew_beside(void) {
   jsstr_agent a = {0}, b = {0};
   CHECK(jsstr_make((jsstr_size){20, 20, 7}, 2, 100, &a) == JSSTR_DONE && jsstr_renew(&a, 1, 1) == JSSTR_DONE);
   CHECK(id_of(made(&a, "short")) == 0 && has(&a, 1, 1, 0, 0));
-  CHECK(id_of(jsstr_intern(&a, 0)) == 1 && has(&a, 2, 1, 0, 0)); /* interning a string renews nothing */
+  CHECK(jsstr_renew(&a, 2, 2) == JSSTR_DONE && id_of(jsstr_intern(&a, 0)) == 1 && has(&a, 3, 1, 1, 0)); /* a string that is no slice renews ids alone */
+  CHECK(id_of(jsstr_intern(&a, 0)) == 1 && has(&a, 3, 1, 1, 0));
   CHECK(jsstr_free(&a) == JSSTR_DONE);
 
   CHECK(jsstr_make((jsstr_size){20, 20, 7}, 2, 100, &a) == JSSTR_DONE && jsstr_renew(&a, 100, 21) == JSSTR_DONE);

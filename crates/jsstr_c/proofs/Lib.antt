@@ -1,14 +1,3 @@
-pub mod Walks
-pub mod Boxed
-pub mod BoxedTexts
-pub mod Ready
-pub mod Going
-pub mod Settling
-pub mod Stages
 pub mod Same
-pub mod Decoded
-pub mod Copied
 pub mod Slots
 pub mod Entering
-pub mod Made
-pub mod Texts

@@ -7,8 +7,8 @@ use Rattle.heap_rule.specs.Views.{history}
 use Rattle.heap_session.specs.Sound.{possible_agrees, possible_legal}
 use Rattle.heap_agents.specs.declared.held.Held.{Held}
 use Rattle.heap_agents.specs.Ready.{HasInterned, IsReady, handle_view}
-use Rattle.jsstr_c.specs.Handles.{HasAs}
-use Rattle.jsstr_c.proofs.Ready.{possible}
+use Rattle.c_handles.specs.Handles.{HasAs}
+use Rattle.c_handles.proofs.Ready.{possible}
 
 pub called : (o : Option Held) (live : ℕ) → HasAs live o → (i : ℕ) → HasInterned o i → IsReady o × ((u : List ℕ) × Contains (history (handle_view o)) (u, i))
 called None live h i k = absurd k

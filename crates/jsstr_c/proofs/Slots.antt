@@ -3,7 +3,7 @@ use Rattle.std.proofs.Common.{◌≡◌, ℕ, Option, None, Some, subst, sym}
 use Rattle.heap_rule.specs.Maps.{HasKey}
 use Rattle.heap_agents.specs.declared.held.Held.{Held}
 use Rattle.heap_agents.specs.Ready.{HasInterned, handle_view}
-use Rattle.jsstr_c.specs.Handles.{HasAs}
+use Rattle.c_handles.specs.Handles.{HasAs}
 
 known_too : (o : Option Held) (live : ℕ) → HasAs live o → (i : ℕ) → HasInterned o i → HasKey (handle_view o).units i
 known_too None live h i k = absurd k

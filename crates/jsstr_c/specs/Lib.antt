@@ -1,16 +1,2 @@
-pub mod Owned
-pub mod OwnedText
-pub mod Handles
-pub mod Reports
-pub mod Batches
-pub mod Checked
-pub mod Pairs
 pub mod Made
 pub mod Reserving
-pub mod Decoded
-pub mod Bytes
-pub mod Given
-pub mod Sources
-pub mod Lists
-pub mod Board
-pub mod Building

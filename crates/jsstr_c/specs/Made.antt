@@ -6,14 +6,15 @@ use Rattle.heap_read.specs.declared.string.JsStr.{JsStr}
 use Rattle.heap_text.specs.declared.faults.JoinFault.{JoinFault}
 use Rattle.heap_text.specs.declared.faults.TextFull.{TextFull}
 use Rattle.heap_intern.specs.declared.table.faults.TableFull.{TableFull}
-use Rattle.heap_intern.specs.Answers.{IsForwarded, IsInternAnswer, IsPlan, HeaderPlan}
+use Rattle.heap_intern.specs.Answers.{IsForwarded}
 use Rattle.heap_agents.specs.declared.held.Held.{Held}
 use Rattle.heap_agents.specs.Interned.{KeepsCalls}
-use Rattle.heap_agents.specs.Ready.{HandleSpends, IsBeside, MarksStay, handle_view}
+use Rattle.heap_agents.specs.Keys.{HandleInterns}
+use Rattle.heap_agents.specs.Ready.{HandleSpends, HandleStaysMarked, IsBeside, handle_view}
 use Rattle.heap_agents.specs.Spending.{HandleCuts, HandleJoins}
-use Rattle.jsstr_c.specs.declared.answer.JsAnswer.{JsAnswer}
-use Rattle.jsstr_c.specs.Checked.{MarksResult, MarksKey, MarksNone, RefusesSettling, SettlesString}
-use Rattle.jsstr_c.specs.Reports.{DONE, join_answer, table_answer, text_answer}
+use Rattle.c_steps.specs.declared.answer.JsAnswer.{JsAnswer}
+use Rattle.c_steps.specs.Checked.{MarksResult, MarksKey, MarksNone, RefusesSettling, SettlesString}
+use Rattle.c_steps.specs.Reports.{DONE, join_answer, table_answer, text_answer}
 
 -- Strings a and b were joined, with r as the answer. A new string takes what it needs from what was reserved,
 -- where that suffices; where it doesn't, that is renewed first, if there are blocks.
@@ -31,18 +32,18 @@ pub record CutsString (o p : Option Held) (s from to : ℕ) (r : JsAnswer) : Typ
   pub cut : (us : List ℕ) → Has (handle_view o).units s us
       → (t : Result JsStr TextFull) × (r ≡ text_answer t) × HandleCuts o p (record { id = s }) from to us t
 
--- the settled string s was interned, with r as the answer
+-- The settled string s was interned, with r as the answer. A header takes what it needs from what was
+-- reserved, where that suffices; where it doesn't, that is renewed first, if there are blocks, once the units
+-- of s were looked for and not found.
 pub record InternsString (o p : Option Held) (s : ℕ) (r : JsAnswer) : Type 0 where
   pub same : IsBeside o p
-  pub stays : MarksStay o p
+  pub stays : HandleStaysMarked o p
   pub marked : r.status ≡ DONE → MarksKey o p r.id
   pub unmarked : r.status ≢ DONE → MarksNone o p
   pub known : KeepsKnown (handle_view o) (handle_view p)
   pub calls : KeepsCalls (handle_view o) (handle_view p)
   pub interned : (us : List ℕ) → Has (handle_view o).units s us
-      → (plan : HeaderPlan) × (t : Result ℕ TableFull) × (r ≡ table_answer t)
-      × IsPlan (handle_view o) (handle_view p) s us plan
-      × IsInternAnswer (handle_view o) (handle_view p) us plan t
+      → (t : Result ℕ TableFull) × (r ≡ table_answer t) × HandleInterns o p s us t
   pub forwards : r.status ≡ DONE → IsForwarded (handle_view p) s r.id
 
 -- string s could not be settled, or it was and then cut, or interned

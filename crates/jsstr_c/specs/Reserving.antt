@@ -3,8 +3,8 @@ use Rattle.std.specs.Prelude.{◌≡◌, ℕ, Option, Result}
 use Rattle.heap_reserve.specs.declared.faults.ReserveFault.{ReserveFault}
 use Rattle.heap_agents.specs.declared.held.Held.{Held}
 use Rattle.heap_agents.specs.Spending.{HandleClaims}
-use Rattle.jsstr_c.specs.declared.answer.JsAnswer.{JsAnswer}
-use Rattle.jsstr_c.specs.Reports.{reserve_answer}
+use Rattle.c_steps.specs.declared.answer.JsAnswer.{JsAnswer}
+use Rattle.c_steps.specs.Reports.{reserve_answer}
 
 -- so many ids and content words were to be claimed in advance, with r as the answer
 abbrev pub IsReserving : Option Held → Option Held → ℕ → ℕ → JsAnswer → Type 0

@@ -3,10 +3,9 @@ ghost use Rattle.std.specs.Prelude.{◌≡◌, length, None};
 ghost use Rattle.js_number.specs.Arith.{text_of};
 ghost use Rattle.js_number.specs.declared.Num.TheVariants.{Int};
 ghost use Rattle.heap_build.specs.Spelled.{SpellsUtf8, SpellsWtf8};
-ghost use Rattle.jsstr_c.specs.Building.{AddsToText, BuildsSpelled, IsBuilder, text_so_far};
+ghost use Rattle.c_steps.specs.Building.{AddsToText, BuildsSpelled, IsBuilder, text_so_far};
 
-use crate::answer::{JsAnswer, NO_MEMORY, no_memory};
-use crate::builder::{JsBuilder, of_decoded, status_of};
+use c_steps::{JsAnswer, JsBuilder, NO_MEMORY, no_memory, of_decoded, status_of};
 use std::alloc::Global;
 
 /// Adds units to a text, all or none.

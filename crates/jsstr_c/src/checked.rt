@@ -11,6 +11,5 @@ pub(crate) mod making;
 pub(crate) mod reading;
 pub(crate) mod reserving;
 pub(crate) mod search;
-pub(crate) mod settling;
 pub(crate) mod table;
 pub(crate) mod units;

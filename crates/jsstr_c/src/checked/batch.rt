@@ -1,22 +1,14 @@
 // Many lists of units that C gives, interned in one call.
-ghost use Rattle.std.specs.Prelude.{◌≡◌, ◌≢◌, ◌↔◌, length, IsTrue};
+ghost use Rattle.std.specs.Prelude.{◌≡◌, ◌≢◌, ◌↔◌, length};
 ghost use Rattle.heap_agents.specs.Ready.{IsReady};
-ghost use Rattle.jsstr_c.specs.Batches.{AreLists, InternsMany};
-ghost use Rattle.jsstr_c.specs.Handles.{IsHandle};
-ghost use Rattle.jsstr_c.specs.Reports as reports;
+ghost use Rattle.c_handles.specs.Handles.{IsHandle};
+ghost use Rattle.c_steps.specs.Batches.{AreLists, InternsMany};
+ghost use Rattle.c_steps.specs.Reports as reports;
 
-use crate::agent::JsAgent;
-use crate::answer::{JsAnswer, bad_argument};
 use crate::unchecked::batch::jsstr_intern_many_unchecked;
-use heap_agents::are_ends;
+use c_handles::JsAgent;
+use c_steps::{JsAnswer, are_lists, bad_argument};
 use std::alloc::Global;
-
-// Whether the ends are those of lists within so many units, and there is room for their ids.
-fn are_lists(units: usize, ends: &[u32], room: usize) -> bool
-    ensures { IsTrue result ↔ AreLists units ends.now room }
-{
-    ends.len() <= room && ends.len() <= u32::MAX as usize && are_ends(units, ends)
-}
 
 /// The one string of the table for each of many lists of units, in turn, up to the first one that is refused.
 /// The lists lie one behind another; `ends` has where each ends.

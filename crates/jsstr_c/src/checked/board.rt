@@ -1,16 +1,17 @@
 // What is used of a heap, and strings of the string table by their slots.
-ghost use Rattle.std.specs.Prelude.{◌≡◌, ◌≢◌, ◌↔◌, ◌<◌, IsTrue};
+ghost use Rattle.std.specs.Prelude.{◌≡◌, ◌≢◌, ◌↔◌, ◌<◌};
 ghost use Rattle.heap_agents.specs.Board.{TellsSlot};
 ghost use Rattle.heap_agents.specs.Ready.{HasInterned, IsReady, size_in};
-ghost use Rattle.jsstr_c.specs.Board.{IsAdopting, IsGauging, no_room};
-ghost use Rattle.jsstr_c.specs.Handles.{IsHandle};
-ghost use Rattle.jsstr_c.specs.Reports as reports;
+ghost use Rattle.c_handles.specs.Handles.{IsHandle};
+ghost use Rattle.c_steps.specs.Board.{IsAdopting, IsGauging, no_room};
+ghost use Rattle.c_steps.specs.Reports as reports;
 
-use crate::agent::JsAgent;
-use crate::answer::{BAD_ARGUMENT, DONE, JsAnswer, JsNumber, bad_argument, without_number};
-use crate::room::{JsRoom, without_room};
 use crate::unchecked::board::{
     jsstr_adopt_unchecked, jsstr_room_of_unchecked, jsstr_slot_of_unchecked,
+};
+use c_handles::JsAgent;
+use c_steps::{
+    BAD_ARGUMENT, DONE, JsAnswer, JsNumber, JsRoom, bad_argument, without_number, without_room,
 };
 use std::alloc::Global;
 
@@ -65,25 +66,8 @@ pub extern "C" fn jsstr_adopt(alloc: Global, agent: &mut JsAgent, slot: u32) -> 
     ensures adopts { result.status ≢ reports.BAD_ARGUMENT
         → IsAdopting agent.old.at.value agent.new.at.value slot result }
 {
-    if !has_slot(alloc, agent, slot) {
+    if !agent.has_slot(alloc, slot) {
         return bad_argument();
     }
     jsstr_adopt_unchecked(alloc, agent, slot)
-}
-
-// Whether the heap of a handle's agent has a slot with this number; false where there is no agent.
-fn has_slot(alloc: Global, agent: &mut JsAgent, slot: u32) -> bool
-    requires { IsHandle agent.old }
-    ensures handle { IsHandle agent.new }
-    ensures same { agent.new.at.value ≡ agent.old.at.value }
-    ensures inside { IsTrue result ↔ (slot < (size_in agent.old.at.value).slots) }
-    ensures ready { IsTrue result → IsReady agent.new.at.value }
-{
-    if agent.is_empty() {
-        return false;
-    }
-    let held = agent.take(alloc);
-    let inside = slot < held.slots();
-    agent.put(held);
-    inside
 }

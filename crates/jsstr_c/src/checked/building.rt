@@ -1,19 +1,17 @@
 // Texts that are built up outside any heap: strings are added to them, and they become strings.
 ghost use Rattle.std.specs.Prelude.{◌≡◌, ◌↔◌};
 ghost use Rattle.heap_agents.specs.Ready.{HandleKnows, IsReady};
-ghost use Rattle.jsstr_c.specs.Building.{AddsToText, IsBuilder, EmptiesText, text_so_far};
-ghost use Rattle.jsstr_c.specs.Checked.{ReadsSettled};
-ghost use Rattle.jsstr_c.specs.Given.{IsInterning, MakesString, TestsGiven};
-ghost use Rattle.jsstr_c.specs.Handles.{IsHandle};
-ghost use Rattle.jsstr_c.specs.Reports as reports;
+ghost use Rattle.c_handles.specs.Handles.{IsHandle};
+ghost use Rattle.c_steps.specs.Building.{AddsToText, IsBuilder, EmptiesText, text_so_far};
+ghost use Rattle.c_steps.specs.Checked.{ReadsSettled};
+ghost use Rattle.c_steps.specs.Given.{IsInterning, MakesString, TestsGiven};
+ghost use Rattle.c_steps.specs.Reports as reports;
 
-use crate::agent::JsAgent;
-use crate::answer::{DONE, JsAnswer, bad_argument};
-use crate::builder::JsBuilder;
-use crate::checked::settling::settle_known;
 use crate::unchecked::building::{
     jsstr_build_string_unchecked, jsstr_built_interned_unchecked, jsstr_built_unchecked,
 };
+use c_handles::JsAgent;
+use c_steps::{DONE, JsAnswer, JsBuilder, bad_argument, settle_known};
 use std::alloc::Global;
 
 /// Adds the units of a string, which is settled first.

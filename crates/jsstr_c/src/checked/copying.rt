@@ -2,15 +2,14 @@
 ghost use Rattle.std.specs.Prelude.{◌≡◌, ◌≢◌, ◌↔◌, ◌⊎◌, ℕ, List};
 ghost use Rattle.heap_rule.specs.Maps.{Has};
 ghost use Rattle.heap_agents.specs.Ready.{HandleKnows, HandleSpends, IsReady, handle_view};
-ghost use Rattle.jsstr_c.specs.Checked.{RefusesSettling, SettlesAndLooks};
-ghost use Rattle.jsstr_c.specs.Given.{IsInterning, MakesString, OrNoMemory};
-ghost use Rattle.jsstr_c.specs.Handles.{IsHandle};
-ghost use Rattle.jsstr_c.specs.Reports as reports;
+ghost use Rattle.c_handles.specs.Handles.{IsHandle};
+ghost use Rattle.c_steps.specs.Checked.{RefusesSettling, SettlesAndLooks};
+ghost use Rattle.c_steps.specs.Given.{IsInterning, MakesString, OrNoMemory};
+ghost use Rattle.c_steps.specs.Reports as reports;
 
-use crate::agent::JsAgent;
-use crate::answer::{DONE, JsAnswer, bad_argument};
-use crate::checked::settling::settle_known;
 use crate::unchecked::copying::{jsstr_copy_into_unchecked, jsstr_intern_into_unchecked};
+use c_handles::JsAgent;
+use c_steps::{DONE, JsAnswer, bad_argument, settle_known};
 use std::alloc::Global;
 
 /// A new string in another heap with the units of a string, which is settled first. It allocates for the

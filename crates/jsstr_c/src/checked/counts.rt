@@ -6,15 +6,15 @@ ghost use Rattle.heap_rule.specs.Views.{history};
 ghost use Rattle.heap_intern.specs.Counting.{different};
 ghost use Rattle.heap_intern.specs.Goes.{LoadsAlone};
 ghost use Rattle.heap_agents.specs.Ready.{HasWhole, IsBeside, IsReady, MarksStay, share_in, handle_view};
-ghost use Rattle.jsstr_c.specs.Handles.{IsHandle};
-ghost use Rattle.jsstr_c.specs.Reports.{no_number, no_totals};
-ghost use Rattle.jsstr_c.specs.Reports as reports;
+ghost use Rattle.c_handles.specs.Handles.{IsHandle};
+ghost use Rattle.c_steps.specs.Reports.{no_number, no_totals};
+ghost use Rattle.c_steps.specs.Reports as reports;
 
-use crate::agent::JsAgent;
-use crate::answer::{BAD_ARGUMENT, DONE, JsNumber, JsTotals, without_number, without_totals};
 use crate::unchecked::counts::{
     jsstr_count_interned_unchecked, jsstr_share_unchecked, jsstr_totals_unchecked,
 };
+use c_handles::JsAgent;
+use c_steps::{BAD_ARGUMENT, DONE, JsNumber, JsTotals, without_number, without_totals};
 use std::alloc::Global;
 
 /// How many agents this one may become, itself counted.

@@ -5,15 +5,15 @@ ghost use Rattle.heap_rule.specs.Layout.{MAX};
 ghost use Rattle.heap_table.specs.MayMake.{MayMake};
 ghost use Rattle.heap_agents.specs.Ready.{HasInterned, IsBeside, IsReady, HandleKnows, MarksStay, HandleStaysMarked, giver_in, handle_limit, handle_number, share_in, handle_view};
 ghost use Rattle.heap_agents.specs.Spending.{HandleReservesNothing, HandleTakesOver};
-ghost use Rattle.jsstr_c.specs.Checked.{IsChild};
-ghost use Rattle.jsstr_c.specs.Handles.{IsHandle};
-ghost use Rattle.jsstr_c.specs.Reports.{size_for};
-ghost use Rattle.jsstr_c.specs.Reports as reports;
+ghost use Rattle.c_handles.specs.Handles.{IsHandle};
+ghost use Rattle.c_steps.specs.Checked.{IsChild};
+ghost use Rattle.c_steps.specs.Reports.{size_for};
+ghost use Rattle.c_steps.specs.Reports as reports;
 
-use crate::agent::JsAgent;
-use crate::answer::{BAD_ARGUMENT, DONE, JsSize};
 use crate::unchecked::counts::jsstr_share_unchecked;
 use crate::unchecked::life::{jsstr_free_unchecked, jsstr_make_unchecked, jsstr_split_unchecked};
+use c_handles::JsAgent;
+use c_steps::{BAD_ARGUMENT, DONE, JsSize, join_child};
 use std::alloc::Global;
 
 /// A heap of these sizes and its first agent, which has the whole share. `out` gets the agent where the
@@ -145,40 +145,4 @@ pub extern "C" fn jsstr_join(alloc: Global, agent: &mut JsAgent, other: &mut JsA
         return BAD_ARGUMENT;
     }
     join_child(alloc, agent, other)
-}
-
-// The numbers show that the other was split off from this one.
-fn join_child(alloc: Global, agent: &mut JsAgent, other: &mut JsAgent) -> u32
-    requires ready { IsReady agent.old.at.value }
-    requires other { IsReady other.old.at.value }
-    requires beside { IsBeside agent.old.at.value other.old.at.value }
-    requires may { MayJoin (handle_view agent.old.at.value) (handle_view other.old.at.value) }
-    ensures handle { IsHandle agent.new × IsHandle other.new }
-    ensures status { result ≢ reports.BAD_ARGUMENT → result ≡ reports.DONE }
-    ensures unchanged { result ≡ reports.BAD_ARGUMENT
-        → (agent.new.at.value ≡ agent.old.at.value) × (other.new.at.value ≡ other.old.at.value) }
-    ensures same { result ≡ reports.DONE → IsBeside agent.old.at.value agent.new.at.value }
-    ensures view { result ≡ reports.DONE → handle_view agent.new.at.value
-        ≡ joined_view (handle_view agent.old.at.value) (handle_view other.old.at.value) }
-    ensures share { result ≡ reports.DONE → share_in agent.new.at.value
-        ≡ share_in agent.old.at.value + share_in other.old.at.value }
-    ensures marks { result ≡ reports.DONE → HandleStaysMarked agent.old.at.value agent.new.at.value }
-    ensures reserve { result ≡ reports.DONE
-        → HandleTakesOver agent.old.at.value other.old.at.value agent.new.at.value }
-    ensures known { result ≡ reports.DONE
-        → (i : ℕ) → HandleKnows other.old.at.value i → HandleKnows agent.new.at.value i }
-    ensures interned { result ≡ reports.DONE
-        → (i : ℕ) → HasInterned other.old.at.value i → HasInterned agent.new.at.value i }
-    ensures gone { result ≡ reports.DONE → other.new.at.value ≡ None }
-{
-    let mut held = agent.take(alloc);
-    let theirs = other.take(alloc);
-    if !held.counts_with(&theirs) {
-        agent.put(held);
-        other.put(theirs);
-        return BAD_ARGUMENT;
-    }
-    held.join(Box::into_inner(theirs));
-    agent.put(held);
-    DONE
 }

@@ -1,18 +1,17 @@
 // Strings compared with units, and with bytes. The string is settled first.
 ghost use Rattle.std.specs.Prelude.{◌≡◌, ◌≢◌, ◌↔◌, ◌≤◌, length};
 ghost use Rattle.heap_rule.specs.Layout.{MAX};
-ghost use Rattle.heap_bytes.specs.Spellings.{IsReadable, spelling_units};
 ghost use Rattle.heap_agents.specs.Ready.{HandleKnows};
-ghost use Rattle.jsstr_c.specs.Handles.{IsHandle};
-ghost use Rattle.jsstr_c.specs.Lists.{ComparesUnits, OnSpelled, OrdersUnits};
-ghost use Rattle.jsstr_c.specs.Reports.{no_order, no_truth};
-ghost use Rattle.jsstr_c.specs.Reports as reports;
+ghost use Rattle.c_handles.specs.Handles.{IsHandle};
+ghost use Rattle.c_steps.specs.Lists.{ComparesUnits, OnSpelled, OrdersUnits};
+ghost use Rattle.c_steps.specs.Reports.{no_order, no_truth};
+ghost use Rattle.c_steps.specs.Reports as reports;
 
-use crate::agent::JsAgent;
-use crate::answer::{BAD_ARGUMENT, DONE, JsOrder, JsTruth, NOT_UTF8, without_order, without_truth};
-use crate::checked::settling::settle_known;
-use crate::unchecked::lists::{
-    compare_spelled, has_spelled, jsstr_compare_units_unchecked, jsstr_equals_units_unchecked,
+use crate::unchecked::lists::{jsstr_compare_units_unchecked, jsstr_equals_units_unchecked};
+use c_handles::JsAgent;
+use c_steps::{
+    BAD_ARGUMENT, DONE, JsOrder, JsTruth, NOT_UTF8, equals_spelled, order_spelled, settle_known,
+    without_order, without_truth,
 };
 use heap_bytes::{Encoding, Spelling};
 use heap_rule::MAX;
@@ -36,27 +35,6 @@ pub extern "C" fn jsstr_equals_units(
         return without_truth(settled.status);
     }
     let holds = jsstr_equals_units_unchecked(alloc, agent, s, units);
-    JsTruth {
-        status: DONE,
-        holds,
-    }
-}
-
-// Whether a string has just the units that bytes spell.
-fn equals_spelled(alloc: Global, agent: &mut JsAgent, s: u32, source: &Spelling) -> JsTruth
-    requires handle { IsHandle agent.old }
-    requires read { IsReadable source.now }
-    ensures handle { IsHandle agent.new }
-    ensures bad { result.status ≡ reports.BAD_ARGUMENT ↔ ¬ (HandleKnows agent.old.at.value s) }
-    ensures memory { result.status ≢ reports.NO_MEMORY }
-    ensures compares { ComparesUnits agent.old.at.value agent.new.at.value s (spelling_units source.now)
-        result }
-{
-    let settled = settle_known(alloc, agent, s);
-    if settled.status != DONE {
-        return without_truth(settled.status);
-    }
-    let holds = has_spelled(alloc, agent, s, source);
     JsTruth {
         status: DONE,
         holds,
@@ -129,27 +107,6 @@ pub extern "C" fn jsstr_compare_units(
         return without_order(settled.status);
     }
     let order = jsstr_compare_units_unchecked(alloc, agent, s, units);
-    JsOrder {
-        status: DONE,
-        order,
-    }
-}
-
-// The order of a string and the units that bytes spell.
-fn order_spelled(alloc: Global, agent: &mut JsAgent, s: u32, source: &Spelling) -> JsOrder
-    requires handle { IsHandle agent.old }
-    requires read { IsReadable source.now }
-    ensures handle { IsHandle agent.new }
-    ensures bad { result.status ≡ reports.BAD_ARGUMENT ↔ ¬ (HandleKnows agent.old.at.value s) }
-    ensures memory { result.status ≢ reports.NO_MEMORY }
-    ensures compares { OrdersUnits agent.old.at.value agent.new.at.value s (spelling_units source.now)
-        result }
-{
-    let settled = settle_known(alloc, agent, s);
-    if settled.status != DONE {
-        return without_order(settled.status);
-    }
-    let order = compare_spelled(alloc, agent, s, source);
     JsOrder {
         status: DONE,
         order,

@@ -4,15 +4,14 @@ ghost use Rattle.heap_rule.specs.Births.{part};
 ghost use Rattle.heap_rule.specs.Maps.{Has};
 ghost use Rattle.heap_rule.specs.Views.{IsSeenSettled};
 ghost use Rattle.heap_agents.specs.Ready.{HandleKnows, handle_view};
-ghost use Rattle.jsstr_c.specs.Checked.{IsSameOrMeasured, ReachesLength};
-ghost use Rattle.jsstr_c.specs.Handles.{IsHandle};
+ghost use Rattle.c_handles.specs.Handles.{IsHandle};
+ghost use Rattle.c_steps.specs.Checked.{IsSameOrMeasured, ReachesLength};
 ghost use Rattle.jsstr_c.specs.Made.{CutsSettled, JoinsStrings};
-ghost use Rattle.jsstr_c.specs.Reports as reports;
+ghost use Rattle.c_steps.specs.Reports as reports;
 
-use crate::agent::JsAgent;
-use crate::answer::{DONE, JsAnswer, bad_argument};
-use crate::checked::settling::settle_reaching;
 use crate::unchecked::making::{jsstr_concat_unchecked, jsstr_slice_unchecked};
+use c_handles::JsAgent;
+use c_steps::{DONE, JsAnswer, bad_argument, settle_reaching};
 use std::alloc::Global;
 
 /// The units of one string, and then those of another.

@@ -4,29 +4,27 @@ ghost use Rattle.heap_rule.specs.Maps.{Has};
 ghost use Rattle.heap_rule.specs.Views.{IsSeenSettled};
 ghost use Rattle.heap_agents.specs.Ready.{HandleKnows, handle_view};
 ghost use Rattle.heap_agents.specs.Words.{AreShown, AreThere};
-ghost use Rattle.jsstr_c.specs.Checked.{ReadsLength, OnlyLooks, ReachesLength, ReadsSettled, SettlesFirst};
-ghost use Rattle.jsstr_c.specs.Handles.{IsHandle};
-ghost use Rattle.jsstr_c.specs.Reports.{no_words, shown_by, no_number, no_truth, number_answer};
+ghost use Rattle.c_handles.specs.Handles.{IsHandle};
+ghost use Rattle.c_steps.specs.Checked.{ReadsLength, OnlyLooks, ReachesLength, ReadsSettled, SettlesFirst};
+ghost use Rattle.c_steps.specs.Reports.{no_words, shown_by, no_number, no_truth, number_answer};
 ghost use Rattle.js_units.specs.Lanes.{hash_of};
 ghost use Rattle.heap_rule.specs.Forms.{IsCons};
 ghost use Rattle.heap_export.specs.Index.{IsArrayIndex};
 ghost use Rattle.heap_export.specs.Encoded.{bytes_of, past_latin1, refused};
-ghost use Rattle.jsstr_c.specs.Bytes.{IsGiven, no_bytes, unpaired_by};
-ghost use Rattle.jsstr_c.specs.Reports as reports;
+ghost use Rattle.c_steps.specs.Bytes.{IsGiven, no_bytes, unpaired_by};
+ghost use Rattle.c_steps.specs.Reports as reports;
 ghost use Rattle.js_header.specs.declared.form.Form as form;
 
-use crate::agent::JsAgent;
-use crate::answer::{
-    BAD_ARGUMENT, DONE, JsAnswer, JsNumber, JsTruth, JsWords, of_number, without_number,
-    without_truth, without_words,
-};
-use crate::bytes::{JsBytes, without_bytes};
-use crate::checked::settling::{settle_known, settle_reaching};
 use crate::unchecked::reading::{
     jsstr_array_index_unchecked, jsstr_hash_unchecked, jsstr_is_settled_unchecked,
     jsstr_length_unchecked, jsstr_read_all_unchecked, jsstr_read_unchecked,
     jsstr_to_latin1_unchecked, jsstr_to_utf8_unchecked, jsstr_unit_at_unchecked,
     jsstr_window_unchecked,
+};
+use c_handles::JsAgent;
+use c_steps::{
+    BAD_ARGUMENT, DONE, JsAnswer, JsBytes, JsNumber, JsTruth, JsWords, of_number, settle_known,
+    settle_reaching, without_bytes, without_number, without_truth, without_words,
 };
 use std::alloc::Global;
 

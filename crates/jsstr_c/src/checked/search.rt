@@ -5,17 +5,19 @@ ghost use Rattle.js_search.specs.Order.{units_cmp};
 ghost use Rattle.js_search.specs.Places.{IsFirst, IsLast, IsPartAt, first, last, stands};
 ghost use Rattle.heap_agents.specs.Ready.{HandleKnows};
 ghost use Rattle.heap_agents.specs.Searched.{IsOrder};
-ghost use Rattle.jsstr_c.specs.Checked.{ReachesLength, SeeksSettled};
-ghost use Rattle.jsstr_c.specs.Handles.{IsHandle};
-ghost use Rattle.jsstr_c.specs.Reports.{no_order, no_place, no_truth, order_answer, order_number, place_answer};
-ghost use Rattle.jsstr_c.specs.Reports as reports;
+ghost use Rattle.c_handles.specs.Handles.{IsHandle};
+ghost use Rattle.c_steps.specs.Checked.{ReachesLength, SeeksSettled};
+ghost use Rattle.c_steps.specs.Reports.{no_order, no_place, no_truth, order_answer, order_number, place_answer};
+ghost use Rattle.c_steps.specs.Reports as reports;
 
-use crate::agent::JsAgent;
-use crate::answer::{DONE, JsOrder, JsPlace, JsTruth, without_order, without_place, without_truth};
-use crate::checked::settling::{settle_both, settle_both_reaching};
 use crate::unchecked::search::{
     jsstr_compare_unchecked, jsstr_equal_unchecked, jsstr_index_of_unchecked,
     jsstr_last_index_of_unchecked, jsstr_starts_with_unchecked,
+};
+use c_handles::JsAgent;
+use c_steps::{
+    DONE, JsOrder, JsPlace, JsTruth, settle_both, settle_both_reaching, without_order,
+    without_place, without_truth,
 };
 use std::alloc::Global;
 

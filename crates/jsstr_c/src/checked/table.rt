@@ -4,15 +4,14 @@ ghost use Rattle.heap_rule.specs.Maps.{Has};
 ghost use Rattle.heap_table.specs.Known.{KeepsKnown};
 ghost use Rattle.heap_agents.specs.Interned.{IsEntered, KeepsCalls};
 ghost use Rattle.heap_agents.specs.Ready.{HasInterned, IsReady, HandleKnows, handle_view};
-ghost use Rattle.jsstr_c.specs.Handles.{IsHandle};
+ghost use Rattle.c_handles.specs.Handles.{IsHandle};
 ghost use Rattle.jsstr_c.specs.Made.{EntersSettled};
-ghost use Rattle.jsstr_c.specs.Reports.{no_truth};
-ghost use Rattle.jsstr_c.specs.Reports as reports;
+ghost use Rattle.c_steps.specs.Reports.{no_truth};
+ghost use Rattle.c_steps.specs.Reports as reports;
 
-use crate::agent::JsAgent;
-use crate::answer::{BAD_ARGUMENT, DONE, JsAnswer, JsTruth, without_truth};
-use crate::checked::settling::settle_known;
 use crate::unchecked::table::{jsstr_intern_unchecked, jsstr_is_interned_unchecked};
+use c_handles::JsAgent;
+use c_steps::{BAD_ARGUMENT, DONE, JsAnswer, JsTruth, settle_known, without_truth};
 use std::alloc::Global;
 
 /// The one string of the table with the units of a string, which is settled first.

@@ -2,13 +2,12 @@
 ghost use Rattle.std.specs.Prelude.{◌≡◌, ◌≢◌, ◌↔◌, ◌≤◌, length};
 ghost use Rattle.heap_rule.specs.Layout.{MAX};
 ghost use Rattle.heap_agents.specs.Ready.{HandleSpends, IsReady};
-ghost use Rattle.jsstr_c.specs.Given.{IsFinding, IsInterning, MakesString, OnUtf8, OnWtf8, TestsGiven};
-ghost use Rattle.jsstr_c.specs.Handles.{IsHandle};
-ghost use Rattle.jsstr_c.specs.Reports as reports;
+ghost use Rattle.c_handles.specs.Handles.{IsHandle};
+ghost use Rattle.c_steps.specs.Given.{IsFinding, IsInterning, MakesString, OnUtf8, OnWtf8, TestsGiven};
+ghost use Rattle.c_steps.specs.Reports as reports;
 
-use crate::agent::JsAgent;
-use crate::answer::JsAnswer;
-use crate::given::{Source, Task, tested};
+use c_handles::JsAgent;
+use c_steps::{JsAnswer, Source, Task, tested};
 use std::alloc::Global;
 
 /// A new string with these units, settled.

@@ -1,12 +1,12 @@
 // Many lists of units that C gives, interned in one call.
 ghost use Rattle.std.specs.Prelude.{◌≢◌, length};
 ghost use Rattle.heap_agents.specs.Ready.{IsReady};
-ghost use Rattle.jsstr_c.specs.Batches.{AreLists, InternsMany};
-ghost use Rattle.jsstr_c.specs.Handles.{IsHandle};
-ghost use Rattle.jsstr_c.specs.Reports as reports;
+ghost use Rattle.c_handles.specs.Handles.{IsHandle};
+ghost use Rattle.c_steps.specs.Batches.{AreLists, InternsMany};
+ghost use Rattle.c_steps.specs.Reports as reports;
 
-use crate::agent::JsAgent;
-use crate::answer::{JsAnswer, of_batch};
+use c_handles::JsAgent;
+use c_steps::{JsAnswer, of_batch};
 use std::alloc::Global;
 
 /// The one string of the table for each of many lists of units, in turn, up to the first one that is refused.

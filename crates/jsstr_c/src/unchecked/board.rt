@@ -4,13 +4,12 @@ ghost use Rattle.heap_rule.specs.Maps.{HasKey};
 ghost use Rattle.heap_rule.specs.Views.{history};
 ghost use Rattle.heap_agents.specs.Board.{TellsSlot};
 ghost use Rattle.heap_agents.specs.Ready.{IsReady, handle_view, size_in};
-ghost use Rattle.jsstr_c.specs.Board.{IsAdopting, IsGauging};
-ghost use Rattle.jsstr_c.specs.Handles.{IsHandle};
-ghost use Rattle.jsstr_c.specs.Reports as reports;
+ghost use Rattle.c_handles.specs.Handles.{IsHandle};
+ghost use Rattle.c_steps.specs.Board.{IsAdopting, IsGauging};
+ghost use Rattle.c_steps.specs.Reports as reports;
 
-use crate::agent::JsAgent;
-use crate::answer::{JsAnswer, of_found};
-use crate::room::{JsRoom, of_room};
+use c_handles::JsAgent;
+use c_steps::{JsAnswer, JsRoom, of_found, of_room};
 use std::alloc::Global;
 
 /// What is used of the heap at this moment, while other agents use it.

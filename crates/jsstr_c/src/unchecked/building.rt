@@ -3,16 +3,14 @@ ghost use Rattle.std.specs.Prelude.{◌≢◌, ℕ, List};
 ghost use Rattle.heap_rule.specs.Maps.{Has, HasKey};
 ghost use Rattle.heap_rule.specs.Views.{IsSeenSettled};
 ghost use Rattle.heap_agents.specs.Ready.{IsReady, handle_view};
-ghost use Rattle.jsstr_c.specs.Building.{AddsToText, IsBuilder, EmptiesText, text_so_far};
-ghost use Rattle.jsstr_c.specs.Checked.{OnlyLooks};
-ghost use Rattle.jsstr_c.specs.Given.{IsInterning, MakesString};
-ghost use Rattle.jsstr_c.specs.Handles.{IsHandle};
-ghost use Rattle.jsstr_c.specs.Reports as reports;
+ghost use Rattle.c_handles.specs.Handles.{IsHandle};
+ghost use Rattle.c_steps.specs.Building.{AddsToText, IsBuilder, EmptiesText, text_so_far};
+ghost use Rattle.c_steps.specs.Checked.{OnlyLooks};
+ghost use Rattle.c_steps.specs.Given.{IsInterning, MakesString};
+ghost use Rattle.c_steps.specs.Reports as reports;
 
-use crate::agent::JsAgent;
-use crate::answer::{JsAnswer, NO_MEMORY};
-use crate::builder::{JsBuilder, status_of};
-use crate::given::Task;
+use c_handles::JsAgent;
+use c_steps::{JsAnswer, JsBuilder, NO_MEMORY, Task, status_of};
 use heap_text::JsStr;
 use std::alloc::Global;
 

@@ -3,14 +3,13 @@ ghost use Rattle.std.specs.Prelude.{◌≢◌, ℕ, List};
 ghost use Rattle.heap_rule.specs.Maps.{Has, HasKey};
 ghost use Rattle.heap_rule.specs.Views.{IsSeenSettled};
 ghost use Rattle.heap_agents.specs.Ready.{HandleSpends, IsReady, handle_view};
-ghost use Rattle.jsstr_c.specs.Checked.{OnlyLooks};
-ghost use Rattle.jsstr_c.specs.Given.{IsInterning, MakesString, OrNoMemory};
-ghost use Rattle.jsstr_c.specs.Handles.{IsHandle};
-ghost use Rattle.jsstr_c.specs.Reports as reports;
+ghost use Rattle.c_handles.specs.Handles.{IsHandle};
+ghost use Rattle.c_steps.specs.Checked.{OnlyLooks};
+ghost use Rattle.c_steps.specs.Given.{IsInterning, MakesString, OrNoMemory};
+ghost use Rattle.c_steps.specs.Reports as reports;
 
-use crate::agent::JsAgent;
-use crate::answer::JsAnswer;
-use crate::given::{Task, on_string};
+use c_handles::JsAgent;
+use c_steps::{JsAnswer, Task, on_string};
 use std::alloc::Global;
 
 /// A new string in another heap with the units of a settled string. It allocates for the duration of the

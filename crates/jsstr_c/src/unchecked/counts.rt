@@ -6,10 +6,10 @@ ghost use Rattle.heap_rule.specs.Views.{history};
 ghost use Rattle.heap_intern.specs.Counting.{different};
 ghost use Rattle.heap_intern.specs.Goes.{LoadsAlone};
 ghost use Rattle.heap_agents.specs.Ready.{IsBeside, IsReady, MarksStay, share_in, handle_view};
-ghost use Rattle.jsstr_c.specs.Handles.{IsHandle};
+ghost use Rattle.c_handles.specs.Handles.{IsHandle};
 
-use crate::agent::JsAgent;
-use crate::answer::JsUse;
+use c_handles::JsAgent;
+use c_steps::JsUse;
 use std::alloc::Global;
 
 /// How many agents this one may become, itself counted.

@@ -5,12 +5,12 @@ ghost use Rattle.heap_rule.specs.Layout.{MAX};
 ghost use Rattle.heap_table.specs.MayMake.{MayMake};
 ghost use Rattle.heap_agents.specs.Ready.{HasInterned, IsBeside, IsReady, HandleKnows, MarksStay, HandleStaysMarked, giver_in, handle_limit, handle_number, share_in, handle_view};
 ghost use Rattle.heap_agents.specs.Spending.{HandleReservesNothing, HandleTakesOver};
-ghost use Rattle.jsstr_c.specs.Handles.{IsHandle};
-ghost use Rattle.jsstr_c.specs.Reports.{size_for};
-ghost use Rattle.jsstr_c.specs.Reports as reports;
+ghost use Rattle.c_handles.specs.Handles.{IsHandle};
+ghost use Rattle.c_steps.specs.Reports.{size_for};
+ghost use Rattle.c_steps.specs.Reports as reports;
 
-use crate::agent::JsAgent;
-use crate::answer::{BAD_SIZE, DONE, JsSize, NO_MEMORY};
+use c_handles::JsAgent;
+use c_steps::{BAD_SIZE, DONE, JsSize, NO_MEMORY};
 use heap_agents::{Held, MakeFault};
 use heap_rule::HeapSize;
 use std::alloc::Global;

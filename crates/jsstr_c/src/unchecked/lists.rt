@@ -4,17 +4,18 @@ ghost use Rattle.js_search.specs.Order.{units_cmp};
 ghost use Rattle.heap_rule.specs.Layout.{MAX};
 ghost use Rattle.heap_rule.specs.Maps.{Has, HasKey};
 ghost use Rattle.heap_rule.specs.Views.{IsSeenSettled};
-ghost use Rattle.heap_bytes.specs.Spellings.{IsReadable, spelling_units};
 ghost use Rattle.heap_agents.specs.Ready.{IsReady, handle_view};
-ghost use Rattle.jsstr_c.specs.Checked.{OnlyLooks};
-ghost use Rattle.jsstr_c.specs.Handles.{IsHandle};
-ghost use Rattle.jsstr_c.specs.Lists.{OnSpelled, SaysOrder, SaysSame};
-ghost use Rattle.jsstr_c.specs.Reports.{no_order, no_truth, order_number};
-ghost use Rattle.jsstr_c.specs.Reports as reports;
+ghost use Rattle.c_handles.specs.Handles.{IsHandle};
+ghost use Rattle.c_steps.specs.Checked.{OnlyLooks};
+ghost use Rattle.c_steps.specs.Lists.{OnSpelled, SaysOrder, SaysSame};
+ghost use Rattle.c_steps.specs.Reports.{no_order, no_truth, order_number};
+ghost use Rattle.c_steps.specs.Reports as reports;
 
-use crate::agent::JsAgent;
-use crate::answer::{DONE, JsOrder, JsTruth, not_utf8, of_order, without_order, without_truth};
-use crate::given::left;
+use c_handles::JsAgent;
+use c_steps::{
+    DONE, JsOrder, JsTruth, compare_spelled, has_spelled, left, not_utf8, of_order, without_order,
+    without_truth,
+};
 use heap_bytes::{Encoding, Spelling};
 use heap_text::JsStr;
 use std::alloc::Global;
@@ -60,40 +61,6 @@ pub extern "C" fn jsstr_compare_units_unchecked(
 {
     let mut held = agent.take(alloc);
     let answer = held.compare_units(JsStr { id: s }, units);
-    agent.put(held);
-    of_order(answer)
-}
-
-// Whether a settled string has just the units that bytes spell.
-pub(crate) fn has_spelled(alloc: Global, agent: &mut JsAgent, s: u32, source: &Spelling) -> bool
-    requires ready { IsReady agent.old.at.value }
-    requires known { HasKey (handle_view agent.old.at.value).units s }
-    requires settled { IsSeenSettled (handle_view agent.old.at.value) s }
-    requires read { IsReadable source.now }
-    ensures handle { IsHandle agent.new }
-    ensures looks { OnlyLooks agent.old.at.value agent.new.at.value }
-    ensures same { (us : List ℕ) → Has (handle_view agent.old.at.value).units s us
-        → IsTrue result ↔ (us ≡ spelling_units source.now) }
-{
-    let mut held = agent.take(alloc);
-    let answer = held.has_spelled(JsStr { id: s }, source);
-    agent.put(held);
-    answer
-}
-
-// The order of a settled string and the units that bytes spell.
-pub(crate) fn compare_spelled(alloc: Global, agent: &mut JsAgent, s: u32, source: &Spelling) -> i32
-    requires ready { IsReady agent.old.at.value }
-    requires known { HasKey (handle_view agent.old.at.value).units s }
-    requires settled { IsSeenSettled (handle_view agent.old.at.value) s }
-    requires read { IsReadable source.now }
-    ensures handle { IsHandle agent.new }
-    ensures looks { OnlyLooks agent.old.at.value agent.new.at.value }
-    ensures order { (us : List ℕ) → Has (handle_view agent.old.at.value).units s us
-        → result ≡ order_number (units_cmp us (spelling_units source.now)) }
-{
-    let mut held = agent.take(alloc);
-    let answer = held.compare_spelled(JsStr { id: s }, source);
     agent.put(held);
     of_order(answer)
 }

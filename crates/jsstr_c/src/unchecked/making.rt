@@ -4,12 +4,12 @@ ghost use Rattle.heap_rule.specs.Births.{part};
 ghost use Rattle.heap_rule.specs.Maps.{Has, HasKey};
 ghost use Rattle.heap_rule.specs.Views.{IsSeenSettled};
 ghost use Rattle.heap_agents.specs.Ready.{IsReady, handle_view};
-ghost use Rattle.jsstr_c.specs.Handles.{IsHandle};
+ghost use Rattle.c_handles.specs.Handles.{IsHandle};
 ghost use Rattle.jsstr_c.specs.Made.{CutsString, JoinsStrings};
-ghost use Rattle.jsstr_c.specs.Reports as reports;
+ghost use Rattle.c_steps.specs.Reports as reports;
 
-use crate::agent::JsAgent;
-use crate::answer::{JsAnswer, of_join, of_text};
+use c_handles::JsAgent;
+use c_steps::{JsAnswer, of_join, of_text};
 use heap_text::JsStr;
 use std::alloc::Global;
 

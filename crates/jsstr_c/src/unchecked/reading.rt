@@ -4,20 +4,22 @@ ghost use Rattle.heap_rule.specs.Maps.{Has, HasKey};
 ghost use Rattle.heap_rule.specs.Views.{IsSeenSettled};
 ghost use Rattle.heap_agents.specs.Ready.{IsReady, handle_view};
 ghost use Rattle.heap_agents.specs.Words.{AreShown, AreThere};
-ghost use Rattle.jsstr_c.specs.Checked.{ReadsLength, OnlyLooks, RefusesSettling, SettlesString};
-ghost use Rattle.jsstr_c.specs.Handles.{IsHandle};
-ghost use Rattle.jsstr_c.specs.Reports.{shown_by, number_answer};
+ghost use Rattle.c_handles.specs.Handles.{IsHandle};
+ghost use Rattle.c_steps.specs.Checked.{ReadsLength, OnlyLooks, RefusesSettling, SettlesString};
+ghost use Rattle.c_steps.specs.Reports.{shown_by, number_answer};
 ghost use Rattle.js_units.specs.Lanes.{hash_of};
 ghost use Rattle.heap_rule.specs.Forms.{IsCons};
 ghost use Rattle.heap_export.specs.Index.{IsArrayIndex};
 ghost use Rattle.heap_export.specs.Encoded.{bytes_of, past_latin1, refused};
-ghost use Rattle.jsstr_c.specs.Bytes.{IsGiven, unpaired_by};
-ghost use Rattle.jsstr_c.specs.Reports as reports;
+ghost use Rattle.c_steps.specs.Bytes.{IsGiven, unpaired_by};
+ghost use Rattle.c_steps.specs.Reports as reports;
 ghost use Rattle.js_header.specs.declared.form.Form as form;
 
-use crate::agent::JsAgent;
-use crate::answer::{JsAnswer, JsNumber, JsWords, of_number, of_text, of_words};
-use crate::bytes::{JsBytes, of_bytes, unpaired_by};
+use c_handles::JsAgent;
+use c_steps::{
+    JsAnswer, JsBytes, JsNumber, JsWords, length_of, of_bytes, of_number, of_words, read_into,
+    settle, unpaired_by,
+};
 use heap_text::JsStr;
 use std::alloc::Global;
 
@@ -30,10 +32,7 @@ pub extern "C" fn jsstr_length_unchecked(alloc: Global, agent: &mut JsAgent, s: 
     ensures measures { ReadsLength agent.old.at.value agent.new.at.value }
     ensures length { (us : List ℕ) → Has (handle_view agent.old.at.value).units s us → result ≡ length us }
 {
-    let mut held = agent.take(alloc);
-    let answer = held.length(JsStr { id: s });
-    agent.put(held);
-    answer
+    length_of(alloc, agent, s)
 }
 
 /// Sees to it that a string is settled, so that it may be cut, read and interned. The answer is the
@@ -49,13 +48,7 @@ pub extern "C" fn jsstr_settle_unchecked(alloc: Global, agent: &mut JsAgent, s: 
     ensures refused { result.status ≢ reports.DONE
         → RefusesSettling agent.old.at.value agent.new.at.value s result }
 {
-    let mut held = agent.take(alloc);
-    let answer = held.settle(JsStr { id: s });
-    agent.put(held);
-    match answer {
-        Ok(()) => of_text(Ok(JsStr { id: s })),
-        Err(full) => of_text(Err(full)),
-    }
+    settle(alloc, agent, s)
 }
 
 /// The units of a settled string from unit `from` on, as many as there is room for.
@@ -76,9 +69,7 @@ pub extern "C" fn jsstr_read_unchecked(
     ensures units { (us : List ℕ) → Has (handle_view agent.old.at.value).units s us
         → out.new ≡ slice_range us from (from + length out.old) }
 {
-    let mut held = agent.take(alloc);
-    held.read(JsStr { id: s }, from, out);
-    agent.put(held);
+    read_into(alloc, agent, s, from, out)
 }
 
 /// The content words of a settled string from word number `at` on, as many as there are and as there is

@@ -2,12 +2,12 @@
 ghost use Rattle.std.specs.Prelude.{◌≡◌, ◌≢◌};
 ghost use Rattle.heap_agents.specs.Ready.{IsReady};
 ghost use Rattle.heap_agents.specs.Spending.{HandleSetsBlocks, handle_reserved_ids, handle_reserved_words};
-ghost use Rattle.jsstr_c.specs.Handles.{IsHandle};
-ghost use Rattle.jsstr_c.specs.Reports as reports;
+ghost use Rattle.c_handles.specs.Handles.{IsHandle};
+ghost use Rattle.c_steps.specs.Reports as reports;
 ghost use Rattle.jsstr_c.specs.Reserving.{IsReserving};
 
-use crate::agent::JsAgent;
-use crate::answer::{JsAnswer, JsUse, of_reserve};
+use c_handles::JsAgent;
+use c_steps::{JsAnswer, JsUse, of_reserve};
 use std::alloc::Global;
 
 /// Claims so many content words in one piece, and then so many ids, from which later strings are taken.

@@ -6,12 +6,12 @@ ghost use Rattle.js_search.specs.Order.{units_cmp};
 ghost use Rattle.js_search.specs.Places.{IsFirst, IsLast, IsPartAt, first, last, stands};
 ghost use Rattle.heap_agents.specs.Ready.{IsReady, HandleSearches, handle_view};
 ghost use Rattle.heap_agents.specs.Searched.{IsOrder, IsSearchable};
-ghost use Rattle.jsstr_c.specs.Handles.{IsHandle};
-ghost use Rattle.jsstr_c.specs.Reports.{order_number, place_answer};
-ghost use Rattle.jsstr_c.specs.Reports as reports;
+ghost use Rattle.c_handles.specs.Handles.{IsHandle};
+ghost use Rattle.c_steps.specs.Reports.{order_number, place_answer};
+ghost use Rattle.c_steps.specs.Reports as reports;
 
-use crate::agent::JsAgent;
-use crate::answer::{JsPlace, of_order, of_place};
+use c_handles::JsAgent;
+use c_steps::{JsPlace, of_order, of_place};
 use heap_text::JsStr;
 use std::alloc::Global;
 

@@ -4,12 +4,12 @@ ghost use Rattle.heap_rule.specs.Maps.{Has, HasKey};
 ghost use Rattle.heap_rule.specs.Views.{IsSeenSettled, history};
 ghost use Rattle.heap_agents.specs.Interned.{IsEntered};
 ghost use Rattle.heap_agents.specs.Ready.{HasInterned, IsReady, handle_view};
-ghost use Rattle.jsstr_c.specs.Handles.{IsHandle};
+ghost use Rattle.c_handles.specs.Handles.{IsHandle};
 ghost use Rattle.jsstr_c.specs.Made.{InternsString};
-ghost use Rattle.jsstr_c.specs.Reports as reports;
+ghost use Rattle.c_steps.specs.Reports as reports;
 
-use crate::agent::JsAgent;
-use crate::answer::{JsAnswer, of_table};
+use c_handles::JsAgent;
+use c_steps::{JsAnswer, of_table};
 use std::alloc::Global;
 
 /// The one string of the table with the units of a settled string.

@@ -2,13 +2,12 @@
 ghost use Rattle.std.specs.Prelude.{◌≡◌, ◌≢◌, ◌≤◌, length};
 ghost use Rattle.heap_rule.specs.Layout.{MAX};
 ghost use Rattle.heap_agents.specs.Ready.{HandleSpends, IsReady};
-ghost use Rattle.jsstr_c.specs.Given.{IsFinding, IsInterning, MakesString, OnUtf8, OnWtf8};
-ghost use Rattle.jsstr_c.specs.Handles.{IsHandle};
-ghost use Rattle.jsstr_c.specs.Reports as reports;
+ghost use Rattle.c_handles.specs.Handles.{IsHandle};
+ghost use Rattle.c_steps.specs.Given.{IsFinding, IsInterning, MakesString, OnUtf8, OnWtf8};
+ghost use Rattle.c_steps.specs.Reports as reports;
 
-use crate::agent::JsAgent;
-use crate::answer::{JsAnswer, of_found, of_table, of_text};
-use crate::given::{Source, Task, on_source};
+use c_handles::JsAgent;
+use c_steps::{JsAnswer, Source, Task, find_units, from_units, intern_units, on_source};
 use std::alloc::Global;
 
 /// A new string with these units, settled.
@@ -24,10 +23,7 @@ pub extern "C" fn jsstr_from_units_unchecked(
     ensures told { result.status ≢ reports.BAD_ARGUMENT }
     ensures makes { MakesString agent.old.at.value agent.new.at.value units.now result }
 {
-    let mut held = agent.take(alloc);
-    let answer = held.from_units(units);
-    agent.put(held);
-    of_text(answer)
+    from_units(alloc, agent, units)
 }
 
 /// A new string of one-byte units, as Latin-1 is, settled.
@@ -97,10 +93,7 @@ pub extern "C" fn jsstr_intern_units_unchecked(
     ensures told { result.status ≢ reports.BAD_ARGUMENT }
     ensures interns { IsInterning agent.old.at.value agent.new.at.value units.now result }
 {
-    let mut held = agent.take(alloc);
-    let answer = held.intern_units(units);
-    agent.put(held);
-    of_table(answer)
+    intern_units(alloc, agent, units)
 }
 
 /// The one string of the table with one-byte units, as Latin-1 is.
@@ -166,10 +159,7 @@ pub extern "C" fn jsstr_find_units_unchecked(
     ensures told { result.status ≢ reports.BAD_ARGUMENT }
     ensures finds { IsFinding agent.old.at.value agent.new.at.value units.now result }
 {
-    let mut held = agent.take(alloc);
-    let answer = held.find_units(units);
-    agent.put(held);
-    of_found(answer)
+    find_units(alloc, agent, units)
 }
 
 /// The one string of the table with one-byte units, as Latin-1 is, if it is there.

@@ -3,7 +3,7 @@ use Rattle.std.proofs.lemmas.Int.{to_z-of_z}
 use Rattle.js_number.specs.Arith.{text_of}
 use Rattle.js_number.specs.declared.Num.TheVariants.{Int}
 use Rattle.heap_build.specs.Built.{AddsUnits}
-use Rattle.jsstr_c.proofs.Texts.{builds, no_box}
+use Rattle.c_steps.proofs.Texts.{builds, no_box}
 use Rattle.jsstr_c.proofs.building.jsstr_build_number.Goals as goal
 
 pub returns-in-Ok-clause-builds : goal.returns-in-Ok-clause-builds

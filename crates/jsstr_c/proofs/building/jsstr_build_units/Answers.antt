@@ -1,4 +1,4 @@
-use Rattle.jsstr_c.proofs.Texts.{builds, no_box}
+use Rattle.c_steps.proofs.Texts.{builds, no_box}
 use Rattle.jsstr_c.proofs.building.jsstr_build_units.Goals as goal
 
 pub returns-in-Ok-clause-builds : goal.returns-in-Ok-clause-builds

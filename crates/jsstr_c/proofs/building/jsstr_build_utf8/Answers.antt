@@ -1,5 +1,5 @@
 use Rattle.heap_build.specs.Spelled.{SpellsUtf8}
-use Rattle.jsstr_c.proofs.Texts.{builds_spelled, no_box_spelled}
+use Rattle.c_steps.proofs.Texts.{builds_spelled, no_box_spelled}
 use Rattle.jsstr_c.proofs.building.jsstr_build_utf8.Goals as goal
 
 pub returns-in-Ok-clause-builds : goal.returns-in-Ok-clause-builds

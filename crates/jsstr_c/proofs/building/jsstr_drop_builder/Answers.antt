@@ -1,4 +1,4 @@
-use Rattle.jsstr_c.proofs.Texts.{is_some}
+use Rattle.c_steps.proofs.Texts.{is_some}
 use Rattle.jsstr_c.proofs.building.jsstr_drop_builder.Goals as goal
 
 pub take-requires : goal.take-requires

@@ -1,8 +1,8 @@
 use Rattle.std.proofs.Common.{◌≡◌, ◌∙◌, ◌++◌, ℕ, List, ap, subst, arith}
 use Rattle.heap_rule.specs.Maps.{Has}
 use Rattle.heap_agents.specs.Ready.{handle_view}
-use Rattle.jsstr_c.proofs.Going.{does_done}
-use Rattle.jsstr_c.proofs.Texts.{builds_done}
+use Rattle.c_steps.proofs.Going.{does_done}
+use Rattle.c_steps.proofs.Texts.{builds_done}
 use Rattle.jsstr_c.proofs.uses.built_of_two.Goals as goal
 
 pub returns-clause-units : goal.returns-clause-units

@@ -2,7 +2,7 @@ use Rattle.std.proofs.Common.{◌≡◌, ◌++◌, ◌-◌, ℕ, length, subst, 
 use Rattle.heap_rule.specs.Births.{part}
 use Rattle.heap_rule.specs.Maps.{Has}
 use Rattle.heap_agents.specs.Ready.{handle_view}
-use Rattle.jsstr_c.proofs.Going.{does_done, spends_units}
+use Rattle.c_steps.proofs.Going.{does_done, spends_units}
 use Rattle.jsstr_c.proofs.uses.joined_and_cut.Goals as goal
 
 pub returns-clause-units : goal.returns-clause-units

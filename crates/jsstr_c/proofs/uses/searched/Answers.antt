@@ -1,5 +1,5 @@
 use Rattle.std.proofs.Common.{◌≡◌, arith, refl}
-use Rattle.jsstr_c.proofs.Going.{searches_strings}
+use Rattle.c_steps.proofs.Going.{searches_strings}
 use Rattle.jsstr_c.proofs.uses.searched.Goals as goal
 
 pub jsstr_intern_unchecked-one-requires-clause-settled : goal.jsstr_intern_unchecked-one-requires-clause-settled

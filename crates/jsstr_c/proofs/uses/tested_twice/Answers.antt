@@ -1,5 +1,5 @@
 use Rattle.std.proofs.Common.{◌≡◌, refl, arith}
-use Rattle.jsstr_c.proofs.Going.{does_done, spends_units}
+use Rattle.c_steps.proofs.Going.{does_done, spends_units}
 use Rattle.jsstr_c.proofs.uses.tested_twice.Goals as goal
 
 pub returns-clause-same : goal.returns-clause-same

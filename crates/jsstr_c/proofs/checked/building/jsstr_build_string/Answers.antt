@@ -1,5 +1,5 @@
 use Rattle.std.proofs.Common.{refl, arith}
-use Rattle.jsstr_c.proofs.Stages.{goes_on, stops}
+use Rattle.c_steps.proofs.Stages.{goes_on, stops}
 use Rattle.jsstr_c.proofs.checked.building.jsstr_build_string.Goals as goal
 
 pub returns-then-settled-ne-DONE-clause-builds : goal.returns-then-settled-ne-DONE-clause-builds

@@ -1,5 +1,5 @@
 use Rattle.std.proofs.Common.{◌≡◌, inr, arith}
-use Rattle.jsstr_c.proofs.Stages.{settled_first, units_first}
+use Rattle.c_steps.proofs.Stages.{settled_first, units_first}
 use Rattle.jsstr_c.proofs.checked.copying.jsstr_intern_into.Goals as goal
 
 pub returns-clause-does : goal.returns-clause-does

@@ -1,8 +1,8 @@
 use Rattle.std.proofs.Common.{◌≡◌, ◌∙◌, ap, sym, arith}
 use Rattle.std.proofs.Common.{refl, rules}
-use Rattle.jsstr_c.specs.declared.answer.JsOrder.{JsOrder}
-use Rattle.jsstr_c.specs.Reports.{no_order}
-use Rattle.jsstr_c.proofs.Stages.{goes_on, orders, stops}
+use Rattle.c_steps.specs.declared.answer.JsOrder.{JsOrder}
+use Rattle.c_steps.specs.Reports.{no_order}
+use Rattle.c_steps.proofs.Stages.{goes_on, orders, stops}
 use Rattle.jsstr_c.proofs.checked.lists.jsstr_compare_units.Goals as goal
 
 pub returns-then-settled-ne-DONE-clause-compares : goal.returns-then-settled-ne-DONE-clause-compares

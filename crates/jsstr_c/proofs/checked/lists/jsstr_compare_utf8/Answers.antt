@@ -1,10 +1,10 @@
 use Rattle.std.proofs.Common.{◌∙◌, ap, inl, inr, subst, sym, ℕ, List, Option}
 use Rattle.heap_agents.specs.declared.held.Held.{Held}
 use Rattle.heap_build.specs.Spelled.{utf8_decoded}
-use Rattle.jsstr_c.specs.declared.answer.JsOrder.{JsOrder}
-use Rattle.jsstr_c.specs.Lists.{OrdersUnits}
-use Rattle.jsstr_c.specs.Reports.{no_order}
-use Rattle.jsstr_c.proofs.Decoded.{utf8_read, utf8_unread}
+use Rattle.c_steps.specs.declared.answer.JsOrder.{JsOrder}
+use Rattle.c_steps.specs.Lists.{OrdersUnits}
+use Rattle.c_steps.specs.Reports.{no_order}
+use Rattle.c_steps.proofs.Decoded.{utf8_read, utf8_unread}
 use Rattle.jsstr_c.proofs.checked.lists.jsstr_compare_utf8.Goals as goal
 
 pub returns-in-Ok-clause-compares : goal.returns-in-Ok-clause-compares

@@ -1,8 +1,8 @@
 use Rattle.std.proofs.Common.{◌≡◌, ◌∙◌, ap, sym, arith}
 use Rattle.std.proofs.Common.{refl}
-use Rattle.jsstr_c.specs.declared.answer.JsTruth.{JsTruth}
-use Rattle.jsstr_c.specs.Reports.{no_truth}
-use Rattle.jsstr_c.proofs.Stages.{goes_on, stops}
+use Rattle.c_steps.specs.declared.answer.JsTruth.{JsTruth}
+use Rattle.c_steps.specs.Reports.{no_truth}
+use Rattle.c_steps.proofs.Stages.{goes_on, stops}
 use Rattle.jsstr_c.proofs.checked.lists.jsstr_equals_units.Goals as goal
 
 pub returns-then-settled-ne-DONE-clause-compares : goal.returns-then-settled-ne-DONE-clause-compares

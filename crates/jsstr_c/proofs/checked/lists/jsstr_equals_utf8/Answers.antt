@@ -1,10 +1,10 @@
 use Rattle.std.proofs.Common.{◌∙◌, ap, inl, inr, subst, sym, ℕ, List, Option}
 use Rattle.heap_agents.specs.declared.held.Held.{Held}
 use Rattle.heap_build.specs.Spelled.{utf8_decoded}
-use Rattle.jsstr_c.specs.declared.answer.JsTruth.{JsTruth}
-use Rattle.jsstr_c.specs.Lists.{ComparesUnits}
-use Rattle.jsstr_c.specs.Reports.{no_truth}
-use Rattle.jsstr_c.proofs.Decoded.{utf8_read, utf8_unread}
+use Rattle.c_steps.specs.declared.answer.JsTruth.{JsTruth}
+use Rattle.c_steps.specs.Lists.{ComparesUnits}
+use Rattle.c_steps.specs.Reports.{no_truth}
+use Rattle.c_steps.proofs.Decoded.{utf8_read, utf8_unread}
 use Rattle.jsstr_c.proofs.checked.lists.jsstr_equals_utf8.Goals as goal
 
 pub returns-in-Ok-clause-compares : goal.returns-in-Ok-clause-compares

@@ -1,7 +1,7 @@
 use Rattle.std.proofs.Common.{◌≡◌, inr, arith}
 use Rattle.heap_rule.proofs.MapLemmas.{has_key}
 use Rattle.heap_agents.specs.Ready.{handle_view}
-use Rattle.jsstr_c.proofs.Stages.{settled_first, units_first}
+use Rattle.c_steps.proofs.Stages.{settled_first, units_first}
 use Rattle.jsstr_c.proofs.checked.making.jsstr_slice.Goals as goal
 
 pub jsstr_slice_unchecked-requires-clause-within : goal.jsstr_slice_unchecked-requires-clause-within

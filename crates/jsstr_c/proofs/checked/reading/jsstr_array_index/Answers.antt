@@ -1,7 +1,7 @@
 use Rattle.std.proofs.Common.{◌∙◌, ap, sym, arith}
-use Rattle.jsstr_c.specs.declared.answer.JsNumber.{JsNumber}
-use Rattle.jsstr_c.specs.Reports.{no_number}
-use Rattle.jsstr_c.proofs.Stages.{goes_on, stops}
+use Rattle.c_steps.specs.declared.answer.JsNumber.{JsNumber}
+use Rattle.c_steps.specs.Reports.{no_number}
+use Rattle.c_steps.proofs.Stages.{goes_on, stops}
 use Rattle.jsstr_c.proofs.checked.reading.jsstr_array_index.Goals as goal
 
 pub returns-then-settled-ne-DONE-clause-reads : goal.returns-then-settled-ne-DONE-clause-reads

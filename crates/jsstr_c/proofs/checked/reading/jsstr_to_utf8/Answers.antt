@@ -1,8 +1,8 @@
 use Rattle.std.proofs.Common.{◌∙◌, ap, sym, arith}
 use Rattle.std.proofs.Common.{refl}
-use Rattle.jsstr_c.specs.declared.bytes.JsBytes.{JsBytes}
-use Rattle.jsstr_c.specs.Bytes.{no_bytes}
-use Rattle.jsstr_c.proofs.Stages.{goes_on, stops}
+use Rattle.c_steps.specs.declared.bytes.JsBytes.{JsBytes}
+use Rattle.c_steps.specs.Bytes.{no_bytes}
+use Rattle.c_steps.proofs.Stages.{goes_on, stops}
 use Rattle.jsstr_c.proofs.checked.reading.jsstr_to_utf8.Goals as goal
 
 pub returns-then-settled-ne-DONE-clause-reads : goal.returns-then-settled-ne-DONE-clause-reads

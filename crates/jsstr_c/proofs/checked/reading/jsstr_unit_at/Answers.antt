@@ -1,11 +1,11 @@
 use Rattle.std.proofs.Common.{◌≡◌, ◌∙◌, ap, sym, arith}
 use Rattle.std.proofs.Common.{ℕ, Some}
-use Rattle.jsstr_c.specs.Reports.{number_answer}
+use Rattle.c_steps.specs.Reports.{number_answer}
 use Rattle.heap_rule.proofs.MapLemmas.{has_key}
 use Rattle.heap_agents.specs.Ready.{handle_view}
-use Rattle.jsstr_c.specs.declared.answer.JsNumber.{JsNumber}
-use Rattle.jsstr_c.specs.Reports.{no_number}
-use Rattle.jsstr_c.proofs.Stages.{goes_on, stops}
+use Rattle.c_steps.specs.declared.answer.JsNumber.{JsNumber}
+use Rattle.c_steps.specs.Reports.{no_number}
+use Rattle.c_steps.proofs.Stages.{goes_on, stops}
 use Rattle.jsstr_c.proofs.checked.reading.jsstr_unit_at.Goals as goal
 
 pub returns-then-settled-ne-DONE-clause-reads : goal.returns-then-settled-ne-DONE-clause-reads

@@ -1,8 +1,8 @@
 use Rattle.std.proofs.Common.{◌≡◌, ◌∙◌, ap, sym, arith}
 use Rattle.std.proofs.Common.{refl}
-use Rattle.jsstr_c.specs.declared.answer.JsWords.{JsWords}
-use Rattle.jsstr_c.specs.Reports.{no_words}
-use Rattle.jsstr_c.proofs.Stages.{goes_on, stops}
+use Rattle.c_steps.specs.declared.answer.JsWords.{JsWords}
+use Rattle.c_steps.specs.Reports.{no_words}
+use Rattle.c_steps.proofs.Stages.{goes_on, stops}
 use Rattle.jsstr_c.proofs.checked.reading.jsstr_window.Goals as goal
 
 pub returns-then-settled-ne-DONE-clause-reads : goal.returns-then-settled-ne-DONE-clause-reads

@@ -1,8 +1,8 @@
 use Rattle.std.proofs.Common.{◌≡◌, ◌∙◌, ap, sym, arith}
 use Rattle.std.proofs.Common.{refl, rules}
-use Rattle.jsstr_c.specs.declared.answer.JsOrder.{JsOrder}
-use Rattle.jsstr_c.specs.Reports.{no_order}
-use Rattle.jsstr_c.proofs.Stages.{orders, seeks_on, stops_both}
+use Rattle.c_steps.specs.declared.answer.JsOrder.{JsOrder}
+use Rattle.c_steps.specs.Reports.{no_order}
+use Rattle.c_steps.proofs.Stages.{orders, seeks_on, stops_both}
 use Rattle.jsstr_c.proofs.checked.search.jsstr_compare.Goals as goal
 
 pub returns-then-status-ne-DONE-clause-seeks : goal.returns-then-status-ne-DONE-clause-seeks

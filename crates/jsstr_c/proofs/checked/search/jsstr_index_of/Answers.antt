@@ -1,9 +1,9 @@
 use Rattle.std.proofs.Common.{◌≡◌, ◌∙◌, ap, sym, arith}
 use Rattle.heap_rule.proofs.MapLemmas.{has_key}
 use Rattle.heap_agents.specs.Ready.{handle_view}
-use Rattle.jsstr_c.specs.declared.answer.JsPlace.{JsPlace}
-use Rattle.jsstr_c.specs.Reports.{no_place}
-use Rattle.jsstr_c.proofs.Stages.{seeks_on, stops_both}
+use Rattle.c_steps.specs.declared.answer.JsPlace.{JsPlace}
+use Rattle.c_steps.specs.Reports.{no_place}
+use Rattle.c_steps.proofs.Stages.{seeks_on, stops_both}
 use Rattle.jsstr_c.proofs.checked.search.jsstr_index_of.Goals as goal
 
 pub returns-then-status-ne-DONE-clause-seeks : goal.returns-then-status-ne-DONE-clause-seeks

@@ -1,7 +1,7 @@
 use Rattle.std.proofs.Common.{◌∙◌, ap, sym, arith}
-use Rattle.jsstr_c.specs.declared.answer.JsPlace.{JsPlace}
-use Rattle.jsstr_c.specs.Reports.{no_place}
-use Rattle.jsstr_c.proofs.Stages.{seeks_on, stops_both}
+use Rattle.c_steps.specs.declared.answer.JsPlace.{JsPlace}
+use Rattle.c_steps.specs.Reports.{no_place}
+use Rattle.c_steps.proofs.Stages.{seeks_on, stops_both}
 use Rattle.jsstr_c.proofs.checked.search.jsstr_last_index_of.Goals as goal
 
 pub returns-then-status-ne-DONE-clause-seeks : goal.returns-then-status-ne-DONE-clause-seeks

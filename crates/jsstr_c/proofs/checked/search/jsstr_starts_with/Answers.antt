@@ -1,8 +1,8 @@
 use Rattle.std.proofs.Common.{◌≡◌, ◌∙◌, ap, sym, arith}
 use Rattle.std.proofs.Common.{refl}
-use Rattle.jsstr_c.specs.declared.answer.JsTruth.{JsTruth}
-use Rattle.jsstr_c.specs.Reports.{no_truth}
-use Rattle.jsstr_c.proofs.Stages.{seeks_on, stops_both}
+use Rattle.c_steps.specs.declared.answer.JsTruth.{JsTruth}
+use Rattle.c_steps.specs.Reports.{no_truth}
+use Rattle.c_steps.proofs.Stages.{seeks_on, stops_both}
 use Rattle.jsstr_c.proofs.checked.search.jsstr_starts_with.Goals as goal
 
 pub returns-then-status-ne-DONE-clause-seeks : goal.returns-then-status-ne-DONE-clause-seeks

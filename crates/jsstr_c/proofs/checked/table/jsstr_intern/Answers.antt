@@ -1,7 +1,7 @@
 use Rattle.std.proofs.Common.{inr, arith}
 use Rattle.heap_read.proofs.Loaded.{known_trans}
-use Rattle.jsstr_c.proofs.Going.{goes_calls, goes_continues}
-use Rattle.jsstr_c.proofs.Stages.{leaves_first, settled_first, units_first}
+use Rattle.c_steps.proofs.Going.{goes_calls, goes_continues}
+use Rattle.c_steps.proofs.Stages.{leaves_first, settled_first, units_first}
 use Rattle.jsstr_c.proofs.checked.table.jsstr_intern.Goals as goal
 
 pub returns-clause-known : goal.returns-clause-known

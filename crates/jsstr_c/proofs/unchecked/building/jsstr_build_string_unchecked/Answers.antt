@@ -3,7 +3,7 @@ use Rattle.heap_rule.specs.Maps.{Has}
 use Rattle.heap_agents.specs.declared.held.Held.{Held}
 use Rattle.heap_agents.specs.Held.{view_by}
 use Rattle.heap_agents.specs.Ready.{handle_view}
-use Rattle.jsstr_c.proofs.Texts.{builds, looks_same, no_box}
+use Rattle.c_steps.proofs.Texts.{builds, looks_same, no_box}
 use Rattle.jsstr_c.proofs.unchecked.building.jsstr_build_string_unchecked.Goals as goal
 
 pub returns-in-Ok-clause-builds : goal.returns-in-Ok-clause-builds

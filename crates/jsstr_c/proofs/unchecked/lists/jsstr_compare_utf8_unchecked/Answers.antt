@@ -1,10 +1,10 @@
 use Rattle.std.proofs.Common.{◌∙◌, ap, inl, inr, refl, rules, sym, ℕ, List}
 use Rattle.js_search.specs.Order.{units_cmp}
-use Rattle.jsstr_c.specs.declared.answer.JsAnswer.{JsAnswer}
-use Rattle.jsstr_c.specs.declared.answer.JsOrder.{JsOrder}
-use Rattle.jsstr_c.specs.Reports.{no_order, order_number}
-use Rattle.jsstr_c.proofs.Decoded.{utf8_read, utf8_unread}
-use Rattle.jsstr_c.proofs.Stages.{orders}
+use Rattle.c_steps.specs.declared.answer.JsAnswer.{JsAnswer}
+use Rattle.c_steps.specs.declared.answer.JsOrder.{JsOrder}
+use Rattle.c_steps.specs.Reports.{no_order, order_number}
+use Rattle.c_steps.proofs.Decoded.{utf8_read, utf8_unread}
+use Rattle.c_steps.proofs.Stages.{orders}
 use Rattle.jsstr_c.proofs.unchecked.lists.jsstr_compare_utf8_unchecked.Goals as goal
 
 pub returns-in-Ok-clause-says : goal.returns-in-Ok-clause-says

@@ -1,9 +1,9 @@
 use Rattle.std.proofs.Common.{◌≡◌, ◌∙◌, ap, inl, inr, refl, subst, sym, ℕ, List}
 use Rattle.std.specs.Prelude.{◌↔◌, IsTrue}
-use Rattle.jsstr_c.specs.declared.answer.JsAnswer.{JsAnswer}
-use Rattle.jsstr_c.specs.declared.answer.JsTruth.{JsTruth}
-use Rattle.jsstr_c.specs.Reports.{no_truth}
-use Rattle.jsstr_c.proofs.Decoded.{utf8_read, utf8_unread}
+use Rattle.c_steps.specs.declared.answer.JsAnswer.{JsAnswer}
+use Rattle.c_steps.specs.declared.answer.JsTruth.{JsTruth}
+use Rattle.c_steps.specs.Reports.{no_truth}
+use Rattle.c_steps.proofs.Decoded.{utf8_read, utf8_unread}
 use Rattle.jsstr_c.proofs.unchecked.lists.jsstr_equals_utf8_unchecked.Goals as goal
 
 pub returns-in-Ok-clause-says : goal.returns-in-Ok-clause-says

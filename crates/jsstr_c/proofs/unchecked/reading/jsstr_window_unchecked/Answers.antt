@@ -5,7 +5,7 @@ use Rattle.heap_agents.specs.declared.words.Shown.{Shown}
 use Rattle.heap_agents.specs.Held.{view_by}
 use Rattle.heap_agents.specs.Ready.{handle_view}
 use Rattle.heap_agents.specs.Words.{AreShown, AreThere}
-use Rattle.jsstr_c.specs.Reports.{shown_by}
+use Rattle.c_steps.specs.Reports.{shown_by}
 use Rattle.jsstr_c.proofs.unchecked.reading.jsstr_window_unchecked.Goals as goal
 
 pub returns-clause-shown : goal.returns-clause-shown

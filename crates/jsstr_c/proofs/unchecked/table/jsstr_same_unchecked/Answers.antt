@@ -2,7 +2,7 @@ use Rattle.std.proofs.Common.{rules, ◌≡◌, sym, ◌∙◌}
 use Rattle.heap_rule.specs.declared.view.View.{View}
 use Rattle.heap_session.specs.Sound.{possible_agrees, possible_legal}
 use Rattle.heap_agents.specs.Ready.{handle_view}
-use Rattle.jsstr_c.proofs.Ready.{possible}
+use Rattle.c_handles.proofs.Ready.{possible}
 use Rattle.jsstr_c.proofs.unchecked.table.jsstr_same_unchecked.Goals as goal
 
 pub returns-clause-units : goal.returns-clause-units

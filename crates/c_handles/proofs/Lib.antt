@@ -1,0 +1,4 @@
+pub mod Walks
+pub mod BoxedAgents
+pub mod BoxedTexts
+pub mod Ready

@@ -1,0 +1,11 @@
+pub mod Reports
+pub mod Batches
+pub mod Checked
+pub mod Pairs
+pub mod Decoded
+pub mod Bytes
+pub mod Given
+pub mod Sources
+pub mod Lists
+pub mod Board
+pub mod Building

@@ -1,8 +1,0 @@
-use Rattle.std.proofs.Common.{inr}
-use Rattle.jsstr_c.proofs.Stages.{then_settled}
-use Rattle.jsstr_c.proofs.checked.settling.settle_reaching.Goals as goal
-
-pub returns-clause-settles : goal.returns-clause-settles
-returns-clause-settles c = let one = c.reaches in let two = c.jsstr_settle_unchecked in let t = c.if-not-reaches.false in
-    then_settled c.args.agent.now.at.value one.new.agent.at.value two.new.agent.at.value c.args.s two.result (inr (one.ensures.measures t))
-    (one.ensures.reaches.0 t).0 two.ensures.told two.ensures.settled two.ensures.refused
