@@ -45,6 +45,16 @@ same_then us vs i n m j d was next k l = ⊎_elim
     ap (λ x. get_or us x 0) (sym q) ∙ (next (k - n) (omega arith) ∙ ap (λ x. get_or vs x 0) q))
     (cases_lt k n)
 
+-- some units that are not in the list behind others that aren't
+pub lacks_then : (us : List ℕ) (unit i n m j : ℕ) → j ≡ i + n → ((k : ℕ) → k < n → get_or us (i + k) 0 ≡ unit → ⊥)
+    → ((k : ℕ) → k < m → get_or us (j + k) 0 ≡ unit → ⊥) → (k : ℕ) → k < n + m → get_or us (i + k) 0 ≡ unit → ⊥
+lacks_then us unit i n m j d was next k l e = ⊎_elim
+    (λ a. was k a e)
+    (λ a.
+    let q : j + (k - n) ≡ i + k = omega arith in
+    next (k - n) (omega arith) (ap (λ x. get_or us x 0) q ∙ e))
+    (cases_lt k n)
+
 -- from the first unit on, up to a place that the last word may reach over
 pub same_before : (us vs : List ℕ) (i n most : ℕ) → ((k : ℕ) → k < i → k < most → get_or us k 0 ≡ get_or vs k 0)
     → ((k : ℕ) → k < n → i + k < most → get_or us (i + k) 0 ≡ get_or vs (i + k) 0) → (k : ℕ) → k < i + n → k < most → get_or us k 0 ≡ get_or vs k 0

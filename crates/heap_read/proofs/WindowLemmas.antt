@@ -71,6 +71,10 @@ pub none_on : (us : List ℕ) (unit from i next : ℕ) → ((k : ℕ) → from �
     get_or us k 0 ≡ unit → ⊥) → (k : ℕ) → from ≤ k → k < next → get_or us k 0 ≡ unit → ⊥
 none_on us unit from i next old new k a b e = ⊎_elim (λ l. old k a l e) (λ l. new k l b e) (cases_lt k i)
 
+-- the same where the next ones are counted from the first of them
+pub none_behind : (us : List ℕ) (unit i n : ℕ) → ((k : ℕ) → k < n → get_or us (i + k) 0 ≡ unit → ⊥) → (k : ℕ) → i ≤ k → k < i + n → get_or us k 0 ≡ unit → ⊥
+none_behind us unit i n none k a b e = let f : i + (k - i) ≡ k = omega arith in none (k - i) (omega arith) (ap (λ x. get_or us x 0) f ∙ e)
+
 -- some more units after those that were copied, from place `low` on
 pub read_on : (us : List ℕ) (from low done count : ℕ) (old new : List ℕ) → ((k : ℕ) → low ≤ k → k < done → get_or old k 0 ≡ get_or us
     (from + k) 0) → ((k : ℕ) → k < done → get_or new k 0 ≡ get_or old k 0)

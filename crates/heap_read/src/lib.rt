@@ -8,6 +8,7 @@
 
 mod comparing;
 mod copying;
+mod finding;
 mod forms;
 mod hashing;
 mod heap_ref;

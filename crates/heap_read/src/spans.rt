@@ -1,11 +1,10 @@
-// Reading and searching the units of a window, a word at a time.
+// Reading the units of a window, a word at a time.
 ghost use Rattle.std.specs.Prelude.{◌≡◌, ℕ, List, ◌+◌, ◌-◌, ◌*◌, ◌/◌, ◌%◌, ◌≤◌, ◌<◌, false, true, length, slice_index, slice_range};
 ghost use Rattle.js_units.specs.Lanes.{lane_count, lane_of, words_over};
 ghost use Rattle.heap_rule.specs.Layout.{content_at};
 ghost use Rattle.heap_table.specs.Agents.{size_of};
 ghost use Rattle.heap_read.specs.Readers.{MovesView, view_in};
 ghost use Rattle.heap_read.specs.Reads.{KeepsForms, OnlyLoads};
-ghost use Rattle.js_units.specs.Units.{IsFirstUnit};
 ghost use Rattle.heap_read.specs.Shifted.{BeginsWord};
 ghost use Rattle.heap_read.specs.Windows.{IsFrozenWindow, IsWindow};
 ghost use Rattle.heap_read.specs.Written.{ShowsFrom, ShowsOn};
@@ -13,7 +12,7 @@ ghost use Rattle.heap_read.specs.Written.{ShowsFrom, ShowsOn};
 use crate::heap_ref::HeapRef;
 use crate::reader::Reader;
 use crate::string::Window;
-use js_units::{first_from, lane, lanes, word_and_lane};
+use js_units::{lane, lanes, word_and_lane};
 use std::simd::prelude::*;
 
 impl<H: HeapRef> Reader<H> {
@@ -141,53 +140,6 @@ impl<H: HeapRef> Reader<H> {
     {
         let word = self.word_from(first, at, w, i);
         put_word(into, next, word, w.wide);
-    }
-
-    /// The least place from `from` on in a window whose unit is `unit`.
-    pub fn find_unit(&mut self, w: Window, unit: u16, from: u32) -> Option<u32>
-        requires window { (us : List ℕ) × IsWindow (view_in self.old) w us }
-        requires within { from ≤ w.len }
-        ensures reads { MovesView OnlyLoads self.old self.new }
-        ensures forms { KeepsForms (view_in self.old) (view_in self.new) }
-        ensures least { (us : List ℕ) → IsWindow (view_in self.old) w us → IsFirstUnit us unit from result }
-    {
-        if w.wide {
-            return self.find_lane(Window { wide: true, ..w }, unit, from);
-        }
-        self.find_lane(Window { wide: false, ..w }, unit, from)
-    }
-
-    // The same, inlined for each width of the lanes.
-    #[inline(always)]
-    fn find_lane(&mut self, w: Window, unit: u16, from: u32) -> Option<u32>
-        requires window { (us : List ℕ) × IsWindow (view_in self.old) w us }
-        requires within { from ≤ w.len }
-        ensures reads { MovesView OnlyLoads self.old self.new }
-        ensures forms { KeepsForms (view_in self.old) (view_in self.new) }
-        ensures least { (us : List ℕ) → IsWindow (view_in self.old) w us → IsFirstUnit us unit from result }
-    {
-        let first = self.heap.heap().first_content();
-        let size = lanes(w.wide);
-        let mut i = from;
-        while i < w.len {
-            let (number, lane) = word_and_lane(w.wide, w.offset + i);
-            let word = self.word_from(first, w.start + number, w, i);
-            if lane == 0 && w.len - i >= size {
-                let at = first_from(word, w.wide, 0, unit);
-                if at < size {
-                    return Some(i + at);
-                }
-                i += size;
-                continue;
-            }
-            let left = (size - lane).min(w.len - i);
-            let at = first_from(word, w.wide, lane, unit);
-            if at < left {
-                return Some(i + at);
-            }
-            i += left;
-        }
-        None
     }
 
     /// Copies `count` content words of a window, from number `at` on, to the front of `into`, each by

@@ -42,13 +42,36 @@ returns-then-at-left-clause-least g c us window =
           b (omega arith) (omega arith)),
     )
 
-pub loop-i-preserved : goal.loop-i-preserved
-loop-i-preserved g c =
+pub loop-i-init : goal.loop-i-init
+loop-i-init g c = let e = c.pass_fours-i.ensures in record {
+  low = e.within.0;
+  most = e.within.1;
+  none = e.none;
+  heap = e.reads.heap;
+  reads = e.reads.view;
+  forms = e.forms;
+}
+
+pub pass_fours-i-requires-in-loop-i-clause-window : goal.pass_fours-i-requires-in-loop-i-clause-window
+pass_fours-i-requires-in-loop-i-clause-window g c =
     let v : View = c.args.self.now.agent.seat.me.0 in
     let u : View = c.loop-i.self.agent.seat.me.0 in
     let x : View = c.word_from-word.new.self.agent.seat.me.0 in
     let s = c.loop-i.invariant in
     let e = c.word_from-word.ensures in
+    (c.requires.window.0, window_later v x c.args.w c.requires.window.0 (reads_trans v u x s.reads e.reads.view) (forms_trans v u x s.forms e.forms) c.requires.window.1)
+
+pub loop-i-preserved : goal.loop-i-preserved
+loop-i-preserved g c =
+    let v : View = c.args.self.now.agent.seat.me.0 in
+    let u : View = c.loop-i.self.agent.seat.me.0 in
+    let x : View = c.word_from-word.new.self.agent.seat.me.0 in
+    let y : View = c.pass_fours-i-in-loop-i.new.self.agent.seat.me.0 in
+    let s = c.loop-i.invariant in
+    let e = c.word_from-word.ensures in
+    let p = c.pass_fours-i-in-loop-i.ensures in
+    let reads = reads_trans v u x s.reads e.reads.view in
+    let forms = forms_trans v u x s.forms e.forms in
     let i = c.loop-i.i in
     let low = s.low in
     let lane = c.word_and_lane-number.result.1 in
@@ -56,17 +79,20 @@ loop-i-preserved g c =
     let size = c.lanes-size.ensures in
     let m = c.min-left.ensures in
     let outside = c.if-at-left.false in
+    let later = p.within.0 in
     record {
       low = omega arith;
-      most = omega arith;
+      most = p.within.1;
       none = λ us window.
           let shows = e.word us (window_later v u c.args.w us s.reads s.forms window) in
-          none_on us c.args.unit c.args.from i (i + c.min-left.result) (s.none us window)
+          none_on us c.args.unit c.args.from (i + c.min-left.result) c.pass_fours-i-in-loop-i.result
+          (none_on us c.args.unit c.args.from i (i + c.min-left.result) (s.none us window)
           (λ k a b. none_in_lanes c.args.w us i c.word_from-word.result lane shows is c.args.unit c.first_from-at-in-loop-i.result
-          c.first_from-at-in-loop-i.ensures.none k a (omega arith) (omega arith) (omega arith));
-      heap = e.reads.heap ∙ s.heap;
-      reads = reads_trans v u x s.reads e.reads.view;
-      forms = forms_trans v u x s.forms e.forms;
+          c.first_from-at-in-loop-i.ensures.none k a (omega arith) (omega arith) (omega arith)))
+          (p.none us (window_later v x c.args.w us reads forms window));
+      heap = p.reads.heap ∙ (e.reads.heap ∙ s.heap);
+      reads = reads_trans v x y reads p.reads.view;
+      forms = forms_trans v x y forms p.forms;
     }
 
 pub returns-then-at-left-clause-reads : goal.returns-then-at-left-clause-reads

@@ -1,5 +1,4 @@
-use Rattle.std.proofs.Common.{◌+◌, ◌*◌, ◌<◌, ◌≤◌, ◌∙◌, ◌^◌, ℕ, arith}
-use Rattle.js_units.specs.Lanes.{lane_count}
+use Rattle.std.proofs.Common.{◌+◌, ◌∙◌, arith}
 use Rattle.heap_rule.specs.declared.view.View.{View}
 use Rattle.heap_read.proofs.Fronts.{count_some}
 use Rattle.heap_read.proofs.Loaded.{reads_trans}
