@@ -1,7 +1,6 @@
 // Lanes of a word compared with units of a list: all lanes of the word at once, else one after the other.
-ghost use Rattle.std.specs.Prelude.{◌≡◌, ◌≢◌, ℕ, ◌+◌, ◌*◌, ◌<◌, ◌≤◌, ◌^◌, false, true, length, slice_index};
+ghost use Rattle.std.specs.Prelude.{◌≡◌, ◌≢◌, ℕ, ◌+◌, ◌<◌, ◌≤◌, ◌^◌, false, true, length, slice_index};
 ghost use Rattle.std.specs.Bool.{MatchBool};
-ghost use Rattle.js_units.specs.Lanes.{lane_of};
 ghost use Rattle.heap_read.specs.Written.{HasAt, held_unit};
 ghost use Rattle.heap_intern.specs.Packed.{AreLanes, HasOtherLane};
 
