@@ -7,4 +7,6 @@ mod beside;
 #[cfg(test)]
 mod interning;
 #[cfg(test)]
+mod strings;
+#[cfg(test)]
 mod taking;
