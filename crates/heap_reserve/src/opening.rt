@@ -13,7 +13,7 @@ ghost use Rattle.heap_reserve.specs.Reserves.{HasEnough, IsReserve, kept_ids};
 ghost use Rattle.heap_read.specs.Reads.{HoldsForms};
 
 use crate::reserve::Reserve;
-use heap_intern::{Given, Key, Opening, TableFull, intern_given_at, intern_key_at};
+use heap_intern::{Given, Key, Opening, TableFull, intern_key_at};
 use heap_read::HeapRef;
 use heap_text::Text;
 use js_units::words_for;
@@ -44,7 +44,7 @@ impl Reserve {
             (units_of_key key.now) (answered result) hashes.old hashes.new }
     {
         if !self.covers(key) {
-            return intern_key_at(&mut text.reader, key, opening, hashes);
+            return intern_key_at(&mut text.reader, key, opening, None, hashes);
         }
         self.intern_at_with(text, key, opening, hashes)
     }
@@ -74,7 +74,7 @@ impl Reserve {
     {
         let words = words_for(key.len(), key.is_wide());
         let given = self.offer(words);
-        let answer = intern_given_at(&mut text.reader, key, opening, given, hashes);
+        let answer = intern_key_at(&mut text.reader, key, opening, Some(given), hashes);
         self.take(words);
         answer
     }

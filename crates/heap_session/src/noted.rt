@@ -8,14 +8,11 @@ ghost use Rattle.heap_read.specs.Readers.{view_in};
 ghost use Rattle.heap_intern.specs.Answers.{HeaderPlan, IsForwarded, IsFoundAgain, IsInternAnswer, IsPlan};
 ghost use Rattle.heap_intern.specs.Given.{FindsGiven, InternsGiven};
 ghost use Rattle.heap_intern.specs.Hashes.{AreHashes, NotesHash};
-ghost use Rattle.heap_intern.specs.Searching.{found_key};
 ghost use Rattle.heap_intern.specs.Seats.{IsSeatOf, id_in};
 ghost use Rattle.heap_intern.specs.SlotLoads.{LoadsSlots, answered};
 ghost use Rattle.heap_session.specs.Noted.{hashes_in};
 
-use heap_intern::{
-    Key, KeySearch, Seat, TableFull, intern_counted, intern_units_seated, search_key,
-};
+use heap_intern::{Key, Seat, TableFull, intern_counted, intern_units, search_key};
 use heap_read::{HeapRef, Reader, Steps};
 use std::sync::ledger::Ledger;
 
@@ -23,17 +20,6 @@ use std::sync::ledger::Ledger;
 #[derive(Drop)]
 pub(crate) struct Noted {
     pub(crate) hashes: Option<Vec<u32>>,
-}
-
-// The string that a search found.
-fn found(search: KeySearch) -> Option<u32>
-    ensures { result ≡ found_key search }
-{
-    match search {
-        KeySearch::Found { id } => Some(id),
-        KeySearch::Open(_) => None,
-        KeySearch::Shut { .. } => None,
-    }
 }
 
 impl Noted {
@@ -59,8 +45,8 @@ impl Noted {
             (answered (id_in result)) (hashes_in self.old) (hashes_in self.new) }
     {
         match &mut self.hashes {
-            Some(hashes) => intern_units_seated(reader, units, hashes.as_mut_slice()),
-            None => intern_units_seated(reader, units, &mut []),
+            Some(hashes) => intern_units(reader, units, hashes.as_mut_slice()),
+            None => intern_units(reader, units, &mut []),
         }
     }
 
@@ -75,8 +61,8 @@ impl Noted {
     {
         let key = Key::Units(units);
         match &mut self.hashes {
-            Some(hashes) => found(search_key(reader, &key, hashes.as_mut_slice())),
-            None => found(search_key(reader, &key, &mut [])),
+            Some(hashes) => search_key(reader, &key, hashes.as_mut_slice()).found(),
+            None => search_key(reader, &key, &mut []).found(),
         }
     }
 

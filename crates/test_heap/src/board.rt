@@ -21,6 +21,7 @@ struct Handed {
     counters: (u32, u32),
 }
 
+#[tactic(auto, using(heap_intern::proofs::Hashes::no_hashes))]
 fn handed_over(alloc: Global, size: HeapSize, units: &[u16]) -> Option<Handed>
     requires { length units.now ≤ 100 }
 {
@@ -32,9 +33,10 @@ fn handed_over(alloc: Global, size: HeapSize, units: &[u16]) -> Option<Handed>
     };
     let mut giver = Text::new(&heap, agent, MAX);
     let mut taker = giver.split_to(&heap, 1);
-    let Ok(id) = intern_units(&mut giver.reader, units) else {
+    let Ok(seat) = intern_units(&mut giver.reader, units, &mut []) else {
         return None;
     };
+    let id = seat.id;
     let slot = slot_of(&mut giver.reader, id);
     let adopted = adopt(&mut taker.reader, slot)?;
     let len = taker.len(JsStr { id: adopted });

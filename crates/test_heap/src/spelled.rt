@@ -5,7 +5,7 @@ ghost use Rattle.heap_bytes.specs.Spellings.{IsReadable, spelling_units};
 
 use heap_build::Builder;
 use heap_bytes::{Encoding, Spelling};
-use heap_intern::{find_from, intern_from, intern_units};
+use heap_intern::{Key, KeySearch, find_from, intern_key_at, intern_units, search_key};
 use heap_rule::{HeapSize, MAX};
 use heap_table::Heap;
 use heap_text::Text;
@@ -23,7 +23,24 @@ fn made(alloc: Global, text: &mut Text<&Heap>, source: &Spelling) -> Option<Buil
     Some(copy)
 }
 
+// The interned string of the units that bytes spell; none where it was refused.
+#[tactic(auto, using(heap_intern::proofs::Hashes::no_hashes))]
+fn intern_from(text: &mut Text<&Heap>, source: &Spelling) -> Option<u32>
+    requires read { IsReadable source.now }
+    requires short { length (spelling_units source.now) ≤ MAX }
+{
+    let key = Key::Spelled(*source);
+    match search_key(&mut text.reader, &key, &mut []) {
+        KeySearch::Found { id } => Some(id),
+        KeySearch::Open(opening) => {
+            intern_key_at(&mut text.reader, &key, opening, None, &mut []).ok()
+        }
+        KeySearch::Shut { .. } => None,
+    }
+}
+
 // Whether bytes are made, interned and found as these units are.
+#[tactic(auto, using(heap_intern::proofs::Hashes::no_hashes))]
 fn is_like(alloc: Global, units: &Builder, source: &Spelling) -> bool
     requires read { IsReadable source.now }
     requires short { length (spelling_units source.now) ≤ MAX }
@@ -43,13 +60,13 @@ fn is_like(alloc: Global, units: &Builder, source: &Spelling) -> bool
     if copy.as_slice() != units.as_slice() || find_from(&mut text.reader, source).is_some() {
         return false;
     }
-    let Ok(first) = intern_from(&mut text.reader, source) else {
+    let Some(first) = intern_from(&mut text, source) else {
         return false;
     };
-    let Ok(second) = intern_units(&mut text.reader, units.as_slice()) else {
+    let Ok(second) = intern_units(&mut text.reader, units.as_slice(), &mut []) else {
         return false;
     };
-    first == second && find_from(&mut text.reader, source) == Some(first)
+    first == second.id && find_from(&mut text.reader, source) == Some(first)
 }
 
 // So many letters, and then other bytes.

@@ -102,7 +102,10 @@ pub(crate) fn of_table(
         (λ r. IfOk r (λ i. HasKey (view_in text.new.reader).units i)) }
 {
     if make {
-        return Some(intern_units(&mut text.reader, units));
+        return match intern_units(&mut text.reader, units, &mut []) {
+            Ok(seat) => Some(Ok(seat.id)),
+            Err(full) => Some(Err(full)),
+        };
     }
     match find_units(&mut text.reader, units) {
         Some(id) => Some(Ok(id)),

@@ -33,7 +33,7 @@ pub fn intern_again<H: HeapRef>(reader: &mut Reader<H>, seat: Seat) -> u32
 }
 
 // The ledger of a caller that counts nothing.
-fn intern_units_seated_by<L: Ledger, H: HeapRef>(
+fn intern_units_by<L: Ledger, H: HeapRef>(
     reader: &mut Reader<H>,
     units: &[u16],
     hashes: &mut [u32],
@@ -62,10 +62,12 @@ fn intern_units_seated_by<L: Ledger, H: HeapRef>(
     )
 }
 
-/// As [`intern_units`](crate::intern_units), and answers the slot of the interned string too, for a caller
-/// that notes it: [`intern_again`] then interns the same units by one load. Hashes are noted too, as by
-/// [`search_key`](crate::search_key).
-pub fn intern_units_seated<H: HeapRef>(
+/// The interned string of these units, and the slot that it is in. Where it is in the table, nothing is used.
+/// Else a fixed Flat with the units is put there, which uses one id and the words of a copy, wide exactly
+/// where a unit is over 255. No slot is loaded more than twice. A caller that notes the slot interns the same
+/// units by one load, with [`intern_again`]. Hashes are noted too, as by [`search_key`](crate::search_key);
+/// who notes none gives an empty list.
+pub fn intern_units<H: HeapRef>(
     reader: &mut Reader<H>,
     units: &[u16],
     hashes: &mut [u32],
@@ -78,7 +80,7 @@ pub fn intern_units_seated<H: HeapRef>(
     ensures notes { NotesHash (view_in reader.old) (view_in reader.new) units.now
         (answered (id_in result)) hashes.old hashes.new }
 {
-    intern_units_seated_by::<Brand, _>(reader, units, hashes, Blank::new(1))
+    intern_units_by::<Brand, _>(reader, units, hashes, Blank::new(1))
 }
 
 // The slot that is noted for a string, if one is.

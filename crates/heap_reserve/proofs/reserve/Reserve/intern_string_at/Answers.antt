@@ -1,7 +1,5 @@
-use Rattle.std.proofs.Common.{◌≡◌, ◌∙◌, ℕ, List, subst, sym}
 use Rattle.heap_rule.specs.declared.view.View.{View}
 use Rattle.heap_intern.specs.Headers.{header_plan}
-use Rattle.heap_reserve.specs.Reserves.{HasEnough}
 use Rattle.heap_reserve.proofs.Interned.{answer_own}
 use Rattle.heap_reserve.proofs.Kept.{reserve_kept}
 use Rattle.heap_reserve.proofs.reserve.Reserve.intern_string_at.Goals as goal

@@ -1,9 +1,9 @@
-use Rattle.std.proofs.Common.{◌≡◌, ◌∙◌, ℕ, List, subst, sym}
+use Rattle.std.proofs.Common.{◌≡◌, ◌∙◌, ℕ, List, subst}
 use Rattle.heap_rule.specs.declared.view.View.{View}
 use Rattle.heap_intern.specs.Headers.{header_plan}
 use Rattle.heap_reserve.specs.Interning.{IsOffered}
 use Rattle.heap_reserve.specs.Reserves.{IsTakenFrom}
-use Rattle.heap_reserve.proofs.Interned.{offered_given, taken_from}
+use Rattle.heap_reserve.proofs.Interned.{taken_from}
 use Rattle.heap_reserve.proofs.Kept.{reserve_taken}
 use Rattle.heap_reserve.proofs.reserve.Reserve.intern_string_with.Goals as goal
 

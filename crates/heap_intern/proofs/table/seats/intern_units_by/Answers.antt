@@ -7,7 +7,7 @@ use Rattle.heap_intern.specs.SlotLoads.{answered}
 use Rattle.heap_intern.proofs.Again.{found_again}
 use Rattle.heap_intern.proofs.Loading.{slots_few}
 use Rattle.heap_intern.proofs.Seats.{seated_all}
-use Rattle.heap_intern.proofs.table.seats.intern_units_seated_by.Goals as goal
+use Rattle.heap_intern.proofs.table.seats.intern_units_by.Goals as goal
 
 pub probe-requires-clause-wanted : goal.probe-requires-clause-wanted
 probe-requires-clause-wanted g c = (c.args.units.now, (refl, c.requires.short))
