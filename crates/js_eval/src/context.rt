@@ -1,5 +1,5 @@
 // What expressions read and statements change.
-ghost use Rattle.std.specs.Prelude.{◌≡◌, ◌∷◌, IfOk, IfErr, IfSome, OnOk, MatchOption, Some, None, option_map, List, ℕ};
+ghost use Rattle.std.specs.Prelude.{◌≡◌, ◌∷◌, [], IfOk, IfErr, IfSome, OnOk, MatchOption, Some, None, option_map, List, ℕ};
 ghost use Rattle.eval_scopes.specs.Bindings.{meant, declared, entered, turned, outer};
 ghost use Rattle.eval_scopes.specs.Seen.{IsPlaceIn, IsPlace};
 ghost use Rattle.js_item.specs.Seen.{seen};
@@ -15,12 +15,30 @@ use eval_tree::{Name, Names};
 use eval_values::{Kind, Stop, Value};
 use js_store::{StoreFault, Strings};
 use std::alloc::Global;
+use std::cell::Cell;
 
 /// The interned literals of the script, and its scope (ECMA-262, "Execution Contexts").
 #[derive(Drop)]
 pub struct Context<'a, R> {
     pub literals: Vec<R>,
     pub scope: Scope<'a, Value<R>>,
+    // the room of a list of arguments that is done with; contracts don't see what is in it
+    pub spare: Cell<Vec<Value<R>>>,
+}
+
+/// An empty list, in the room that a call before left.
+pub fn empty_list<R: Copy>(alloc: Global, context: &Context<R>) -> Vec<Value<R>>
+    ensures { result.items ≡ [] }
+{
+    let mut room = context.spare.replace(Vec::new(alloc));
+    room.clear();
+    room
+}
+
+/// The values of a list are let go, and its room is kept for the next call.
+pub fn keep_room<R: Copy>(context: &Context<R>, mut list: Vec<Value<R>>) {
+    list.clear();
+    context.spare.set(list);
 }
 
 /// The value of a name, where it is in the scope.

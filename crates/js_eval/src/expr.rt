@@ -14,7 +14,7 @@ ghost use Rattle.js_item.specs.Fine.{IsFine, FineFields, strings_of};
 ghost use Rattle.js_eval.specs.Seen.{ContextFine, context_bindings, scope_of};
 ghost use Rattle.eval_values.specs.Does.{GivesValue, GivesValues};
 
-use crate::context::{Context, look_up, read};
+use crate::context::{Context, empty_list, keep_room, look_up, read};
 use crate::literals::read_literal;
 use crate::object::{bounded, intern_key, put};
 use crate::operators::{apply, is_decided, is_true};
@@ -181,7 +181,9 @@ fn builtin<S: Strings>(
         (scope_of (S.state store.old) S.number context.now)) }
 {
     let values = exprs(alloc, store, context, args)?;
-    call_builtin(alloc, store, at, which, &values)
+    let result = call_builtin(alloc, store, at, which, &values);
+    keep_room(context, values);
+    result
 }
 
 // An object literal.
@@ -445,7 +447,9 @@ fn one_step<S: Strings>(
         PostStep::Call { at, method, args } => {
             present(store, value)?;
             let values = exprs(alloc, store, context, args)?;
-            call(alloc, store, *at, *method, value, &values)
+            let result = call(alloc, store, *at, *method, value, &values);
+            keep_room(context, values);
+            result
         }
         PostStep::Index { at, index } => match at_hand(store, context, index) {
             Some(index) => read_index(alloc, store, *at, value, index),
@@ -472,7 +476,7 @@ pub fn exprs<S: Strings>(
     ensures did { GivesValues S.number (S.state store.old) (S.state store.new) result
         (exprs_out (exprs_tree list.now) (scope_of (S.state store.old) S.number context.now)) }
 {
-    let mut values = Vec::new(alloc);
+    let mut values = empty_list(alloc, context);
     for e in list {
         let value = expr(alloc, store, context, e)?;
         push(&mut values, value)?;

@@ -20,7 +20,9 @@ ghost use Rattle.js_eval.specs.Expression.{expr_out};
 ghost use Rattle.js_number.specs.declared.Num.TheVariants.{Int};
 ghost use Rattle.js_eval.specs.Evaluates.{Evaluates};
 
-use crate::context::{Context, assign, assign_at, declare, enter, enter_turn, leave, read_at};
+use crate::context::{
+    Context, assign, assign_at, declare, enter, enter_turn, keep_room, leave, read_at,
+};
 use crate::ending::End;
 use crate::env::Env;
 use crate::expr::{expr, exprs};
@@ -34,6 +36,7 @@ use js_json::Lines;
 use js_number::Num;
 use js_store::{StoreFault, Strings};
 use std::alloc::Global;
+use std::cell::Cell;
 use std::mem;
 
 /// Runs a script over a store, from the bindings of `env`: its literals are interned in the order
@@ -86,6 +89,7 @@ fn run<S: Strings>(
             blocks: Blocks::new(alloc),
             top: mem::replace(&mut env.top, BindingList::new(alloc)),
         },
+        spare: Cell::new(Vec::new(alloc)),
     };
     let result = statements(alloc, store, &mut context, lines, &script.body);
     let scope = context.scope;
@@ -469,7 +473,9 @@ fn print<S: Strings>(
         (stmt_flow (Tree.print (exprs_tree args.now)) (scope_of (S.state store.old) S.number context.now)) }
 {
     let values = exprs(alloc, store, context, args)?;
-    print_values(alloc, store, lines, &values)
+    let result = print_values(alloc, store, lines, &values);
+    keep_room(context, values);
+    result
 }
 
 fn print_values<S: Strings>(

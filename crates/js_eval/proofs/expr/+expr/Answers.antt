@@ -66,17 +66,17 @@ builtin-returns-in_err-values-clause-did g t c =
 
 pub builtin-returns-clause-context : goal.builtin-returns-clause-context
 builtin-returns-clause-context g t c =
-    context_fine_still (g.S.Strings.state c.exprs.new.store) (g.S.Strings.state c.call_builtin.new.store) g.S.Strings.number
-    c.call_builtin.ensures.grows c.args.context.now c.in_ok-values.ensures.context
+    context_fine_still (g.S.Strings.state c.exprs.new.store) (g.S.Strings.state c.call_builtin-result.new.store) g.S.Strings.number
+    c.call_builtin-result.ensures.grows c.args.context.now c.in_ok-values.ensures.context
 
 pub builtin-returns-clause-did : goal.builtin-returns-clause-did
 builtin-returns-clause-did g t c =
     let state = g.S.Strings.state in
     let i = c.in_ok-values.ensures.did in
-    let k = c.call_builtin.ensures.did in
+    let k = c.call_builtin-result.ensures.did in
     let e = c.deref.ensures.value in
-    (builtin_does g.S.Strings.number (state c.args.store.now) (state c.exprs.new.store) (state c.call_builtin.new.store)
-    c.in_ok-values.values c.call_builtin.result c.args.at c.args.which (exprs_tree c.args.args.now) c.args.context.now
+    (builtin_does g.S.Strings.number (state c.args.store.now) (state c.exprs.new.store) (state c.call_builtin-result.new.store)
+    c.in_ok-values.values c.call_builtin-result.result c.args.at c.args.which (exprs_tree c.args.args.now) c.args.context.now
     c.in_ok-values.ensures.grows i (rw e at k))
 
 pub links-returns-in_err-value-clause-did : goal.links-returns-in_err-value-clause-did
@@ -263,7 +263,7 @@ pub exprs-loop-e-init : goal.exprs-loop-e-init
 exprs-loop-e-init g t c =
     let number = g.S.Strings.number in
     let a = g.S.Strings.state c.args.store.now in
-    let e = c.new-values.ensures.items in
+    let e = c.empty_list-values.ensures in
     record {
       grows = grows_refl a;
       context = c.requires;
@@ -350,7 +350,7 @@ one_step-returns-in_err-values-in-Call-clause-did g t c =
 
 pub one_step-returns-in_ok-values-in-Call-clause-context : goal.one_step-returns-in_ok-values-in-Call-clause-context
 one_step-returns-in_ok-values-in-Call-clause-context g t c =
-    context_fine_still (g.S.Strings.state c.exprs.new.store) (g.S.Strings.state c.call.new.store) g.S.Strings.number c.call.ensures.grows c.args.context.now c.in_ok-values-in-Call.ensures.context
+    context_fine_still (g.S.Strings.state c.exprs.new.store) (g.S.Strings.state c.call-result.new.store) g.S.Strings.number c.call-result.ensures.grows c.args.context.now c.in_ok-values-in-Call.ensures.context
 
 pub one_step-returns-in_ok-values-in-Call-clause-did : goal.one_step-returns-in_ok-values-in-Call-clause-did
 one_step-returns-in_ok-values-in-Call-clause-did g t c =
@@ -358,10 +358,10 @@ one_step-returns-in_ok-values-in-Call-clause-did g t c =
     let e = c.deref.ensures.value in
     let f = c.deref-in-Call.ensures.value in
     let d = c.in_ok-values-in-Call.ensures.did in
-    let k = c.call.ensures.did in
+    let k = c.call-result.ensures.did in
     rw (c.in-Call.is, tree_of_call c.in-Call.at c.in-Call.method c.in-Call.args)
-    (call_does g.S.Strings.number (state c.args.store.now) (state c.exprs.new.store) (state c.call.new.store) c.args.value.now
-    c.in_ok-values-in-Call.values c.call.result c.in-Call.at c.in-Call.method (exprs_tree c.in-Call.args.items) c.args.context.now
+    (call_does g.S.Strings.number (state c.args.store.now) (state c.exprs.new.store) (state c.call-result.new.store) c.args.value.now
+    c.in_ok-values-in-Call.values c.call-result.result c.in-Call.at c.in-Call.method (exprs_tree c.in-Call.args.items) c.args.context.now
     c.in_ok-values-in-Call.ensures.grows c.requires.value c.in_ok-present-in-Call.ensures (rw e at d) (rw f at k))
 
 pub one_step-returns-in_err-index-in-None-clause-did : goal.one_step-returns-in_err-index-in-None-clause-did
@@ -456,7 +456,7 @@ expr-returns-in-Number-clause-did g t c =
     rw (c.in-Number.is, tree_of_number c.in-Number.value) (written_does g.S.Strings.number (g.S.Strings.state c.args.store.now) c.number_value.result c.in-Number.value c.number_value.ensures)
 
 pub builtin-returns-clause-grows : goal.builtin-returns-clause-grows
-builtin-returns-clause-grows g t c = grows_trans c.in_ok-values.ensures.grows c.call_builtin.ensures.grows
+builtin-returns-clause-grows g t c = grows_trans c.in_ok-values.ensures.grows c.call_builtin-result.ensures.grows
 
 pub one_link-apply-requires-clause-left : goal.one_link-apply-requires-clause-left
 one_link-apply-requires-clause-left g t c =
@@ -635,12 +635,12 @@ pub one_step-returns-in-Description-clause-context : goal.one_step-returns-in-De
 one_step-returns-in-Description-clause-context g t c =
     context_fine_still (g.S.Strings.state c.args.store.now) (g.S.Strings.state c.read_description.new.store) g.S.Strings.number c.read_description.ensures.grows c.args.context.now c.requires.context
 
-pub one_step-call-requires-clause-fine : goal.one_step-call-requires-clause-fine
-one_step-call-requires-clause-fine g t c =
+pub one_step-call-result-requires-clause-fine : goal.one_step-call-result-requires-clause-fine
+one_step-call-result-requires-clause-fine g t c =
     fine_still (g.S.Strings.state c.args.store.now) (g.S.Strings.state c.exprs.new.store) g.S.Strings.number c.in_ok-values-in-Call.ensures.grows c.args.value.now c.requires.value
 
 pub one_step-returns-in_ok-values-in-Call-clause-grows : goal.one_step-returns-in_ok-values-in-Call-clause-grows
-one_step-returns-in_ok-values-in-Call-clause-grows g t c = grows_trans c.in_ok-values-in-Call.ensures.grows c.call.ensures.grows
+one_step-returns-in_ok-values-in-Call-clause-grows g t c = grows_trans c.in_ok-values-in-Call.ensures.grows c.call-result.ensures.grows
 
 pub one_step-read_index-requires-in-None-clause-value : goal.one_step-read_index-requires-in-None-clause-value
 one_step-read_index-requires-in-None-clause-value g t c =

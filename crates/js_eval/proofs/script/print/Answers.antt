@@ -15,15 +15,15 @@ returns-in_err-values-clause-went g c =
 
 pub returns-clause-context : goal.returns-clause-context
 returns-clause-context g c =
-    context_fine_still (g.S.Strings.state c.exprs.new.store) (g.S.Strings.state c.print_values.new.store) g.S.Strings.number
-    c.print_values.ensures.grows c.args.context.now c.in_ok-values.ensures.context
+    context_fine_still (g.S.Strings.state c.exprs.new.store) (g.S.Strings.state c.print_values-result.new.store) g.S.Strings.number
+    c.print_values-result.ensures.grows c.args.context.now c.in_ok-values.ensures.context
 
 pub returns-clause-went : goal.returns-clause-went
 returns-clause-went g c =
     let state = g.S.Strings.state in
     let d = c.deref.ensures.value in
     let e = c.in_ok-values.ensures in
-    let w = c.print_values.ensures.went in
+    let w = c.print_values-result.ensures.went in
     print_went g.S.Strings.number (state c.args.store.now) (state c.exprs.new.store) c.args.lines.now (exprs_tree c.args.args.now)
-    c.args.context.now e.grows c.requires (state c.print_values.new.store) c.print_values.new.lines c.in_ok-values.values
-    c.print_values.result (grows_trans e.grows c.print_values.ensures.grows) e.did (rw d at w)
+    c.args.context.now e.grows c.requires (state c.print_values-result.new.store) c.print_values-result.new.lines c.in_ok-values.values
+    c.print_values-result.result (grows_trans e.grows c.print_values-result.ensures.grows) e.did (rw d at w)

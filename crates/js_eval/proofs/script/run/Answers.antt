@@ -1,5 +1,6 @@
 use Rattle.std.proofs.Common.{◌≡◌, ◌∙◌, [], ap}
 use Rattle.std.proofs.lemmas.Result.{err_from_is_err_and}
+use Rattle.js_store.proofs.Laws.{grows_trans}
 use Rattle.eval_tree.specs.Tree.{tree_of}
 use Rattle.eval_scopes.specs.Seen.{bounds_of, blocks_of}
 use Rattle.js_eval.specs.Seen.{context_bindings}
@@ -26,6 +27,9 @@ statements-result-requires g c =
     c.in_ok-literals.ensures.grows (bounds_of c.args.env.now) c.requires in
     record { literals = c.in_ok-literals.ensures.known; bindings = record { blocks = rw c.new.ensures tt; top = rw (c.replace.ensures.value, c.env.view_is) kept } }
 
+pub returns-clause-grows : goal.returns-clause-grows
+returns-clause-grows g c = grows_trans c.in_ok-literals.ensures.grows c.statements-result.ensures.grows
+
 pub returns-clause-went : goal.returns-clause-went
 returns-clause-went g c =
     let state = g.S.Strings.state in
@@ -42,5 +46,5 @@ returns-clause-went g c =
     } = cc (none, ap bounds_of (c.replace.ensures.value ∙ c.env.view_is)) in
     script_went number (state c.args.store.now) (state c.intern_literals.new.store) c.args.lines.now (bounds_of c.args.env.now)
     (tree_of c.args.script.now) c.in_ok-literals.ensures.grows c.requires (state r.new.store) r.new.lines
-    (record { literals = c.in_ok-literals.literals; scope = record { blocks = c.new.result; top = c.replace.result } }) r.result
+    (record { literals = c.in_ok-literals.literals; scope = record { blocks = c.new.result; top = c.replace.result }; spare = c.new-4.result }) r.result
     (context_bindings (state r.new.store) number r.new.context) begun (rw e at d) (rw q at w)
