@@ -2,7 +2,8 @@
 
 A reference is code in a document. `CRATE/src/FILE.rt: FUNCTION, CLAUSE, ..` names clauses of one function's contract,
 and `; ` begins the next function of that file. Without a clause it says that the function has a contract. `pub` in place
-of a function is each public one with a contract, and CRATE/src alone is each file of the crate.
+of a function is each public one with a contract, `checked` each that has an unchecked form beside it, and CRATE/src alone
+is each file of the crate.
 `CRATE/specs/FILE.antt: NAME, ..` names definitions, or a law in CRATE/proofs.
 """
 
@@ -37,7 +38,8 @@ def contracts(text):
 
 def named(all_contracts, name):
     """The contracts that a reference means: of several functions with one name the public ones, if there are any."""
-    same = [it for it in all_contracts if name in (it.name, "pub")]
+    names = {it.name for it in all_contracts}
+    same = [it for it in all_contracts if name in (it.name, "pub") or name == "checked" and f"{it.name}_unchecked" in names]
     public = [it for it in same if it.is_public]
     return public or [it for it in same if name != "pub"]
 

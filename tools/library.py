@@ -1,5 +1,6 @@
 """The heap for C as one archive, proved and built, and where it is put."""
 
+import glob
 import os
 import subprocess
 import sys
@@ -10,29 +11,35 @@ import checkout
 import installing
 import stated_times
 
-CRATE = checkout.crate("jsstr_c")
+# Each of these has exports of its own, as a static library.
+PARTS = ("jsstr_c", "c_reads", "c_bulk")
 
 
 def prove():
-    """Proves the crate with those below it, and builds its library."""
+    """Proves the parts with the crates below them, and builds their libraries."""
     checkout.need_rt("the library")
-    checkout.tell(f"proving crates/jsstr_c and the crates below it; from nothing that takes about {stated_times.stated('--library')}")
-    if subprocess.call(["rt", "lib", "--jobs", "1"], cwd=CRATE, stdout=sys.stderr):
-        checkout.stop("crates/jsstr_c isn't proved, as rt says above, so nothing is built")
+    checkout.tell(f"proving {', '.join(PARTS)} and the crates below them; from nothing that takes about {stated_times.stated('--library')}")
+    for it in PARTS:
+        if subprocess.call(["rt", "lib", "--jobs", "1"], cwd=checkout.crate(it), stdout=sys.stderr):
+            checkout.stop(f"crates/{it} isn't proved, as rt says above, so nothing is built")
 
 
 def archive():
-    """The bytes of one archive: the library, and the toolchain's calls of malloc, realloc and free."""
+    """The bytes of one archive: the parts, and the toolchain's calls of malloc, realloc and free."""
     ar, kit = os.environ.get("AR", "ar"), os.path.dirname(checkout.answer_of("rt", "doc"))
-    with tempfile.TemporaryDirectory() as parts:
+    built_parts = [os.path.join(checkout.crate(it), "out", f"lib{it}.a") for it in PARTS]
+    with tempfile.TemporaryDirectory() as room:
         try:
-            for it in (os.path.join(CRATE, "out", "libjsstr_c.a"), os.path.join(kit, "c", "liblibc_c.a")):
-                subprocess.run([ar, "x", it], cwd=parts, check=True)
-            whole = sorted(it for it in os.listdir(parts) if it.endswith(".o"))
-            subprocess.run([ar, "rcsD", "libjsstr.a", *whole], cwd=parts, check=True)
+            for number, it in enumerate((*built_parts, os.path.join(kit, "c", "liblibc_c.a"))):
+                folder = os.path.join(room, str(number))
+                os.mkdir(folder)
+                subprocess.run([ar, "x", it], cwd=folder, check=True)
+            # An archive has one object of a name.
+            objects = {os.path.basename(it): it for it in sorted(glob.glob(f"{room}/*/*.o"))}
+            subprocess.run([ar, "rcsD", "libjsstr.a", *(objects[it] for it in sorted(objects))], cwd=room, check=True)
         except (OSError, subprocess.CalledProcessError) as fault:
             checkout.stop(f"the archive can't be made: {fault}")
-        return installing.read(parts, "libjsstr.a")
+        return installing.read(room, "libjsstr.a")
 
 
 def files():

@@ -141,7 +141,7 @@ def libraries(house):
     status, out, err = house.call("--library", "out/lib")
     check("the library is installed", (status, out, below(to)) == (0, "", sorted([*LIBRARY, "share/jsstr/installed"])), err + str(below(to)))
     parts = subprocess.run(["ar", "t", f"{to}/lib/libjsstr.a"], capture_output=True, text=True, check=True).stdout.split()
-    check("as one archive", parts == ["heap.o", "malloc.o"], str(parts))
+    check("as one archive", parts == ["c_bulk.o", "c_reads.o", "jsstr_c.o", "malloc.o"], str(parts))
     said = said_in(f"{to}/share/jsstr/library.proved")
     check("with its record", said["sha256"] == sum_of(f"{to}/lib/libjsstr.a") and said["kit"] == "rattle-kit-0", str(said))
     if shutil.which("pkg-config"):

@@ -1,16 +1,21 @@
-//! The heap of strings for C: each export is a call of `heap_agents`, or a step of `c_steps`, and states its
-//! clauses again. Each call is there twice: [`checked`] tests the condition first, and answers
-//! `JSSTR_BAD_ARGUMENT` where it fails; [`unchecked`], whose names end so, leaves it to the caller. Those of
-//! [`building`] have no condition.
+//! The heap of strings for C: how heaps, agents and strings are made, joined, cut, settled, interned and
+//! compared. `c_reads` and `c_bulk` have the other exports, and one archive has all.
+//!
+//! Each export is a call of `heap_agents`, or a step of `c_steps`, and states its clauses again. Each call is
+//! there twice. The first form leaves its conditions to the caller, and its name ends in `_unchecked`. The
+//! other one tests them, and answers `JSSTR_BAD_ARGUMENT` where one fails; its caller owes a handle that the
+//! library wrote, and nothing else.
 //!
 //! C holds an agent by a handle, [`c_handles::JsAgent`], with a pointer; behind it are the agent, a counted
 //! reference to its heap, so that the heap goes with the last handle, and the marks of the strings that
 //! the agent may use. A string is its number. What a call answers is a [`c_steps::JsAnswer`]: a status,
-//! with the string or with the report. A text that is built up has another handle, [`c_steps::JsBuilder`].
+//! with the string or with the report.
 #![tactic(auto)]
 
-mod building;
-mod checked;
-mod unchecked;
+mod comparing;
+mod life;
+mod making;
+mod table;
+mod units;
 mod uses;
 mod version;

@@ -1,0 +1,57 @@
+// Many lists of units that C gives, interned in one call.
+ghost use Rattle.std.specs.Prelude.{◌≢◌, length, ◌≡◌, ◌↔◌};
+ghost use Rattle.heap_agents.specs.Ready.{IsReady};
+ghost use Rattle.c_handles.specs.Handles.{IsHandle};
+ghost use Rattle.c_steps.specs.Batches.{AreLists, InternsMany};
+ghost use Rattle.c_steps.specs.Reports as reports;
+
+use c_handles::JsAgent;
+use c_steps::{JsAnswer, are_lists, bad_argument, of_batch};
+use std::alloc::Global;
+
+/// The one string of the table for each of many lists of units, in turn, up to the first one that is refused.
+/// The lists lie one behind another; `ends` has where each ends.
+#[unsafe(no_mangle)]
+pub extern "C" fn jsstr_intern_many_unchecked(
+    alloc: Global,
+    agent: &mut JsAgent,
+    units: &[u16],
+    ends: &[u32],
+    ids: &mut [u32],
+) -> JsAnswer
+    requires ready { IsReady agent.old.at.value }
+    requires lists { AreLists (length units.now) ends.now (length ids.old) }
+    ensures handle { IsHandle agent.new }
+    ensures told { result.status ≢ reports.BAD_ARGUMENT }
+    ensures interns { InternsMany agent.old.at.value agent.new.at.value units.now ends.now ids.old ids.new
+        result }
+{
+    let mut held = agent.take(alloc);
+    let batch = held.intern_many(units, ends, ids);
+    agent.put(held);
+    of_batch(batch)
+}
+
+/// The same, with its conditions tested.
+#[unsafe(no_mangle)]
+pub extern "C" fn jsstr_intern_many(
+    alloc: Global,
+    agent: &mut JsAgent,
+    units: &[u16],
+    ends: &[u32],
+    ids: &mut [u32],
+) -> JsAnswer
+    requires { IsHandle agent.old }
+    ensures handle { IsHandle agent.new }
+    ensures bad { result.status ≡ reports.BAD_ARGUMENT
+        ↔ ¬ (IsReady agent.old.at.value × AreLists (length units.now) ends.now (length ids.old)) }
+    ensures unchanged { result.status ≡ reports.BAD_ARGUMENT → (result ≡ reports.bad_argument)
+        × (agent.new.at.value ≡ agent.old.at.value) × (ids.new ≡ ids.old) }
+    ensures interns { result.status ≢ reports.BAD_ARGUMENT
+        → InternsMany agent.old.at.value agent.new.at.value units.now ends.now ids.old ids.new result }
+{
+    if agent.is_empty() || !are_lists(units.len(), ends, ids.len()) {
+        return bad_argument();
+    }
+    jsstr_intern_many_unchecked(alloc, agent, units, ends, ids)
+}

@@ -1,0 +1,15 @@
+use Rattle.std.proofs.Common.{◌∙◌, ap, sym, arith}
+use Rattle.c_steps.specs.declared.answer.JsNumber.{JsNumber}
+use Rattle.c_steps.specs.Reports.{no_number}
+use Rattle.c_steps.proofs.Stages.{goes_on, stops}
+use Rattle.c_reads.proofs.reading.jsstr_array_index.Goals as goal
+
+pub returns-then-settled-ne-DONE-clause-reads : goal.returns-then-settled-ne-DONE-clause-reads
+returns-then-settled-ne-DONE-clause-reads c = let first = c.settle_known-settled in let is = c.without_number.ensures in let e = ap (λ (x : JsNumber). x.status) is in
+    stops c.args.agent.now.at.value first.new.agent.at.value c.args.s first.result first.ensures.settles _ _ _ e c.if-settled-ne-DONE.true (is ∙ ap no_number (sym e))
+
+pub returns-clause-reads : goal.returns-clause-reads
+returns-clause-reads c = let first = c.settle_known-settled in let two = c.jsstr_array_index_unchecked in let n = c.if-settled-ne-DONE.false in
+    goes_on c.args.agent.now.at.value first.new.agent.at.value c.args.s first.result first.ensures.settles two.new.agent.at.value _ _ _
+    (omega (arith, n)) two.ensures.looks (two.ensures.told) (two.ensures.words)
+    (two.ensures.index)

@@ -1,0 +1,17 @@
+use Rattle.std.proofs.Common.{◌≡◌, ◌∙◌, ap, sym, arith}
+use Rattle.std.proofs.Common.{refl}
+use Rattle.c_steps.specs.declared.answer.JsWords.{JsWords}
+use Rattle.c_steps.specs.Reports.{no_words}
+use Rattle.c_steps.proofs.Stages.{goes_on, stops}
+use Rattle.c_reads.proofs.reading.jsstr_window.Goals as goal
+
+pub returns-then-settled-ne-DONE-clause-reads : goal.returns-then-settled-ne-DONE-clause-reads
+returns-then-settled-ne-DONE-clause-reads c = let first = c.settle_known-settled in let is = c.without_words.ensures in let e = ap (λ (x : JsWords). x.status) is in
+    stops c.args.agent.now.at.value first.new.agent.at.value c.args.s first.result first.ensures.settles _ _ _ e c.if-settled-ne-DONE.true ((is ∙ ap no_words (sym e), refl))
+
+pub returns-clause-reads : goal.returns-clause-reads
+returns-clause-reads c = let first = c.settle_known-settled in let two = c.jsstr_window_unchecked in let n = c.if-settled-ne-DONE.false in
+    goes_on c.args.agent.now.at.value first.new.agent.at.value c.args.s first.result first.ensures.settles two.new.agent.at.value _ _ _
+    (omega (arith, n)) two.ensures.looks (λ (x : two.result.status ≡ 9). absurd (omega (arith, x, two.ensures.told)))
+    (λ (x : two.result.status ≡ 4). absurd (omega (arith, x, two.ensures.told)))
+    (λ us h. (two.ensures.told, two.ensures.shown us h, two.ensures.there us h))

@@ -1,0 +1,28 @@
+use Rattle.std.proofs.Common.{ℕ, Option, subst, sym, ap, ◌≡◌}
+use Rattle.heap_rule.specs.Maps.{Has}
+use Rattle.heap_agents.specs.declared.held.Held.{Held}
+use Rattle.heap_agents.specs.declared.words.Shown.{Shown}
+use Rattle.heap_agents.specs.Held.{view_by}
+use Rattle.heap_agents.specs.Ready.{handle_view}
+use Rattle.heap_agents.specs.Words.{AreShown, AreThere}
+use Rattle.c_steps.specs.Reports.{shown_by}
+use Rattle.c_reads.proofs.reading.jsstr_window_unchecked.Goals as goal
+
+pub returns-clause-shown : goal.returns-clause-shown
+returns-clause-shown c us h =
+    let s : ℕ = c.args.s in
+    let call = c.window-shown in
+    let has = subst (λ (o : Option Held). Has (handle_view o).units s us) c.take-held.ensures.taken h in
+    let is : shown_by c.of_words.result ≡ call.result = ap shown_by c.of_words.ensures in
+    subst (λ (r : Shown). AreShown us c.args.at c.args.out.now call.new.into r) (sym is)
+    (call.ensures.shown us (subst (λ (x : Held). Has (view_by x).units s us) (sym c.deref_mut.ensures.value) has))
+
+pub returns-clause-there : goal.returns-clause-there
+returns-clause-there c us h =
+    let s : ℕ = c.args.s in
+    let call = c.window-shown in
+    let has = subst (λ (o : Option Held). Has (handle_view o).units s us) c.take-held.ensures.taken h in
+    let is : shown_by c.of_words.result ≡ call.result = ap shown_by c.of_words.ensures in
+    let there = call.ensures.there us (subst (λ (x : Held). Has (view_by x).units s us) (sym c.deref_mut.ensures.value) has) in
+    subst (λ (o : Option Held). AreThere (handle_view o) us (shown_by c.of_words.result)) (sym c.put.ensures.there)
+    (subst (λ (r : Shown). AreThere (view_by call.new.self) us r) (sym is) there)

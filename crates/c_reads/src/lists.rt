@@ -1,0 +1,307 @@
+// Strings compared with units, and with bytes.
+ghost use Rattle.std.specs.Prelude.{◌≡◌, ◌≢◌, ◌↔◌, ◌≤◌, ℕ, List, length, IsTrue};
+ghost use Rattle.js_search.specs.Order.{units_cmp};
+ghost use Rattle.heap_rule.specs.Layout.{MAX};
+ghost use Rattle.heap_rule.specs.Maps.{Has, HasKey};
+ghost use Rattle.heap_rule.specs.Views.{IsSeenSettled};
+ghost use Rattle.heap_agents.specs.Ready.{IsReady, handle_view, HandleKnows};
+ghost use Rattle.c_handles.specs.Handles.{IsHandle};
+ghost use Rattle.c_steps.specs.Checked.{OnlyLooks};
+ghost use Rattle.c_steps.specs.Lists.{OnSpelled, SaysOrder, SaysSame, ComparesUnits, OrdersUnits};
+ghost use Rattle.c_steps.specs.Reports.{no_order, no_truth, order_number};
+ghost use Rattle.c_steps.specs.Reports as reports;
+
+use c_handles::JsAgent;
+use c_steps::{
+    BAD_ARGUMENT, DONE, JsOrder, JsTruth, NOT_UTF8, compare_spelled, equals_spelled, has_spelled,
+    left, not_utf8, of_order, order_spelled, settle_known, without_order, without_truth,
+};
+use heap_bytes::{Encoding, Spelling};
+use heap_rule::MAX;
+use heap_text::JsStr;
+use std::alloc::Global;
+
+/// Whether a settled string has just these units.
+#[unsafe(no_mangle)]
+pub extern "C" fn jsstr_equals_units_unchecked(
+    alloc: Global,
+    agent: &mut JsAgent,
+    s: u32,
+    units: &[u16],
+) -> bool
+    requires ready { IsReady agent.old.at.value }
+    requires known { HasKey (handle_view agent.old.at.value).units s }
+    requires settled { IsSeenSettled (handle_view agent.old.at.value) s }
+    ensures handle { IsHandle agent.new }
+    ensures looks { OnlyLooks agent.old.at.value agent.new.at.value }
+    ensures same { (us : List ℕ) → Has (handle_view agent.old.at.value).units s us
+        → IsTrue result ↔ (us ≡ units.now) }
+{
+    let mut held = agent.take(alloc);
+    let answer = held.has_units(JsStr { id: s }, units);
+    agent.put(held);
+    answer
+}
+
+/// The same, with its conditions tested and the string settled first.
+#[unsafe(no_mangle)]
+pub extern "C" fn jsstr_equals_units(
+    alloc: Global,
+    agent: &mut JsAgent,
+    s: u32,
+    units: &[u16],
+) -> JsTruth
+    requires { IsHandle agent.old }
+    ensures handle { IsHandle agent.new }
+    ensures bad { result.status ≡ reports.BAD_ARGUMENT ↔ ¬ (HandleKnows agent.old.at.value s) }
+    ensures compares { ComparesUnits agent.old.at.value agent.new.at.value s units.now result }
+{
+    let settled = settle_known(alloc, agent, s);
+    if settled.status != DONE {
+        return without_truth(settled.status);
+    }
+    let holds = jsstr_equals_units_unchecked(alloc, agent, s, units);
+    JsTruth {
+        status: DONE,
+        holds,
+    }
+}
+
+/// Whether a settled string has just these one-byte units, as Latin-1 is.
+#[unsafe(no_mangle)]
+pub extern "C" fn jsstr_equals_latin1_unchecked(
+    alloc: Global,
+    agent: &mut JsAgent,
+    s: u32,
+    bytes: &[u8],
+) -> bool
+    requires ready { IsReady agent.old.at.value }
+    requires known { HasKey (handle_view agent.old.at.value).units s }
+    requires settled { IsSeenSettled (handle_view agent.old.at.value) s }
+    ensures handle { IsHandle agent.new }
+    ensures looks { OnlyLooks agent.old.at.value agent.new.at.value }
+    ensures same { (us : List ℕ) → Has (handle_view agent.old.at.value).units s us
+        → IsTrue result ↔ (us ≡ bytes.now) }
+{
+    has_spelled(alloc, agent, s, &Spelling::Latin1(bytes))
+}
+
+/// The same, with its conditions tested and the string settled first.
+#[unsafe(no_mangle)]
+pub extern "C" fn jsstr_equals_latin1(
+    alloc: Global,
+    agent: &mut JsAgent,
+    s: u32,
+    bytes: &[u8],
+) -> JsTruth
+    requires { IsHandle agent.old }
+    ensures handle { IsHandle agent.new }
+    ensures bad { result.status ≡ reports.BAD_ARGUMENT ↔ ¬ (HandleKnows agent.old.at.value s) }
+    ensures memory { result.status ≢ reports.NO_MEMORY }
+    ensures compares { ComparesUnits agent.old.at.value agent.new.at.value s bytes.now result }
+{
+    equals_spelled(alloc, agent, s, &Spelling::Latin1(bytes))
+}
+
+/// Whether a settled string has just the units of the text whose UTF-8 these bytes are. Other bytes are
+/// refused before anything is done.
+#[unsafe(no_mangle)]
+pub extern "C" fn jsstr_equals_utf8_unchecked(
+    alloc: Global,
+    agent: &mut JsAgent,
+    s: u32,
+    bytes: &[u8],
+) -> JsTruth
+    requires ready { IsReady agent.old.at.value }
+    requires known { HasKey (handle_view agent.old.at.value).units s }
+    requires settled { IsSeenSettled (handle_view agent.old.at.value) s }
+    requires short { length bytes.now ≤ MAX }
+    ensures handle { IsHandle agent.new }
+    ensures memory { result.status ≢ reports.NO_MEMORY }
+    ensures says { OnSpelled agent.old.at.value agent.new.at.value bytes.now result.status
+        (result ≡ no_truth result.status)
+        (λ vs. SaysSame agent.old.at.value agent.new.at.value s vs result) }
+{
+    match Spelling::read(Encoding::Utf8, bytes) {
+        Ok(spelled) => {
+            let holds = has_spelled(alloc, agent, s, &spelled);
+            JsTruth {
+                status: DONE,
+                holds,
+            }
+        }
+        Err(at) => without_truth(left(alloc, agent, not_utf8(at as u32)).status),
+    }
+}
+
+/// The same, with its conditions tested; where the bytes are UTF-8, the string is settled first.
+#[unsafe(no_mangle)]
+pub extern "C" fn jsstr_equals_utf8(
+    alloc: Global,
+    agent: &mut JsAgent,
+    s: u32,
+    bytes: &[u8],
+) -> JsTruth
+    requires { IsHandle agent.old }
+    ensures handle { IsHandle agent.new }
+    ensures bad { result.status ≡ reports.BAD_ARGUMENT
+        ↔ ¬ (HandleKnows agent.old.at.value s × (length bytes.now ≤ MAX)) }
+    ensures unchanged { result.status ≡ reports.BAD_ARGUMENT
+        → (result ≡ no_truth result.status) × (agent.new.at.value ≡ agent.old.at.value) }
+    ensures memory { result.status ≢ reports.NO_MEMORY }
+    ensures compares { result.status ≢ reports.BAD_ARGUMENT
+        → OnSpelled agent.old.at.value agent.new.at.value bytes.now result.status
+        (result ≡ no_truth result.status)
+        (λ vs. ComparesUnits agent.old.at.value agent.new.at.value s vs result) }
+{
+    if bytes.len() > MAX as usize || !agent.knows(alloc, s) {
+        return without_truth(BAD_ARGUMENT);
+    }
+    match Spelling::read(Encoding::Utf8, bytes) {
+        Ok(spelled) => equals_spelled(alloc, agent, s, &spelled),
+        Err(_) => without_truth(NOT_UTF8),
+    }
+}
+
+/// The order of a settled string and a list by units, where a proper prefix comes first: -1 where the
+/// string comes first, 0 where both have the same units, else 1.
+#[unsafe(no_mangle)]
+pub extern "C" fn jsstr_compare_units_unchecked(
+    alloc: Global,
+    agent: &mut JsAgent,
+    s: u32,
+    units: &[u16],
+) -> i32
+    requires ready { IsReady agent.old.at.value }
+    requires known { HasKey (handle_view agent.old.at.value).units s }
+    requires settled { IsSeenSettled (handle_view agent.old.at.value) s }
+    ensures handle { IsHandle agent.new }
+    ensures looks { OnlyLooks agent.old.at.value agent.new.at.value }
+    ensures order { (us : List ℕ) → Has (handle_view agent.old.at.value).units s us
+        → result ≡ order_number (units_cmp us units.now) }
+{
+    let mut held = agent.take(alloc);
+    let answer = held.compare_units(JsStr { id: s }, units);
+    agent.put(held);
+    of_order(answer)
+}
+
+/// The same, with its conditions tested and the string settled first.
+#[unsafe(no_mangle)]
+pub extern "C" fn jsstr_compare_units(
+    alloc: Global,
+    agent: &mut JsAgent,
+    s: u32,
+    units: &[u16],
+) -> JsOrder
+    requires { IsHandle agent.old }
+    ensures handle { IsHandle agent.new }
+    ensures bad { result.status ≡ reports.BAD_ARGUMENT ↔ ¬ (HandleKnows agent.old.at.value s) }
+    ensures compares { OrdersUnits agent.old.at.value agent.new.at.value s units.now result }
+{
+    let settled = settle_known(alloc, agent, s);
+    if settled.status != DONE {
+        return without_order(settled.status);
+    }
+    let order = jsstr_compare_units_unchecked(alloc, agent, s, units);
+    JsOrder {
+        status: DONE,
+        order,
+    }
+}
+
+/// The order of a settled string and one-byte units, as Latin-1 is.
+#[unsafe(no_mangle)]
+pub extern "C" fn jsstr_compare_latin1_unchecked(
+    alloc: Global,
+    agent: &mut JsAgent,
+    s: u32,
+    bytes: &[u8],
+) -> i32
+    requires ready { IsReady agent.old.at.value }
+    requires known { HasKey (handle_view agent.old.at.value).units s }
+    requires settled { IsSeenSettled (handle_view agent.old.at.value) s }
+    ensures handle { IsHandle agent.new }
+    ensures looks { OnlyLooks agent.old.at.value agent.new.at.value }
+    ensures order { (us : List ℕ) → Has (handle_view agent.old.at.value).units s us
+        → result ≡ order_number (units_cmp us bytes.now) }
+{
+    compare_spelled(alloc, agent, s, &Spelling::Latin1(bytes))
+}
+
+/// The same, with its conditions tested and the string settled first.
+#[unsafe(no_mangle)]
+pub extern "C" fn jsstr_compare_latin1(
+    alloc: Global,
+    agent: &mut JsAgent,
+    s: u32,
+    bytes: &[u8],
+) -> JsOrder
+    requires { IsHandle agent.old }
+    ensures handle { IsHandle agent.new }
+    ensures bad { result.status ≡ reports.BAD_ARGUMENT ↔ ¬ (HandleKnows agent.old.at.value s) }
+    ensures memory { result.status ≢ reports.NO_MEMORY }
+    ensures compares { OrdersUnits agent.old.at.value agent.new.at.value s bytes.now result }
+{
+    order_spelled(alloc, agent, s, &Spelling::Latin1(bytes))
+}
+
+/// The order of a settled string and the units of the text whose UTF-8 these bytes are. Other bytes are
+/// refused before anything is done.
+#[unsafe(no_mangle)]
+pub extern "C" fn jsstr_compare_utf8_unchecked(
+    alloc: Global,
+    agent: &mut JsAgent,
+    s: u32,
+    bytes: &[u8],
+) -> JsOrder
+    requires ready { IsReady agent.old.at.value }
+    requires known { HasKey (handle_view agent.old.at.value).units s }
+    requires settled { IsSeenSettled (handle_view agent.old.at.value) s }
+    requires short { length bytes.now ≤ MAX }
+    ensures handle { IsHandle agent.new }
+    ensures memory { result.status ≢ reports.NO_MEMORY }
+    ensures says { OnSpelled agent.old.at.value agent.new.at.value bytes.now result.status
+        (result ≡ no_order result.status)
+        (λ vs. SaysOrder agent.old.at.value agent.new.at.value s vs result) }
+{
+    match Spelling::read(Encoding::Utf8, bytes) {
+        Ok(spelled) => {
+            let order = compare_spelled(alloc, agent, s, &spelled);
+            JsOrder {
+                status: DONE,
+                order,
+            }
+        }
+        Err(at) => without_order(left(alloc, agent, not_utf8(at as u32)).status),
+    }
+}
+
+/// The same, with its conditions tested; where the bytes are UTF-8, the string is settled first.
+#[unsafe(no_mangle)]
+pub extern "C" fn jsstr_compare_utf8(
+    alloc: Global,
+    agent: &mut JsAgent,
+    s: u32,
+    bytes: &[u8],
+) -> JsOrder
+    requires { IsHandle agent.old }
+    ensures handle { IsHandle agent.new }
+    ensures bad { result.status ≡ reports.BAD_ARGUMENT
+        ↔ ¬ (HandleKnows agent.old.at.value s × (length bytes.now ≤ MAX)) }
+    ensures unchanged { result.status ≡ reports.BAD_ARGUMENT
+        → (result ≡ no_order result.status) × (agent.new.at.value ≡ agent.old.at.value) }
+    ensures memory { result.status ≢ reports.NO_MEMORY }
+    ensures compares { result.status ≢ reports.BAD_ARGUMENT
+        → OnSpelled agent.old.at.value agent.new.at.value bytes.now result.status
+        (result ≡ no_order result.status)
+        (λ vs. OrdersUnits agent.old.at.value agent.new.at.value s vs result) }
+{
+    if bytes.len() > MAX as usize || !agent.knows(alloc, s) {
+        return without_order(BAD_ARGUMENT);
+    }
+    match Spelling::read(Encoding::Utf8, bytes) {
+        Ok(spelled) => order_spelled(alloc, agent, s, &spelled),
+        Err(_) => without_order(NOT_UTF8),
+    }
+}

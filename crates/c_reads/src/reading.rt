@@ -1,0 +1,462 @@
+// Reading strings: lengths, units, words and bytes, hashes, array indexes.
+ghost use Rattle.std.specs.Prelude.{◌≡◌, ◌≢◌, ℕ, ◌+◌, ◌≤◌, List, length, slice_range, ◌↔◌, Option, ◌<◌, slice_index, IsTrue, None, Some};
+ghost use Rattle.js_units.specs.Lanes.{hash_of};
+ghost use Rattle.js_header.specs.declared.form.Form as form;
+ghost use Rattle.heap_rule.specs.Maps.{Has, HasKey};
+ghost use Rattle.heap_rule.specs.Views.{IsSeenSettled};
+ghost use Rattle.heap_rule.specs.Forms.{IsCons};
+ghost use Rattle.heap_export.specs.Index.{IsArrayIndex};
+ghost use Rattle.heap_export.specs.Encoded.{bytes_of, past_latin1, refused};
+ghost use Rattle.heap_agents.specs.Ready.{IsReady, handle_view, HandleKnows};
+ghost use Rattle.heap_agents.specs.Words.{AreShown, AreThere};
+ghost use Rattle.c_handles.specs.Handles.{IsHandle};
+ghost use Rattle.c_steps.specs.Checked.{ReadsLength, OnlyLooks, ReachesLength, ReadsSettled};
+ghost use Rattle.c_steps.specs.Reports.{shown_by, number_answer, no_words, no_number, no_truth};
+ghost use Rattle.c_steps.specs.Bytes.{IsGiven, unpaired_by, no_bytes};
+ghost use Rattle.c_steps.specs.Reports as reports;
+
+use c_handles::JsAgent;
+use c_steps::{
+    BAD_ARGUMENT, DONE, JsBytes, JsNumber, JsTruth, JsWords, length_of, of_bytes, of_number,
+    of_words, read_into, settle_known, settle_reaching, unpaired_by, without_bytes, without_number,
+    without_truth, without_words,
+};
+use heap_text::JsStr;
+use std::alloc::Global;
+
+/// The length of a string, in units.
+#[unsafe(no_mangle)]
+pub extern "C" fn jsstr_length_unchecked(alloc: Global, agent: &mut JsAgent, s: u32) -> u32
+    requires ready { IsReady agent.old.at.value }
+    requires known { HasKey (handle_view agent.old.at.value).units s }
+    ensures handle { IsHandle agent.new }
+    ensures measures { ReadsLength agent.old.at.value agent.new.at.value }
+    ensures length { (us : List ℕ) → Has (handle_view agent.old.at.value).units s us → result ≡ length us }
+{
+    length_of(alloc, agent, s)
+}
+
+/// The same, with its conditions tested.
+#[unsafe(no_mangle)]
+pub extern "C" fn jsstr_length(alloc: Global, agent: &mut JsAgent, s: u32) -> JsNumber
+    requires { IsHandle agent.old }
+    ensures handle { IsHandle agent.new }
+    ensures bad { result.status ≡ reports.BAD_ARGUMENT ↔ ¬ (HandleKnows agent.old.at.value s) }
+    ensures unchanged { result.status ≡ reports.BAD_ARGUMENT
+        → (result ≡ no_number reports.BAD_ARGUMENT) × (agent.new.at.value ≡ agent.old.at.value) }
+    ensures status { result.status ≢ reports.BAD_ARGUMENT → result.status ≡ reports.DONE }
+    ensures known { result.status ≡ reports.DONE → HandleKnows agent.old.at.value s }
+    ensures measures { result.status ≡ reports.DONE → ReadsLength agent.old.at.value agent.new.at.value }
+    ensures length { result.status ≡ reports.DONE → (us : List ℕ)
+        → Has (handle_view agent.old.at.value).units s us → result.value ≡ length us }
+{
+    if !agent.knows(alloc, s) {
+        return without_number(BAD_ARGUMENT);
+    }
+    let value = jsstr_length_unchecked(alloc, agent, s);
+    JsNumber {
+        status: DONE,
+        value,
+    }
+}
+
+/// The units of a settled string from unit `from` on, as many as there is room for.
+#[unsafe(no_mangle)]
+pub extern "C" fn jsstr_read_unchecked(
+    alloc: Global,
+    agent: &mut JsAgent,
+    s: u32,
+    from: u32,
+    out: &mut [u16],
+)
+    requires ready { IsReady agent.old.at.value }
+    requires settled { IsSeenSettled (handle_view agent.old.at.value) s }
+    requires within { (us : List ℕ) × Has (handle_view agent.old.at.value).units s us
+        × (from + length out.old ≤ length us) }
+    ensures handle { IsHandle agent.new }
+    ensures looks { OnlyLooks agent.old.at.value agent.new.at.value }
+    ensures units { (us : List ℕ) → Has (handle_view agent.old.at.value).units s us
+        → out.new ≡ slice_range us from (from + length out.old) }
+{
+    read_into(alloc, agent, s, from, out)
+}
+
+/// The same, with its conditions tested and the string settled first.
+#[unsafe(no_mangle)]
+pub extern "C" fn jsstr_read(
+    alloc: Global,
+    agent: &mut JsAgent,
+    s: u32,
+    from: u32,
+    out: &mut [u16],
+) -> u32
+    requires { IsHandle agent.old }
+    ensures handle { IsHandle agent.new }
+    ensures bad { result ≡ reports.BAD_ARGUMENT
+        ↔ ¬ (ReachesLength agent.old.at.value s (from + length out.old)) }
+    ensures reads { ReadsSettled agent.old.at.value agent.new.at.value s result (out.new ≡ out.old)
+        (λ us. (result ≡ reports.DONE) × (out.new ≡ slice_range us from (from + length out.old))) }
+{
+    let settled = settle_reaching(alloc, agent, s, from, out.len());
+    if settled.status != DONE {
+        return settled.status;
+    }
+    jsstr_read_unchecked(alloc, agent, s, from, out);
+    DONE
+}
+
+/// All units of a settled string into `out`; how many they are.
+#[unsafe(no_mangle)]
+pub extern "C" fn jsstr_read_all_unchecked(
+    alloc: Global,
+    agent: &mut JsAgent,
+    s: u32,
+    out: &mut [u16],
+) -> JsBytes
+    requires ready { IsReady agent.old.at.value }
+    requires known { HasKey (handle_view agent.old.at.value).units s }
+    requires settled { IsSeenSettled (handle_view agent.old.at.value) s }
+    ensures handle { IsHandle agent.new }
+    ensures looks { OnlyLooks agent.old.at.value agent.new.at.value }
+    ensures told { result.status ≢ reports.BAD_ARGUMENT }
+    ensures words { result.status ≢ reports.NO_WORDS }
+    ensures given { (us : List ℕ) → Has (handle_view agent.old.at.value).units s us
+        → IsGiven None us out.old out.new result }
+{
+    let mut held = agent.take(alloc);
+    let answer = held.write_units(JsStr { id: s }, out);
+    agent.put(held);
+    of_bytes(answer)
+}
+
+/// The same, with its conditions tested and the string settled first.
+#[unsafe(no_mangle)]
+pub extern "C" fn jsstr_read_all(
+    alloc: Global,
+    agent: &mut JsAgent,
+    s: u32,
+    out: &mut [u16],
+) -> JsBytes
+    requires { IsHandle agent.old }
+    ensures handle { IsHandle agent.new }
+    ensures bad { result.status ≡ reports.BAD_ARGUMENT ↔ ¬ (HandleKnows agent.old.at.value s) }
+    ensures reads { ReadsSettled agent.old.at.value agent.new.at.value s result.status
+        ((result ≡ no_bytes result.status) × (out.new ≡ out.old))
+        (λ us. IsGiven None us out.old out.new result) }
+{
+    let settled = settle_known(alloc, agent, s);
+    if settled.status != DONE {
+        return without_bytes(settled.status);
+    }
+    jsstr_read_all_unchecked(alloc, agent, s, out)
+}
+
+/// Unit number `place` of a settled string.
+#[unsafe(no_mangle)]
+pub extern "C" fn jsstr_unit_at_unchecked(
+    alloc: Global,
+    agent: &mut JsAgent,
+    s: u32,
+    place: u32,
+) -> u16
+    requires ready { IsReady agent.old.at.value }
+    requires settled { IsSeenSettled (handle_view agent.old.at.value) s }
+    requires within { (us : List ℕ) × Has (handle_view agent.old.at.value).units s us × (place < length us) }
+    ensures handle { IsHandle agent.new }
+    ensures looks { OnlyLooks agent.old.at.value agent.new.at.value }
+    ensures unit { (us : List ℕ) → Has (handle_view agent.old.at.value).units s us
+        → result ≡ slice_index us place }
+{
+    let mut held = agent.take(alloc);
+    let answer = held.unit_at(JsStr { id: s }, place);
+    agent.put(held);
+    answer
+}
+
+/// The same, with its conditions tested and the string settled first.
+#[unsafe(no_mangle)]
+pub extern "C" fn jsstr_unit_at(alloc: Global, agent: &mut JsAgent, s: u32, place: u32) -> JsNumber
+    requires { IsHandle agent.old }
+    ensures handle { IsHandle agent.new }
+    ensures bad { result.status ≡ reports.BAD_ARGUMENT ↔ ¬ (ReachesLength agent.old.at.value s (place + 1)) }
+    ensures reads { ReadsSettled agent.old.at.value agent.new.at.value s result.status
+        (result ≡ no_number result.status) (λ us. result ≡ number_answer (Some (slice_index us place))) }
+{
+    let settled = settle_reaching(alloc, agent, s, place, 1);
+    if settled.status != DONE {
+        return without_number(settled.status);
+    }
+    let unit = jsstr_unit_at_unchecked(alloc, agent, s, place);
+    of_number(Some(u32::from(unit)))
+}
+
+/// The content words of a settled string from word number `at` on, as many as there are and as there is
+/// room for, and where its units are in them.
+#[unsafe(no_mangle)]
+pub extern "C" fn jsstr_window_unchecked(
+    alloc: Global,
+    agent: &mut JsAgent,
+    s: u32,
+    at: u32,
+    out: &mut [u64],
+) -> JsWords
+    requires ready { IsReady agent.old.at.value }
+    requires known { HasKey (handle_view agent.old.at.value).units s }
+    requires settled { IsSeenSettled (handle_view agent.old.at.value) s }
+    ensures handle { IsHandle agent.new }
+    ensures looks { OnlyLooks agent.old.at.value agent.new.at.value }
+    ensures told { result.status ≡ reports.DONE }
+    ensures shown { (us : List ℕ) → Has (handle_view agent.old.at.value).units s us
+        → AreShown us at out.old out.new (shown_by result) }
+    ensures there { (us : List ℕ) → Has (handle_view agent.old.at.value).units s us
+        → AreThere (handle_view agent.new.at.value) us (shown_by result) }
+{
+    let mut held = agent.take(alloc);
+    let shown = held.window(JsStr { id: s }, at, out);
+    agent.put(held);
+    of_words(shown)
+}
+
+/// The same, with its conditions tested and the string settled first.
+#[unsafe(no_mangle)]
+pub extern "C" fn jsstr_window(
+    alloc: Global,
+    agent: &mut JsAgent,
+    s: u32,
+    at: u32,
+    out: &mut [u64],
+) -> JsWords
+    requires { IsHandle agent.old }
+    ensures handle { IsHandle agent.new }
+    ensures bad { result.status ≡ reports.BAD_ARGUMENT ↔ ¬ (HandleKnows agent.old.at.value s) }
+    ensures reads { ReadsSettled agent.old.at.value agent.new.at.value s result.status
+        ((result ≡ no_words result.status) × (out.new ≡ out.old))
+        (λ us. (result.status ≡ reports.DONE) × AreShown us at out.old out.new (shown_by result)
+        × AreThere (handle_view agent.new.at.value) us (shown_by result)) }
+{
+    let settled = settle_known(alloc, agent, s);
+    if settled.status != DONE {
+        return without_words(settled.status);
+    }
+    jsstr_window_unchecked(alloc, agent, s, at, out)
+}
+
+/// The UTF-8 of a settled string into `out`. An unpaired surrogate becomes U+FFFD (0), refuses the call
+/// (1), or stays, as WTF-8 has it (2).
+#[unsafe(no_mangle)]
+pub extern "C" fn jsstr_to_utf8_unchecked(
+    alloc: Global,
+    agent: &mut JsAgent,
+    s: u32,
+    unpaired: u32,
+    out: &mut [u8],
+) -> JsBytes
+    requires ready { IsReady agent.old.at.value }
+    requires known { HasKey (handle_view agent.old.at.value).units s }
+    requires settled { IsSeenSettled (handle_view agent.old.at.value) s }
+    requires way { unpaired ≤ 2 }
+    ensures handle { IsHandle agent.new }
+    ensures looks { OnlyLooks agent.old.at.value agent.new.at.value }
+    ensures told { result.status ≢ reports.BAD_ARGUMENT }
+    ensures words { result.status ≢ reports.NO_WORDS }
+    ensures given { (us : List ℕ) → Has (handle_view agent.old.at.value).units s us
+        → IsGiven (refused (unpaired_by unpaired) us) (bytes_of (unpaired_by unpaired) us)
+        out.old out.new result }
+{
+    let way = unpaired_by(unpaired);
+    let mut held = agent.take(alloc);
+    let answer = held.write_utf8(JsStr { id: s }, way, out);
+    agent.put(held);
+    of_bytes(answer)
+}
+
+/// The same, with its conditions tested and the string settled first.
+#[unsafe(no_mangle)]
+pub extern "C" fn jsstr_to_utf8(
+    alloc: Global,
+    agent: &mut JsAgent,
+    s: u32,
+    unpaired: u32,
+    out: &mut [u8],
+) -> JsBytes
+    requires { IsHandle agent.old }
+    ensures handle { IsHandle agent.new }
+    ensures bad { result.status ≡ reports.BAD_ARGUMENT
+        ↔ ¬ (HandleKnows agent.old.at.value s × (unpaired ≤ 2)) }
+    ensures unchanged { result.status ≡ reports.BAD_ARGUMENT → agent.new.at.value ≡ agent.old.at.value }
+    ensures reads { ReadsSettled agent.old.at.value agent.new.at.value s result.status
+        ((result ≡ no_bytes result.status) × (out.new ≡ out.old))
+        (λ us. IsGiven (refused (unpaired_by unpaired) us) (bytes_of (unpaired_by unpaired) us)
+        out.old out.new result) }
+{
+    if unpaired > 2 {
+        return without_bytes(BAD_ARGUMENT);
+    }
+    let settled = settle_known(alloc, agent, s);
+    if settled.status != DONE {
+        return without_bytes(settled.status);
+    }
+    jsstr_to_utf8_unchecked(alloc, agent, s, unpaired, out)
+}
+
+/// The units of a settled string into `out`, a byte each, as Latin-1 has them. A unit over 255 refuses the
+/// call.
+#[unsafe(no_mangle)]
+pub extern "C" fn jsstr_to_latin1_unchecked(
+    alloc: Global,
+    agent: &mut JsAgent,
+    s: u32,
+    out: &mut [u8],
+) -> JsBytes
+    requires ready { IsReady agent.old.at.value }
+    requires known { HasKey (handle_view agent.old.at.value).units s }
+    requires settled { IsSeenSettled (handle_view agent.old.at.value) s }
+    ensures handle { IsHandle agent.new }
+    ensures looks { OnlyLooks agent.old.at.value agent.new.at.value }
+    ensures told { result.status ≢ reports.BAD_ARGUMENT }
+    ensures words { result.status ≢ reports.NO_WORDS }
+    ensures given { (us : List ℕ) → Has (handle_view agent.old.at.value).units s us
+        → IsGiven (past_latin1 0 us) us out.old out.new result }
+{
+    let mut held = agent.take(alloc);
+    let answer = held.write_latin1(JsStr { id: s }, out);
+    agent.put(held);
+    of_bytes(answer)
+}
+
+/// The same, with its conditions tested and the string settled first.
+#[unsafe(no_mangle)]
+pub extern "C" fn jsstr_to_latin1(
+    alloc: Global,
+    agent: &mut JsAgent,
+    s: u32,
+    out: &mut [u8],
+) -> JsBytes
+    requires { IsHandle agent.old }
+    ensures handle { IsHandle agent.new }
+    ensures bad { result.status ≡ reports.BAD_ARGUMENT ↔ ¬ (HandleKnows agent.old.at.value s) }
+    ensures reads { ReadsSettled agent.old.at.value agent.new.at.value s result.status
+        ((result ≡ no_bytes result.status) × (out.new ≡ out.old))
+        (λ us. IsGiven (past_latin1 0 us) us out.old out.new result) }
+{
+    let settled = settle_known(alloc, agent, s);
+    if settled.status != DONE {
+        return without_bytes(settled.status);
+    }
+    jsstr_to_latin1_unchecked(alloc, agent, s, out)
+}
+
+/// The hash by which the string table looks for the units of a settled string.
+#[unsafe(no_mangle)]
+pub extern "C" fn jsstr_hash_unchecked(alloc: Global, agent: &mut JsAgent, s: u32) -> u32
+    requires ready { IsReady agent.old.at.value }
+    requires known { HasKey (handle_view agent.old.at.value).units s }
+    requires settled { IsSeenSettled (handle_view agent.old.at.value) s }
+    ensures handle { IsHandle agent.new }
+    ensures looks { OnlyLooks agent.old.at.value agent.new.at.value }
+    ensures hash { (us : List ℕ) → Has (handle_view agent.old.at.value).units s us → result ≡ hash_of us }
+{
+    let mut held = agent.take(alloc);
+    let answer = held.hash(JsStr { id: s });
+    agent.put(held);
+    answer
+}
+
+/// The same, with its conditions tested and the string settled first.
+#[unsafe(no_mangle)]
+pub extern "C" fn jsstr_hash(alloc: Global, agent: &mut JsAgent, s: u32) -> JsNumber
+    requires { IsHandle agent.old }
+    ensures handle { IsHandle agent.new }
+    ensures bad { result.status ≡ reports.BAD_ARGUMENT ↔ ¬ (HandleKnows agent.old.at.value s) }
+    ensures reads { ReadsSettled agent.old.at.value agent.new.at.value s result.status
+        (result ≡ no_number result.status) (λ us. result ≡ number_answer (Some (hash_of us))) }
+{
+    let settled = settle_known(alloc, agent, s);
+    if settled.status != DONE {
+        return without_number(settled.status);
+    }
+    let value = jsstr_hash_unchecked(alloc, agent, s);
+    of_number(Some(value))
+}
+
+/// The number of a settled string that is an array index (ECMA-262, "array index"); NONE where it is none.
+#[unsafe(no_mangle)]
+pub extern "C" fn jsstr_array_index_unchecked(
+    alloc: Global,
+    agent: &mut JsAgent,
+    s: u32,
+) -> JsNumber
+    requires ready { IsReady agent.old.at.value }
+    requires known { HasKey (handle_view agent.old.at.value).units s }
+    requires settled { IsSeenSettled (handle_view agent.old.at.value) s }
+    ensures handle { IsHandle agent.new }
+    ensures looks { OnlyLooks agent.old.at.value agent.new.at.value }
+    ensures told { result.status ≢ reports.BAD_ARGUMENT }
+    ensures words { result.status ≢ reports.NO_WORDS }
+    ensures index { (us : List ℕ) → Has (handle_view agent.old.at.value).units s us
+        → (n : Option ℕ) × (result ≡ number_answer n) × IsArrayIndex us n }
+{
+    let mut held = agent.take(alloc);
+    let answer = held.array_index(JsStr { id: s });
+    agent.put(held);
+    of_number(answer)
+}
+
+/// The same, with its conditions tested and the string settled first.
+#[unsafe(no_mangle)]
+pub extern "C" fn jsstr_array_index(alloc: Global, agent: &mut JsAgent, s: u32) -> JsNumber
+    requires { IsHandle agent.old }
+    ensures handle { IsHandle agent.new }
+    ensures bad { result.status ≡ reports.BAD_ARGUMENT ↔ ¬ (HandleKnows agent.old.at.value s) }
+    ensures reads { ReadsSettled agent.old.at.value agent.new.at.value s result.status
+        (result ≡ no_number result.status)
+        (λ us. (n : Option ℕ) × (result ≡ number_answer n) × IsArrayIndex us n) }
+{
+    let settled = settle_known(alloc, agent, s);
+    if settled.status != DONE {
+        return without_number(settled.status);
+    }
+    jsstr_array_index_unchecked(alloc, agent, s)
+}
+
+/// Whether a string is settled, by one load of its form, which the agent knows from then on.
+#[unsafe(no_mangle)]
+pub extern "C" fn jsstr_is_settled_unchecked(alloc: Global, agent: &mut JsAgent, s: u32) -> bool
+    requires ready { IsReady agent.old.at.value }
+    requires known { HasKey (handle_view agent.old.at.value).units s }
+    ensures handle { IsHandle agent.new }
+    ensures looks { OnlyLooks agent.old.at.value agent.new.at.value }
+    ensures seen { (f : form.Form) × Has (handle_view agent.new.at.value).forms s f
+        × (IsTrue result ↔ ¬ IsCons f) }
+    ensures stays { IsSeenSettled (handle_view agent.old.at.value) s → IsTrue result }
+{
+    let mut held = agent.take(alloc);
+    let answer = held.is_settled(JsStr { id: s });
+    agent.put(held);
+    answer
+}
+
+/// The same, with its conditions tested.
+#[unsafe(no_mangle)]
+pub extern "C" fn jsstr_is_settled(alloc: Global, agent: &mut JsAgent, s: u32) -> JsTruth
+    requires { IsHandle agent.old }
+    ensures handle { IsHandle agent.new }
+    ensures bad { result.status ≡ reports.BAD_ARGUMENT ↔ ¬ (HandleKnows agent.old.at.value s) }
+    ensures status { result.status ≢ reports.BAD_ARGUMENT → result.status ≡ reports.DONE }
+    ensures unchanged { result.status ≡ reports.BAD_ARGUMENT
+        → (result ≡ no_truth reports.BAD_ARGUMENT) × (agent.new.at.value ≡ agent.old.at.value) }
+    ensures looks { result.status ≡ reports.DONE → OnlyLooks agent.old.at.value agent.new.at.value }
+    ensures seen { result.status ≡ reports.DONE → (f : form.Form)
+        × Has (handle_view agent.new.at.value).forms s f × (IsTrue result.holds ↔ ¬ IsCons f) }
+    ensures stays { result.status ≡ reports.DONE → IsSeenSettled (handle_view agent.old.at.value) s
+        → IsTrue result.holds }
+{
+    if !agent.knows(alloc, s) {
+        return without_truth(BAD_ARGUMENT);
+    }
+    let holds = jsstr_is_settled_unchecked(alloc, agent, s);
+    JsTruth {
+        status: DONE,
+        holds,
+    }
+}

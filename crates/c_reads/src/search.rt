@@ -1,0 +1,186 @@
+// Finding one string in another, by the calls of `js_search` on a session.
+ghost use Rattle.std.specs.Prelude.{◌≡◌, ◌≢◌, ◌↔◌, ℕ, ◌≤◌, List, length, Option, IsTrue};
+ghost use Rattle.js_search.specs.Places.{IsFirst, IsLast, IsPartAt, first, last, stands};
+ghost use Rattle.heap_rule.specs.Maps.{Has};
+ghost use Rattle.heap_agents.specs.Ready.{IsReady, HandleSearches, handle_view, HandleKnows};
+ghost use Rattle.heap_agents.specs.Searched.{IsSearchable};
+ghost use Rattle.c_handles.specs.Handles.{IsHandle};
+ghost use Rattle.c_steps.specs.Reports.{place_answer, no_place, no_truth};
+ghost use Rattle.c_steps.specs.Checked.{ReachesLength, SeeksSettled};
+ghost use Rattle.c_steps.specs.Reports as reports;
+
+use c_handles::JsAgent;
+use c_steps::{
+    DONE, JsPlace, JsTruth, of_place, settle_both, settle_both_reaching, without_place,
+    without_truth,
+};
+use heap_text::JsStr;
+use std::alloc::Global;
+
+/// Whether the units of `needle` occur in `hay` at place `at`, both settled. At a place where they have no
+/// room they don't.
+#[unsafe(no_mangle)]
+pub extern "C" fn jsstr_starts_with_unchecked(
+    alloc: Global,
+    agent: &mut JsAgent,
+    hay: u32,
+    needle: u32,
+    at: u32,
+) -> bool
+    requires ready { IsReady agent.old.at.value }
+    requires left { IsSearchable (handle_view agent.old.at.value) hay }
+    requires right { IsSearchable (handle_view agent.old.at.value) needle }
+    ensures handle { IsHandle agent.new }
+    ensures searches { HandleSearches agent.old.at.value agent.new.at.value }
+    ensures stands { (us vs : List ℕ) → Has (handle_view agent.old.at.value).units hay us
+        → Has (handle_view agent.old.at.value).units needle vs
+        → IsTrue result ↔ IsPartAt us vs at }
+    ensures test { (us vs : List ℕ) → Has (handle_view agent.old.at.value).units hay us
+        → Has (handle_view agent.old.at.value).units needle vs
+        → result ≡ stands us vs at }
+{
+    let mut held = agent.take(alloc);
+    let answer = held.starts_with(JsStr { id: hay }, JsStr { id: needle }, at);
+    agent.put(held);
+    answer
+}
+
+/// The same, with its conditions tested and both strings settled first.
+#[unsafe(no_mangle)]
+pub extern "C" fn jsstr_starts_with(
+    alloc: Global,
+    agent: &mut JsAgent,
+    hay: u32,
+    needle: u32,
+    at: u32,
+) -> JsTruth
+    requires { IsHandle agent.old }
+    ensures handle { IsHandle agent.new }
+    ensures bad { result.status ≡ reports.BAD_ARGUMENT
+        ↔ ¬ (HandleKnows agent.old.at.value hay × HandleKnows agent.old.at.value needle) }
+    ensures seeks { SeeksSettled agent.old.at.value agent.new.at.value hay needle result.status
+        (result ≡ no_truth result.status)
+        (λ us vs. (result.status ≡ reports.DONE) × (result.holds ≡ stands us vs at)
+        × (IsTrue result.holds ↔ IsPartAt us vs at)) }
+{
+    let status = settle_both(alloc, agent, hay, needle);
+    if status != DONE {
+        return without_truth(status);
+    }
+    let holds = jsstr_starts_with_unchecked(alloc, agent, hay, needle, at);
+    JsTruth {
+        status: DONE,
+        holds,
+    }
+}
+
+/// The least place at or after `from` at which `needle` occurs in `hay`, both settled. An empty one occurs
+/// at every place.
+#[unsafe(no_mangle)]
+pub extern "C" fn jsstr_index_of_unchecked(
+    alloc: Global,
+    agent: &mut JsAgent,
+    hay: u32,
+    needle: u32,
+    from: u32,
+) -> JsPlace
+    requires ready { IsReady agent.old.at.value }
+    requires left { IsSearchable (handle_view agent.old.at.value) hay }
+    requires right { IsSearchable (handle_view agent.old.at.value) needle }
+    requires within { (us : List ℕ) × Has (handle_view agent.old.at.value).units hay us × (from ≤ length us) }
+    ensures handle { IsHandle agent.new }
+    ensures searches { HandleSearches agent.old.at.value agent.new.at.value }
+    ensures told { result.status ≢ reports.BAD_ARGUMENT }
+    ensures words { result.status ≢ reports.NO_WORDS }
+    ensures least { (us vs : List ℕ) → Has (handle_view agent.old.at.value).units hay us
+        → Has (handle_view agent.old.at.value).units needle vs
+        → (r : Option ℕ) × (result ≡ place_answer r) × IsFirst us vs from r }
+    ensures place { (us vs : List ℕ) → Has (handle_view agent.old.at.value).units hay us
+        → Has (handle_view agent.old.at.value).units needle vs
+        → result ≡ place_answer (first us vs from) }
+{
+    let mut held = agent.take(alloc);
+    let answer = held.index_of(JsStr { id: hay }, JsStr { id: needle }, from);
+    agent.put(held);
+    of_place(answer)
+}
+
+/// The same, with its conditions tested and both strings settled first.
+#[unsafe(no_mangle)]
+pub extern "C" fn jsstr_index_of(
+    alloc: Global,
+    agent: &mut JsAgent,
+    hay: u32,
+    needle: u32,
+    from: u32,
+) -> JsPlace
+    requires { IsHandle agent.old }
+    ensures handle { IsHandle agent.new }
+    ensures bad { result.status ≡ reports.BAD_ARGUMENT
+        ↔ ¬ (ReachesLength agent.old.at.value hay from × HandleKnows agent.old.at.value needle) }
+    ensures seeks { SeeksSettled agent.old.at.value agent.new.at.value hay needle result.status
+        (result ≡ no_place result.status)
+        (λ us vs. (result ≡ place_answer (first us vs from))
+        × ((r : Option ℕ) × (result ≡ place_answer r) × IsFirst us vs from r)) }
+{
+    let status = settle_both_reaching(alloc, agent, hay, needle, from);
+    if status != DONE {
+        return without_place(status);
+    }
+    jsstr_index_of_unchecked(alloc, agent, hay, needle, from)
+}
+
+/// The greatest place at most `limit` at which `needle` occurs in `hay`, both settled. An empty one occurs
+/// at every place.
+#[unsafe(no_mangle)]
+pub extern "C" fn jsstr_last_index_of_unchecked(
+    alloc: Global,
+    agent: &mut JsAgent,
+    hay: u32,
+    needle: u32,
+    limit: u32,
+) -> JsPlace
+    requires ready { IsReady agent.old.at.value }
+    requires left { IsSearchable (handle_view agent.old.at.value) hay }
+    requires right { IsSearchable (handle_view agent.old.at.value) needle }
+    ensures handle { IsHandle agent.new }
+    ensures searches { HandleSearches agent.old.at.value agent.new.at.value }
+    ensures told { result.status ≢ reports.BAD_ARGUMENT }
+    ensures words { result.status ≢ reports.NO_WORDS }
+    ensures greatest { (us vs : List ℕ) → Has (handle_view agent.old.at.value).units hay us
+        → Has (handle_view agent.old.at.value).units needle vs
+        → (r : Option ℕ) × (result ≡ place_answer r) × IsLast us vs limit r }
+    ensures place { (us vs : List ℕ) → Has (handle_view agent.old.at.value).units hay us
+        → Has (handle_view agent.old.at.value).units needle vs
+        → result ≡ place_answer (last us vs limit) }
+{
+    let mut held = agent.take(alloc);
+    let answer = held.last_index_of(JsStr { id: hay }, JsStr { id: needle }, limit);
+    agent.put(held);
+    of_place(answer)
+}
+
+/// The same, with its conditions tested and both strings settled first.
+#[unsafe(no_mangle)]
+pub extern "C" fn jsstr_last_index_of(
+    alloc: Global,
+    agent: &mut JsAgent,
+    hay: u32,
+    needle: u32,
+    limit: u32,
+) -> JsPlace
+    requires { IsHandle agent.old }
+    ensures handle { IsHandle agent.new }
+    ensures bad { result.status ≡ reports.BAD_ARGUMENT
+        ↔ ¬ (HandleKnows agent.old.at.value hay × HandleKnows agent.old.at.value needle) }
+    ensures seeks { SeeksSettled agent.old.at.value agent.new.at.value hay needle result.status
+        (result ≡ no_place result.status)
+        (λ us vs. (result ≡ place_answer (last us vs limit))
+        × ((r : Option ℕ) × (result ≡ place_answer r) × IsLast us vs limit r)) }
+{
+    let status = settle_both(alloc, agent, hay, needle);
+    if status != DONE {
+        return without_place(status);
+    }
+    jsstr_last_index_of_unchecked(alloc, agent, hay, needle, limit)
+}
