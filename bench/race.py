@@ -16,7 +16,7 @@ import time
 sys.dont_write_bytecode = True
 import stress
 
-LINE = "heap_race: heap_rule heap_table heap_text heap_intern plain_store js_store\n"
+LINE = "heap_race: heap_rule heap_table heap_text heap_session plain_store js_store\n"
 PROCESSORS = ["0", "0,1", "0-3"]
 # So many rounds are played by one run, which compiles the program first.
 ROUNDS = 10

@@ -15,7 +15,7 @@ import tempfile
 
 ROOT = os.path.dirname(os.path.dirname(os.path.abspath(__file__)))
 SLOTS = [83_333, 50_505]
-LINE = "heap_stress: heap_rule heap_table heap_intern js_store\n"
+LINE = "heap_stress: heap_rule heap_table heap_session js_store\n"
 
 
 def copied(folder, name, text, line):
