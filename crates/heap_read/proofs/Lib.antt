@@ -17,6 +17,7 @@ pub mod WordsOf
 pub mod Comparison
 pub mod ShiftedLanes
 pub mod Narrowness
+pub mod Runs
 pub mod LanesAtOnce
 pub mod Fronts
 pub mod Turns

@@ -30,7 +30,7 @@ placed_more wide before now low k u unit p l s is = record {
 }
 
 -- a word of a run is changed
-in_word : (wide : Bool) (at k count : ℕ) → at % lane_count wide + count ≤ lane_count wide → k < count →
+pub in_word : (wide : Bool) (at k count : ℕ) → at % lane_count wide + count ≤ lane_count wide → k < count →
     ((at + k) / lane_count wide ≡ at / lane_count wide) × ((at + k) % lane_count wide ≡ at % lane_count wide + k)
 in_word true at k count l m = (omega arith, omega arith)
 in_word false at k count l m = (omega arith, omega arith)

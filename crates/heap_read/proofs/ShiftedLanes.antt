@@ -214,6 +214,12 @@ other_width true b false n e = refl
 other_width false b true n e = refl
 other_width false b false n e = let m : beq false false ≡ false = subst (λ (x : Bool). beq false x ≡ false) e n in absurd (cc)
 
+pub same_width : (a b : Bool) → beq a b ≡ true → a ≡ b
+same_width true true e = refl
+same_width true false e = absurd (cc)
+same_width false true e = absurd (cc)
+same_width false false e = refl
+
 pub four_most : (h : HeldWord) (i count : ℕ) → h.wide ≡ true → HasAt h i count → count ≤ 4
 four_most h i count e at = let a : h.lane + h.count ≤ 4 = subst (λ (b : Bool). h.lane + h.count ≤ lane_count b) e at.lanes in let b = at.low in let c = at.high in omega arith
 

@@ -22,7 +22,7 @@ use Rattle.heap_read.specs.declared.string.Window.{Window}
 use Rattle.heap_read.specs.Reads.{HoldsForms}
 use Rattle.heap_read.specs.Windows.{IsFrozenWindow, IsWindow, StandsFor}
 
-more_words : (wide : Bool) (n m : ℕ) → n ≤ m → words_over wide n ≤ words_over wide m
+pub more_words : (wide : Bool) (n m : ℕ) → n ≤ m → words_over wide n ≤ words_over wide m
 more_words true n m l = omega arith
 more_words false n m l = omega arith
 

@@ -11,6 +11,7 @@ ghost use Rattle.heap_read.specs.Windows.{IsFrozenWindow, IsWindow};
 ghost use Rattle.heap_read.specs.Written.{HasAt, HoldsUnits, held_unit};
 
 use crate::heap_ref::HeapRef;
+use crate::lanes::Run;
 use crate::packing::lanes_of;
 use crate::reader::Reader;
 use crate::shifting::{lanes_at, narrowed, put_above, widened};
@@ -176,6 +177,28 @@ impl<H: HeapRef> Reader<H> {
         }
     }
 
+    // The `count` units from number `i` on of a window, as lanes of one word of its width, by a load
+    // for each word that they lie in.
+    #[inline(always)]
+    fn part_of(&mut self, w: Window, i: u32, count: u32) -> u64
+        requires window { (us : List ℕ) × IsWindow (view_in self.old) w us }
+        requires within { i + count ≤ w.len }
+        requires room { count ≤ lane_count w.wide }
+        ensures reads { MovesView OnlyLoads self.old self.new }
+        ensures forms { KeepsForms (view_in self.old) (view_in self.new) }
+        ensures word { (us : List ℕ) → IsWindow (view_in self.old) w us
+            → HoldsLanes w.wide result count (λ k. slice_index us (i + k)) }
+    {
+        if count == 0 {
+            return 0;
+        }
+        let run = Run {
+            start: w.start,
+            wide: w.wide,
+        };
+        self.lanes_in(run, w.offset + i, count)
+    }
+
     // The `count` units from number `first` on, as lanes of one word, by a load for each word
     // that they lie in.
     pub(crate) fn word_of(&mut self, source: &UnitSource, wide: bool, first: u32, count: u32) -> u64
@@ -193,6 +216,11 @@ impl<H: HeapRef> Reader<H> {
     {
         if let UnitSource::Units(units) = source {
             return lanes_of(units, wide, first, count);
+        }
+        if let UnitSource::Piece(piece) = source {
+            if piece.window.wide == wide {
+                return self.part_of(piece.window, first, count);
+            }
         }
         let mut word = 0;
         let mut done = 0;

@@ -1,5 +1,5 @@
 -- One turn of the loop that fills: what was loaded of a Cons leaves the units and the own words as they were.
-use Rattle.std.proofs.Common.{◌≡◌, ℕ, ◌+◌, ◌-◌, Bool, List, length, get_or, ap, sym, subst, ◌∙◌}
+use Rattle.std.proofs.Common.{◌≡◌, ℕ, ◌+◌, ◌-◌, Bool, List, length, get_or, ap, sym, subst, ◌∙◌, arith}
 use Rattle.heap_rule.specs.declared.view.View.{View}
 use Rattle.heap_rule.specs.Maps.{HasKey}
 use Rattle.heap_table.specs.Known.{KeepsKnown}
@@ -38,3 +38,17 @@ module _ (wide : Bool) (start : ℕ) (first : ℕ → ℕ) (at0 n0 : ℕ) (us0 :
   turn_right a b k c i both done = subst (λ (us : List ℕ). IsFilling wide start first (own_word h.own_words) at0 n0 us0 at m us) (sym (units_kept g h left c k))
       (filled_right wide start first (own_word u.own_words) (own_word h.own_words) at0 n0 us0 at n (units_at u id) (units_at g left) (units_at g right) m i both
       (subst (λ (w : ℕ → ℕ). IsFilled wide start w (own_word h.own_words) (at + m) (n - m) (λ k. get_or (units_at g right) k 0)) (same_own a b) done))
+
+  -- both sides are one string: what was filled with it is copied
+  pub turn_both : (x : View) → OnlyLoads u f → OnlyLoads f g → HasKey g.units right → KeepsKnown g h → IsFilling wide start first (own_word u.own_words)
+      at0 n0 us0 at n (units_at u id) → IsBoth (units_at u id) (units_at g left) (units_at g right) m n
+      → IsFilled wide start (own_word g.own_words) (own_word h.own_words) at m (λ k. get_or (units_at g left) k 0) → left ≡ right
+      → IsFilled wide start (own_word h.own_words) (own_word x.own_words) (at + m) m (λ k. get_or (units_at h left) k 0) → IsFilled wide start first (own_word x.own_words) at0 n0 (λ k. get_or us0 k 0)
+  turn_both x a b k c i both done is again = let half : m ≡ n - m = sym both.left_count ∙ (ap (λ (j : ℕ). length (units_at g j)) is ∙ both.right_count) in
+      (turn_left a b k c i both done).rest (own_word x.own_words)
+      (subst (λ (q : ℕ). IsFilled wide start (own_word h.own_words) (own_word x.own_words) (at + m) q (λ k. get_or (units_at h right) k 0)) half
+      (subst (λ (j : ℕ). IsFilled wide start (own_word h.own_words) (own_word x.own_words) (at + m) m (λ k. get_or (units_at h j) k 0)) is again))
+
+  -- as many units are on each side
+  pub same_half : IsBoth (units_at u id) (units_at g left) (units_at g right) m n → left ≡ right → m + m ≡ n
+  same_half both is = let half : m ≡ n - m = sym both.left_count ∙ (ap (λ (j : ℕ). length (units_at g j)) is ∙ both.right_count) in omega (arith, half, both.right_some)

@@ -2,6 +2,7 @@
 ghost use Rattle.std.specs.Prelude.{◌≡◌, ◌≢◌, ℕ, Bool, ◌+◌, ◌-◌, ◌*◌, ◌/◌, ◌<◌, ◌≤◌, false, slice_index, length};
 ghost use Rattle.js_units.specs.Lanes.{lane_count};
 ghost use Rattle.js_header.specs.declared.form.Form.TheVariants.{Cons, Unborn};
+ghost use Rattle.heap_rule.specs.Contents.{lane_in};
 ghost use Rattle.heap_rule.specs.Forms.{IsCons};
 ghost use Rattle.heap_rule.specs.Layout.{MAX};
 ghost use Rattle.heap_rule.specs.Loads.{added_loads};
@@ -98,9 +99,27 @@ fn fill_leaf<H: HeapRef>(
     reader.copy_lanes(&source, n, to, at);
 }
 
-// Lanes `at` on of a run of own words become the `n` units of any string. It goes into the shorter
-// side of a Cons and loops on the longer one; each load of a form is one step. A leaf costs three at
-// most.
+// Lanes `at + n` on of a run of own words become the `n` units of a string, which the lanes before
+// them hold.
+fn fill_again<H: HeapRef>(reader: &mut Reader<H>, id: u32, at: u32, n: u32, to: Run)
+    requires short { at + n + n ≤ MAX }
+    requires own { (o : ℕ) → at ≤ o → o < at + n + n
+        → HasKey (view_in reader.old).own_words (to.start + o / lane_count to.wide) }
+    requires held { (k : ℕ) → k < n → lane_in (own_word (view_in reader.old).own_words) to.wide to.start (at + k)
+        ≡ slice_index (units_at (view_in reader.old) id) k }
+    ensures writes { MovesView WritesOwnWords reader.old reader.new }
+    ensures below { KeepsBelow to.start (view_in reader.old) (view_in reader.new) }
+    ensures forms { KeepsForms (view_in reader.old) (view_in reader.new) }
+    ensures filled { IsFilled to.wide to.start (own_word (view_in reader.old).own_words)
+        (own_word (view_in reader.new).own_words) (at + n) n
+        (slice_index (units_at (view_in reader.old) id)) }
+{
+    reader.repeat_lanes(to, at, n);
+}
+
+// Lanes `at` on of a run of own words become the `n` units of any string. Of a Cons it goes into the
+// shorter side and loops on the longer one; a side that is both is gone into once. Each load of a form
+// is one step. A leaf costs three at most.
 pub(crate) fn fill<L: Ledger, H: HeapRef>(
     reader: &mut Reader<H>,
     mut id: u32,
@@ -136,6 +155,10 @@ pub(crate) fn fill<L: Ledger, H: HeapRef>(
                 let m = left_length(reader, id, left, right);
                 if m <= n - m {
                     fill(reader, left, at, m, to, steps);
+                    if left == right {
+                        fill_again(reader, left, at, m, to);
+                        return;
+                    }
                     id = right;
                     at += m;
                     n -= m;
@@ -153,6 +176,45 @@ pub(crate) fn fill<L: Ledger, H: HeapRef>(
             }
         }
     }
+}
+
+// Lanes `m` on of a run of own words become the `n` units of the right side of a Cons. The `m` lanes
+// before them hold those of the left side, which may be the same string.
+pub(crate) fn fill_right<L: Ledger, H: HeapRef>(
+    reader: &mut Reader<H>,
+    left: u32,
+    right: u32,
+    m: u32,
+    n: u32,
+    to: Run,
+    steps: &mut Steps<L>,
+)
+    requires known { HasKey (view_in reader.old).units right }
+    requires before { length (units_at (view_in reader.old) left) ≡ m }
+    requires count { length (units_at (view_in reader.old) right) ≡ n }
+    requires some { 0 < n }
+    requires short { m + n ≤ MAX }
+    requires own { (o : ℕ) → o < m + n
+        → HasKey (view_in reader.old).own_words (to.start + o / lane_count to.wide) }
+    requires fits { to.wide ≡ false → (k : ℕ) → k < n
+        → slice_index (units_at (view_in reader.old) right) k < 256 }
+    requires held { (k : ℕ) → k < m → lane_in (own_word (view_in reader.old).own_words) to.wide to.start (0 + k)
+        ≡ slice_index (units_at (view_in reader.old) left) k }
+    ensures writes { MovesView WritesOwnWords reader.old reader.new }
+    ensures below { KeepsBelow to.start (view_in reader.old) (view_in reader.new) }
+    ensures above { HoldsAbove (view_in reader.old) (view_in reader.new) right }
+    ensures filled { IsFilled to.wide to.start (own_word (view_in reader.old).own_words)
+        (own_word (view_in reader.new).own_words) m n
+        (slice_index (units_at (view_in reader.old) right)) }
+    ensures loads { LoadsForms (view_in reader.old) (view_in reader.new) (steps.new - steps.old) }
+    ensures more { steps.old ≤ steps.new }
+    ensures steps { steps.new + 4 ≤ steps.old + 8 * n }
+{
+    if left == right {
+        fill_again(reader, left, 0, m, to);
+        return;
+    }
+    fill(reader, right, m, n, to, steps);
 }
 
 // One step where the form is a Thin, for the load of its target's form.

@@ -13,7 +13,7 @@ ghost use Rattle.heap_text.specs.Settling.{HasSides, IsBitOf, IsFlattened, IsNoR
 ghost use Rattle.heap_text.specs.Keeping.{KeepsText};
 
 use crate::faults::TextFull;
-use crate::filling::{fill, left_length};
+use crate::filling::{fill, fill_right, left_length};
 use crate::text::Text;
 use heap_read::{HeapRef, JsStr, Reader, Run, Steps};
 use js_header::Form;
@@ -171,7 +171,7 @@ fn flatten<L: Ledger, H: HeapRef>(
     };
     let to = Run { start, wide };
     fill(reader, left, 0, m, to, steps);
-    fill(reader, right, m, n - m, to, steps);
+    fill_right(reader, left, right, m, n - m, to, steps);
     let old = Form::Cons { wide, left, right };
     let flat = Form::Flat {
         wide,

@@ -14,7 +14,7 @@ use Rattle.heap_read.specs.Windows.{IsWindow}
 use Rattle.heap_text.proofs.Sides.{units_there}
 use Rattle.heap_read.proofs.Solids.{no_cons}
 use Rattle.heap_read.proofs.Storing.{below_reads, writes_reads, writes_refl, writes_trans}
-use Rattle.heap_text.proofs.Turning.{both_here, turn_left, turn_right, units_kept}
+use Rattle.heap_text.proofs.Turning.{both_here, same_half, turn_both, turn_left, turn_right, units_kept}
 use Rattle.heap_read.proofs.Loaded.{key_kept}
 use Rattle.heap_text.proofs.filling.+fill.Goals as goal
 
@@ -332,3 +332,106 @@ returns-in_default-clause-below g t c q y l h = let uu : View = c.loop-left.read
     let start : ℕ = c.args.to.start in
     c.fill_leaf.ensures.below q y l (below_reads start ff gg c.leaf_window-window.ensures.reads.view q y l
     (below_reads start uu ff c.form_now-form.ensures.reads.view q y l (c.loop-left.invariant.below q y l h)))
+
+-- a Cons of one string twice
+pub fill_again-requires-clause-short : goal.fill_again-requires-clause-short
+fill_again-requires-clause-short g t c = let v : View = c.args.reader.now.agent.seat.me.0 in let uu : View = c.loop-left.reader.agent.seat.me.0 in let ff : View = c.form_now-form.new.self.agent.seat.me.0 in
+    let wide = c.args.to.wide in let start : ℕ = c.args.to.start in let id : ℕ = c.loop-left.id in let at : ℕ = c.loop-left.at in
+    let n : ℕ = c.loop-left.n in let i = c.loop-left.invariant in let e = c.form_now-form.ensures in let fil = i.filling in
+    let gg : View = c.left_length-m.new.reader.agent.seat.me.0 in let left : ℕ = c.in-Cons.left in let right : ℕ = c.in-Cons.right in
+    let m : ℕ = c.left_length-m.result in let d = c.left_length-m.ensures in
+    let both = both_here wide start (own_word v.own_words) c.args.at c.args.n (units_at v c.args.id) at n uu ff gg gg id left right m e.reads.view i.known fil d.sides in
+    let hh : View = c.fill.new.reader.agent.seat.me.0 in let r = c.fill.ensures in
+    let half = same_half wide start (own_word v.own_words) c.args.at c.args.n (units_at v c.args.id) at n uu ff gg hh id left right m both c.if-left-right.true in
+    omega (arith, half, fil.within, c.requires.short)
+
+pub fill_again-requires-clause-own : goal.fill_again-requires-clause-own
+fill_again-requires-clause-own g t c o l k = let v : View = c.args.reader.now.agent.seat.me.0 in let uu : View = c.loop-left.reader.agent.seat.me.0 in let ff : View = c.form_now-form.new.self.agent.seat.me.0 in
+    let wide = c.args.to.wide in let start : ℕ = c.args.to.start in let id : ℕ = c.loop-left.id in let at : ℕ = c.loop-left.at in
+    let n : ℕ = c.loop-left.n in let i = c.loop-left.invariant in let e = c.form_now-form.ensures in let fil = i.filling in
+    let gg : View = c.left_length-m.new.reader.agent.seat.me.0 in let left : ℕ = c.in-Cons.left in let right : ℕ = c.in-Cons.right in
+    let m : ℕ = c.left_length-m.result in let d = c.left_length-m.ensures in
+    let both = both_here wide start (own_word v.own_words) c.args.at c.args.n (units_at v c.args.id) at n uu ff gg gg id left right m e.reads.view i.known fil d.sides in
+    let hh : View = c.fill.new.reader.agent.seat.me.0 in let r = c.fill.ensures in
+    let half = same_half wide start (own_word v.own_words) c.args.at c.args.n (units_at v c.args.id) at n uu ff gg hh id left right m both c.if-left-right.true in
+    r.writes.view.own_words (start + o / lane_count wide) (subst (λ (x : FinMap nat_cmp ℕ). HasKey x (start + o / lane_count wide))
+    (sym (d.reads.view.own_words ∙ e.reads.view.own_words))
+    (i.writes.own_words (start + o / lane_count wide) (c.requires.own o (omega (arith, i.behind, l)) (omega (arith, k, half, fil.within)))))
+
+pub fill_again-requires-clause-held : goal.fill_again-requires-clause-held
+fill_again-requires-clause-held g t c k l = let v : View = c.args.reader.now.agent.seat.me.0 in let uu : View = c.loop-left.reader.agent.seat.me.0 in let ff : View = c.form_now-form.new.self.agent.seat.me.0 in
+    let wide = c.args.to.wide in let start : ℕ = c.args.to.start in let id : ℕ = c.loop-left.id in let at : ℕ = c.loop-left.at in
+    let n : ℕ = c.loop-left.n in let i = c.loop-left.invariant in let e = c.form_now-form.ensures in let fil = i.filling in
+    let gg : View = c.left_length-m.new.reader.agent.seat.me.0 in let left : ℕ = c.in-Cons.left in let right : ℕ = c.in-Cons.right in
+    let m : ℕ = c.left_length-m.result in let d = c.left_length-m.ensures in
+    let both = both_here wide start (own_word v.own_words) c.args.at c.args.n (units_at v c.args.id) at n uu ff gg gg id left right m e.reads.view i.known fil d.sides in
+    let hh : View = c.fill.new.reader.agent.seat.me.0 in let r = c.fill.ensures in
+    r.filled.inside k l ∙ ap (λ (xs : List ℕ). get_or xs k 0) (sym (units_kept gg hh left r.writes.view.known d.known.0))
+
+pub returns-then-left-right-clause-writes : goal.returns-then-left-right-clause-writes
+returns-then-left-right-clause-writes g t c = let v : View = c.args.reader.now.agent.seat.me.0 in let uu : View = c.loop-left.reader.agent.seat.me.0 in let ff : View = c.form_now-form.new.self.agent.seat.me.0 in
+    let wide = c.args.to.wide in let start : ℕ = c.args.to.start in let id : ℕ = c.loop-left.id in let at : ℕ = c.loop-left.at in
+    let n : ℕ = c.loop-left.n in let i = c.loop-left.invariant in let e = c.form_now-form.ensures in let fil = i.filling in
+    let gg : View = c.left_length-m.new.reader.agent.seat.me.0 in let left : ℕ = c.in-Cons.left in let right : ℕ = c.in-Cons.right in
+    let m : ℕ = c.left_length-m.result in let d = c.left_length-m.ensures in
+    let both = both_here wide start (own_word v.own_words) c.args.at c.args.n (units_at v c.args.id) at n uu ff gg gg id left right m e.reads.view i.known fil d.sides in
+    let hh : View = c.fill.new.reader.agent.seat.me.0 in let r = c.fill.ensures in
+    let x : View = c.fill_again.new.reader.agent.seat.me.0 in record {
+      heap = c.fill_again.ensures.writes.heap ∙ (r.writes.heap ∙ (d.reads.heap ∙ (e.reads.heap ∙ i.heap)));
+      view = writes_trans v uu x i.writes (writes_trans uu gg x (writes_trans uu ff gg (writes_reads uu ff e.reads.view) (writes_reads ff gg d.reads.view))
+          (writes_trans gg hh x r.writes.view c.fill_again.ensures.writes.view));
+    }
+
+pub returns-then-left-right-clause-below : goal.returns-then-left-right-clause-below
+returns-then-left-right-clause-below g t c q y l h = let v : View = c.args.reader.now.agent.seat.me.0 in let uu : View = c.loop-left.reader.agent.seat.me.0 in let ff : View = c.form_now-form.new.self.agent.seat.me.0 in
+    let wide = c.args.to.wide in let start : ℕ = c.args.to.start in let id : ℕ = c.loop-left.id in let at : ℕ = c.loop-left.at in
+    let n : ℕ = c.loop-left.n in let i = c.loop-left.invariant in let e = c.form_now-form.ensures in let fil = i.filling in
+    let gg : View = c.left_length-m.new.reader.agent.seat.me.0 in let left : ℕ = c.in-Cons.left in let right : ℕ = c.in-Cons.right in
+    let m : ℕ = c.left_length-m.result in let d = c.left_length-m.ensures in
+    let both = both_here wide start (own_word v.own_words) c.args.at c.args.n (units_at v c.args.id) at n uu ff gg gg id left right m e.reads.view i.known fil d.sides in
+    let hh : View = c.fill.new.reader.agent.seat.me.0 in let r = c.fill.ensures in
+    c.fill_again.ensures.below q y l (r.below q y l (below_reads start ff gg d.reads.view q y l (below_reads start uu ff e.reads.view q y l (i.below q y l h))))
+
+pub returns-then-left-right-clause-above : goal.returns-then-left-right-clause-above
+returns-then-left-right-clause-above g t c q b l o less h = let v : View = c.args.reader.now.agent.seat.me.0 in let uu : View = c.loop-left.reader.agent.seat.me.0 in let ff : View = c.form_now-form.new.self.agent.seat.me.0 in
+    let wide = c.args.to.wide in let start : ℕ = c.args.to.start in let id : ℕ = c.loop-left.id in let at : ℕ = c.loop-left.at in
+    let n : ℕ = c.loop-left.n in let i = c.loop-left.invariant in let e = c.form_now-form.ensures in let fil = i.filling in
+    let gg : View = c.left_length-m.new.reader.agent.seat.me.0 in let left : ℕ = c.in-Cons.left in let right : ℕ = c.in-Cons.right in
+    let m : ℕ = c.left_length-m.result in let d = c.left_length-m.ensures in
+    let both = both_here wide start (own_word v.own_words) c.args.at c.args.n (units_at v c.args.id) at n uu ff gg gg id left right m e.reads.view i.known fil d.sides in
+    let hh : View = c.fill.new.reader.agent.seat.me.0 in let r = c.fill.ensures in
+    subst (λ (m : FinMap nat_cmp Form). Has m q (Cons b l o)) (sym c.fill_again.ensures.forms.0) (r.above q b l o (omega (arith, less, i.lower, d.below.0, d.below.1))
+    (subst (λ (m : FinMap nat_cmp Form). Has m q (Cons b l o)) (sym d.forms.0)
+    (e.others q (λ is. absurd (omega (arith, is, less, i.lower))) ∙ i.above q b l o less h)))
+
+pub returns-then-left-right-clause-filled : goal.returns-then-left-right-clause-filled
+returns-then-left-right-clause-filled g t c = let v : View = c.args.reader.now.agent.seat.me.0 in let uu : View = c.loop-left.reader.agent.seat.me.0 in let ff : View = c.form_now-form.new.self.agent.seat.me.0 in
+    let wide = c.args.to.wide in let start : ℕ = c.args.to.start in let id : ℕ = c.loop-left.id in let at : ℕ = c.loop-left.at in
+    let n : ℕ = c.loop-left.n in let i = c.loop-left.invariant in let e = c.form_now-form.ensures in let fil = i.filling in
+    let gg : View = c.left_length-m.new.reader.agent.seat.me.0 in let left : ℕ = c.in-Cons.left in let right : ℕ = c.in-Cons.right in
+    let m : ℕ = c.left_length-m.result in let d = c.left_length-m.ensures in
+    let both = both_here wide start (own_word v.own_words) c.args.at c.args.n (units_at v c.args.id) at n uu ff gg gg id left right m e.reads.view i.known fil d.sides in
+    let hh : View = c.fill.new.reader.agent.seat.me.0 in let r = c.fill.ensures in
+    turn_both wide start (own_word v.own_words) c.args.at c.args.n (units_at v c.args.id) at n uu ff gg hh id left right m c.fill_again.new.reader.agent.seat.me.0
+    e.reads.view d.reads.view d.known.1 r.writes.view.known fil both r.filled c.if-left-right.true c.fill_again.ensures.filled
+
+pub returns-then-left-right-clause-loads : goal.returns-then-left-right-clause-loads
+returns-then-left-right-clause-loads g t c = let v : View = c.args.reader.now.agent.seat.me.0 in let uu : View = c.loop-left.reader.agent.seat.me.0 in let ff : View = c.form_now-form.new.self.agent.seat.me.0 in
+    let wide = c.args.to.wide in let start : ℕ = c.args.to.start in let id : ℕ = c.loop-left.id in let at : ℕ = c.loop-left.at in
+    let n : ℕ = c.loop-left.n in let i = c.loop-left.invariant in let e = c.form_now-form.ensures in let fil = i.filling in
+    let gg : View = c.left_length-m.new.reader.agent.seat.me.0 in let left : ℕ = c.in-Cons.left in let right : ℕ = c.in-Cons.right in
+    let m : ℕ = c.left_length-m.result in let d = c.left_length-m.ensures in
+    let both = both_here wide start (own_word v.own_words) c.args.at c.args.n (units_at v c.args.id) at n uu ff gg gg id left right m e.reads.view i.known fil d.sides in
+    let hh : View = c.fill.new.reader.agent.seat.me.0 in let r = c.fill.ensures in
+    let q : ℕ = c.fill.new.steps - c.loop-left.steps in let some : 0 < q = omega (arith, r.more, c.tick.ensures) in
+    omega (arith, c.fill_again.ensures.forms.1, r.loads, r.more, e.loads, d.forms.1, i.loads q some, i.more, c.tick.ensures)
+
+pub returns-then-left-right-clause-steps : goal.returns-then-left-right-clause-steps
+returns-then-left-right-clause-steps g t c = let v : View = c.args.reader.now.agent.seat.me.0 in let uu : View = c.loop-left.reader.agent.seat.me.0 in let ff : View = c.form_now-form.new.self.agent.seat.me.0 in
+    let wide = c.args.to.wide in let start : ℕ = c.args.to.start in let id : ℕ = c.loop-left.id in let at : ℕ = c.loop-left.at in
+    let n : ℕ = c.loop-left.n in let i = c.loop-left.invariant in let e = c.form_now-form.ensures in let fil = i.filling in
+    let gg : View = c.left_length-m.new.reader.agent.seat.me.0 in let left : ℕ = c.in-Cons.left in let right : ℕ = c.in-Cons.right in
+    let m : ℕ = c.left_length-m.result in let d = c.left_length-m.ensures in
+    let both = both_here wide start (own_word v.own_words) c.args.at c.args.n (units_at v c.args.id) at n uu ff gg gg id left right m e.reads.view i.known fil d.sides in
+    let hh : View = c.fill.new.reader.agent.seat.me.0 in let r = c.fill.ensures in
+    omega (arith, r.steps, c.tick.ensures, i.steps, both.right_some)

@@ -188,8 +188,8 @@ fill-requires-clause-fits g c z k l = let v : View = c.args.reader.now.agent.sea
     let fits = narrow_units wide us narrow in
     subst (λ (xs : List ℕ). get_or xs k 0 < 256) (sym lw) (left_fits wide us ls rs m (length us) both fits z k l)
 
-pub fill-requires-2-clause-known : goal.fill-requires-2-clause-known
-fill-requires-2-clause-known g c = let v : View = c.args.reader.now.agent.seat.me.0 in let a : View = c.load_length-n.new.self.seat.me.0 in let b : View = c.left_length-m.new.reader.agent.seat.me.0 in
+pub fill_right-requires-clause-known : goal.fill_right-requires-clause-known
+fill_right-requires-clause-known g c = let v : View = c.args.reader.now.agent.seat.me.0 in let a : View = c.load_length-n.new.self.seat.me.0 in let b : View = c.left_length-m.new.reader.agent.seat.me.0 in
     let i = c.args.s.id in let wide = c.args.wide in let left = c.args.left in let right = c.args.right in let n = c.load_length-n.result in
     let m = c.left_length-m.result in let e = c.load_length-n.ensures in let d = c.left_length-m.ensures in
     let us : List ℕ = units_at v i in let known = units_there v i c.requires.known in let ra = reads_length v a i n e.known e.view in let fa = forms_length v a i n e.view in
@@ -208,8 +208,28 @@ fill-requires-2-clause-known g c = let v : View = c.args.reader.now.agent.seat.m
     let rf : units_at f1 right ≡ rs = units_kept w f1 right r1.writes.view.known key ∙ rw' in
     key_kept w f1 right r1.writes.view.known key
 
-pub fill-requires-2-clause-count : goal.fill-requires-2-clause-count
-fill-requires-2-clause-count g c = let v : View = c.args.reader.now.agent.seat.me.0 in let a : View = c.load_length-n.new.self.seat.me.0 in let b : View = c.left_length-m.new.reader.agent.seat.me.0 in
+pub fill_right-requires-clause-before : goal.fill_right-requires-clause-before
+fill_right-requires-clause-before g c = let v : View = c.args.reader.now.agent.seat.me.0 in let a : View = c.load_length-n.new.self.seat.me.0 in let b : View = c.left_length-m.new.reader.agent.seat.me.0 in
+    let i = c.args.s.id in let wide = c.args.wide in let left = c.args.left in let right = c.args.right in let n = c.load_length-n.result in
+    let m = c.left_length-m.result in let e = c.load_length-n.ensures in let d = c.left_length-m.ensures in
+    let us : List ℕ = units_at v i in let known = units_there v i c.requires.known in let ra = reads_length v a i n e.known e.view in let fa = forms_length v a i n e.view in
+    let count : n ≡ length us = possible_length a e.belongs.5 i n us (e.known.units i us known) (subst (λ (w : View). Has w.lengths i n) (sym e.view) (insert_same v.lengths i n)) in
+    let long = possible_cons v c.args.reader.now.belongs.5 i wide left right us c.requires.seen known in
+    let ls : List ℕ = units_at b left in let rs : List ℕ = units_at b right in
+    let both : IsBoth us ls rs m (length us) = subst (λ (xs : List ℕ). IsBoth xs ls rs m (length xs)) (units_kept v a i e.known c.requires.known) d.sides in
+    let narrow = narrow_cons v c.args.reader.now.belongs.5 i wide left right us c.requires.seen known in
+    let w : View = c.claim_words.new.self.seat.me.0 in let start = c.in-Ok.start in let ok = c.in-Ok.ensures in let want = c.words_for.result in
+    let words : want ≡ words_over wide (length us) = c.words_for.ensures ∙ ap (words_over wide) count in
+    let lw : units_at w left ≡ ls = ap (λ (x : View). units_at x left) ok.view in let rw' : units_at w right ≡ rs = ap (λ (x : View). units_at x right) ok.view in
+    let run : (q : ℕ) → q < words_over wide (length us) → HasKey w.own_words (start + q) = λ q l. subst
+    (λ (x : View). HasKey x.own_words (start + q)) (sym ok.view) (run_keys b.own_words start want q 0 (omega (arith, l, words))) in
+    let fits = narrow_units wide us narrow in
+    let f1 : View = c.fill.new.reader.agent.seat.me.0 in let r1 = c.fill.ensures in let key : HasKey w.units right = subst (λ (x : View). HasKey x.units right) (sym ok.view) d.known.1 in
+    let lkey : HasKey w.units left = subst (λ (x : View). HasKey x.units left) (sym ok.view) d.known.0 in
+    ap length (units_kept w f1 left r1.writes.view.known lkey ∙ lw) ∙ both.left_count
+
+pub fill_right-requires-clause-count : goal.fill_right-requires-clause-count
+fill_right-requires-clause-count g c = let v : View = c.args.reader.now.agent.seat.me.0 in let a : View = c.load_length-n.new.self.seat.me.0 in let b : View = c.left_length-m.new.reader.agent.seat.me.0 in
     let i = c.args.s.id in let wide = c.args.wide in let left = c.args.left in let right = c.args.right in let n = c.load_length-n.result in
     let m = c.left_length-m.result in let e = c.load_length-n.ensures in let d = c.left_length-m.ensures in
     let us : List ℕ = units_at v i in let known = units_there v i c.requires.known in let ra = reads_length v a i n e.known e.view in let fa = forms_length v a i n e.view in
@@ -228,8 +248,14 @@ fill-requires-2-clause-count g c = let v : View = c.args.reader.now.agent.seat.m
     let rf : units_at f1 right ≡ rs = units_kept w f1 right r1.writes.view.known key ∙ rw' in
     ap length rf ∙ (both.right_count ∙ ap (λ (k : ℕ). k - m) (sym count))
 
-pub fill-requires-2-clause-some : goal.fill-requires-2-clause-some
-fill-requires-2-clause-some g c = let v : View = c.args.reader.now.agent.seat.me.0 in let a : View = c.load_length-n.new.self.seat.me.0 in let b : View = c.left_length-m.new.reader.agent.seat.me.0 in
+pub fill_right-requires-clause-held : goal.fill_right-requires-clause-held
+fill_right-requires-clause-held g c k l = let d = c.left_length-m.ensures in let left = c.args.left in let w : View = c.claim_words.new.self.seat.me.0 in let ok = c.in-Ok.ensures in
+    let f1 : View = c.fill.new.reader.agent.seat.me.0 in let r1 = c.fill.ensures in
+    let lkey : HasKey w.units left = subst (λ (x : View). HasKey x.units left) (sym ok.view) d.known.0 in
+    r1.filled.inside k l ∙ ap (λ (xs : List ℕ). get_or xs k 0) (sym (units_kept w f1 left r1.writes.view.known lkey))
+
+pub fill_right-requires-clause-some : goal.fill_right-requires-clause-some
+fill_right-requires-clause-some g c = let v : View = c.args.reader.now.agent.seat.me.0 in let a : View = c.load_length-n.new.self.seat.me.0 in let b : View = c.left_length-m.new.reader.agent.seat.me.0 in
     let i = c.args.s.id in let wide = c.args.wide in let left = c.args.left in let right = c.args.right in let n = c.load_length-n.result in
     let m = c.left_length-m.result in let e = c.load_length-n.ensures in let d = c.left_length-m.ensures in
     let us : List ℕ = units_at v i in let known = units_there v i c.requires.known in let ra = reads_length v a i n e.known e.view in let fa = forms_length v a i n e.view in
@@ -248,8 +274,8 @@ fill-requires-2-clause-some g c = let v : View = c.args.reader.now.agent.seat.me
     let rf : units_at f1 right ≡ rs = units_kept w f1 right r1.writes.view.known key ∙ rw' in
     omega (arith, both.right_some, count)
 
-pub fill-requires-2-clause-short : goal.fill-requires-2-clause-short
-fill-requires-2-clause-short g c = let v : View = c.args.reader.now.agent.seat.me.0 in let a : View = c.load_length-n.new.self.seat.me.0 in let b : View = c.left_length-m.new.reader.agent.seat.me.0 in
+pub fill_right-requires-clause-short : goal.fill_right-requires-clause-short
+fill_right-requires-clause-short g c = let v : View = c.args.reader.now.agent.seat.me.0 in let a : View = c.load_length-n.new.self.seat.me.0 in let b : View = c.left_length-m.new.reader.agent.seat.me.0 in
     let i = c.args.s.id in let wide = c.args.wide in let left = c.args.left in let right = c.args.right in let n = c.load_length-n.result in
     let m = c.left_length-m.result in let e = c.load_length-n.ensures in let d = c.left_length-m.ensures in
     let us : List ℕ = units_at v i in let known = units_there v i c.requires.known in let ra = reads_length v a i n e.known e.view in let fa = forms_length v a i n e.view in
@@ -268,8 +294,8 @@ fill-requires-2-clause-short g c = let v : View = c.args.reader.now.agent.seat.m
     let rf : units_at f1 right ≡ rs = units_kept w f1 right r1.writes.view.known key ∙ rw' in
     let s = possible_short v c.args.reader.now.belongs.5 i us known in omega (arith, s, both.right_some, count)
 
-pub fill-requires-2-clause-own : goal.fill-requires-2-clause-own
-fill-requires-2-clause-own g c o l h = let v : View = c.args.reader.now.agent.seat.me.0 in
+pub fill_right-requires-clause-own : goal.fill_right-requires-clause-own
+fill_right-requires-clause-own g c o h = let v : View = c.args.reader.now.agent.seat.me.0 in
     let a : View = c.load_length-n.new.self.seat.me.0 in let b : View = c.left_length-m.new.reader.agent.seat.me.0 in
     let i = c.args.s.id in let wide = c.args.wide in let left = c.args.left in let right = c.args.right in let n = c.load_length-n.result in
     let m = c.left_length-m.result in let e = c.load_length-n.ensures in let d = c.left_length-m.ensures in
@@ -289,8 +315,8 @@ fill-requires-2-clause-own g c o l h = let v : View = c.args.reader.now.agent.se
     let rf : units_at f1 right ≡ rs = units_kept w f1 right r1.writes.view.known key ∙ rw' in
     r1.writes.view.own_words (start + o / lane_count wide) (run (o / lane_count wide) (unit_inside wide (length us) o (omega (arith, h, both.right_some, count))))
 
-pub fill-requires-2-clause-fits : goal.fill-requires-2-clause-fits
-fill-requires-2-clause-fits g c z k l = let v : View = c.args.reader.now.agent.seat.me.0 in
+pub fill_right-requires-clause-fits : goal.fill_right-requires-clause-fits
+fill_right-requires-clause-fits g c z k l = let v : View = c.args.reader.now.agent.seat.me.0 in
     let a : View = c.load_length-n.new.self.seat.me.0 in let b : View = c.left_length-m.new.reader.agent.seat.me.0 in
     let i = c.args.s.id in let wide = c.args.wide in let left = c.args.left in let right = c.args.right in let n = c.load_length-n.result in
     let m = c.left_length-m.result in let e = c.load_length-n.ensures in let d = c.left_length-m.ensures in
@@ -329,7 +355,7 @@ flatten_step-requires-clause-may g c = let v : View = c.args.reader.now.agent.se
     let fits = narrow_units wide us narrow in
     let f1 : View = c.fill.new.reader.agent.seat.me.0 in let r1 = c.fill.ensures in let key : HasKey w.units right = subst (λ (x : View). HasKey x.units right) (sym ok.view) d.known.1 in
     let rf : units_at f1 right ≡ rs = units_kept w f1 right r1.writes.view.known key ∙ rw' in
-    let f2 : View = c.fill-2.new.reader.agent.seat.me.0 in let r2 = c.fill-2.ensures in
+    let f2 : View = c.fill_right.new.reader.agent.seat.me.0 in let r2 = c.fill_right.ensures in
     let own : (q : ℕ) → q < words_over wide (length us) → HasKey f2.own_words (start + q) = λ q l. r2.writes.view.own_words (start + q) (r1.writes.view.own_words (start + q) (run q l)) in
     let f1l : IsFilled wide start (own_word w.own_words) (own_word f1.own_words) 0 m (λ k. get_or ls k 0) = subst
     (λ (xs : List ℕ). IsFilled wide start (own_word w.own_words) (own_word f1.own_words) 0 m (λ k. get_or xs k 0)) lw r1.filled in
@@ -340,7 +366,7 @@ flatten_step-requires-clause-may g c = let v : View = c.args.reader.now.agent.se
     let zero : (q : ℕ) → q < words_over wide (length us) → Has w.own_words (start + q) 0 = λ q l. subst
     (λ (x : View). Has x.own_words (start + q) 0) (sym ok.view) (run_zero b.own_words start want q (omega (arith, l, words))) in
     let some : 1 ≤ words_over wide (length us) = some_words wide (length us) (omega (arith, long)) in
-    let inside = (possible_within f2 c.fill-2.new.reader.belongs.5).words (start + 0) (own 0 some) in let lawful = (possible_lawful f2 c.fill-2.new.reader.belongs.5).3 in
+    let inside = (possible_within f2 c.fill_right.new.reader.belongs.5).words (start + 0) (own 0 some) in let lawful = (possible_lawful f2 c.fill_right.new.reader.belongs.5).3 in
     let form : Has f2.forms i (Cons wide left right) = r2.above i wide left right d.below.1
     (r1.above i wide left right d.below.0 (ap (λ (x : View). get x.forms i) ok.view ∙
     (ap (λ (x : FinMap nat_cmp Form). get x i) (d.forms.0 ∙ fa.0) ∙ c.requires.seen))) in
@@ -394,7 +420,7 @@ returns-clause-continues g c = let v : View = c.args.reader.now.agent.seat.me.0 
     let fits = narrow_units wide us narrow in
     let f1 : View = c.fill.new.reader.agent.seat.me.0 in let r1 = c.fill.ensures in let key : HasKey w.units right = subst (λ (x : View). HasKey x.units right) (sym ok.view) d.known.1 in
     let rf : units_at f1 right ≡ rs = units_kept w f1 right r1.writes.view.known key ∙ rw' in
-    let f2 : View = c.fill-2.new.reader.agent.seat.me.0 in let r2 = c.fill-2.ensures in
+    let f2 : View = c.fill_right.new.reader.agent.seat.me.0 in let r2 = c.fill_right.ensures in
     let own : (q : ℕ) → q < words_over wide (length us) → HasKey f2.own_words (start + q) = λ q l. r2.writes.view.own_words (start + q) (r1.writes.view.own_words (start + q) (run q l)) in
     let x : View = c.flatten_step.new.self.seat.me.0 in let st = c.flatten_step.ensures in
     let moving = is_moving f2 x i (Cons wide left right) wide start (header_found (Cons wide left right) c.flatten_step.result) st.view st.known in
@@ -422,7 +448,7 @@ returns-clause-flat g c xs h = let v : View = c.args.reader.now.agent.seat.me.0 
     let fits = narrow_units wide us narrow in
     let f1 : View = c.fill.new.reader.agent.seat.me.0 in let r1 = c.fill.ensures in let key : HasKey w.units right = subst (λ (x : View). HasKey x.units right) (sym ok.view) d.known.1 in
     let rf : units_at f1 right ≡ rs = units_kept w f1 right r1.writes.view.known key ∙ rw' in
-    let f2 : View = c.fill-2.new.reader.agent.seat.me.0 in let r2 = c.fill-2.ensures in
+    let f2 : View = c.fill_right.new.reader.agent.seat.me.0 in let r2 = c.fill_right.ensures in
     let own : (q : ℕ) → q < words_over wide (length us) → HasKey f2.own_words (start + q) = λ q l. r2.writes.view.own_words (start + q) (r1.writes.view.own_words (start + q) (run q l)) in
     let x : View = c.flatten_step.new.self.seat.me.0 in let st = c.flatten_step.ensures in
     let moving = is_moving f2 x i (Cons wide left right) wide start (header_found (Cons wide left right) c.flatten_step.result) st.view st.known in
@@ -522,12 +548,12 @@ returns-clause-loads g c l j h = let v : View = c.args.reader.now.agent.seat.me.
     let fits = narrow_units wide us narrow in
     let f1 : View = c.fill.new.reader.agent.seat.me.0 in let r1 = c.fill.ensures in let key : HasKey w.units right = subst (λ (x : View). HasKey x.units right) (sym ok.view) d.known.1 in
     let rf : units_at f1 right ≡ rs = units_kept w f1 right r1.writes.view.known key ∙ rw' in
-    let f2 : View = c.fill-2.new.reader.agent.seat.me.0 in let r2 = c.fill-2.ensures in
+    let f2 : View = c.fill_right.new.reader.agent.seat.me.0 in let r2 = c.fill_right.ensures in
     let own : (q : ℕ) → q < words_over wide (length us) → HasKey f2.own_words (start + q) = λ q l. r2.writes.view.own_words (start + q) (r1.writes.view.own_words (start + q) (run q l)) in
     let x : View = c.flatten_step.new.self.seat.me.0 in let st = c.flatten_step.ensures in
     let moving = is_moving f2 x i (Cons wide left right) wide start (header_found (Cons wide left right) c.flatten_step.result) st.view st.known in
     let still : w.form_loads ≡ v.form_loads = ap (λ (y : View). y.form_loads) ok.view ∙ (d.forms.1 ∙ fa.1) in omega
-    (arith, moving.loads, r2.loads, r1.loads, still, h, r1.more, r2.more, r1.steps, r2.steps)
+    (arith, moving.loads, r2.loads f1.form_loads 0 (omega (arith, r1.loads)), r1.loads, still, h, r1.more, r2.more, r1.steps, r2.steps)
 
 pub returns-in-Err-clause-steps : goal.returns-in-Err-clause-steps
 returns-in-Err-clause-steps g c xs h = let v : View = c.args.reader.now.agent.seat.me.0 in
@@ -560,7 +586,7 @@ returns-clause-steps g c xs h = let v : View = c.args.reader.now.agent.seat.me.0
     let fits = narrow_units wide us narrow in
     let f1 : View = c.fill.new.reader.agent.seat.me.0 in let r1 = c.fill.ensures in let key : HasKey w.units right = subst (λ (x : View). HasKey x.units right) (sym ok.view) d.known.1 in
     let rf : units_at f1 right ≡ rs = units_kept w f1 right r1.writes.view.known key ∙ rw' in
-    let f2 : View = c.fill-2.new.reader.agent.seat.me.0 in let r2 = c.fill-2.ensures in
+    let f2 : View = c.fill_right.new.reader.agent.seat.me.0 in let r2 = c.fill_right.ensures in
     let own : (q : ℕ) → q < words_over wide (length us) → HasKey f2.own_words (start + q) = λ q l. r2.writes.view.own_words (start + q) (r1.writes.view.own_words (start + q) (run q l)) in
     let is : xs ≡ us = sym (units_are v i xs h) in let k : length xs ≡ length us = ap length is in omega (arith, k, r1.steps, r2.steps, count, both.right_some)
 
@@ -573,7 +599,7 @@ pub returns-clause-own : goal.returns-clause-own
 returns-clause-own g c = let v : View = c.args.reader.now.agent.seat.me.0 in let a : View = c.load_length-n.new.self.seat.me.0 in let b : View = c.left_length-m.new.reader.agent.seat.me.0 in
     let i = c.args.s.id in let wide = c.args.wide in let e = c.load_length-n.ensures in let ra = reads_length v a i c.load_length-n.result e.known e.view in
     let w : View = c.claim_words.new.self.seat.me.0 in let start = c.in-Ok.start in let ok = c.in-Ok.ensures in
-    let f1 : View = c.fill.new.reader.agent.seat.me.0 in let r1 = c.fill.ensures in let f2 : View = c.fill-2.new.reader.agent.seat.me.0 in let r2 = c.fill-2.ensures in
+    let f1 : View = c.fill.new.reader.agent.seat.me.0 in let r1 = c.fill.ensures in let f2 : View = c.fill_right.new.reader.agent.seat.me.0 in let r2 = c.fill_right.ensures in
     let x : View = c.flatten_step.new.self.seat.me.0 in let st = c.flatten_step.ensures in let cons = Cons wide c.args.left c.args.right in
     let moving = is_moving f2 x i cons wide start (header_found cons c.flatten_step.result) st.view st.known in
     own_trans v b x (own_reads v b (reads_trans v a b ra c.left_length-m.ensures.reads.view))
