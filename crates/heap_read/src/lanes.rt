@@ -148,6 +148,27 @@ impl<H: HeapRef> Reader<H> {
             (own_word (view_in self.new).own_words) (at + n) n
             (λ k. lane_in (own_word (view_in self.old).own_words) to.wide to.start (at + k)) }
     {
+        if to.wide {
+            return self.repeat_by(Run { wide: true, ..to }, at, n);
+        }
+        self.repeat_by(Run { wide: false, ..to }, at, n);
+    }
+
+    // The same, inlined for each width of the lanes, so that there is a loop for each of the two.
+    #[inline(always)]
+    fn repeat_by(&mut self, to: Run, at: u32, n: u32)
+        requires short { at + n + n ≤ MAX }
+        requires own { (o : ℕ) → at ≤ o → o < at + n + n
+            → HasKey (view_in self.old).own_words (to.start + o / lane_count to.wide) }
+        ensures writes { MovesView WritesOwnWords self.old self.new }
+        ensures below { KeepsBelow to.start (view_in self.old) (view_in self.new) }
+        ensures above { KeepsFrom (to.start + words_over to.wide (at + n + n)) (view_in self.old)
+            (view_in self.new) }
+        ensures forms { KeepsForms (view_in self.old) (view_in self.new) }
+        ensures filled { IsFilled to.wide to.start (own_word (view_in self.old).own_words)
+            (own_word (view_in self.new).own_words) (at + n) n
+            (λ k. lane_in (own_word (view_in self.old).own_words) to.wide to.start (at + k)) }
+    {
         let mut done = 0;
         while done < n {
             let next = at + n + done;

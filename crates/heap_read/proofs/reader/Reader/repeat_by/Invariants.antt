@@ -4,7 +4,7 @@ use Rattle.heap_rule.specs.Contents.{lane_in}
 use Rattle.heap_read.specs.Filling.{IsFilled, own_word}
 use Rattle.heap_read.specs.Readers.{view_in}
 use Rattle.heap_read.specs.Reads.{KeepsBelow, KeepsForms, KeepsFrom, WritesOwnWords}
-use Rattle.heap_read.proofs.reader.Reader.repeat_lanes.Given as goal
+use Rattle.heap_read.proofs.reader.Reader.repeat_by.Given as goal
 
 abbrev pub invariant-loop-done : goal.invariant-loop-done
 invariant-loop-done g l = record {
