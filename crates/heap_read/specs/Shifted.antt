@@ -1,5 +1,5 @@
 -- Helpers: no public contract reaches these definitions.
--- Words whose lowest lanes hold units, words that a view has, and the word whose lowest lane is that of a unit.
+-- Words whose lowest lanes hold units, words that a view has, and the word that begins with a unit.
 use Rattle.std.specs.Prelude.{◌≡◌, ℕ, ◌+◌, ◌/◌, ◌%◌, ◌<◌, ◌^◌, ◌⊎◌, Bool, true, false}
 use Rattle.js_units.specs.Lanes.{lane_base, lane_count, lane_of}
 use Rattle.heap_rule.specs.declared.view.View.{View}

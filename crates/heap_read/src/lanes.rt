@@ -1,5 +1,5 @@
 // Units written into a run of own content words, each word stored once.
-ghost use Rattle.std.specs.Prelude.{◌≡◌, ℕ, ◌+◌, ◌-◌, ◌*◌, ◌/◌, ◌%◌, ◌^◌, ◌<◌, ◌≤◌, false, slice_index, length};
+ghost use Rattle.std.specs.Prelude.{◌≡◌, ℕ, List, ◌+◌, ◌-◌, ◌*◌, ◌/◌, ◌%◌, ◌^◌, ◌<◌, ◌≤◌, false, slice_index, length};
 ghost use Rattle.js_units.specs.Lanes.{lane_base, lane_count, lane_of, words_over};
 ghost use Rattle.heap_rule.specs.Contents.{lane_in};
 ghost use Rattle.heap_rule.specs.Layout.{MAX};
@@ -11,11 +11,13 @@ ghost use Rattle.heap_read.specs.Readers.{MovesView, view_in};
 ghost use Rattle.heap_read.specs.Reads.{KeepsBelow, KeepsForms, KeepsFrom, OnlyLoads, WritesOwnWords};
 ghost use Rattle.heap_read.specs.Shifted.{HasWord, HoldsLanes};
 ghost use Rattle.heap_read.specs.Sources.{ShowsSource, listed_in};
+ghost use Rattle.heap_read.specs.Windows.{IsWindow};
 
 use crate::heap_ref::HeapRef;
 use crate::reader::Reader;
 use crate::shifting::{lanes_at, put_above, replaced};
 use crate::source::UnitSource;
+use crate::string::Window;
 use js_units::{lanes, word_and_lane};
 
 /// Where a run of lanes begins, and how wide they are.
@@ -108,6 +110,31 @@ impl<H: HeapRef> Reader<H> {
         self.agent.store_word(self.heap.heap(), place, word);
     }
 
+    // Lanes `at` on of a run of own words become the units of a window of the same width.
+    fn copy_window(&mut self, w: Window, to: Run, at: u32)
+        requires window { (us : List ℕ) × IsWindow (view_in self.old) w us }
+        requires width { w.wide ≡ to.wide }
+        requires short { at + w.len ≤ MAX }
+        requires own { (o : ℕ) → at ≤ o → o < at + w.len
+            → HasKey (view_in self.old).own_words (to.start + o / lane_count to.wide) }
+        ensures writes { MovesView WritesOwnWords self.old self.new }
+        ensures below { KeepsBelow to.start (view_in self.old) (view_in self.new) }
+        ensures above { KeepsFrom (to.start + words_over to.wide (at + w.len)) (view_in self.old)
+            (view_in self.new) }
+        ensures forms { KeepsForms (view_in self.old) (view_in self.new) }
+        ensures filled { (us : List ℕ) → IsWindow (view_in self.old) w us
+            → IsFilled to.wide to.start (own_word (view_in self.old).own_words)
+            (own_word (view_in self.new).own_words) at w.len (slice_index us) }
+    {
+        let mut done = 0;
+        while done < w.len {
+            let count = left_in_word(to.wide, at + done).min(w.len - done);
+            let part = self.part_of(w, done, count);
+            self.put_lanes(to, at + done, count, part);
+            done += count;
+        }
+    }
+
     /// Lanes `at` on of a run become the units of a source. The run's words are own there.
     pub fn copy_lanes(&mut self, source: &UnitSource, n: u32, to: Run, at: u32)
         requires shows { ShowsSource (view_in self.old) source.now }
@@ -125,6 +152,11 @@ impl<H: HeapRef> Reader<H> {
         ensures filled { IsFilled to.wide to.start (own_word (view_in self.old).own_words)
             (own_word (view_in self.new).own_words) at n (slice_index (listed_in self.old source.now)) }
     {
+        if let UnitSource::Piece(piece) = source {
+            if piece.window.wide == to.wide {
+                return self.copy_window(piece.window, to, at);
+            }
+        }
         let mut done = 0;
         while done < n {
             let count = left_in_word(to.wide, at + done).min(n - done);

@@ -180,7 +180,7 @@ impl<H: HeapRef> Reader<H> {
     // The `count` units from number `i` on of a window, as lanes of one word of its width, by a load
     // for each word that they lie in.
     #[inline(always)]
-    fn part_of(&mut self, w: Window, i: u32, count: u32) -> u64
+    pub(crate) fn part_of(&mut self, w: Window, i: u32, count: u32) -> u64
         requires window { (us : List ℕ) × IsWindow (view_in self.old) w us }
         requires within { i + count ≤ w.len }
         requires room { count ≤ lane_count w.wide }

@@ -105,7 +105,8 @@ fn fill_again<H: HeapRef>(reader: &mut Reader<H>, id: u32, at: u32, n: u32, to: 
     requires short { at + n + n ≤ MAX }
     requires own { (o : ℕ) → at ≤ o → o < at + n + n
         → HasKey (view_in reader.old).own_words (to.start + o / lane_count to.wide) }
-    requires held { (k : ℕ) → k < n → lane_in (own_word (view_in reader.old).own_words) to.wide to.start (at + k)
+    requires held { (k : ℕ) → k < n
+        → lane_in (own_word (view_in reader.old).own_words) to.wide to.start (at + k)
         ≡ slice_index (units_at (view_in reader.old) id) k }
     ensures writes { MovesView WritesOwnWords reader.old reader.new }
     ensures below { KeepsBelow to.start (view_in reader.old) (view_in reader.new) }
@@ -198,7 +199,8 @@ pub(crate) fn fill_right<L: Ledger, H: HeapRef>(
         → HasKey (view_in reader.old).own_words (to.start + o / lane_count to.wide) }
     requires fits { to.wide ≡ false → (k : ℕ) → k < n
         → slice_index (units_at (view_in reader.old) right) k < 256 }
-    requires held { (k : ℕ) → k < m → lane_in (own_word (view_in reader.old).own_words) to.wide to.start (0 + k)
+    requires held { (k : ℕ) → k < m
+        → lane_in (own_word (view_in reader.old).own_words) to.wide to.start (0 + k)
         ≡ slice_index (units_at (view_in reader.old) left) k }
     ensures writes { MovesView WritesOwnWords reader.old reader.new }
     ensures below { KeepsBelow to.start (view_in reader.old) (view_in reader.new) }

@@ -1,14 +1,17 @@
-use Rattle.std.proofs.Common.{◌+◌, ◌/◌, ◌<◌, ◌≤◌, ◌∙◌, ℕ, List, get_or, ap, refl, subst, sym, arith}
+use Rattle.std.proofs.Common.{◌+◌, ◌/◌, ◌<◌, ◌≤◌, ◌≡◌, ◌∙◌, ℕ, List, length, get_or, ap, refl, subst, sym, arith}
 use Rattle.std.specs.FinMap.{FinMap}
 use Rattle.std.specs.Ordering.{nat_cmp}
 use Rattle.js_units.specs.Lanes.{lane_count, lane_of, words_over}
 use Rattle.heap_rule.specs.declared.view.View.{View}
 use Rattle.heap_rule.specs.Maps.{Has, HasKey}
 use Rattle.heap_read.specs.Filling.{IsFilled, own_word}
-use Rattle.heap_read.specs.Sources.{source_units}
+use Rattle.heap_read.specs.Reads.{KeepsFrom}
+use Rattle.heap_read.specs.Sources.{ShowsSource, piece_units, source_units}
+use Rattle.heap_read.specs.declared.source.UnitSource.{UnitSource}
 use Rattle.heap_read.proofs.Listing.{listed_same, shows_kept}
 use Rattle.heap_read.proofs.Placing.{filled_none, filled_on, filled_same}
-use Rattle.heap_read.proofs.Showing.{forms_held, more_words}
+use Rattle.heap_read.proofs.ShiftedLanes.{same_width}
+use Rattle.heap_read.proofs.Showing.{forms_held, more_words, window_length}
 use Rattle.heap_read.proofs.Storing.{below_reads, writes_reads, writes_refl, writes_trans}
 use Rattle.heap_read.proofs.WindowLemmas.{forms_trans}
 use Rattle.heap_read.proofs.reader.Reader.copy_lanes.Goals as goal
@@ -25,6 +28,39 @@ loop-done-init g c = let v : View = c.args.self.now.agent.seat.me.0 in let us : 
   filled = filled_none c.args.to.wide c.args.to.start (own_word v.own_words) c.args.at (λ k. get_or us k 0);
   within = omega arith;
 }
+
+-- a window of the same width
+pub copy_window-requires-clause-window : goal.copy_window-requires-clause-window
+copy_window-requires-clause-window g c = let v : View = c.args.self.now.agent.seat.me.0 in
+    let s = subst (ShowsSource v) c.in-Piece.is c.requires.shows in (piece_units v c.in-Piece.piece, s.1)
+
+pub copy_window-requires-clause-width : goal.copy_window-requires-clause-width
+copy_window-requires-clause-width g c = same_width c.in-Piece.piece.window.wide c.args.to.wide c.if-piece-to.true
+
+pub copy_window-requires-clause-short : goal.copy_window-requires-clause-short
+copy_window-requires-clause-short g c = let v : View = c.args.self.now.agent.seat.me.0 in let s = subst (ShowsSource v) c.in-Piece.is c.requires.shows in
+    let n : length (piece_units v c.in-Piece.piece) ≡ c.args.n = subst (λ (x : UnitSource). length (source_units v x) ≡ c.args.n) c.in-Piece.is c.requires.count in
+    let l = window_length v c.in-Piece.piece.window (piece_units v c.in-Piece.piece) s.1 in omega (arith, n, l, c.requires.short)
+
+pub copy_window-requires-clause-own : goal.copy_window-requires-clause-own
+copy_window-requires-clause-own g c o a b = let v : View = c.args.self.now.agent.seat.me.0 in let s = subst (ShowsSource v) c.in-Piece.is c.requires.shows in
+    let n : length (piece_units v c.in-Piece.piece) ≡ c.args.n = subst (λ (x : UnitSource). length (source_units v x) ≡ c.args.n) c.in-Piece.is c.requires.count in
+    let l = window_length v c.in-Piece.piece.window (piece_units v c.in-Piece.piece) s.1 in c.requires.own o a (omega (arith, n, l, b))
+
+pub returns-then-piece-to-clause-above : goal.returns-then-piece-to-clause-above
+returns-then-piece-to-clause-above g c = let v : View = c.args.self.now.agent.seat.me.0 in let s = subst (ShowsSource v) c.in-Piece.is c.requires.shows in
+    let n : length (piece_units v c.in-Piece.piece) ≡ c.args.n = subst (λ (x : UnitSource). length (source_units v x) ≡ c.args.n) c.in-Piece.is c.requires.count in
+    let l = window_length v c.in-Piece.piece.window (piece_units v c.in-Piece.piece) s.1 in
+    subst (λ (k : ℕ). KeepsFrom (c.args.to.start + words_over c.args.to.wide (c.args.at + k)) v c.copy_window.new.self.agent.seat.me.0) (sym l ∙ n) c.copy_window.ensures.above
+
+pub returns-then-piece-to-clause-filled : goal.returns-then-piece-to-clause-filled
+returns-then-piece-to-clause-filled g c = let v : View = c.args.self.now.agent.seat.me.0 in let x : View = c.copy_window.new.self.agent.seat.me.0 in
+    let p = c.in-Piece.piece in let s = subst (ShowsSource v) c.in-Piece.is c.requires.shows in let to = c.args.to in
+    let n : length (piece_units v p) ≡ c.args.n = subst (λ (x : UnitSource). length (source_units v x) ≡ c.args.n) c.in-Piece.is c.requires.count in
+    let l = window_length v p.window (piece_units v p) s.1 in
+    subst (λ (y : UnitSource). IsFilled to.wide to.start (own_word v.own_words) (own_word x.own_words) c.args.at c.args.n (λ k. get_or (source_units v y) k 0)) (sym c.in-Piece.is)
+    (subst (λ (k : ℕ). IsFilled to.wide to.start (own_word v.own_words) (own_word x.own_words) c.args.at k (λ k. get_or (piece_units v p) k 0)) (sym l ∙ n)
+    (c.copy_window.ensures.filled (piece_units v p) s.1))
 
 -- the word of the next lane
 pub put_lanes-requires-clause-own : goal.put_lanes-requires-clause-own
