@@ -10,10 +10,9 @@ use Rattle.js_header.specs.declared.form.Form.TheVariants.{Flat}
 use Rattle.heap_rule.specs.declared.view.View.{View}
 use Rattle.heap_rule.specs.Contents.{lane_in}
 use Rattle.heap_rule.specs.Loads.{MayLoadWord}
-use Rattle.heap_rule.specs.Maps.{Has, HasKey}
-use Rattle.heap_rule.specs.Views.{HasLength, IsFrozen, shown_word}
+use Rattle.heap_rule.specs.Maps.{HasKey}
+use Rattle.heap_rule.specs.Views.{IsFrozen, shown_word}
 use Rattle.heap_rule.proofs.MapLemmas.{has_key}
-use Rattle.heap_table.specs.Known.{KeepsKnown}
 use Rattle.heap_read.specs.Filling.{own_word}
 use Rattle.heap_read.specs.Reads.{HoldsForms, OnlyLoads}
 use Rattle.heap_read.specs.Shifted.{HasWord, HoldsLanes}

@@ -1,7 +1,7 @@
 use Rattle.std.proofs.Common.{◌≡◌, ◌+◌, ◌/◌, ◌^◌, ◌<◌, ◌≤◌, ◌∙◌, ℕ, Bool, List, get_or, refl, subst, sym, arith}
 use Rattle.std.specs.FinMap.{FinMap}
 use Rattle.std.specs.Ordering.{nat_cmp}
-use Rattle.js_units.specs.Lanes.{lane_base, lane_count, lane_of, words_over}
+use Rattle.js_units.specs.Lanes.{lane_base, lane_count, lane_of}
 use Rattle.heap_rule.specs.declared.view.View.{View}
 use Rattle.heap_rule.specs.Maps.{Has, HasKey}
 use Rattle.heap_read.specs.Filling.{IsFilled, own_word}

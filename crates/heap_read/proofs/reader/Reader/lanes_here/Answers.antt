@@ -1,7 +1,6 @@
 use Rattle.std.proofs.Common.{ℕ, ◌+◌, ◌/◌, subst, sym, arith}
 use Rattle.js_units.specs.Lanes.{lane_count}
 use Rattle.heap_rule.specs.declared.view.View.{View}
-use Rattle.heap_rule.specs.Loads.{MayLoadWord}
 use Rattle.heap_rule.specs.Views.{shown_word}
 use Rattle.heap_rule.proofs.Possible.{possible_lawful}
 use Rattle.heap_table.proofs.Keeps.{word_within}

@@ -1,4 +1,4 @@
-use Rattle.std.proofs.Common.{◌+◌, ◌/◌, ℕ, Bool, subst, sym}
+use Rattle.std.proofs.Common.{◌+◌, ◌/◌, Bool, subst, sym}
 use Rattle.js_units.specs.Lanes.{lane_count, words_over}
 use Rattle.heap_rule.specs.declared.view.View.{View}
 use Rattle.heap_rule.specs.Contents.{lane_in}
