@@ -15,3 +15,4 @@ mod Paying
 mod Making
 mod Expressions
 mod AtHand
+mod Sides

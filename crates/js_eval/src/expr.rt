@@ -136,9 +136,10 @@ fn conditional<S: Strings>(
     }
 }
 
-// An expression and the steps behind it.
+/// An expression and the steps behind it.
 #[cycle(expr)]
-fn post<S: Strings>(
+#[inline(never)]
+pub fn post<S: Strings>(
     alloc: Global,
     store: &mut S,
     context: &Context<S::Ref>,
@@ -339,6 +340,7 @@ fn steps_of_name<S: Strings>(
 
 // The steps behind a value.
 #[cycle(expr)]
+#[inline(always)]
 fn steps<S: Strings>(
     alloc: Global,
     store: &mut S,
@@ -359,6 +361,28 @@ fn steps<S: Strings>(
         let step = &rest[0];
         return one_step(alloc, store, context, step, first);
     }
+    many_steps(alloc, store, context, rest, first)
+}
+
+// The same one after another. It is a function of its own, since each call pays for its locals.
+#[cycle(expr)]
+#[inline(never)]
+fn many_steps<S: Strings>(
+    alloc: Global,
+    store: &mut S,
+    context: &Context<S::Ref>,
+    rest: &[PostStep],
+    first: &Value<S::Ref>,
+) -> Result<Value<S::Ref>, Stop>
+    requires context { ContextFine (S.state store.old) S.number context.now }
+    requires first { IsFine (S.state store.old) S.number first.now }
+    ensures grows { Grows (S.state store.old) (S.state store.new) }
+    ensures context { ContextFine (S.state store.new) S.number context.now }
+    ensures fine { IfOk result (λ v. IsFine (S.state store.new) S.number v) }
+    ensures did { GivesValue S.number (S.state store.old) (S.state store.new) result
+        (steps_out (steps_tree rest.now) (scope_of (S.state store.old) S.number context.now)
+        (seen (S.state store.old) S.number first.now)) }
+{
     let absent = Value::Undefined;
     let mut place = first;
     let mut value: Option<Value<S::Ref>> = None;

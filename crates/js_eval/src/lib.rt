@@ -4,6 +4,7 @@
 //! What a script means is defined in `specs/`. `eval` prints whole lines alone, also before a throw.
 #![tactic(auto)]
 
+mod compared;
 mod context;
 mod ending;
 mod env;

@@ -20,6 +20,7 @@ ghost use Rattle.js_eval.specs.Expression.{expr_out};
 ghost use Rattle.js_number.specs.declared.Num.TheVariants.{Int};
 ghost use Rattle.js_eval.specs.Evaluates.{Evaluates};
 
+use crate::compared::{holds_of_two, two_sides};
 use crate::context::{
     Context, assign, assign_at, declare, enter, enter_turn, keep_room, leave, read_at,
 };
@@ -285,6 +286,26 @@ fn holds<S: Strings>(
 {
     match test_at_hand(store, context, test) {
         Some(held) => Ok(held),
+        None => holds_by_sides(alloc, store, context, test),
+    }
+}
+
+// The same by the sides of an operator, where the test is one.
+fn holds_by_sides<S: Strings>(
+    alloc: Global,
+    store: &mut S,
+    context: &Context<S::Ref>,
+    test: &Expr,
+) -> Result<bool, Stop>
+    requires { ContextFine (S.state store.old) S.number context.now }
+    ensures grows { Grows (S.state store.old) (S.state store.new) }
+    ensures context { ContextFine (S.state store.new) S.number context.now }
+    ensures did { GivesPlain (S.state store.old) (S.state store.new) result
+        (told to_boolean
+        (expr_out (expr_tree test.now) (scope_of (S.state store.old) S.number context.now))) }
+{
+    match two_sides(test) {
+        Some((first, link)) => holds_of_two(alloc, store, context, first, link),
         None => is_true_value(alloc, store, context, test),
     }
 }

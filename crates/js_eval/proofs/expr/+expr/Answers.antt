@@ -158,8 +158,8 @@ steps-returns-then-rest-eq1-clause-did g t c =
     (scope_of (state c.args.store.now) g.S.Strings.number c.args.context.now) (omega arith) c.index-rest-0.is c.one_step.result
     c.one_step.ensures.fine c.one_step.ensures.did
 
-pub steps-returns-in_err-found-in-Some-clause-did : goal.steps-returns-in_err-found-in-Some-clause-did
-steps-returns-in_err-found-in-Some-clause-did g t c =
+pub many_steps-returns-in_err-found-in-Some-clause-did : goal.many_steps-returns-in_err-found-in-Some-clause-did
+many_steps-returns-in_err-found-in-Some-clause-did g t c =
     let state = g.S.Strings.state in
     let number = g.S.Strings.number in
     let p = err_from_is_err_and c.from_residual.result c.from_residual.ensures.1 in
@@ -175,8 +175,8 @@ steps-returns-in_err-found-in-Some-clause-did g t c =
     (property_step number b (state c.look_up_property.new.store) (seen b number c.loop-step.place.now) c.step-item.result c.in-Some.at c.in-Some.key.now
     b.limit s (Err c.in_err-found-in-Some.field-0.0) c.in-Some.ensures.step i.grows.limit d))))
 
-pub steps-loop-step-preserved-in-Some : goal.steps-loop-step-preserved-in-Some
-steps-loop-step-preserved-in-Some g t c =
+pub many_steps-loop-step-preserved-in-Some : goal.many_steps-loop-step-preserved-in-Some
+many_steps-loop-step-preserved-in-Some g t c =
     let state = g.S.Strings.state in
     let number = g.S.Strings.number in
     let i = c.loop-step.invariant in
@@ -197,8 +197,8 @@ steps-loop-step-preserved-in-Some g t c =
           (Ok c.in_ok-found-in-Some.found.now) c.in-Some.ensures.step i.grows.limit e.did) r (rw none at f)));
     }
 
-pub steps-returns-in_err-next-in-None-clause-did : goal.steps-returns-in_err-next-in-None-clause-did
-steps-returns-in_err-next-in-None-clause-did g t c =
+pub many_steps-returns-in_err-next-in-None-clause-did : goal.many_steps-returns-in_err-next-in-None-clause-did
+many_steps-returns-in_err-next-in-None-clause-did g t c =
     let state = g.S.Strings.state in
     let number = g.S.Strings.number in
     let p = err_from_is_err_and c.from_residual-in_err-next-in-None.result c.from_residual-in_err-next-in-None.ensures.1 in
@@ -206,13 +206,13 @@ steps-returns-in_err-next-in-None-clause-did g t c =
     let same = scope_still (state c.args.store.now) (state c.loop-step.store) number i.grows c.args.context.now c.requires.context in
     let of = c.latest-of.ensures.is in
     let d = c.in_err-next-in-None.ensures.did in
-    rw (p.1, p.2) (i.completes (state c.one_step-in-None.new.store) (Err c.in_err-next-in-None.field-0.0)
-    (steps_halt number (state c.loop-step.store) (state c.one_step-in-None.new.store) (unwrap_or c.loop-step.value c.loop-step.place.now) c.args.rest.now
+    rw (p.1, p.2) (i.completes (state c.one_step.new.store) (Err c.in_err-next-in-None.field-0.0)
+    (steps_halt number (state c.loop-step.store) (state c.one_step.new.store) (unwrap_or c.loop-step.value c.loop-step.place.now) c.args.rest.now
     c.loop-step.step-index c.step-item.result (scope_of (state c.args.store.now) number c.args.context.now)
     c.loop-step-test.true c.step-item.is c.in_err-next-in-None.field-0.0 (rw (same, of) at d)))
 
-pub steps-loop-step-preserved : goal.steps-loop-step-preserved
-steps-loop-step-preserved g t c =
+pub many_steps-loop-step-preserved : goal.many_steps-loop-step-preserved
+many_steps-loop-step-preserved g t c =
     let state = g.S.Strings.state in
     let number = g.S.Strings.number in
     let i = c.loop-step.invariant in
@@ -224,31 +224,31 @@ steps-loop-step-preserved g t c =
       context = c.in_ok-next-in-None.ensures.context;
       fine = c.in_ok-next-in-None.ensures.fine;
       completes = λ e r f. i.completes e r
-          (steps_turn number (state c.loop-step.store) (state c.one_step-in-None.new.store) e (unwrap_or c.loop-step.value c.loop-step.place.now)
+          (steps_turn number (state c.loop-step.store) (state c.one_step.new.store) e (unwrap_or c.loop-step.value c.loop-step.place.now)
           c.in_ok-next-in-None.next c.args.rest.now c.loop-step.step-index c.step-item.result (scope_of (state c.args.store.now) number c.args.context.now)
           c.loop-step-test.true c.step-item.is (rw (same, of) at d) r f);
     }
 
-pub steps-returns-in-Some-value-clause-fine : goal.steps-returns-in-Some-value-clause-fine
-steps-returns-in-Some-value-clause-fine g t c = rw c.in-Some-value.is at c.loop-step.invariant.fine
+pub many_steps-returns-in-Some-value-clause-fine : goal.many_steps-returns-in-Some-value-clause-fine
+many_steps-returns-in-Some-value-clause-fine g t c = rw c.in-Some-value.is at c.loop-step.invariant.fine
 
-pub steps-returns-in-Some-value-clause-did : goal.steps-returns-in-Some-value-clause-did
-steps-returns-in-Some-value-clause-did g t c =
+pub many_steps-returns-in-Some-value-clause-did : goal.many_steps-returns-in-Some-value-clause-did
+many_steps-returns-in-Some-value-clause-did g t c =
     let past = drop_of_length-le c.args.rest.now {i = c.loop-step.step-index} c.loop-step-test.false in
     let k = c.loop-step.invariant.fine in
     c.loop-step.invariant.completes (g.S.Strings.state c.loop-step.store) (Ok c.in-Some-value.last)
     (rw (past, c.in-Some-value.is) (record { is = refl; good = rw c.in-Some-value.is at k; ran = ran_free (g.S.Strings.state c.loop-step.store) }))
 
-pub steps-returns-in_err-copy-in-None-value-clause-did : goal.steps-returns-in_err-copy-in-None-value-clause-did
-steps-returns-in_err-copy-in-None-value-clause-did g t c =
+pub many_steps-returns-in_err-copy-in-None-value-clause-did : goal.many_steps-returns-in_err-copy-in-None-value-clause-did
+many_steps-returns-in_err-copy-in-None-value-clause-did g t c =
     let state = g.S.Strings.state in
     let past = drop_of_length-le c.args.rest.now {i = c.loop-step.step-index} c.loop-step-test.false in
     let p = err_from_is_err_and c.from_residual-in_err-copy-in-None-value.result c.from_residual-in_err-copy-in-None-value.ensures.1 in
     rw (p.1, p.2) (c.loop-step.invariant.completes (state c.loop-step.store) (Err (Store Memory))
     (rw past (copy_stops g.S.Strings.number (state c.loop-step.store) c.loop-step.place.now)))
 
-pub steps-returns-clause-did : goal.steps-returns-clause-did
-steps-returns-clause-did g t c =
+pub many_steps-returns-clause-did : goal.many_steps-returns-clause-did
+many_steps-returns-clause-did g t c =
     let state = g.S.Strings.state in
     let past = drop_of_length-le c.args.rest.now {i = c.loop-step.step-index} c.loop-step-test.false in
     let k = c.loop-step.invariant.fine in
@@ -646,7 +646,7 @@ pub one_step-read_index-requires-in-None-clause-value : goal.one_step-read_index
 one_step-read_index-requires-in-None-clause-value g t c =
     fine_still (g.S.Strings.state c.args.store.now) (g.S.Strings.state c.expr.new.store) g.S.Strings.number c.in_ok-index-in-None.ensures.grows c.args.value.now c.requires.value
 
-pub steps-returns-in_err-found-in-Some-clause-context : goal.steps-returns-in_err-found-in-Some-clause-context
-steps-returns-in_err-found-in-Some-clause-context g t c =
+pub many_steps-returns-in_err-found-in-Some-clause-context : goal.many_steps-returns-in_err-found-in-Some-clause-context
+many_steps-returns-in_err-found-in-Some-clause-context g t c =
     context_fine_still (g.S.Strings.state c.loop-step.store) (g.S.Strings.state c.look_up_property.new.store) g.S.Strings.number
     c.in_err-found-in-Some.ensures.grows c.args.context.now c.loop-step.invariant.context

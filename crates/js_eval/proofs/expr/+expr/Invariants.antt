@@ -29,8 +29,8 @@ invariant-links-loop-link g l =
           GivesValue number (state l.fn.store) c r (links_out (links_tree l.rest) (scope_of (state l.fn.store) number l.context) (seen (state l.fn.store) number l.fn.first));
     }
 
-abbrev pub invariant-steps-loop-step : goal.invariant-steps-loop-step
-invariant-steps-loop-step g l =
+abbrev pub invariant-many_steps-loop-step : goal.invariant-many_steps-loop-step
+invariant-many_steps-loop-step g l =
     let state = g.S.Strings.state in
     let number = g.S.Strings.number in
     record {
@@ -99,14 +99,17 @@ decreases-chain g l = 8 * max (goal.size-chain g l) (size-Expr l.first.now) + 3
 abbrev pub decreases-one_step : goal.decreases-one_step
 decreases-one_step g l = 8 * goal.size-one_step g l + 2
 
+abbrev pub decreases-many_steps : goal.decreases-many_steps
+decreases-many_steps g l = 8 * goal.size-many_steps g l + 3
+
 abbrev pub decreases-steps : goal.decreases-steps
-decreases-steps g l = 8 * goal.size-steps g l + 3
+decreases-steps g l = 8 * goal.size-steps g l + 4
 
 abbrev pub decreases-steps_of_name : goal.decreases-steps_of_name
-decreases-steps_of_name g l = 8 * goal.size-steps_of_name g l + 4
+decreases-steps_of_name g l = 8 * goal.size-steps_of_name g l + 5
 
 abbrev pub decreases-post : goal.decreases-post
-decreases-post g l = 8 * max (goal.size-post g l) (size-Expr l.of.now) + 5
+decreases-post g l = 8 * max (goal.size-post g l) (size-Expr l.of.now) + 6
 
 abbrev pub decreases-with_member : goal.decreases-with_member
 decreases-with_member g l = 8 * goal.size-with_member g l + 1
