@@ -1,4 +1,5 @@
--- Tests of one operator: what is told of two evaluations in a row, and of one that is alone in its chain.
+-- One operator on two sides: its value, and what is told of it in a test.
+use Rattle.std.specs.Prelude.{IfOk}
 use Rattle.std.proofs.Common.{◌≡◌, ℕ, refl, sym, subst, Bool, false, if◌then◌else◌, Result, Ok, Err}
 use Rattle.js_store.specs.State.{State, Grows}
 use Rattle.js_store.proofs.Laws.{step_refl}
@@ -18,7 +19,7 @@ use Rattle.js_eval.specs.Expression.{EvalContext, decides, operated, truth_of, e
 use Rattle.js_eval.specs.Flows.{told}
 use Rattle.js_eval.specs.Seen.{ContextFine, scope_of}
 use Rattle.js_eval.proofs.Applied.{truth_does, truth_stops}
-use Rattle.js_eval.proofs.Expressions.{does_stop}
+use Rattle.js_eval.proofs.Expressions.{does_bind, does_stop, chain_does}
 use Rattle.js_eval.proofs.Statements.{test_holds, test_stops}
 use Rattle.js_eval.proofs.Stays.{scope_still}
 
@@ -103,3 +104,17 @@ module _ {F R : Type 0} (name : R → ℕ) (a b : State F) where
   pub same_told : (r : Result Bool Stop) (o : Out Bool) → GivesPlain a b r o → GivesPlain a b r (told to_boolean (truth_of (λ q. q) o))
   same_told (Ok t) o d = truth_told (λ q. q) o t t refl d
   same_told (Err n) o d = truth_untold (λ q. q) o n d
+
+  -- one link alone, as a value
+  alone_value : (c : State F) (v : Item R) (r : Result (Item R) Stop) (l : LinkTree) (s : EvalContext) → IfOk r (λ w. IsFine c name w) →
+      GivesValue name b c r (link_out l s (seen b name v)) → GivesValue name b c r (links_out (link l.at l.op l.right no_links) s (seen b name v))
+  alone_value c v (Ok w) l s h e =
+      does_bind name b c c w (Ok w) (link_out l s (seen b name v)) (λ x. gave x free) e (record { is = refl; good = h; ran = ran_free c })
+  alone_value c v (Err n) l s h e = does_stop name b c n (link_out l s (seen b name v)) (λ x. gave x free) e
+
+  pub sides_value : (c : State F) (v : Item R) (r : Result (Item R) Stop) (first : ExprTree) (l : LinkTree) (context : Context R) → Grows a b →
+      ContextFine a name context → IfOk r (λ w. IsFine c name w) → GivesValue name a b (Ok v) (expr_out first (scope_of a name context)) →
+      GivesValue name b c r (link_out l (scope_of b name context) (seen b name v)) → GivesValue name a c r
+      (expr_out (chain first (link l.at l.op l.right no_links)) (scope_of a name context))
+  sides_value c v r first l context g h f d e =
+      chain_does name a b c v r first (link l.at l.op l.right no_links) context g h d (alone_value c v r l (scope_of b name context) f e)

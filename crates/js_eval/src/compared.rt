@@ -1,5 +1,5 @@
 // Tests of one operator on two sides: what its sides compare to is told at once, and no value is made of it.
-ghost use Rattle.std.specs.Prelude.{◌≡◌, IfOk, IfSome, false, true};
+ghost use Rattle.std.specs.Prelude.{◌≡◌, IfOk, IfSome, false};
 ghost use Rattle.js_store.specs.State.{Grows};
 ghost use Rattle.eval_tree.specs.Tree as tree;
 ghost use Rattle.eval_tree.specs.Tree.{expr_tree, link_tree, links_tree};
@@ -15,6 +15,7 @@ use crate::context::Context;
 use crate::expr::{expr, post};
 use crate::literals::read_literal;
 use crate::operators::apply;
+use crate::short::needs_both;
 use eval_tree::{Expr, Link, Op};
 use eval_values::{Stop, Value, is_same, truth};
 use js_store::Strings;
@@ -46,23 +47,6 @@ fn sides_of<'a>(rest: &'a [Link], first: &'a Expr) -> Option<(&'a Expr, &'a Link
         return None;
     }
     Some((first, link))
-}
-
-// Whether an operator's left side alone never decides it.
-fn needs_both(op: Op) -> bool
-    ensures { result ≡ true → (v : Val) → decides op v ≡ false }
-{
-    match op {
-        Op::Or | Op::And => false,
-        Op::Same
-        | Op::NotSame
-        | Op::Less
-        | Op::Greater
-        | Op::LessEq
-        | Op::GreaterEq
-        | Op::Plus
-        | Op::Minus => true,
-    }
 }
 
 /// Whether an operator on a first side and that of its link is true.

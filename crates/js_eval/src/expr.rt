@@ -1,14 +1,14 @@
 // Expressions.
-ghost use Rattle.std.specs.Prelude.{◌≡◌, [], IfOk, IfSome, None, unwrap_or};
+ghost use Rattle.std.specs.Prelude.{◌≡◌, [], IfOk, IfSome, None, false, unwrap_or};
 ghost use Rattle.eval_scopes.specs.Bindings.{meant};
 ghost use Rattle.eval_values.specs.Outcome.{bind};
 ghost use Rattle.js_store.specs.State.{Grows};
 ghost use Rattle.eval_tree.specs.Tree as tree;
 ghost use Rattle.eval_tree.specs.Tree.{variable, of_property, expr_tree, link_tree, links_tree, step_tree, steps_tree, exprs_tree, entries_tree};
 ghost use Rattle.js_eval.specs.Paid.{entry_paid, entries_paid, Makes};
-ghost use Rattle.js_eval.specs.Expression.{read_out, expr_out, links_out, link_out, steps_out, step_out, exprs_out};
+ghost use Rattle.js_eval.specs.Expression.{read_out, decides, expr_out, links_out, link_out, steps_out, step_out, exprs_out};
 ghost use Rattle.js_item.specs.Contents.{no_fields};
-ghost use Rattle.js_item.specs.Seen.{seen, says, fields_mapped};
+ghost use Rattle.js_item.specs.Seen.{Val, seen, says, fields_mapped};
 ghost use Rattle.eval_values.specs.Seen.{all_seen, AllFine};
 ghost use Rattle.js_item.specs.Fine.{IsFine, FineFields, strings_of};
 ghost use Rattle.js_eval.specs.Seen.{ContextFine, context_bindings, scope_of};
@@ -18,7 +18,7 @@ use crate::context::{Context, empty_list, keep_room, look_up, read};
 use crate::literals::read_literal;
 use crate::object::{bounded, intern_key, put};
 use crate::operators::{apply, is_decided, is_true};
-use crate::short::{at_hand, of_two};
+use crate::short::{at_hand, needs_both, of_link};
 use eval_builtins::call_builtin;
 use eval_members::{
     call, look_up_property, present, read_description, read_index, read_length, read_property,
@@ -103,11 +103,92 @@ fn chain<S: Strings>(
         (expr_out (tree.chain (expr_tree first.now) (links_tree rest.now))
         (scope_of (S.state store.old) S.number context.now)) }
 {
-    if let Some(value) = of_two(store, context, rest, first) {
-        return Ok(value);
+    if rest.len() == 1 {
+        let link = &rest[0];
+        if needs_both(link.op) {
+            return of_sides(alloc, store, context, link, first);
+        }
     }
     let value = expr(alloc, store, context, first)?;
     links(alloc, store, context, rest, value)
+}
+
+// One link alone, whose operator needs both sides.
+#[cycle(expr)]
+#[inline(always)]
+fn of_sides<S: Strings>(
+    alloc: Global,
+    store: &mut S,
+    context: &Context<S::Ref>,
+    link: &Link,
+    first: &Expr,
+) -> Result<Value<S::Ref>, Stop>
+    requires context { ContextFine (S.state store.old) S.number context.now }
+    requires both { (v : Val) → decides link.now.op v ≡ false }
+    ensures grows { Grows (S.state store.old) (S.state store.new) }
+    ensures context { ContextFine (S.state store.new) S.number context.now }
+    ensures fine { IfOk result (λ v. IsFine (S.state store.new) S.number v) }
+    ensures did { GivesValue S.number (S.state store.old) (S.state store.new) result
+        (expr_out (tree.chain (expr_tree first.now)
+        (tree.link link.now.at link.now.op (expr_tree link.now.right) tree.no_links))
+        (scope_of (S.state store.old) S.number context.now)) }
+{
+    match of_link(store, context, link, first) {
+        Some(value) => Ok(value),
+        None => on_sides(alloc, store, context, link, first),
+    }
+}
+
+// The same of any two values. A first side that is a name isn't copied.
+#[cycle(expr)]
+#[inline(always)]
+fn on_sides<S: Strings>(
+    alloc: Global,
+    store: &mut S,
+    context: &Context<S::Ref>,
+    link: &Link,
+    first: &Expr,
+) -> Result<Value<S::Ref>, Stop>
+    requires context { ContextFine (S.state store.old) S.number context.now }
+    requires both { (v : Val) → decides link.now.op v ≡ false }
+    ensures grows { Grows (S.state store.old) (S.state store.new) }
+    ensures context { ContextFine (S.state store.new) S.number context.now }
+    ensures fine { IfOk result (λ v. IsFine (S.state store.new) S.number v) }
+    ensures did { GivesValue S.number (S.state store.old) (S.state store.new) result
+        (expr_out (tree.chain (expr_tree first.now)
+        (tree.link link.now.at link.now.op (expr_tree link.now.right) tree.no_links))
+        (scope_of (S.state store.old) S.number context.now)) }
+{
+    match at_hand(store, context, first) {
+        Some(left) => behind(alloc, store, context, link, left),
+        None => {
+            let left = expr(alloc, store, context, first)?;
+            behind(alloc, store, context, link, &left)
+        }
+    }
+}
+
+// An operator that needs both sides, behind its first one.
+#[cycle(expr)]
+fn behind<S: Strings>(
+    alloc: Global,
+    store: &mut S,
+    context: &Context<S::Ref>,
+    link: &Link,
+    left: &Value<S::Ref>,
+) -> Result<Value<S::Ref>, Stop>
+    requires context { ContextFine (S.state store.old) S.number context.now }
+    requires left { IsFine (S.state store.old) S.number left.now }
+    requires both { (v : Val) → decides link.now.op v ≡ false }
+    ensures grows { Grows (S.state store.old) (S.state store.new) }
+    ensures context { ContextFine (S.state store.new) S.number context.now }
+    ensures fine { IfOk result (λ v. IsFine (S.state store.new) S.number v) }
+    ensures did { GivesValue S.number (S.state store.old) (S.state store.new) result
+        (link_out (link_tree link.now) (scope_of (S.state store.old) S.number context.now)
+        (seen (S.state store.old) S.number left.now)) }
+{
+    let right = expr(alloc, store, context, &link.right)?;
+    apply(alloc, store, link.at, link.op, left, right)
 }
 
 // The one of two expressions that a test chooses.

@@ -71,8 +71,9 @@ pub fn of_two<S: Strings>(
     of_link(store, context, link, first)
 }
 
+/// The same of one link.
 #[inline(always)]
-fn of_link<S: Strings>(
+pub fn of_link<S: Strings>(
     store: &S,
     context: &Context<S::Ref>,
     link: &Link,
@@ -91,6 +92,23 @@ fn of_link<S: Strings>(
     let n = number_at_hand(store, context, &link.right)?;
     let m = number_at_hand(store, context, first)?;
     of_both(store, link.op, m, n)
+}
+
+/// Whether an operator's left side alone never decides it.
+pub fn needs_both(op: Op) -> bool
+    ensures { result ≡ true → (v : Val) → decides op v ≡ false }
+{
+    match op {
+        Op::Or | Op::And => false,
+        Op::Same
+        | Op::NotSame
+        | Op::Less
+        | Op::Greater
+        | Op::LessEq
+        | Op::GreaterEq
+        | Op::Plus
+        | Op::Minus => true,
+    }
 }
 
 // Whether an operator has a short way. Its left side alone doesn't decide it.

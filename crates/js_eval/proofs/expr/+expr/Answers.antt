@@ -2,8 +2,9 @@ use Rattle.std.proofs.Common.{arith, Ok, Err, refl, sym, ◌∙◌, subst, unwra
 use Rattle.std.proofs.lemmas.Result.{err_from_is_err_and}
 use Rattle.std.proofs.Math.ListN.{drop_of_length-le}
 use Rattle.js_store.specs.declared.faults.StoreFault.TheVariants.{Memory}
-use Rattle.js_store.proofs.Laws.{grows_refl, grows_trans}
-use Rattle.eval_tree.specs.Tree.{expr_tree, link_tree, links_tree, steps_tree, exprs_tree, entries_tree}
+use Rattle.js_store.proofs.Laws.{grows_refl, grows_trans, step_refl}
+use Rattle.eval_tree.specs.Tree as tree
+use Rattle.eval_tree.specs.Tree.{Links, expr_tree, link_tree, links_tree, steps_tree, exprs_tree, entries_tree}
 use Rattle.eval_tree.proofs.Trees.{tree_of_unary, tree_of_chain, tree_of_post, tree_of_conditional, tree_of_call, tree_of_index, tree_of_property, tree_of_builtin, tree_of_object}
 use Rattle.eval_values.specs.declared.value.Stop.TheVariants.{Store}
 use Rattle.js_item.specs.Seen.{Val, seen}
@@ -13,10 +14,12 @@ use Rattle.eval_scopes.specs.Bindings.{meant}
 use Rattle.js_eval.specs.Expression.{expr_out, steps_out}
 use Rattle.js_item.specs.Fine.{IsFine}
 use Rattle.js_eval.specs.Seen.{scope_of}
-use Rattle.eval_values.specs.Does.{GivesValues}
+use Rattle.eval_values.specs.Does.{GivesValue, GivesValues}
 use Rattle.eval_values.proofs.Compose.{ran_free}
 use Rattle.eval_values.proofs.Each.{each_turn, each_halt, each_full, fine_turn}
+use Rattle.js_eval.proofs.AtHand.{alone}
 use Rattle.js_eval.proofs.Leaves.{tree_of_literal, tree_of_number}
+use Rattle.js_eval.proofs.Sides.{sides_value}
 use Rattle.js_eval.proofs.Expressions.{seen_does, written_does, unary_does, chain_does, chain_stops, post_does, post_stops, builtin_does, builtin_stops}
 use Rattle.js_eval.proofs.Expressions.{index_does, index_stops, link_decided, link_does, link_stops, condition_holds, condition_fails, condition_stops}
 use Rattle.js_eval.proofs.Expressions.{name_does, name_fails, links_turn, links_halt, steps_turn, steps_halt, one_does, property_step, copy_does, copy_stops, call_does, call_stops}
@@ -54,6 +57,65 @@ chain-returns-clause-did g t c =
     let k = c.links.ensures.did in
     (chain_does g.S.Strings.number (state c.args.store.now) (state c.expr.new.store) (state c.links.new.store) c.in_ok-value.value
     c.links.result (expr_tree c.args.first.now) (links_tree c.args.rest.now) c.args.context.now c.in_ok-value.ensures.grows c.requires i k)
+
+pub chain-returns-then-needs_both-clause-did : goal.chain-returns-then-needs_both-clause-did
+chain-returns-then-needs_both-clause-did g t c =
+    let state = g.S.Strings.state in
+    let number = g.S.Strings.number in
+    let a = state c.args.store.now in
+    subst (λ (q : Links). GivesValue number a (state c.of_sides.new.store) c.of_sides.result
+    (expr_out (tree.chain (expr_tree c.args.first.now) q) (scope_of a number c.args.context.now)))
+    (alone c.args.rest.now c.index-rest-0.result (omega arith) c.index-rest-0.is) c.of_sides.ensures.did
+
+pub on_sides-returns-in-Some-clause-did : goal.on_sides-returns-in-Some-clause-did
+on_sides-returns-in-Some-clause-did g t c =
+    let state = g.S.Strings.state in
+    let a = state c.args.store.now in
+    sides_value g.S.Strings.number a a (state c.behind.new.store) c.in-Some.left.now c.behind.result (expr_tree c.args.first.now)
+    (link_tree c.args.link.now) c.args.context.now (grows_refl a) c.requires.context c.behind.ensures.fine c.in-Some.ensures.did c.behind.ensures.did
+
+pub on_sides-returns-in_err-left-in-None-clause-did : goal.on_sides-returns-in_err-left-in-None-clause-did
+on_sides-returns-in_err-left-in-None-clause-did g t c =
+    let state = g.S.Strings.state in
+    let a = state c.args.store.now in
+    let l = link_tree c.args.link.now in
+    let p = err_from_is_err_and c.from_residual.result c.from_residual.ensures.1 in
+    rw (p.1, p.2)
+    (chain_stops g.S.Strings.number a (state c.expr.new.store) c.in_err-left-in-None.field-0.0 (expr_tree c.args.first.now)
+    (tree.link l.at l.op l.right tree.no_links) (scope_of a g.S.Strings.number c.args.context.now) c.in_err-left-in-None.ensures.did)
+
+pub on_sides-returns-in_ok-left-in-None-clause-did : goal.on_sides-returns-in_ok-left-in-None-clause-did
+on_sides-returns-in_ok-left-in-None-clause-did g t c =
+    let state = g.S.Strings.state in
+    sides_value g.S.Strings.number (state c.args.store.now) (state c.expr.new.store) (state c.behind-in-None.new.store)
+    c.in_ok-left-in-None.left c.behind-in-None.result (expr_tree c.args.first.now) (link_tree c.args.link.now) c.args.context.now
+    c.in_ok-left-in-None.ensures.grows c.requires.context c.behind-in-None.ensures.fine c.in_ok-left-in-None.ensures.did c.behind-in-None.ensures.did
+
+pub behind-apply-requires-clause-left : goal.behind-apply-requires-clause-left
+behind-apply-requires-clause-left g t c =
+    let state = g.S.Strings.state in
+    fine_still (state c.args.store.now) (state c.expr.new.store) g.S.Strings.number c.in_ok-right.ensures.grows c.args.left.now c.requires.left
+
+pub behind-returns-in_err-right-clause-did : goal.behind-returns-in_err-right-clause-did
+behind-returns-in_err-right-clause-did g t c =
+    let state = g.S.Strings.state in
+    let a = state c.args.store.now in
+    let p = err_from_is_err_and c.from_residual.result c.from_residual.ensures.1 in
+    rw (p.1, p.2) (link_stops g.S.Strings.number a a c.args.left.now (link_tree c.args.link.now) (step_refl a) refl c.requires.left
+    (state c.expr.new.store) c.in_err-right.field-0.0 c.args.context.now c.requires.context
+    (c.requires.both (seen a g.S.Strings.number c.args.left.now)) c.in_err-right.ensures.did)
+
+pub behind-returns-clause-context : goal.behind-returns-clause-context
+behind-returns-clause-context g t c =
+    context_fine_still (g.S.Strings.state c.expr.new.store) (g.S.Strings.state c.apply.new.store) g.S.Strings.number c.apply.ensures.grows c.args.context.now c.in_ok-right.ensures.context
+
+pub behind-returns-clause-did : goal.behind-returns-clause-did
+behind-returns-clause-did g t c =
+    let state = g.S.Strings.state in
+    let a = state c.args.store.now in
+    link_does g.S.Strings.number a a c.args.left.now (link_tree c.args.link.now) (step_refl a) refl c.requires.left
+    (state c.expr.new.store) (state c.apply.new.store) c.in_ok-right.right c.apply.result c.args.context.now
+    c.in_ok-right.ensures.grows c.requires.context (c.requires.both (seen a g.S.Strings.number c.args.left.now)) c.in_ok-right.ensures.did c.apply.ensures.did
 
 pub builtin-returns-in_err-values-clause-did : goal.builtin-returns-in_err-values-clause-did
 builtin-returns-in_err-values-clause-did g t c =

@@ -93,8 +93,17 @@ decreases-one_link g l = 8 * goal.size-one_link g l + 1
 abbrev pub decreases-links : goal.decreases-links
 decreases-links g l = 8 * goal.size-links g l + 2
 
+abbrev pub decreases-behind : goal.decreases-behind
+decreases-behind g l = 8 * goal.size-behind g l + 1
+
+abbrev pub decreases-on_sides : goal.decreases-on_sides
+decreases-on_sides g l = 8 * max (goal.size-on_sides g l) (size-Expr l.first.now) + 2
+
+abbrev pub decreases-of_sides : goal.decreases-of_sides
+decreases-of_sides g l = 8 * max (goal.size-of_sides g l) (size-Expr l.first.now) + 3
+
 abbrev pub decreases-chain : goal.decreases-chain
-decreases-chain g l = 8 * max (goal.size-chain g l) (size-Expr l.first.now) + 3
+decreases-chain g l = 8 * max (goal.size-chain g l) (size-Expr l.first.now) + 4
 
 abbrev pub decreases-one_step : goal.decreases-one_step
 decreases-one_step g l = 8 * goal.size-one_step g l + 2
