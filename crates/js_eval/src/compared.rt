@@ -1,8 +1,8 @@
 // Tests of one operator on two sides: what its sides compare to is told at once, and no value is made of it.
-ghost use Rattle.std.specs.Prelude.{◌≡◌, IfOk, IfSome, false};
+ghost use Rattle.std.specs.Prelude.{◌≡◌, Ok, IfOk, IfSome, false};
 ghost use Rattle.js_store.specs.State.{Grows};
 ghost use Rattle.eval_tree.specs.Tree as tree;
-ghost use Rattle.eval_tree.specs.Tree.{expr_tree, link_tree, links_tree};
+ghost use Rattle.eval_tree.specs.Tree.{expr_tree, link_tree, links_tree, steps_tree};
 ghost use Rattle.js_item.specs.Seen.{Val, seen};
 ghost use Rattle.js_item.specs.Fine.{IsFine};
 ghost use Rattle.eval_values.specs.Conversions.{to_boolean};
@@ -15,8 +15,9 @@ use crate::context::Context;
 use crate::expr::{expr, post};
 use crate::literals::read_literal;
 use crate::operators::apply;
-use crate::short::needs_both;
-use eval_tree::{Expr, Link, Op};
+use crate::short::{at_hand, needs_both};
+use eval_members::read_index;
+use eval_tree::{Expr, Link, Op, PostStep};
 use eval_values::{Stop, Value, is_same, truth};
 use js_store::Strings;
 use std::alloc::Global;
@@ -108,9 +109,59 @@ fn side<S: Strings>(
 {
     match e {
         Expr::Literal { number } => Ok(read_literal(store, context, *number)),
-        Expr::Post { of, steps } => post(alloc, store, context, steps, of),
+        Expr::Post { of, steps } => side_with_steps(alloc, store, context, steps, of),
         _ => expr(alloc, store, context, e),
     }
+}
+
+// The value of a side that has steps. An index alone, where it and what is left of it are names, is read at once.
+fn side_with_steps<S: Strings>(
+    alloc: Global,
+    store: &mut S,
+    context: &Context<S::Ref>,
+    steps: &[PostStep],
+    of: &Expr,
+) -> Result<Value<S::Ref>, Stop>
+    requires { ContextFine (S.state store.old) S.number context.now }
+    ensures grows { Grows (S.state store.old) (S.state store.new) }
+    ensures context { ContextFine (S.state store.new) S.number context.now }
+    ensures fine { IfOk result (λ v. IsFine (S.state store.new) S.number v) }
+    ensures did { GivesValue S.number (S.state store.old) (S.state store.new) result
+        (expr_out (tree.post (expr_tree of.now) (steps_tree steps.now))
+        (scope_of (S.state store.old) S.number context.now)) }
+{
+    if steps.len() != 1 {
+        return post(alloc, store, context, steps, of);
+    }
+    let step = &steps[0];
+    match step {
+        PostStep::Index { at, index } => match two_at_hand(store, context, of, index) {
+            Some((value, index)) => read_index(alloc, store, *at, value, index),
+            None => post(alloc, store, context, steps, of),
+        },
+        _ => post(alloc, store, context, steps, of),
+    }
+}
+
+// The values of two expressions, where both are names.
+fn two_at_hand<'a, S: Strings>(
+    store: &S,
+    context: &'a Context<S::Ref>,
+    first: &Expr,
+    second: &Expr,
+) -> Option<(&'a Value<S::Ref>, &'a Value<S::Ref>)>
+    requires { ContextFine (S.state store.now) S.number context.now }
+    ensures fine { IfSome result (λ p. IsFine (S.state store.now) S.number p.0.now) }
+    ensures second_fine { IfSome result (λ p. IsFine (S.state store.now) S.number p.1.now) }
+    ensures did { IfSome result (λ p. GivesValue S.number (S.state store.now) (S.state store.now)
+        (Ok p.0.now) (expr_out (expr_tree first.now) (scope_of (S.state store.now) S.number context.now))) }
+    ensures second_did { IfSome result (λ p. GivesValue S.number (S.state store.now) (S.state store.now)
+        (Ok p.1.now) (expr_out (expr_tree second.now)
+        (scope_of (S.state store.now) S.number context.now))) }
+{
+    let value = at_hand(store, context, first)?;
+    let other = at_hand(store, context, second)?;
+    Some((value, other))
 }
 
 // Whether what an operator gives of two values is true.

@@ -10,5 +10,5 @@ returns-in-Literal-clause-did g c =
 
 pub returns-in-Post-clause-did : goal.returns-in-Post-clause-did
 returns-in-Post-clause-did g c =
-    let w = c.post.ensures.did in
+    let w = c.side_with_steps.ensures.did in
     rw (c.in-Post.is, tree_of_post c.in-Post.of c.in-Post.steps) (rw (c.deref.ensures.value, c.deref-in-Post.ensures) at w)
