@@ -81,11 +81,6 @@ module _ {F R : Type 0} (name : R → ℕ) where
       (read_out (meant (context_bindings a name k) x)) (λ p. bind (expr_out e (scope_of a name k)) (λ q. plus at a.limit p q)) d
       (did_stop a b (λ s q. seen s name q) (λ s q. IsFine s name q) (λ s q. seen s name q) (λ s q. IsFine s name q) n (expr_out e (scope_of a name k)) (λ q. plus at a.limit (seen a name v) q) d')
 
-  pub sum_unread : (a b : State F) (at : ℕ) (x : List ℕ) (e : ExprTree) (k : Context R) (n : Stop) → GivesValue name a b (Err n)
-      (read_out (meant (context_bindings a name k) x)) → GivesValue name a b (Err n) (sum_of_both at x e (scope_of a name k))
-  sum_unread a b at x e k n d = did_stop a b (λ s q. seen s name q) (λ s q. IsFine s name q) (λ s q. seen s name q) (λ s q. IsFine s name q)
-      n (read_out (meant (context_bindings a name k) x)) (λ p. bind (expr_out e (scope_of a name k)) (λ q. plus at a.limit p q)) d
-
   -- a test, of whose value the truth is told
   pub test_holds : (a b c : State F) (v : Item R) (t : Bool) (o : Out Val) → t ≡ to_boolean (seen b name v) → StoreStep b c None 0 0 →
       c.history ≡ b.history → GivesValue name a b (Ok v) o → GivesPlain a c (Ok t) (told to_boolean o)

@@ -1,5 +1,5 @@
 // What expressions read and statements change.
-ghost use Rattle.std.specs.Prelude.{◌≡◌, ◌∷◌, [], IfOk, IfErr, IfSome, OnOk, MatchOption, Some, None, option_map, List, ℕ};
+ghost use Rattle.std.specs.Prelude.{◌≡◌, ◌∷◌, [], Ok, IfOk, IfErr, IfSome, OnOk, MatchOption, Some, None, option_map, List, ℕ};
 ghost use Rattle.eval_scopes.specs.Bindings.{meant, declared, entered, turned, outer};
 ghost use Rattle.eval_scopes.specs.Seen.{IsPlaceIn, IsPlace};
 ghost use Rattle.js_item.specs.Seen.{seen};
@@ -78,20 +78,20 @@ pub fn read<S: Strings>(
     }
 }
 
-/// The value at the place of a name.
-pub fn read_at<S: Strings>(
+/// The value at the place of a name, in its place.
+pub fn value_at<'a, S: Strings>(
     _store: &S,
-    context: &Context<S::Ref>,
+    context: &'a Context<S::Ref>,
     place: Place,
-) -> Result<Value<S::Ref>, Stop>
+) -> &'a Value<S::Ref>
     requires context { ContextFine (S.state _store.now) S.number context.now }
     requires within { IsPlaceIn context.now.scope place }
-    ensures fine { IfOk result (λ v. IsFine (S.state _store.now) S.number v) }
+    ensures fine { IsFine (S.state _store.now) S.number result.now }
     ensures did { (n : List ℕ) → IsPlace context.now.scope n place → GivesValue S.number (S.state _store.now)
-        (S.state _store.now) result (read_out (meant (context_bindings
+        (S.state _store.now) (Ok result.now) (read_out (meant (context_bindings
         (S.state _store.now) S.number context.now) n)) }
 {
-    Ok(context.scope.at(place).value.copy()?)
+    &context.scope.at(place).value
 }
 
 /// Another value for a name that has one and is no constant.

@@ -22,7 +22,7 @@ ghost use Rattle.js_eval.specs.Evaluates.{Evaluates};
 
 use crate::compared::{holds_of_two, two_sides};
 use crate::context::{
-    Context, assign, assign_at, declare, enter, enter_turn, keep_room, leave, read_at,
+    Context, assign, assign_at, declare, enter, enter_turn, keep_room, leave, value_at,
 };
 use crate::ending::End;
 use crate::env::Env;
@@ -474,9 +474,9 @@ fn sum_with<S: Strings>(
         (S.state store.new) result
         (sum_of_both at n (expr_tree value.now) (scope_of (S.state store.old) S.number context.now)) }
 {
-    let left = read_at(store, context, place)?;
+    let left = value_at(store, context, place);
     let right = expr(alloc, store, context, value)?;
-    apply(alloc, store, at, Op::Plus, &left, right)
+    apply(alloc, store, at, Op::Plus, left, right)
 }
 
 fn print<S: Strings>(

@@ -2,25 +2,19 @@ use Rattle.std.proofs.lemmas.Result.{err_from_is_err_and}
 use Rattle.eval_tree.specs.Tree.{expr_tree}
 use Rattle.eval_values.proofs.Still.{fine_still}
 use Rattle.js_eval.proofs.Stays.{context_fine_still}
-use Rattle.js_eval.proofs.Statements.{sum_does, sum_stops, sum_unread}
+use Rattle.js_eval.proofs.Statements.{sum_does, sum_stops}
 use Rattle.js_eval.proofs.script.sum_with.Goals as goal
-
-pub returns-in_err-left-clause-did : goal.returns-in_err-left-clause-did
-returns-in_err-left-clause-did g c = λ n q.
-    let a = g.S.Strings.state c.args.store.now in
-    let p = err_from_is_err_and c.from_residual.result c.from_residual.ensures.1 in
-    rw (p.1, p.2) (sum_unread g.S.Strings.number a a c.args.at n (expr_tree c.args.value.now) c.args.context.now c.in_err-left.field-0.0 (c.in_err-left.ensures.did n q))
 
 pub returns-in_err-right-clause-did : goal.returns-in_err-right-clause-did
 returns-in_err-right-clause-did g c = λ n q.
     let state = g.S.Strings.state in
-    let p = err_from_is_err_and c.from_residual-in_err-right.result c.from_residual-in_err-right.ensures.1 in
+    let p = err_from_is_err_and c.from_residual.result c.from_residual.ensures.1 in
     rw (p.1, p.2) (sum_stops g.S.Strings.number (state c.args.store.now) (state c.expr.new.store) c.args.at n (expr_tree c.args.value.now)
-    c.args.context.now c.in_ok-left.left c.in_err-right.field-0.0 (c.in_ok-left.ensures.did n q) c.in_err-right.ensures.did)
+    c.args.context.now c.value_at-left.result.now c.in_err-right.field-0.0 (c.value_at-left.ensures.did n q) c.in_err-right.ensures.did)
 
 pub apply-requires-clause-left : goal.apply-requires-clause-left
 apply-requires-clause-left g c =
-    fine_still (g.S.Strings.state c.args.store.now) (g.S.Strings.state c.expr.new.store) g.S.Strings.number c.in_ok-right.ensures.grows c.in_ok-left.left c.in_ok-left.ensures.fine
+    fine_still (g.S.Strings.state c.args.store.now) (g.S.Strings.state c.expr.new.store) g.S.Strings.number c.in_ok-right.ensures.grows c.value_at-left.result.now c.value_at-left.ensures.fine
 
 pub returns-clause-context : goal.returns-clause-context
 returns-clause-context g c =
@@ -30,5 +24,5 @@ pub returns-clause-did : goal.returns-clause-did
 returns-clause-did g c = λ n q.
     let state = g.S.Strings.state in
     sum_does g.S.Strings.number (state c.args.store.now) (state c.expr.new.store) (state c.apply.new.store) c.args.at n
-    (expr_tree c.args.value.now) c.args.context.now c.in_ok-left.left c.in_ok-right.right c.apply.result c.in_ok-right.ensures.grows
-    c.in_ok-left.ensures.fine (c.in_ok-left.ensures.did n q) c.in_ok-right.ensures.did c.apply.ensures.did
+    (expr_tree c.args.value.now) c.args.context.now c.value_at-left.result.now c.in_ok-right.right c.apply.result c.in_ok-right.ensures.grows
+    c.value_at-left.ensures.fine (c.value_at-left.ensures.did n q) c.in_ok-right.ensures.did c.apply.ensures.did
