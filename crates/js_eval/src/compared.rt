@@ -94,6 +94,7 @@ fn holds_behind<S: Strings>(
 }
 
 // The value of a side. A literal, and what has steps, is evaluated here; anything else as any expression.
+#[inline(always)]
 fn side<S: Strings>(
     alloc: Global,
     store: &mut S,
@@ -115,6 +116,7 @@ fn side<S: Strings>(
 }
 
 // The value of a side that has steps. An index alone, where it and what is left of it are names, is read at once.
+#[inline(never)]
 fn side_with_steps<S: Strings>(
     alloc: Global,
     store: &mut S,
