@@ -1,4 +1,4 @@
-// Tests of one operator on two sides: what its sides compare to is told at once, and no value is made of it.
+// Tests of one operator on two sides: both are evaluated, and no value is made of what they compare to.
 ghost use Rattle.std.specs.Prelude.{◌≡◌, Ok, IfOk, IfSome, false};
 ghost use Rattle.js_store.specs.State.{Grows};
 ghost use Rattle.eval_tree.specs.Tree as tree;
