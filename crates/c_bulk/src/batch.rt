@@ -27,7 +27,7 @@ pub extern "C" fn jsstr_intern_many_unchecked(
         result }
 {
     let mut held = agent.take(alloc);
-    let batch = held.intern_many(units, ends, ids);
+    let batch = agent_keys::intern_many(&mut held, units, ends, ids);
     agent.put(held);
     of_batch(batch)
 }

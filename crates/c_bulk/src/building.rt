@@ -128,7 +128,7 @@ pub extern "C" fn jsstr_build_string_unchecked(
     let mut held = agent.take(alloc);
     match text.open(alloc) {
         Ok(mut opened) => {
-            let answer = held.add_to(JsStr { id: s }, &mut opened);
+            let answer = agent_reads::add_to(&mut held, JsStr { id: s }, &mut opened);
             agent.put(held);
             text.put(opened);
             status_of(answer)

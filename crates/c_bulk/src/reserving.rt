@@ -1,7 +1,7 @@
 // Ids and content words that an agent claims in advance.
 ghost use Rattle.std.specs.Prelude.{◌≡◌, ◌≢◌, ◌↔◌};
 ghost use Rattle.heap_agents.specs.Ready.{IsReady};
-ghost use Rattle.heap_agents.specs.Spending.{HandleSetsBlocks, handle_reserved_ids, handle_reserved_words};
+ghost use Rattle.agent_makes.specs.Spending.{HandleSetsBlocks, handle_reserved_ids, handle_reserved_words};
 ghost use Rattle.c_handles.specs.Handles.{IsHandle};
 ghost use Rattle.c_steps.specs.Reports as reports;
 ghost use Rattle.c_bulk.specs.Reserving.{IsReserving};
@@ -26,7 +26,7 @@ pub extern "C" fn jsstr_reserve_unchecked(
     ensures claims { IsReserving agent.old.at.value agent.new.at.value ids words result }
 {
     let mut held = agent.take(alloc);
-    let answer = held.reserve(ids, words);
+    let answer = agent_makes::reserve(&mut held, ids, words);
     agent.put(held);
     of_reserve(answer)
 }
@@ -63,7 +63,7 @@ pub extern "C" fn jsstr_reserved_unchecked(alloc: Global, agent: &mut JsAgent) -
     ensures words { result.words ≡ handle_reserved_words agent.old.at.value }
 {
     let held = agent.take(alloc);
-    let (ids, words) = held.reserved();
+    let (ids, words) = agent_makes::reserved(&held);
     agent.put(held);
     JsUse { ids, words }
 }
@@ -99,7 +99,7 @@ pub extern "C" fn jsstr_renew_unchecked(alloc: Global, agent: &mut JsAgent, ids:
     ensures sets { HandleSetsBlocks agent.old.at.value agent.new.at.value ids words }
 {
     let mut held = agent.take(alloc);
-    held.renew(ids, words);
+    agent_makes::renew(&mut held, ids, words);
     agent.put(held);
 }
 

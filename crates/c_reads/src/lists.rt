@@ -38,7 +38,7 @@ pub extern "C" fn jsstr_equals_units_unchecked(
         → IsTrue result ↔ (us ≡ units.now) }
 {
     let mut held = agent.take(alloc);
-    let answer = held.has_units(JsStr { id: s }, units);
+    let answer = agent_reads::has_units(&mut held, JsStr { id: s }, units);
     agent.put(held);
     answer
 }
@@ -181,7 +181,7 @@ pub extern "C" fn jsstr_compare_units_unchecked(
         → result ≡ order_number (units_cmp us units.now) }
 {
     let mut held = agent.take(alloc);
-    let answer = held.compare_units(JsStr { id: s }, units);
+    let answer = agent_reads::compare_units(&mut held, JsStr { id: s }, units);
     agent.put(held);
     of_order(answer)
 }

@@ -8,7 +8,7 @@ ghost use Rattle.heap_rule.specs.Forms.{IsCons};
 ghost use Rattle.heap_export.specs.Index.{IsArrayIndex};
 ghost use Rattle.heap_export.specs.Encoded.{bytes_of, past_latin1, refused};
 ghost use Rattle.heap_agents.specs.Ready.{IsReady, handle_view, HandleKnows};
-ghost use Rattle.heap_agents.specs.Words.{AreShown, AreThere};
+ghost use Rattle.agent_reads.specs.Words.{AreShown, AreThere};
 ghost use Rattle.c_handles.specs.Handles.{IsHandle};
 ghost use Rattle.c_steps.specs.Checked.{ReadsLength, OnlyLooks, ReachesLength, ReadsSettled};
 ghost use Rattle.c_steps.specs.Reports.{shown_by, number_answer, no_words, no_number, no_truth};
@@ -124,7 +124,7 @@ pub extern "C" fn jsstr_read_all_unchecked(
         → IsGiven None us out.old out.new result }
 {
     let mut held = agent.take(alloc);
-    let answer = held.write_units(JsStr { id: s }, out);
+    let answer = agent_reads::write_units(&mut held, JsStr { id: s }, out);
     agent.put(held);
     of_bytes(answer)
 }
@@ -168,7 +168,7 @@ pub extern "C" fn jsstr_unit_at_unchecked(
         → result ≡ slice_index us place }
 {
     let mut held = agent.take(alloc);
-    let answer = held.unit_at(JsStr { id: s }, place);
+    let answer = agent_reads::unit_at(&mut held, JsStr { id: s }, place);
     agent.put(held);
     answer
 }
@@ -212,7 +212,7 @@ pub extern "C" fn jsstr_window_unchecked(
         → AreThere (handle_view agent.new.at.value) us (shown_by result) }
 {
     let mut held = agent.take(alloc);
-    let shown = held.window(JsStr { id: s }, at, out);
+    let shown = agent_reads::window(&mut held, JsStr { id: s }, at, out);
     agent.put(held);
     of_words(shown)
 }
@@ -265,7 +265,7 @@ pub extern "C" fn jsstr_to_utf8_unchecked(
 {
     let way = unpaired_by(unpaired);
     let mut held = agent.take(alloc);
-    let answer = held.write_utf8(JsStr { id: s }, way, out);
+    let answer = agent_reads::write_utf8(&mut held, JsStr { id: s }, way, out);
     agent.put(held);
     of_bytes(answer)
 }
@@ -319,7 +319,7 @@ pub extern "C" fn jsstr_to_latin1_unchecked(
         → IsGiven (past_latin1 0 us) us out.old out.new result }
 {
     let mut held = agent.take(alloc);
-    let answer = held.write_latin1(JsStr { id: s }, out);
+    let answer = agent_reads::write_latin1(&mut held, JsStr { id: s }, out);
     agent.put(held);
     of_bytes(answer)
 }
@@ -357,7 +357,7 @@ pub extern "C" fn jsstr_hash_unchecked(alloc: Global, agent: &mut JsAgent, s: u3
     ensures hash { (us : List ℕ) → Has (handle_view agent.old.at.value).units s us → result ≡ hash_of us }
 {
     let mut held = agent.take(alloc);
-    let answer = held.hash(JsStr { id: s });
+    let answer = agent_reads::hash(&mut held, JsStr { id: s });
     agent.put(held);
     answer
 }
@@ -397,7 +397,7 @@ pub extern "C" fn jsstr_array_index_unchecked(
         → (n : Option ℕ) × (result ≡ number_answer n) × IsArrayIndex us n }
 {
     let mut held = agent.take(alloc);
-    let answer = held.array_index(JsStr { id: s });
+    let answer = agent_reads::array_index(&mut held, JsStr { id: s });
     agent.put(held);
     of_number(answer)
 }
@@ -431,7 +431,7 @@ pub extern "C" fn jsstr_is_settled_unchecked(alloc: Global, agent: &mut JsAgent,
     ensures stays { IsSeenSettled (handle_view agent.old.at.value) s → IsTrue result }
 {
     let mut held = agent.take(alloc);
-    let answer = held.is_settled(JsStr { id: s });
+    let answer = agent_reads::is_settled(&mut held, JsStr { id: s });
     agent.put(held);
     answer
 }

@@ -40,7 +40,12 @@ pub extern "C" fn jsstr_starts_with_unchecked(
         → result ≡ stands us vs at }
 {
     let mut held = agent.take(alloc);
-    let answer = held.starts_with(JsStr { id: hay }, JsStr { id: needle }, at);
+    let answer = agent_searches::starts_with(
+        &mut held,
+        JsStr { id: hay },
+        JsStr { id: needle },
+        at,
+    );
     agent.put(held);
     answer
 }
@@ -100,7 +105,7 @@ pub extern "C" fn jsstr_index_of_unchecked(
         → result ≡ place_answer (first us vs from) }
 {
     let mut held = agent.take(alloc);
-    let answer = held.index_of(JsStr { id: hay }, JsStr { id: needle }, from);
+    let answer = agent_searches::index_of(&mut held, JsStr { id: hay }, JsStr { id: needle }, from);
     agent.put(held);
     of_place(answer)
 }
@@ -155,7 +160,12 @@ pub extern "C" fn jsstr_last_index_of_unchecked(
         → result ≡ place_answer (last us vs limit) }
 {
     let mut held = agent.take(alloc);
-    let answer = held.last_index_of(JsStr { id: hay }, JsStr { id: needle }, limit);
+    let answer = agent_searches::last_index_of(
+        &mut held,
+        JsStr { id: hay },
+        JsStr { id: needle },
+        limit,
+    );
     agent.put(held);
     of_place(answer)
 }

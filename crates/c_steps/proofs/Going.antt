@@ -11,7 +11,7 @@ use Rattle.heap_agents.specs.Held.{KeepsMarks, LeavesStrings, view_by}
 use Rattle.heap_table.specs.Known.{KeepsKnown}
 use Rattle.heap_agents.specs.Interned.{KeepsCalls}
 use Rattle.heap_agents.specs.Searched.{KeepsStrings}
-use Rattle.heap_agents.proofs.Interned.{continued}
+use Rattle.heap_agents.proofs.Calls.{continued}
 use Rattle.heap_agents.proofs.Marks.{same_trans}
 use Rattle.heap_agents.specs.Ready.{HandleLeaves, HandleSpends, HandleSearches, IsReady, HandleKnows, handle_view}
 use Rattle.c_steps.specs.declared.answer.JsAnswer.{JsAnswer}

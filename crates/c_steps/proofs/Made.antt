@@ -7,7 +7,7 @@ use Rattle.heap_text.specs.declared.faults.TextFull.{TextFull}
 use Rattle.heap_text.specs.declared.faults.TextFull.TheVariants.{Ids, Words}
 use Rattle.heap_agents.specs.declared.held.Held.{Held}
 use Rattle.heap_agents.specs.Held.{MarksMade, SpendsReserve, view_by}
-use Rattle.heap_agents.specs.Spending.{MakesRenewing}
+use Rattle.agent_makes.specs.Spending.{MakesRenewing}
 use Rattle.c_steps.specs.declared.answer.JsAnswer.{JsAnswer}
 use Rattle.c_steps.specs.Given.{MakesString}
 use Rattle.c_steps.specs.Reports.{DONE, NO_MEMORY, text_answer, text_report}

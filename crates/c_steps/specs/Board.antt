@@ -2,7 +2,7 @@
 use Rattle.std.specs.Prelude.{◌≡◌, ℕ, Option}
 use Rattle.heap_agents.specs.declared.held.Held.{Held}
 use Rattle.heap_agents.specs.declared.room.Room.{Room}
-use Rattle.heap_agents.specs.Board.{AdoptsFrom}
+use Rattle.agent_keys.specs.Board.{AdoptsFrom}
 use Rattle.heap_agents.specs.Room.{RoomOf}
 use Rattle.c_steps.specs.declared.answer.JsAnswer.{JsAnswer}
 use Rattle.c_steps.specs.declared.room.JsRoom.{JsRoom}

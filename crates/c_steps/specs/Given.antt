@@ -8,9 +8,9 @@ use Rattle.heap_read.specs.declared.string.JsStr.{JsStr}
 use Rattle.heap_text.specs.declared.faults.TextFull.{TextFull}
 use Rattle.heap_intern.specs.declared.table.faults.TableFull.{TableFull}
 use Rattle.heap_agents.specs.declared.held.Held.{Held}
-use Rattle.heap_agents.specs.Keys.{FindsUnits, InternsUnits}
+use Rattle.agent_keys.specs.Keys.{FindsUnits, InternsUnits}
 use Rattle.heap_agents.specs.Ready.{HandleSpends, HandleKnows, handle_view}
-use Rattle.heap_agents.specs.Spending.{HandleMakes}
+use Rattle.agent_makes.specs.Spending.{HandleMakes}
 use Rattle.c_steps.specs.declared.answer.JsAnswer.{JsAnswer}
 use Rattle.heap_build.specs.Spelled.{SpellsWtf8, utf8_decoded}
 use Rattle.c_steps.specs.Decoded.{IsNoUtf8, IsNoWtf8}

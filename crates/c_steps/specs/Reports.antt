@@ -20,7 +20,7 @@ use Rattle.c_steps.specs.declared.answer.JsSize.{JsSize}
 use Rattle.c_steps.specs.declared.answer.JsTotals.{JsTotals}
 use Rattle.c_steps.specs.declared.answer.JsTruth.{JsTruth}
 use Rattle.c_steps.specs.declared.answer.JsWords.{JsWords}
-use Rattle.heap_agents.specs.declared.words.Shown.{Shown}
+use Rattle.agent_reads.specs.declared.words.Shown.{Shown}
 
 -- the call is done
 abbrev pub DONE : ℕ

@@ -4,7 +4,9 @@ ghost use Rattle.c_steps.specs.Batches.{batch_answer};
 ghost use Rattle.c_steps.specs.Reports as reports;
 ghost use Rattle.c_steps.specs.Reports.{found_answer, join_answer, no_number, no_order, no_place, no_totals, no_truth, no_words, number_answer, order_number, place_answer, reserve_answer, table_answer, text_answer, words_answer};
 
-use heap_agents::{Batch, ReserveFault, Shown};
+use agent_keys::Batch;
+use agent_makes::ReserveFault;
+use agent_reads::Shown;
 use heap_intern::TableFull;
 use heap_text::{JoinFault, JsStr, TextFull};
 use std::cmp::Ordering;

@@ -4,7 +4,7 @@ ghost use Rattle.c_steps.specs.Bytes as specs;
 ghost use Rattle.c_steps.specs.Reports as reports;
 
 use crate::answer::DONE;
-use heap_agents::{Unpaired, WriteFault};
+use agent_reads::{Unpaired, WriteFault};
 
 const NO_ROOM: u32 = 10;
 

@@ -14,8 +14,8 @@ ghost use Rattle.c_steps.specs.Sources.{Does, DoesOn, DoesSpelled, Leaves, given
 
 use crate::answer::{JsAnswer, bad_argument, no_memory, not_utf8, of_found, of_table, of_text};
 use crate::reading::{length_of, read_into};
+use agent_keys::are_ends;
 use c_handles::JsAgent;
-use heap_agents::are_ends;
 use heap_bytes::{Encoding, Spelling};
 use heap_intern::Key;
 use heap_rule::MAX;
@@ -64,7 +64,7 @@ pub fn from_units(alloc: Global, agent: &mut JsAgent, units: &[u16]) -> JsAnswer
     ensures makes { MakesString agent.old.at.value agent.new.at.value units.now result }
 {
     let mut held = agent.take(alloc);
-    let answer = held.from_units(units);
+    let answer = agent_makes::from_units(&mut held, units);
     agent.put(held);
     of_text(answer)
 }
@@ -79,7 +79,7 @@ pub fn intern_units(alloc: Global, agent: &mut JsAgent, units: &[u16]) -> JsAnsw
     ensures interns { IsInterning agent.old.at.value agent.new.at.value units.now result }
 {
     let mut held = agent.take(alloc);
-    let answer = held.intern_units(units);
+    let answer = agent_keys::intern_units(&mut held, units);
     agent.put(held);
     of_table(answer)
 }
@@ -93,7 +93,7 @@ pub fn find_units(alloc: Global, agent: &mut JsAgent, units: &[u16]) -> JsAnswer
     ensures finds { IsFinding agent.old.at.value agent.new.at.value units.now result }
 {
     let mut held = agent.take(alloc);
-    let answer = held.find_units(units);
+    let answer = agent_keys::find_units(&mut held, units);
     agent.put(held);
     of_found(answer)
 }
@@ -136,7 +136,7 @@ fn make_from(alloc: Global, agent: &mut JsAgent, spelled: &Spelling) -> JsAnswer
     ensures makes { MakesString agent.old.at.value agent.new.at.value (spelling_units spelled.now) result }
 {
     let mut held = agent.take(alloc);
-    let answer = held.make_from(spelled);
+    let answer = agent_makes::make_from(&mut held, spelled);
     agent.put(held);
     of_text(answer)
 }
@@ -151,7 +151,7 @@ fn intern_from(alloc: Global, agent: &mut JsAgent, spelled: &Spelling) -> JsAnsw
     ensures interns { IsInterning agent.old.at.value agent.new.at.value (spelling_units spelled.now) result }
 {
     let mut held = agent.take(alloc);
-    let answer = held.intern_key(&Key::Spelled(*spelled));
+    let answer = agent_keys::intern_key(&mut held, &Key::Spelled(*spelled));
     agent.put(held);
     of_table(answer)
 }
@@ -166,7 +166,7 @@ fn find_from(alloc: Global, agent: &mut JsAgent, spelled: &Spelling) -> JsAnswer
     ensures finds { IsFinding agent.old.at.value agent.new.at.value (spelling_units spelled.now) result }
 {
     let mut held = agent.take(alloc);
-    let answer = held.find_key(&Key::Spelled(*spelled));
+    let answer = agent_keys::find_key(&mut held, &Key::Spelled(*spelled));
     agent.put(held);
     of_found(answer)
 }

@@ -2,7 +2,7 @@
 ghost use Rattle.std.specs.Prelude.{ℕ, ◌≡◌, ◌≢◌, ◌+◌, None};
 ghost use Rattle.heap_rule.specs.Agents.{MayJoin, joined_view};
 ghost use Rattle.heap_agents.specs.Ready.{HandleKnows, HandleStaysMarked, HasInterned, IsBeside, IsReady, share_in, handle_view};
-ghost use Rattle.heap_agents.specs.Spending.{HandleTakesOver};
+ghost use Rattle.heap_agents.specs.Reserved.{HandleTakesOver};
 ghost use Rattle.c_handles.specs.Handles.{IsHandle};
 ghost use Rattle.c_steps.specs.Reports as reports;
 

@@ -1,7 +1,7 @@
 //! The steps between an export for C and the agent behind its handle: what a call answers, what becomes of
 //! units and bytes that C gives, how a string is settled before it is read, and the handle of a text.
 //!
-//! A step is here where an export does more than one call of `heap_agents`, or where several do the same.
+//! A step is here where an export does more than one call on an agent, or where several do the same.
 #![tactic(auto)]
 
 mod answer;

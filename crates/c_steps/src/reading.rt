@@ -21,7 +21,7 @@ pub fn length_of(alloc: Global, agent: &mut JsAgent, s: u32) -> u32
     ensures length { (us : List ℕ) → Has (handle_view agent.old.at.value).units s us → result ≡ length us }
 {
     let mut held = agent.take(alloc);
-    let answer = held.length(JsStr { id: s });
+    let answer = agent_reads::length(&mut held, JsStr { id: s });
     agent.put(held);
     answer
 }
@@ -39,7 +39,7 @@ pub fn settle(alloc: Global, agent: &mut JsAgent, s: u32) -> JsAnswer
         → RefusesSettling agent.old.at.value agent.new.at.value s result }
 {
     let mut held = agent.take(alloc);
-    let answer = held.settle(JsStr { id: s });
+    let answer = agent_reads::settle(&mut held, JsStr { id: s });
     agent.put(held);
     match answer {
         Ok(()) => of_text(Ok(JsStr { id: s })),
@@ -59,6 +59,6 @@ pub fn read_into(alloc: Global, agent: &mut JsAgent, s: u32, from: u32, out: &mu
         → out.new ≡ slice_range us from (from + length out.old) }
 {
     let mut held = agent.take(alloc);
-    held.read(JsStr { id: s }, from, out);
+    agent_reads::read(&mut held, JsStr { id: s }, from, out);
     agent.put(held);
 }

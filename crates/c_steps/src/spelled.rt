@@ -30,7 +30,7 @@ pub fn has_spelled(alloc: Global, agent: &mut JsAgent, s: u32, source: &Spelling
         → IsTrue result ↔ (us ≡ spelling_units source.now) }
 {
     let mut held = agent.take(alloc);
-    let answer = held.has_spelled(JsStr { id: s }, source);
+    let answer = agent_reads::has_spelled(&mut held, JsStr { id: s }, source);
     agent.put(held);
     answer
 }
@@ -47,7 +47,7 @@ pub fn compare_spelled(alloc: Global, agent: &mut JsAgent, s: u32, source: &Spel
         → result ≡ order_number (units_cmp us (spelling_units source.now)) }
 {
     let mut held = agent.take(alloc);
-    let answer = held.compare_spelled(JsStr { id: s }, source);
+    let answer = agent_reads::compare_spelled(&mut held, JsStr { id: s }, source);
     agent.put(held);
     of_order(answer)
 }

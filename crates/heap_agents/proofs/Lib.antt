@@ -1,11 +1,3 @@
-pub mod Interned
-pub mod Settled
-pub mod Refusing
-pub mod Searched
+pub mod Calls
 pub mod NotesStay
 pub mod Marks
-pub mod Renewed
-pub mod Answered
-pub mod Opened
-pub mod Boarded
-pub mod Batched

@@ -37,7 +37,7 @@ use Rattle.heap_agents.specs.Held.{IsHeld, IsMarked, IsSame, KeepsMarks, LeavesS
 use Rattle.heap_agents.specs.Interned.{KeepsCalls}
 use Rattle.heap_agents.specs.Noted.{AreNoted}
 use Rattle.heap_agents.specs.Shared.{IsSameText, IsThere, SharedText, heap_of, share_if, size_if, view_if}
-use Rattle.heap_agents.proofs.Interned.{continued}
+use Rattle.heap_agents.proofs.Calls.{continued}
 use Rattle.heap_agents.proofs.NotesStay.{notes_kept}
 
 -- what is known and which calls are known stay, so what was marked still may be

@@ -1,15 +1,8 @@
 pub mod Shared
 pub mod Interned
 pub mod Searched
-pub mod Words
-pub mod Looking
 pub mod Noted
 pub mod Held
-pub mod Spending
-pub mod Keys
-pub mod Batch
+pub mod Reserved
 pub mod Ready
-pub mod Preparing
-pub mod Openings
-pub mod Board
 pub mod Room

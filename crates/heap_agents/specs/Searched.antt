@@ -1,11 +1,8 @@
--- What a search leaves of what an agent knows, and what its answers mean.
+-- What a search leaves of what an agent knows.
 use Rattle.std.specs.Prelude.{◌≡◌, ℕ, ◌≤◌, List}
-use Rattle.std.specs.declared.cmp.Ordering.{Ordering}
-use Rattle.std.specs.declared.cmp.Ordering.TheVariants.{Less, Equal, Greater}
 use Rattle.heap_rule.specs.declared.view.View.{View}
 use Rattle.heap_rule.specs.Maps.{Has, HasKey}
 use Rattle.heap_rule.specs.Views.{IsSeenSettled, history}
-use Rattle.js_search.specs.Order.{Precedes}
 
 -- a string that may be searched, and searched for
 abbrev pub IsSearchable : View → ℕ → Type 0
@@ -25,9 +22,3 @@ pub record KeepsStrings (v w : View) : Type 0 where
   pub low_words : v.low.words ≤ w.low.words
   pub seen : w.seen ≡ v.seen
   pub calls : history w ≡ history v
-
--- the units us come before vs, are the same, or come after them
-abbrev pub IsOrder : List ℕ → List ℕ → Ordering → Type 0
-IsOrder us vs Less = Precedes us vs
-IsOrder us vs Equal = us ≡ vs
-IsOrder us vs Greater = Precedes vs us

@@ -1,11 +1,11 @@
-// What was used of a heap, and an agent's share of it.
+// What was used of a heap, the slots of its string table, and an agent's share of it.
 ghost use Rattle.std.specs.Prelude.{◌≡◌, ◌↔◌, IsTrue};
 ghost use Rattle.heap_rule.specs.declared.size.Counter.TheVariants as counter;
 ghost use Rattle.heap_rule.specs.Claims.{loaded_counter};
 ghost use Rattle.heap_rule.specs.Views.{history};
 ghost use Rattle.heap_intern.specs.Counting.{different};
 ghost use Rattle.heap_intern.specs.Goes.{LoadsAlone};
-ghost use Rattle.heap_agents.specs.Held.{IsHeld, IsSame, KeepsMarks, share_by, view_by};
+ghost use Rattle.heap_agents.specs.Held.{IsHeld, IsSame, KeepsMarks, held_size, share_by, view_by};
 
 use crate::held::Held;
 use heap_intern::count_interned;
@@ -28,6 +28,17 @@ impl Held {
         ensures { IsTrue result ↔ ((view_by self.now).share ≡ (view_by self.now).agents) }
     {
         self.share() == self.agents
+    }
+
+    /// The number of slots of its heap's string table.
+    pub fn slots(&self) -> u32
+        requires { IsHeld self.now }
+        ensures { result ≡ (held_size self.now).slots }
+    {
+        match &self.text {
+            Some(text) => text.reader.heap().size().slots,
+            None => unreachable!(),
+        }
     }
 
     /// The ids and the content words that were ever claimed, for an agent that has the whole share.

@@ -5,7 +5,6 @@ ghost use Rattle.heap_rule.specs.Views.{history};
 ghost use Rattle.heap_agents.specs.Held.{IsHeld, KeepsMarks, MarksOnly, MarksOnlyKey, view_by};
 ghost use Rattle.heap_ids.specs.Sets.{IsIn};
 
-use crate::renewing::ReserveBlocks;
 use crate::seats::Seats;
 use heap_ids::IdSet;
 use heap_reserve::Reserve;
@@ -23,16 +22,24 @@ use std::sync::atomic::AtomicU64;
 /// strings are searched.
 #[derive(Drop)]
 pub struct Held {
-    pub(crate) text: Option<Text<Arc<Heap, Global>>>,
+    pub text: Option<Text<Arc<Heap, Global>>>,
     pub(crate) agents: u32,
     pub(crate) known: IdSet,
     pub(crate) interned: IdSet,
-    pub(crate) seats: Seats,
-    pub(crate) reserve: Reserve,
-    pub(crate) blocks: ReserveBlocks,
+    pub seats: Seats,
+    pub reserve: Reserve,
+    pub blocks: ReserveBlocks,
     pub(crate) numbers: Arc<AtomicU64, Global>,
     pub(crate) number: u64,
     pub(crate) giver: u64,
+}
+
+/// How many ids, and how many content words, an agent claims at once where it renews its reserve; 0 and 0:
+/// it doesn't.
+#[derive(Clone, Copy)]
+pub struct ReserveBlocks {
+    pub ids: u32,
+    pub words: u32,
 }
 
 impl Held {
@@ -50,8 +57,8 @@ impl Held {
         self.interned.has(id)
     }
 
-    // Marks a string that the agent knows.
-    pub(crate) fn mark(&mut self, id: u32)
+    /// Marks a string that the agent knows.
+    pub fn mark(&mut self, id: u32)
         requires held { IsHeld self.old }
         requires known { HasKey (view_by self.old).units id }
         ensures held { IsHeld self.new }
@@ -62,8 +69,8 @@ impl Held {
         self.known.add(id);
     }
 
-    // Marks an answer of the string table.
-    pub(crate) fn mark_interned(&mut self, id: u32)
+    /// Marks an answer of the string table.
+    pub fn mark_interned(&mut self, id: u32)
         requires held { IsHeld self.old }
         requires known { HasKey (view_by self.old).units id }
         requires call { (u : List ℕ) × Contains (history (view_by self.old)) (u, id) }

@@ -8,14 +8,13 @@ ghost use Rattle.heap_table.specs.Known.{HasAllOf, KeepsKnown};
 ghost use Rattle.heap_table.specs.MayMake.{MayMake};
 ghost use Rattle.heap_text.specs.Keeping.{KeepsText};
 ghost use Rattle.heap_agents.specs.Held.{IsHeld, IsSame, KeepsMarks, StaysMarked, limit_by, share_by, view_by};
-ghost use Rattle.heap_agents.specs.Spending.{ReservesNothing};
+ghost use Rattle.heap_agents.specs.Reserved.{ReservesNothing};
 ghost use Rattle.heap_reserve.specs.Reserves.{IsReserve, TakesOverReserve};
 ghost use Rattle.heap_rule.specs.declared.view.View as view;
 ghost use Rattle.heap_agents.specs.Shared.{IsSameText, IsThere, heap_of, share_if, view_if};
 ghost use Rattle.heap_ids.specs.Sets.{Covers, IsIn};
 
-use crate::held::Held;
-use crate::renewing::ReserveBlocks;
+use crate::held::{Held, ReserveBlocks};
 use crate::seats::Seats;
 use heap_ids::IdSet;
 use heap_read::{HeapRef, Reader};

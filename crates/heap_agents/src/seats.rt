@@ -10,8 +10,8 @@ const MOST_HASHES: u32 = 1_048_576;
 /// string hashes to, with 1 in place of 0. Where memory runs out, fewer are noted.
 #[derive(Drop)]
 pub struct Seats {
-    pub(crate) slots: Vec<u32>,
-    pub(crate) hashes: Vec<u32>,
+    pub slots: Vec<u32>,
+    pub hashes: Vec<u32>,
 }
 
 impl Seats {
@@ -26,8 +26,8 @@ impl Seats {
         }
     }
 
-    // Makes room for an id, and for as many more as there were, up to `most`, if there is memory for them.
-    pub(crate) fn reach(&mut self, id: u32, most: u32)
+    /// Makes room for an id, and for as many more as there were, up to `most`, if there is memory for them.
+    pub fn reach(&mut self, id: u32, most: u32)
         ensures slots { (i : ℕ) → slice_index self.new.slots.items i ≡ slice_index self.old.slots.items i }
         ensures hashes { self.new.hashes ≡ self.old.hashes }
     {
@@ -39,8 +39,8 @@ impl Seats {
         let _ = self.slots.resize(twice.max(id as usize + 1), 0);
     }
 
-    // Makes room for the hashes of so many slots, if there is memory for them.
-    pub(crate) fn reach_hashes(&mut self, slots: u32)
+    /// Makes room for the hashes of so many slots, if there is memory for them.
+    pub fn reach_hashes(&mut self, slots: u32)
         ensures slots { self.new.slots ≡ self.old.slots }
         ensures hashes { (i : ℕ) → slice_index self.new.hashes.items i ≡ slice_index self.old.hashes.items i }
     {

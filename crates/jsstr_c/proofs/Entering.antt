@@ -8,7 +8,7 @@ use Rattle.heap_intern.specs.Answers.{IsForwarded}
 use Rattle.heap_agents.specs.declared.held.Held.{Held}
 use Rattle.heap_agents.specs.Held.{IsSame, StaysMarked, view_by}
 use Rattle.heap_agents.specs.Interned.{KeepsCalls}
-use Rattle.heap_agents.specs.Keys.{InternsByPlan, MarksAnswer}
+use Rattle.agent_keys.specs.Keys.{InternsByPlan, MarksAnswer}
 use Rattle.c_steps.specs.declared.answer.JsAnswer.{JsAnswer}
 use Rattle.jsstr_c.specs.Made.{InternsString}
 use Rattle.c_steps.specs.Reports.{DONE, table_answer, table_report}

@@ -9,9 +9,9 @@ use Rattle.heap_intern.specs.declared.table.faults.TableFull.{TableFull}
 use Rattle.heap_intern.specs.Answers.{IsForwarded}
 use Rattle.heap_agents.specs.declared.held.Held.{Held}
 use Rattle.heap_agents.specs.Interned.{KeepsCalls}
-use Rattle.heap_agents.specs.Keys.{HandleInterns}
+use Rattle.agent_keys.specs.Keys.{HandleInterns}
 use Rattle.heap_agents.specs.Ready.{HandleSpends, HandleStaysMarked, IsBeside, handle_view}
-use Rattle.heap_agents.specs.Spending.{HandleCuts, HandleJoins}
+use Rattle.agent_makes.specs.Spending.{HandleCuts, HandleJoins}
 use Rattle.c_steps.specs.declared.answer.JsAnswer.{JsAnswer}
 use Rattle.c_steps.specs.Checked.{MarksResult, MarksKey, MarksNone, RefusesSettling, SettlesString}
 use Rattle.c_steps.specs.Reports.{DONE, join_answer, table_answer, text_answer}

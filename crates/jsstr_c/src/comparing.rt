@@ -4,7 +4,8 @@ ghost use Rattle.std.specs.declared.cmp.Ordering as ordering;
 ghost use Rattle.js_search.specs.Order.{units_cmp};
 ghost use Rattle.heap_rule.specs.Maps.{Has};
 ghost use Rattle.heap_agents.specs.Ready.{IsReady, HandleSearches, handle_view, HandleKnows};
-ghost use Rattle.heap_agents.specs.Searched.{IsOrder, IsSearchable};
+ghost use Rattle.agent_searches.specs.Order.{IsOrder};
+ghost use Rattle.heap_agents.specs.Searched.{IsSearchable};
 ghost use Rattle.c_handles.specs.Handles.{IsHandle};
 ghost use Rattle.c_steps.specs.Reports.{order_number, no_order, no_truth, order_answer};
 ghost use Rattle.c_steps.specs.Checked.{SeeksSettled};
@@ -32,7 +33,7 @@ pub extern "C" fn jsstr_compare_unchecked(alloc: Global, agent: &mut JsAgent, a:
         → (o : ordering.Ordering) × (result ≡ order_number o) × IsOrder us vs o }
 {
     let mut held = agent.take(alloc);
-    let answer = held.compare(JsStr { id: a }, JsStr { id: b });
+    let answer = agent_searches::compare(&mut held, JsStr { id: a }, JsStr { id: b });
     agent.put(held);
     of_order(answer)
 }
@@ -73,7 +74,7 @@ pub extern "C" fn jsstr_equal_unchecked(alloc: Global, agent: &mut JsAgent, a: u
         → IsTrue result ↔ (us ≡ vs) }
 {
     let mut held = agent.take(alloc);
-    let answer = held.equal(JsStr { id: a }, JsStr { id: b });
+    let answer = agent_searches::equal(&mut held, JsStr { id: a }, JsStr { id: b });
     agent.put(held);
     answer
 }

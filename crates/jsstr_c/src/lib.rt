@@ -1,7 +1,7 @@
 //! The heap of strings for C: how heaps, agents and strings are made, joined, cut, settled, interned and
 //! compared. `c_reads` and `c_bulk` have the other exports, and one archive has all.
 //!
-//! Each export is a call of `heap_agents`, or a step of `c_steps`, and states its clauses again. Each call is
+//! Each export is a call on an agent, or a step of `c_steps`, and states its clauses again. Each call is
 //! there twice. The first form leaves its conditions to the caller, and its name ends in `_unchecked`. The
 //! other one tests them, and answers `JSSTR_BAD_ARGUMENT` where one fails; its caller owes a handle that the
 //! library wrote, and nothing else.

@@ -4,7 +4,7 @@ ghost use Rattle.heap_rule.specs.Agents.{MayJoin, first_view, joined_view, left_
 ghost use Rattle.heap_rule.specs.Layout.{MAX};
 ghost use Rattle.heap_table.specs.MayMake.{MayMake};
 ghost use Rattle.heap_agents.specs.Ready.{HasInterned, IsBeside, IsReady, HandleKnows, MarksStay, HandleStaysMarked, giver_in, handle_limit, handle_number, share_in, handle_view};
-ghost use Rattle.heap_agents.specs.Spending.{HandleReservesNothing, HandleTakesOver};
+ghost use Rattle.heap_agents.specs.Reserved.{HandleReservesNothing, HandleTakesOver};
 ghost use Rattle.c_handles.specs.Handles.{IsHandle};
 ghost use Rattle.c_steps.specs.Reports.{size_for};
 ghost use Rattle.c_steps.specs.Checked.{IsChild};

@@ -36,7 +36,7 @@ pub extern "C" fn jsstr_concat_unchecked(
         → Has (handle_view agent.new.at.value).units result.id (us ++ vs) }
 {
     let mut held = agent.take(alloc);
-    let answer = held.concat(JsStr { id: a }, JsStr { id: b });
+    let answer = agent_makes::concat(&mut held, JsStr { id: a }, JsStr { id: b });
     agent.put(held);
     of_join(answer)
 }
@@ -113,7 +113,7 @@ pub extern "C" fn jsstr_slice_unchecked(
         → IsSeenSettled (handle_view agent.new.at.value) result.id }
 {
     let mut held = agent.take(alloc);
-    let answer = held.slice(JsStr { id: s }, from, to);
+    let answer = agent_makes::slice(&mut held, JsStr { id: s }, from, to);
     agent.put(held);
     of_text(answer)
 }

@@ -5,7 +5,7 @@ ghost use Rattle.heap_rule.specs.Views.{IsSeenSettled, history};
 ghost use Rattle.heap_table.specs.Known.{KeepsKnown};
 ghost use Rattle.heap_agents.specs.Interned.{IsEntered, KeepsCalls};
 ghost use Rattle.heap_agents.specs.Ready.{HasInterned, IsReady, handle_view, HandleKnows, size_in};
-ghost use Rattle.heap_agents.specs.Board.{TellsSlot};
+ghost use Rattle.agent_keys.specs.Board.{TellsSlot};
 ghost use Rattle.c_handles.specs.Handles.{IsHandle};
 ghost use Rattle.c_steps.specs.Reports.{no_truth};
 ghost use Rattle.c_steps.specs.Board.{IsAdopting};
@@ -33,7 +33,7 @@ pub extern "C" fn jsstr_intern_unchecked(alloc: Global, agent: &mut JsAgent, s: 
         → IsEntered (handle_view agent.old.at.value) (handle_view agent.new.at.value) s result.id }
 {
     let mut held = agent.take(alloc);
-    let answer = held.intern(s);
+    let answer = agent_keys::intern(&mut held, s);
     agent.put(held);
     of_table(answer)
 }
@@ -146,7 +146,7 @@ pub extern "C" fn jsstr_slot_of_unchecked(alloc: Global, agent: &mut JsAgent, s:
     ensures tells { TellsSlot agent.old.at.value agent.new.at.value s result }
 {
     let mut held = agent.take(alloc);
-    let slot = held.slot_of(s);
+    let slot = agent_keys::slot_of(&mut held, s);
     agent.put(held);
     slot
 }
@@ -185,7 +185,7 @@ pub extern "C" fn jsstr_adopt_unchecked(alloc: Global, agent: &mut JsAgent, slot
     ensures adopts { IsAdopting agent.old.at.value agent.new.at.value slot result }
 {
     let mut held = agent.take(alloc);
-    let answer = held.adopt(slot);
+    let answer = agent_keys::adopt(&mut held, slot);
     agent.put(held);
     of_found(answer)
 }

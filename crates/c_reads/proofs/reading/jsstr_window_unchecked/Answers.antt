@@ -1,10 +1,10 @@
 use Rattle.std.proofs.Common.{ℕ, Option, subst, sym, ap, ◌≡◌}
 use Rattle.heap_rule.specs.Maps.{Has}
 use Rattle.heap_agents.specs.declared.held.Held.{Held}
-use Rattle.heap_agents.specs.declared.words.Shown.{Shown}
+use Rattle.agent_reads.specs.declared.words.Shown.{Shown}
 use Rattle.heap_agents.specs.Held.{view_by}
 use Rattle.heap_agents.specs.Ready.{handle_view}
-use Rattle.heap_agents.specs.Words.{AreShown, AreThere}
+use Rattle.agent_reads.specs.Words.{AreShown, AreThere}
 use Rattle.c_steps.specs.Reports.{shown_by}
 use Rattle.c_reads.proofs.reading.jsstr_window_unchecked.Goals as goal
 
@@ -25,4 +25,4 @@ returns-clause-there c us h =
     let is : shown_by c.of_words.result ≡ call.result = ap shown_by c.of_words.ensures in
     let there = call.ensures.there us (subst (λ (x : Held). Has (view_by x).units s us) (sym c.deref_mut.ensures.value) has) in
     subst (λ (o : Option Held). AreThere (handle_view o) us (shown_by c.of_words.result)) (sym c.put.ensures.there)
-    (subst (λ (r : Shown). AreThere (view_by call.new.self) us r) (sym is) there)
+    (subst (λ (r : Shown). AreThere (view_by call.new.agent) us r) (sym is) there)

@@ -2,7 +2,7 @@ use Rattle.std.proofs.Common.{ap, refl}
 use Rattle.std.specs.Arc.{arc_value}
 use Rattle.heap_table.specs.Agents.{view_of}
 use Rattle.heap_agents.specs.Shared.{SharedText}
-use Rattle.heap_agents.proofs.Interned.{calls_looked, own_looked}
+use Rattle.heap_agents.proofs.Calls.{calls_looked, own_looked}
 use Rattle.heap_agents.proofs.Marks.{held_on}
 use Rattle.heap_agents.proofs.held.Held.count_interned.Goals as goal
 

@@ -1,0 +1,4 @@
+pub mod Keys
+pub mod Batch
+pub mod Openings
+pub mod Board

@@ -1,0 +1,12 @@
+use Rattle.agent_makes.proofs.Renewed.{makes_then, marks_then, spends_trans}
+use Rattle.agent_makes.proofs.making.from_units.Goals as goal
+
+pub returns-clause-spends : goal.returns-clause-spends
+returns-clause-spends c = spends_trans c.args.agent.now c.renew_for_key.new.agent c.take_flat.new.agent c.renew_for_key.ensures.prepared.spends c.take_flat.ensures.spends
+
+pub returns-clause-marked : goal.returns-clause-marked
+returns-clause-marked c = marks_then c.args.agent.now c.renew_for_key.new.agent c.take_flat.new.agent c.renew_for_key.ensures.prepared c.take_flat.result c.take_flat.ensures.marked
+
+pub returns-clause-made : goal.returns-clause-made
+returns-clause-made c = let x = c.args.agent.now in let z = c.renew_for_key.new.agent in let y = c.take_flat.new.agent in let p = c.renew_for_key.ensures in let t = c.take_flat.ensures in
+    makes_then x z y p.prepared c.args.units.now c.take_flat.result p.renews t.made

@@ -1,0 +1,5 @@
+use Rattle.heap_agents.proofs.Marks.{leaves_reads}
+use Rattle.agent_reads.proofs.reading.length.Goals as goal
+
+pub returns-clause-leaves : goal.returns-clause-leaves
+returns-clause-leaves c = let call = c.len in leaves_reads c.args.agent.now c.in-Some.text call.new.self c.in-Some.is c.requires.held call.ensures.kept call.ensures.reads

@@ -1,5 +1,0 @@
-use Rattle.heap_agents.proofs.Marks.{leaves_reads}
-use Rattle.heap_agents.proofs.held.Held.hash.Goals as goal
-
-pub returns-clause-leaves : goal.returns-clause-leaves
-returns-clause-leaves c = let call = c.hash in leaves_reads c.args.self.now c.in-Some.text call.new.text c.in-Some.is c.requires.held call.ensures.kept call.ensures.reads
