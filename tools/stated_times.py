@@ -8,7 +8,7 @@ MINUTES = {
     "--test": 7.3,
     "--build": 60,
     "--library": 25,
-    "gate": 116,
+    "gate": 90,
 }
 
 
