@@ -84,7 +84,7 @@ def ropes():
     for word in ["right", "left"]:
         beside(f"a join of two ropes, to the {word}", join[word], short, "a flat string of 13 units made", 2)
     beside("a slice of 1,000,000 units", turn("slice", 1_000, 1_001_000), join["right"], "a join of two ropes", 2)
-    repeat = (seconds([STORES, "heap", "repeat", "1001"], RUNS, 0) - seconds([STORES, "heap", "repeat", "1"], RUNS, 0)) / 1_000
+    repeat = (seconds([PROGRAM, "heap", "repeat", "1001"], RUNS, 0) - seconds([PROGRAM, "heap", "repeat", "1"], RUNS, 0)) / 1_000
     beside("a unit repeated to the greatest length", repeat, 1_000 * join["right"], "1,000 joins", 1)
     units = 1_000_000
     grow = spent("grow", units)
