@@ -1,12 +1,11 @@
 // Reading strings: their lengths and units.
-ghost use Rattle.std.specs.Prelude.{◌≡◌, ℕ, ◌+◌, ◌≤◌, ◌<◌, List, length, slice_range, IfOk, IfErr, IsOk, Bool};
+ghost use Rattle.std.specs.Prelude.{◌≡◌, ℕ, ◌+◌, ◌≤◌, List, length, slice_range};
 ghost use Rattle.heap_read.specs.Reads.{KeepsForms, OnlyLoads};
 ghost use Rattle.heap_rule.specs.Maps.{Has, HasKey};
 ghost use Rattle.heap_rule.specs.Views.{IsSeenSettled};
 ghost use Rattle.heap_table.specs.Agents.{view_of};
 ghost use Rattle.heap_text.specs.Keeping.{KeepsText};
-ghost use Rattle.heap_text.specs.Settling.{IsBitOf, IsNoRoom, IsSettling};
-ghost use Rattle.heap_text.specs.Texts.{KeepsOwn};
+ghost use Rattle.heap_text.specs.Settling.{Settles};
 ghost use Rattle.heap_agents.specs.Held.{IsHeld, LeavesStrings, MarksNothing, MarksSettled, held_size, view_by};
 
 use heap_agents::Held;
@@ -49,18 +48,8 @@ pub fn settle(agent: &mut Held, s: JsStr) -> Result<(), TextFull>
     requires held { IsHeld agent.old }
     requires known { HasKey (view_by agent.old).units s.id }
     ensures leaves { LeavesStrings agent.old agent.new }
-    ensures own { KeepsOwn (view_by agent.old) (view_by agent.new) }
     ensures marked { MarksSettled agent.old agent.new s.id result }
-    ensures settled { IfOk result (λ u. IsSeenSettled (view_by agent.new) s.id) }
-    ensures used { IfOk result
-        (λ u. (us : List ℕ) → Has (view_by agent.old).units s.id us
-        → IsSettling (view_by agent.old) (view_by agent.new) s.id us) }
-    ensures again { IsSeenSettled (view_by agent.old) s.id
-        → IsOk result × OnlyLoads (view_by agent.old) (view_by agent.new) }
-    ensures refused { IfErr result
-        (λ f. (us : List ℕ) → Has (view_by agent.old).units s.id us
-        → (wide : Bool) × IsBitOf (view_by agent.old) s.id wide
-        × IsNoRoom (view_by agent.old) (view_by agent.new) (held_size agent.old) us f wide) }
+    ensures settles { Settles (view_by agent.old) (view_by agent.new) (held_size agent.old) s.id result }
 {
     let answer = match &mut agent.text {
         Some(text) => text.settle(s),

@@ -1,5 +1,5 @@
 -- What settling a string leaves after a length was read, and before loads alone.
-use Rattle.std.proofs.Common.{◌≡◌, ◌∙◌, ℕ, ◌+◌, ◌≤◌, Bool, List, length, Option, None, Some, inl, inr, ap, subst, sym, ⊎_elim}
+use Rattle.std.proofs.Common.{◌≡◌, ◌∙◌, ℕ, ◌+◌, ◌≤◌, Bool, List, length, Option, None, Some, Ok, Err, inl, inr, ap, subst, sym, arith, ⊎_elim}
 use Rattle.std.specs.FinMap.{FinMap}
 use Rattle.std.specs.Ordering.{nat_cmp}
 use Rattle.js_units.specs.Lanes.{words_over}
@@ -9,20 +9,23 @@ use Rattle.heap_rule.specs.declared.size.Counters.{Counters}
 use Rattle.heap_rule.specs.declared.size.HeapSize.{HeapSize}
 use Rattle.heap_rule.specs.declared.view.View.{View}
 use Rattle.heap_rule.specs.Maps.{Has, HasKey}
-use Rattle.heap_rule.specs.Views.{IsSeenSettled}
+use Rattle.heap_rule.proofs.MapLemmas.{has_key}
 use Rattle.heap_table.specs.Agents.{size_of}
 use Rattle.heap_read.specs.Reads.{OnlyLoads}
 use Rattle.heap_read.proofs.Loaded.{reads_trans}
 use Rattle.heap_text.specs.declared.faults.TextFull.{TextFull}
-use Rattle.heap_text.specs.Settling.{IsBitOf, IsFlattened, IsNoRoom, IsSettling}
+use Rattle.heap_text.specs.declared.faults.TextFull.TheVariants.{Ids, Words}
+use Rattle.heap_table.specs.declared.claims.CounterFull.{CounterFull}
+use Rattle.heap_text.specs.Settling.{IsBitOf, IsFlattened, IsNoRoom, IsSettling, Settles}
 use Rattle.heap_text.specs.Texts.{IsSpared, KeepsOwn, text_words_wanted}
 use Rattle.heap_agents.specs.declared.held.Held.{Held}
 use Rattle.heap_ids.specs.declared.ids.IdSet.{IdSet}
 use Rattle.heap_ids.specs.Sets.{IsIn}
-use Rattle.heap_agents.specs.Held.{LeavesStrings, MarksOnly, view_by}
+use Rattle.heap_agents.specs.Held.{LeavesStrings, MarksNothing, MarksOnly, held_size, view_by}
 use Rattle.heap_agents.specs.Ready.{HandleLeaves, HandleKnows, size_in, handle_view}
 use Rattle.heap_agents.specs.Shared.{IsSameText, SharedText, size_if}
 use Rattle.c_steps.specs.declared.answer.JsAnswer.{JsAnswer}
+use Rattle.c_steps.specs.Reports.{DONE, NO_WORDS, text_report}
 use Rattle.c_steps.specs.Checked.{MarksNone, MarksOne, ReadsLength, OnlyLooks, RefusesSettling, SettlesString}
 use Rattle.c_steps.proofs.Going.{goes_trans}
 
@@ -139,8 +142,31 @@ module _ (o m p : Option Held) (s : ℕ) (g : ReadsLength o m) where
     );
   }
 
+-- only words are refused
+pub told_words : (full : TextFull) (r : JsAnswer) → r ≡ text_report full → (c : CounterFull) × (full ≡ Words c) → r.status ≡ NO_WORDS
+told_words full r is w = ap (λ (a : JsAnswer). a.status) is ∙ ap (λ (t : TextFull). (text_report t).status) w.1
+
+pub never_done : (full : TextFull) (r : JsAnswer) → r ≡ text_report full → r.status ≡ DONE → ⊥
+never_done (Ids f) r is e = let bad = sym (ap (λ (a : JsAnswer). a.status) is) ∙ e in absurd (omega (arith, bad))
+never_done (Words f) r is e = let bad = sym (ap (λ (a : JsAnswer). a.status) is) ∙ e in absurd (omega (arith, bad))
+
 -- the same of what lies behind a handle
-pub held_settles : (o p : Option Held) (x y : Held) (s : ℕ) → o ≡ Some x → p ≡ Some y → LeavesStrings x y → KeepsOwn (view_by x) (view_by y) → MarksOnly x y s → IsSeenSettled (view_by y) s
-    → ((us : List ℕ) → Has (view_by x).units s us → IsSettling (view_by x) (view_by y) s us) → (IsSeenSettled (view_by x) s → OnlyLoads (view_by x) (view_by y)) → SettlesString o p s
-held_settles o p x y s e f leaves own marks settled used again = subst (λ (q : Option Held). SettlesString o q s) (sym f)
-    (subst (λ (q : Option Held). SettlesString q (Some y) s) (sym e) record { leaves = leaves; own = own; marks = marks; settled = settled; used = used; again = again })
+behind : (P : Option Held → Option Held → Type 0) (o p : Option Held) (x y : Held) → o ≡ Some x → p ≡ Some y → P (Some x) (Some y) → P o p
+behind P o p x y e f h = subst (P o) (sym f) (subst (λ (q : Option Held). P q (Some y)) (sym e) h)
+
+module _ (o p : Option Held) (x y : Held) (s : ℕ) (e : o ≡ Some x) (f : p ≡ Some y) (leaves : LeavesStrings x y) where
+  pub held_settles : {A : Type 0} (a : A) → MarksOnly x y s → Settles (view_by x) (view_by y) (held_size x) s (Ok a) → SettlesString o p s
+  held_settles a marks h = behind (λ q r. SettlesString q r s) o p x y e f
+      record { leaves = leaves; own = h.own; marks = marks; settled = h.settled; used = h.used; again = λ k. (h.again k).1 }
+
+  pub held_refuses : {A : Type 0} (full : TextFull) (r : JsAnswer) → r ≡ text_report full → HasKey (handle_view o).units s → MarksNothing x y
+      → Settles {A = A} (view_by x) (view_by y) (held_size x) s (Err full) → RefusesSettling o p s r
+  held_refuses full r is known marks h = let us = has_key (view_by x).units s (subst (λ (q : Option Held). HasKey (handle_view q).units s) e known) in
+      behind (λ q z. RefusesSettling q z s r) o p x y e f record {
+        leaves = leaves;
+        own = h.own;
+        marks = marks;
+        unseen = λ k. let bad = (h.again k).0 in absurd (cc);
+        words = told_words full r is (h.refused us.0 us.1).2.words;
+        report = λ vs k. let t = h.refused vs k in (full, t.0, is, t.1, t.2);
+      }

@@ -79,6 +79,12 @@ pub record RefusesSettling (o p : Option Held) (s : ℕ) (r : JsAnswer) : Type 0
       → (f : TextFull) × (wide : Bool) × (r ≡ text_report f) × IsBitOf (handle_view o) s wide
       × IsNoRoom (handle_view o) (handle_view p) (size_in o) us f wide
 
+-- Settling string s, which is known, with r as the answer.
+pub record SettlesKnown (o p : Option Held) (s : ℕ) (r : JsAnswer) : Type 0 where
+  pub told : r.status ≢ BAD_ARGUMENT
+  pub done : r.status ≡ DONE → (r ≡ done s) × SettlesString o p s
+  pub refused : r.status ≢ DONE → RefusesSettling o p s r
+
 -- What settling string s leaves, before a call or as one, with r as the answer. Of a string that isn't known
 -- nothing has changed; of one that is known a condition on its length may have failed.
 pub record SettlesFirst (o p : Option Held) (s : ℕ) (r : JsAnswer) : Type 0 where

@@ -1,11 +1,10 @@
 // Strings measured, settled and read.
-ghost use Rattle.std.specs.Prelude.{◌≡◌, ◌≢◌, ℕ, ◌+◌, ◌≤◌, List, length, slice_range};
+ghost use Rattle.std.specs.Prelude.{◌≡◌, ℕ, ◌+◌, ◌≤◌, List, length, slice_range};
 ghost use Rattle.heap_rule.specs.Maps.{Has, HasKey};
 ghost use Rattle.heap_rule.specs.Views.{IsSeenSettled};
 ghost use Rattle.heap_agents.specs.Ready.{IsReady, handle_view};
 ghost use Rattle.c_handles.specs.Handles.{IsHandle};
-ghost use Rattle.c_steps.specs.Checked.{OnlyLooks, ReadsLength, RefusesSettling, SettlesString};
-ghost use Rattle.c_steps.specs.Reports as reports;
+ghost use Rattle.c_steps.specs.Checked.{OnlyLooks, ReadsLength, SettlesKnown};
 
 use crate::answer::{JsAnswer, of_text};
 use c_handles::JsAgent;
@@ -32,11 +31,7 @@ pub fn settle(alloc: Global, agent: &mut JsAgent, s: u32) -> JsAnswer
     requires ready { IsReady agent.old.at.value }
     requires known { HasKey (handle_view agent.old.at.value).units s }
     ensures handle { IsHandle agent.new }
-    ensures told { result.status ≢ reports.BAD_ARGUMENT }
-    ensures settled { result.status ≡ reports.DONE
-        → (result ≡ reports.done s) × SettlesString agent.old.at.value agent.new.at.value s }
-    ensures refused { result.status ≢ reports.DONE
-        → RefusesSettling agent.old.at.value agent.new.at.value s result }
+    ensures settles { SettlesKnown agent.old.at.value agent.new.at.value s result }
 {
     let mut held = agent.take(alloc);
     let answer = agent_reads::settle(&mut held, JsStr { id: s });

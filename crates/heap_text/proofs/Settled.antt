@@ -5,10 +5,10 @@ use Rattle.std.specs.FinMap.{FinMap}
 use Rattle.std.specs.Ordering.{nat_cmp}
 use Rattle.js_units.specs.Lanes.{words_over}
 use Rattle.js_header.specs.declared.form.Form.{Form}
-use Rattle.js_header.specs.declared.form.Form.TheVariants.{Cons}
+use Rattle.js_header.specs.declared.form.Form.TheVariants.{Unborn, Cons, Flat, Sliced, Thin}
 use Rattle.heap_rule.specs.declared.size.HeapSize.{HeapSize}
 use Rattle.heap_rule.specs.declared.view.View.{View}
-use Rattle.heap_rule.specs.Forms.{IsLater}
+use Rattle.heap_rule.specs.Forms.{IsCons, IsLater}
 use Rattle.heap_rule.specs.Maps.{HasKey}
 use Rattle.heap_text.specs.declared.faults.TextFull.{TextFull}
 use Rattle.heap_table.specs.Known.{KeepsKnown}
@@ -26,6 +26,13 @@ module _ {A E : Type 0} where
   pub err_then : (r : Result A E) (P Q : E → Type 0) → ((e : E) → P e → Q e) → IfErr r P → IfErr r Q
   err_then (Ok a) P Q f h = tt
   err_then (Err e) P Q f h = f e h
+
+pub no_cons : (f : Form) → ((wide : Bool) (left right : ℕ) → f ≡ Cons wide left right → ⊥) → IsCons f → ⊥
+no_cons Unborn n h = h
+no_cons (Flat wide start fixed) n h = h
+no_cons (Cons wide left right) n h = n wide left right refl
+no_cons (Sliced wide parent offset) n h = h
+no_cons (Thin target) n h = h
 
 -- a Cons comes after no form, so one that is found where a Cons was seen is that one
 pub same_bit : (seen wide : Bool) (l r left right : ℕ) (f : Form) → f ≡ Cons wide left right → (Cons seen l r ≡ f) ⊎ IsLater (Cons seen l r) f → wide ≡ seen

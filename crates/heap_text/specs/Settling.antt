@@ -1,5 +1,6 @@
 -- What settling a string answers.
-use Rattle.std.specs.Prelude.{◌≡◌, ℕ, ◌+◌, ◌++◌, ◌<◌, ◌⊎◌, Bool, false, List, length}
+use Rattle.std.specs.Prelude.{◌≡◌, ℕ, ◌+◌, ◌*◌, ◌++◌, ◌<◌, ◌≤◌, ◌⊎◌, Bool, false, List, length}
+use Rattle.std.specs.Prelude.{Result, IfOk, IfErr, IsOk}
 use Rattle.js_units.specs.Lanes.{words_over}
 use Rattle.js_header.specs.declared.form.Form.{Form}
 use Rattle.js_header.specs.declared.form.Form.TheVariants.{Cons, Flat}
@@ -7,11 +8,12 @@ use Rattle.heap_rule.specs.declared.size.HeapSize.{HeapSize}
 use Rattle.heap_rule.specs.declared.view.View.{View}
 use Rattle.heap_rule.specs.Forms.{IsLater, IsNarrow}
 use Rattle.heap_rule.specs.Maps.{Has, HasKey}
+use Rattle.heap_rule.specs.Views.{IsSeenSettled}
 use Rattle.heap_table.specs.declared.claims.CounterFull.{CounterFull}
 use Rattle.heap_text.specs.declared.faults.TextFull.{TextFull}
 use Rattle.heap_text.specs.declared.faults.TextFull.TheVariants.{Words}
 use Rattle.heap_read.specs.Reads.{OnlyLoads}
-use Rattle.heap_text.specs.Texts.{IsSpared, LacksRoom, UsesExactly}
+use Rattle.heap_text.specs.Texts.{IsSpared, KeepsOwn, LacksRoom, UsesExactly}
 
 -- Two strings that are known, neither of them empty, with smaller numbers than i,
 -- have the units us between them.
@@ -58,3 +60,22 @@ pub record IsNoRoom (v w : View) (z : HeapSize) (us : List ℕ) (f : TextFull) (
   pub words : (full : CounterFull) × (f ≡ Words full)
   pub told : LacksRoom w z (words_over wide (length us)) f
   pub spared : IsSpared v w (words_over wide (length us)) f
+
+-- String i was settled, or could not be, with r as the answer, on a heap of the sizes z. What was own is so
+-- still. Where the answer is Ok, the string is seen settled, and nothing but its Flat was made. Where content
+-- words were refused, a Cons was to become flat, whose two sides are known. A string that was seen settled
+-- before is answered by loads alone.
+pub record Settles {A : Type 0} (v w : View) (z : HeapSize) (i : ℕ) (r : Result A TextFull) : Type 0 where
+  pub own : KeepsOwn v w
+  pub settled : IfOk r (λ u. IsSeenSettled w i)
+  pub used : IfOk r (λ u. (us : List ℕ) → Has v.units i us → IsSettling v w i us)
+  pub refused : IfErr r (λ f. (us : List ℕ) → Has v.units i us
+      → (wide : Bool) × IsBitOf v i wide × IsNoRoom v w z us f wide)
+  pub rope : IfErr r (λ f. (us : List ℕ) → Has v.units i us → HasSides w i us)
+  pub again : IsSeenSettled v i → IsOk r × OnlyLoads v w
+  pub later : IsSeenSettled v i → IsSeenLater v w i
+
+-- for n units, more than none, at most 8n form words were loaded
+abbrev pub LoadsFewFor : View → View → ℕ → Type 0
+LoadsFewFor v w i = (us : List ℕ) → Has v.units i us → 0 < length us
+    → w.form_loads ≤ v.form_loads + 8 * length us

@@ -1,5 +1,5 @@
 // Settling a string: a rope becomes flat.
-ghost use Rattle.std.specs.Prelude.{◌≡◌, ℕ, List, Bool, ◌+◌, ◌-◌, ◌*◌, ◌<◌, ◌≤◌, IfOk, IfErr, IsOk, length};
+ghost use Rattle.std.specs.Prelude.{◌≡◌, ℕ, List, ◌+◌, ◌-◌, ◌*◌, ◌<◌, ◌≤◌, IfOk, IfErr, length};
 ghost use Rattle.js_header.specs.declared.form.Form.TheVariants.{Cons};
 ghost use Rattle.heap_rule.specs.Loads.{added_loads};
 ghost use Rattle.heap_rule.specs.Maps.{Has, HasKey};
@@ -9,7 +9,7 @@ ghost use Rattle.heap_read.specs.Readers.{MovesView, view_in};
 ghost use Rattle.heap_read.specs.Reads.{Continues, OnlyLoads};
 ghost use Rattle.heap_read.specs.Sides.{LoadsForms};
 ghost use Rattle.heap_text.specs.Texts.{KeepsOwn};
-ghost use Rattle.heap_text.specs.Settling.{HasSides, IsBitOf, IsFlattened, IsNoRoom, IsSeenLater, IsSettling};
+ghost use Rattle.heap_text.specs.Settling.{HasSides, IsFlattened, IsNoRoom, LoadsFewFor, Settles};
 ghost use Rattle.heap_text.specs.Keeping.{KeepsText};
 
 use crate::faults::TextFull;
@@ -33,22 +33,8 @@ impl<H: HeapRef> Text<H> {
         requires known { HasKey (view_of self.old.reader.agent).units s.id }
         ensures kept { KeepsText self.old self.new }
         ensures continues { Continues (view_of self.old.reader.agent) (view_of self.new.reader.agent) }
-        ensures own { KeepsOwn (view_of self.old.reader.agent) (view_of self.new.reader.agent) }
-        ensures settled { IfOk result (λ u. IsSeenSettled (view_of self.new.reader.agent) s.id) }
-        ensures used { IfOk result
-            (λ u. (us : List ℕ) → Has (view_of self.old.reader.agent).units s.id us
-            → IsSettling (view_of self.old.reader.agent) (view_of self.new.reader.agent) s.id us) }
-        ensures refused { IfErr result
-            (λ f. (us : List ℕ) → Has (view_of self.old.reader.agent).units s.id us
-            → (wide : Bool) × IsBitOf (view_of self.old.reader.agent) s.id wide
-            × IsNoRoom (view_of self.old.reader.agent) (view_of self.new.reader.agent)
-            (size_of (H.reached self.old.reader.heap)) us f wide) }
-        ensures rope { IfErr result (λ f. (us : List ℕ) → Has (view_of self.old.reader.agent).units s.id us
-            → HasSides (view_of self.new.reader.agent) s.id us) }
-        ensures again { IsSeenSettled (view_of self.old.reader.agent) s.id
-            → IsOk result × OnlyLoads (view_of self.old.reader.agent) (view_of self.new.reader.agent) }
-        ensures later { IsSeenSettled (view_of self.old.reader.agent) s.id
-            → IsSeenLater (view_of self.old.reader.agent) (view_of self.new.reader.agent) s.id }
+        ensures settles { Settles (view_of self.old.reader.agent) (view_of self.new.reader.agent)
+            (size_of (H.reached self.old.reader.heap)) s.id result }
         ensures loads { (view_of self.new.reader.agent).form_loads
             ≡ added_loads (view_of self.old.reader.agent).form_loads (steps.new - steps.old) }
         ensures more { steps.old ≤ steps.new }
@@ -78,25 +64,9 @@ impl<H: HeapRef> Text<H> {
         requires known { HasKey (view_of self.old.reader.agent).units s.id }
         ensures kept { KeepsText self.old self.new }
         ensures continues { Continues (view_of self.old.reader.agent) (view_of self.new.reader.agent) }
-        ensures own { KeepsOwn (view_of self.old.reader.agent) (view_of self.new.reader.agent) }
-        ensures settled { IfOk result (λ u. IsSeenSettled (view_of self.new.reader.agent) s.id) }
-        ensures used { IfOk result
-            (λ u. (us : List ℕ) → Has (view_of self.old.reader.agent).units s.id us
-            → IsSettling (view_of self.old.reader.agent) (view_of self.new.reader.agent) s.id us) }
-        ensures refused { IfErr result
-            (λ f. (us : List ℕ) → Has (view_of self.old.reader.agent).units s.id us
-            → (wide : Bool) × IsBitOf (view_of self.old.reader.agent) s.id wide
-            × IsNoRoom (view_of self.old.reader.agent) (view_of self.new.reader.agent)
-            (size_of (H.reached self.old.reader.heap)) us f wide) }
-        ensures rope { IfErr result (λ f. (us : List ℕ) → Has (view_of self.old.reader.agent).units s.id us
-            → HasSides (view_of self.new.reader.agent) s.id us) }
-        ensures again { IsSeenSettled (view_of self.old.reader.agent) s.id
-            → IsOk result × OnlyLoads (view_of self.old.reader.agent) (view_of self.new.reader.agent) }
-        ensures later { IsSeenSettled (view_of self.old.reader.agent) s.id
-            → IsSeenLater (view_of self.old.reader.agent) (view_of self.new.reader.agent) s.id }
-        ensures loads { (us : List ℕ) → Has (view_of self.old.reader.agent).units s.id us → 0 < length us
-            → (view_of self.new.reader.agent).form_loads
-            ≤ (view_of self.old.reader.agent).form_loads + 8 * length us }
+        ensures settles { Settles (view_of self.old.reader.agent) (view_of self.new.reader.agent)
+            (size_of (H.reached self.old.reader.heap)) s.id result }
+        ensures loads { LoadsFewFor (view_of self.old.reader.agent) (view_of self.new.reader.agent) s.id }
     {
         let mut steps = Steps::<L>::start(blank);
         self.settle_counted(s, &mut steps)
@@ -107,25 +77,9 @@ impl<H: HeapRef> Text<H> {
         requires known { HasKey (view_of self.old.reader.agent).units s.id }
         ensures kept { KeepsText self.old self.new }
         ensures continues { Continues (view_of self.old.reader.agent) (view_of self.new.reader.agent) }
-        ensures own { KeepsOwn (view_of self.old.reader.agent) (view_of self.new.reader.agent) }
-        ensures settled { IfOk result (λ u. IsSeenSettled (view_of self.new.reader.agent) s.id) }
-        ensures used { IfOk result
-            (λ u. (us : List ℕ) → Has (view_of self.old.reader.agent).units s.id us
-            → IsSettling (view_of self.old.reader.agent) (view_of self.new.reader.agent) s.id us) }
-        ensures refused { IfErr result
-            (λ f. (us : List ℕ) → Has (view_of self.old.reader.agent).units s.id us
-            → (wide : Bool) × IsBitOf (view_of self.old.reader.agent) s.id wide
-            × IsNoRoom (view_of self.old.reader.agent) (view_of self.new.reader.agent)
-            (size_of (H.reached self.old.reader.heap)) us f wide) }
-        ensures rope { IfErr result (λ f. (us : List ℕ) → Has (view_of self.old.reader.agent).units s.id us
-            → HasSides (view_of self.new.reader.agent) s.id us) }
-        ensures again { IsSeenSettled (view_of self.old.reader.agent) s.id
-            → IsOk result × OnlyLoads (view_of self.old.reader.agent) (view_of self.new.reader.agent) }
-        ensures later { IsSeenSettled (view_of self.old.reader.agent) s.id
-            → IsSeenLater (view_of self.old.reader.agent) (view_of self.new.reader.agent) s.id }
-        ensures loads { (us : List ℕ) → Has (view_of self.old.reader.agent).units s.id us → 0 < length us
-            → (view_of self.new.reader.agent).form_loads
-            ≤ (view_of self.old.reader.agent).form_loads + 8 * length us }
+        ensures settles { Settles (view_of self.old.reader.agent) (view_of self.new.reader.agent)
+            (size_of (H.reached self.old.reader.heap)) s.id result }
+        ensures loads { LoadsFewFor (view_of self.old.reader.agent) (view_of self.new.reader.agent) s.id }
     {
         self.settle_by::<Brand>(s, Blank::new(1))
     }

@@ -5,7 +5,7 @@ ghost use Rattle.heap_rule.specs.Maps.{Has, HasKey};
 ghost use Rattle.heap_rule.specs.Views.{IsSeenSettled};
 ghost use Rattle.heap_agents.specs.Ready.{IsReady, handle_view, HandleKnows};
 ghost use Rattle.c_handles.specs.Handles.{IsHandle};
-ghost use Rattle.c_steps.specs.Checked.{IsSameOrMeasured, ReachesLength, RefusesSettling, SettlesString, SettlesFirst};
+ghost use Rattle.c_steps.specs.Checked.{IsSameOrMeasured, ReachesLength, SettlesFirst, SettlesKnown};
 ghost use Rattle.c_steps.specs.Reports as reports;
 ghost use Rattle.jsstr_c.specs.Made.{CutsString, JoinsStrings, CutsSettled};
 
@@ -70,11 +70,7 @@ pub extern "C" fn jsstr_settle_unchecked(alloc: Global, agent: &mut JsAgent, s: 
     requires ready { IsReady agent.old.at.value }
     requires known { HasKey (handle_view agent.old.at.value).units s }
     ensures handle { IsHandle agent.new }
-    ensures told { result.status ≢ reports.BAD_ARGUMENT }
-    ensures settled { result.status ≡ reports.DONE
-        → (result ≡ reports.done s) × SettlesString agent.old.at.value agent.new.at.value s }
-    ensures refused { result.status ≢ reports.DONE
-        → RefusesSettling agent.old.at.value agent.new.at.value s result }
+    ensures settles { SettlesKnown agent.old.at.value agent.new.at.value s result }
 {
     settle(alloc, agent, s)
 }

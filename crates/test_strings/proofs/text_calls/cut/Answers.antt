@@ -10,7 +10,7 @@ pub len-n-requires : goal.len-n-requires
 len-n-requires c = record { known = key_kept c.args.text.now.reader.agent.seat.me.0 c.settle.new.self.reader.agent.seat.me.0 c.args.s.id c.settle.ensures.continues.known c.requires.known }
 
 pub slice-requires-clause-settled : goal.slice-requires-clause-settled
-slice-requires-clause-settled c = c.len-n.ensures.reads.known.settled c.args.s.id c.in-Ok.ensures.settled
+slice-requires-clause-settled c = c.len-n.ensures.reads.known.settled c.args.s.id c.in-Ok.ensures.settles.settled
 
 pub slice-requires-clause-within : goal.slice-requires-clause-within
 slice-requires-clause-within c = let v : View = c.args.text.now.reader.agent.seat.me.0 in

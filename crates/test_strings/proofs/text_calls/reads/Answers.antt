@@ -15,7 +15,7 @@ loop-i-init c = let v : View = c.args.text.now.reader.agent.seat.me.0 in let w1 
     let n = c.len.ensures.length p.0 (s.known.units c.args.s.id p.0 p.1) in let m = (c.window-window.ensures.shows p.0 (k2.units c.args.s.id p.0 p.1)).1 in let test = c.if-len-want.false in record {
       heap = c.window-window.ensures.kept.heap ∙ (c.len.ensures.kept.heap ∙ c.settle.ensures.kept.heap);
       continues = continues_trans v w1 w3 s (continues_reads w1 w3 r);
-      settled = r.known.settled c.args.s.id c.in-Ok.ensures.settled;
+      settled = r.known.settled c.args.s.id c.in-Ok.ensures.settles.settled;
       shows = λ us h. (c.window-window.ensures.shows us (k2.units c.args.s.id us h)).0;
       count = omega arith;
     }
