@@ -33,9 +33,15 @@ pub record IsOpening (v : View) (us : List ℕ) (o : Opening) : Type 0 where
 
 -- the string that was found, if any
 abbrev pub found_key : KeySearch → Option ℕ
-found_key (Found i) = Some i
+found_key (Found s) = Some s.id
 found_key (Open o) = None
 found_key (Shut n) = None
+
+-- the same with its slot
+abbrev pub seat_found : KeySearch → Option Seat
+seat_found (Found s) = Some s
+seat_found (Open o) = None
+seat_found (Shut n) = None
 
 -- up to the opening each slot was loaded at most once, and none behind it
 pub record LoadsUpTo (v w : View) (us : List ℕ) (o : Opening) : Type 0 where
@@ -48,7 +54,7 @@ pub record LoadsFrom (v w : View) (us : List ℕ) (o : Opening) : Type 0 where
   pub most : (k : ℕ) → loads_at w k ≤ loads_at v k + 2
 
 abbrev pub EndsSearch : View → View → List ℕ → KeySearch → Type 0
-EndsSearch v w us (Found i) = Unit {0}
+EndsSearch v w us (Found s) = Unit {0}
 EndsSearch v w us (Open o) = IsOpening w us o × LoadsUpTo v w us o
 EndsSearch v w us (Shut n) = (n ≡ w.sizes.slots) × IsTrue (shut w us w.sizes.slots)
 
@@ -75,7 +81,7 @@ opening_plan o us = header_plan o.sought us
 
 -- the same search, of the units of the string
 abbrev pub key_search : StringSearch → KeySearch
-key_search (found.Found s) = Found s.id
+key_search (found.Found s) = Found s
 key_search (found.Open o) = Open o.opening
 key_search (found.Shut n) = Shut n
 

@@ -8,5 +8,4 @@ pub mod Lately
 pub mod OneUnit
 pub mod MadeLately
 pub mod Whole
-pub mod KeptKeys
 pub mod NotesKept

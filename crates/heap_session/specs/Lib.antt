@@ -3,6 +3,7 @@ pub mod Sessions
 pub mod Owning
 pub mod Faults
 pub mod Counted
+pub mod Interning
 pub mod Shares
 pub mod Whole
 pub mod Ranges
@@ -10,5 +11,4 @@ pub mod Sound
 pub mod Lately
 pub mod Singles
 pub mod Recent
-pub mod KeptKeys
 pub mod Noted

@@ -1,14 +1,13 @@
 // Interning units that are in no string, and looking for them.
-ghost use Rattle.std.specs.Prelude.{◌≡◌, ℕ, [], ◌∷◌, ◌++◌, ◌+◌, ◌≤◌, Some, None, length, IfOk, IfSome, OnErr};
-ghost use Rattle.js_store.specs.Faults.{SlotsShut, StoreStep, fault_of};
-ghost use Rattle.js_store.specs.Rows.{flat_words};
+ghost use Rattle.std.specs.Prelude.{◌≡◌, ℕ, [], ◌∷◌, ◌++◌, ◌+◌, ◌≤◌, Some, None, length, IfSome};
+ghost use Rattle.js_store.specs.Faults.{StoreStep};
 ghost use Rattle.js_store.specs.State.{NamesUnits, IsSettled};
 ghost use Rattle.heap_text.specs.Texts.{KeepsOwn};
-ghost use Rattle.heap_intern.specs.Answers.{FindsString, IsFoundAgain, StandsInSlot, copy_plan};
+ghost use Rattle.heap_intern.specs.Answers.{FindsString, StandsInSlot};
 ghost use Rattle.heap_intern.specs.Hashes.{NotesHash};
 ghost use Rattle.heap_intern.specs.SlotLoads.{loads_at};
-ghost use Rattle.heap_session.specs.Counted.{LeavesBy, string_id};
-ghost use Rattle.heap_session.specs.Noted.{PassesNoted};
+ghost use Rattle.heap_session.specs.Counted.{string_id};
+ghost use Rattle.heap_session.specs.Interning.{InternsList};
 ghost use Rattle.heap_session.specs.Sessions.{noted_in, session_view, state_in};
 
 use crate::faults::table_fault;
@@ -21,21 +20,7 @@ impl<H: HeapRef> Session<H> {
     // The interned string of these units, with no string made of them first.
     pub(crate) fn intern_list(&mut self, units: &[u16]) -> Result<JsStr, StoreFault>
         requires { length units.now ≤ (state_in self.old).limit }
-        ensures ok { IfOk result
-            (λ r. NamesUnits (state_in self.new) r.id units.now × IsSettled (state_in self.new) r.id) }
-        ensures step { StoreStep (state_in self.old) (state_in self.new) (fault_of result)
-            1 (flat_words units.now) }
-        ensures grown { IfOk result
-            (λ r. (state_in self.new).history ≡ (state_in self.old).history ++ (units.now, r.id) ∷ []) }
-        ensures kept { OnErr result ((state_in self.new).history ≡ (state_in self.old).history) }
-        ensures own { KeepsOwn (session_view self.old) (session_view self.new) }
-        ensures shut { SlotsShut (state_in self.new) (fault_of result) units.now }
-        ensures again { IsFoundAgain (session_view self.old) (session_view self.new) units.now result }
-        ensures plan { LeavesBy (session_view self.old) (session_view self.new) units.now
-            (copy_plan units.now) result }
-        ensures few { (k : ℕ) → loads_at (session_view self.new) k ≤ loads_at (session_view self.old) k + 2 }
-        ensures passes { PassesNoted (noted_in self.old) (session_view self.old) (session_view self.new)
-            units.now }
+        ensures interns { InternsList self.old self.new units.now result }
     {
         let text = &mut self.text;
         match self.keys.intern(&mut text.reader, &mut self.noted, units) {

@@ -9,7 +9,6 @@
 mod counted;
 mod cutting;
 mod faults;
-mod keeping;
 mod kept;
 mod kept_keys;
 mod keys;

@@ -1,15 +1,14 @@
 // What a session notes of the slots of the string table, and interning and looking for units by that.
-ghost use Rattle.std.specs.Prelude.{◌≡◌, ◌+◌, ◌*◌, ◌≤◌, ℕ, [], List, IfOk, length};
+ghost use Rattle.std.specs.Prelude.{◌≡◌, ◌≤◌, ℕ, [], List, IfOk, length};
 ghost use Rattle.heap_rule.specs.Layout.{MAX};
 ghost use Rattle.heap_rule.specs.Maps.{Has, HasKey};
 ghost use Rattle.heap_rule.specs.Views.{IsSeenSettled};
-ghost use Rattle.heap_table.specs.Agents.{size_of};
 ghost use Rattle.heap_read.specs.Readers.{view_in};
-ghost use Rattle.heap_intern.specs.Answers.{HeaderPlan, IsForwarded, IsFoundAgain, IsInternAnswer, IsPlan};
 ghost use Rattle.heap_intern.specs.Given.{FindsGiven, InternsGiven};
 ghost use Rattle.heap_intern.specs.Hashes.{AreHashes, NotesHash};
+ghost use Rattle.heap_intern.specs.Interning.{CountsSlots, InternsSettled};
 ghost use Rattle.heap_intern.specs.Seats.{IsSeatOf, id_in};
-ghost use Rattle.heap_intern.specs.SlotLoads.{LoadsSlots, answered};
+ghost use Rattle.heap_intern.specs.SlotLoads.{answered};
 ghost use Rattle.heap_session.specs.Noted.{hashes_in};
 
 use heap_intern::{Key, Seat, TableFull, intern_counted, intern_units, search_key};
@@ -77,15 +76,9 @@ impl Noted {
         requires settled { IsSeenSettled (view_in reader.old) id }
         requires hashed { AreHashes (view_in reader.old) (hashes_in self.old) }
         ensures heap { reader.new.heap ≡ reader.old.heap }
-        ensures interns { (us : List ℕ) → Has (view_in reader.old).units id us
-            → (plan : HeaderPlan) × IsPlan (view_in reader.old) (view_in reader.new) id us plan
-            × IsInternAnswer (view_in reader.old) (view_in reader.new) us plan result }
-        ensures again { (us : List ℕ) → Has (view_in reader.old).units id us
-            → IsFoundAgain (view_in reader.old) (view_in reader.new) us result }
-        ensures forwards { IfOk result (λ i. IsForwarded (view_in reader.new) id i) }
-        ensures loads { LoadsSlots (view_in reader.old) (view_in reader.new)
-            (answered result) steps.old steps.new }
-        ensures most { steps.new ≤ steps.old + 2 * (size_of (H.reached reader.old.heap)).slots }
+        ensures interns { InternsSettled (view_in reader.old) (view_in reader.new) id result }
+        ensures counts { CountsSlots (view_in reader.old) (view_in reader.new) id result
+            steps.old steps.new }
         ensures notes { (us : List ℕ) → Has (view_in reader.old).units id us
             → NotesHash (view_in reader.old) (view_in reader.new) us (answered result)
             (hashes_in self.old) (hashes_in self.new) }

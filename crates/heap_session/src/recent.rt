@@ -1,13 +1,10 @@
 // The short strings that a session made lately, so that a key which is read again needs no new one.
-ghost use Rattle.std.specs.Prelude.{◌≡◌, ◌+◌, ◌<◌, ◌≤◌, length, IfSome};
+ghost use Rattle.std.specs.Prelude.{◌≡◌, ◌<◌, length, IfSome};
 ghost use Rattle.heap_rule.specs.declared.view.View.{View};
 ghost use Rattle.heap_session.specs.Recent.{AreRecent, IsRecent};
 
+use heap_intern::mix_units;
 use heap_read::JsStr;
-use js_units::hash_units;
-
-// An odd number whose product with another depends on all its bits in the upper ones.
-const MIX: u64 = 11400714819323198485;
 
 // Which of the places a list of units has, and what distinguishes it from most other lists there.
 #[derive(Clone, Copy)]
@@ -26,28 +23,10 @@ pub(crate) struct Recent {
 }
 
 impl Mark {
-    // It goes by all the units, four at a time.
-    pub(crate) fn new(units: &[u16]) -> Mark
-        requires { length units.now ≤ 32 }
-    {
-        let count = units.len();
-        if count < 4 {
-            return Mark::mixed(u64::from(hash_units(0, units)));
-        }
-        let last = count - 4;
-        let mut all = four_from(units, last);
-        let mut i = 0;
-        while i < last {
-            all = all.wrapping_mul(MIX).wrapping_add(four_from(units, i));
-            i += 4;
-        }
-        Mark::mixed(all)
-    }
-
-    // The upper bits of a product, on which all bits of the number have a part.
-    fn mixed(all: u64) -> Mark {
+    // It goes by all the units.
+    pub(crate) fn new(units: &[u16]) -> Mark {
         Mark {
-            hash: (all.wrapping_mul(MIX) >> 32) as u32,
+            hash: mix_units(units),
         }
     }
 
@@ -57,15 +36,6 @@ impl Mark {
     {
         (self.hash >> 26) as usize
     }
-}
-
-// Four units as one number.
-fn four_from(units: &[u16], i: usize) -> u64
-    requires { i + 4 ≤ length units.now }
-{
-    let upper = u64::from(units[i + 3]) * 65536 + u64::from(units[i + 2]);
-    let lower = u64::from(units[i + 1]) * 65536 + u64::from(units[i]);
-    upper.wrapping_mul(4294967296).wrapping_add(lower)
 }
 
 impl Recent {

@@ -3,7 +3,7 @@ ghost use Rattle.std.specs.Prelude.{◌≡◌};
 ghost use Rattle.js_store.specs.Limits.{limit_units};
 ghost use Rattle.heap_table.specs.Agents.{view_of};
 ghost use Rattle.heap_intern.specs.Hashes.{AreHashes};
-ghost use Rattle.heap_session.specs.KeptKeys.{AreKeptKeys};
+ghost use Rattle.heap_intern.specs.KeptKeys.{AreKeptKeys};
 ghost use Rattle.heap_session.specs.Lately.{IsWordKept};
 ghost use Rattle.heap_session.specs.Noted.{hashes_in};
 ghost use Rattle.heap_session.specs.Recent.{AreRecent};

@@ -11,21 +11,17 @@ use std::sync::ledger::Blank;
 impl<H: HeapRef> Strings for Session<H> {
     type Ref = JsStr;
 
-    ghost use Rattle.std.specs.Prelude.{◌≡◌, ℕ, List, [], ◌∷◌, ◌++◌, ◌+◌, ◌≤◌, ◌<◌, ◌↔◌, None, Some, length, slice_index, slice_range, IfOk, IsTrue, OnErr, OnOk};
-    ghost use Rattle.js_store.specs.Faults.{JoinAnswer, SlotsShut, StoreStep, Uses, concat_fault_of, fault_of};
-    ghost use Rattle.js_store.specs.Rows.{cut_ids, cut_words, flat_words, intern_words, join_ids, join_words, settle_words, wide_words};
+    ghost use Rattle.std.specs.Prelude.{◌≡◌, ℕ, List, ◌++◌, ◌+◌, ◌≤◌, ◌<◌, ◌↔◌, None, Some, length, slice_index, slice_range, IfOk, IsTrue, OnErr, OnOk};
+    ghost use Rattle.js_store.specs.Faults.{JoinAnswer, Uses, concat_fault_of, fault_of};
+    ghost use Rattle.js_store.specs.Rows.{cut_ids, cut_words, flat_words, join_ids, join_words, settle_words};
     ghost use Rattle.js_store.specs.State.{NamesUnits, Interned, IsKnown, IsSettled, text};
     ghost use Rattle.js_units.specs.Units.{IsFirstUnit};
     ghost use Rattle.heap_read.specs.Reads.{OnlyLoads};
     ghost use Rattle.heap_text.specs.Settling.{IsSettling};
     ghost use Rattle.heap_text.specs.Texts.{KeepsOwn};
-    ghost use Rattle.heap_intern.specs.Answers.{IsForwarded, IsFoundAgain, copy_plan};
-    ghost use Rattle.heap_intern.specs.Hashes.{NotesHash};
-    ghost use Rattle.heap_intern.specs.SlotLoads.{loads_at};
-    ghost use Rattle.heap_session.specs.Counted.{FoundFree, GoesByPlan, LeavesBy, answered_string};
+    ghost use Rattle.heap_session.specs.Interning.{InternsList, SettlesAndInterns};
     ghost use Rattle.heap_session.specs.Owning.{ClaimsNoId};
-    ghost use Rattle.heap_session.specs.Noted.{PassesNoted};
-    ghost use Rattle.heap_session.specs.Sessions.{SessionFrame, noted_in, session_view, state_in};
+    ghost use Rattle.heap_session.specs.Sessions.{SessionFrame, session_view, state_in};
     ghost use Rattle.heap_table.specs.Agents.{view_of};
     ghost use Rattle.heap_session.specs.Sessions.{table_of};
     ghost use Rattle.heap_session.specs.Sound.{session_sound};
@@ -184,26 +180,7 @@ impl<H: HeapRef> Strings for Session<H> {
     /// hash, and the slot of the answer is noted where there is room.
     fn intern(&mut self, s: JsStr) -> Result<JsStr, StoreFault>
         requires { IsKnown (state_in self.old) s.id }
-        ensures ok { IfOk result
-            (λ r. NamesUnits (state_in self.new) r.id (text (state_in self.old) s.id)
-            × IsSettled (state_in self.new) r.id × IsSettled (state_in self.new) s.id) }
-        ensures forwards { IfOk result (λ r. IsForwarded (session_view self.new) s.id r.id) }
-        ensures step { StoreStep (state_in self.old) (state_in self.new) (fault_of result) 1
-            (intern_words ((state_in self.old).settled s.id) (length (text (state_in self.old) s.id))) }
-        ensures grown { IfOk result
-            (λ r. (state_in self.new).history
-            ≡ (state_in self.old).history ++ (text (state_in self.old) s.id, r.id) ∷ []) }
-        ensures kept { OnErr result ((state_in self.new).history ≡ (state_in self.old).history) }
-        ensures own { KeepsOwn (session_view self.old) (session_view self.new) }
-        ensures shut { SlotsShut (state_in self.new) (fault_of result) (text (state_in self.old) s.id) }
-        ensures free { FoundFree (session_view self.old) (session_view self.new)
-            (text (state_in self.old) s.id)
-            (fault_of result) }
-        ensures plan { GoesByPlan (session_view self.old) (session_view self.new) s.id
-            (text (state_in self.old) s.id) result }
-        ensures few { (k : ℕ) → loads_at (session_view self.new) k ≤ loads_at (session_view self.old) k + 2 }
-        ensures notes { NotesHash (session_view self.old) (session_view self.new)
-            (text (state_in self.old) s.id) (answered_string result) (noted_in self.old) (noted_in self.new) }
+        ensures interns { SettlesAndInterns self.old self.new s result }
     {
         self.intern_by::<Brand>(s, Blank::new(1))
     }
@@ -213,24 +190,7 @@ impl<H: HeapRef> Strings for Session<H> {
     /// hash.
     fn intern_units(&mut self, units: &[u16]) -> Result<JsStr, StoreFault>
         requires { length units.now ≤ (state_in self.old).limit }
-        ensures ok { IfOk result
-            (λ r. NamesUnits (state_in self.new) r.id units.now × IsSettled (state_in self.new) r.id) }
-        ensures step { StoreStep (state_in self.old) (state_in self.new) (fault_of result) 2
-            (flat_words units.now + wide_words (length units.now)) }
-        ensures once { StoreStep (state_in self.old) (state_in self.new) (fault_of result)
-            1 (flat_words units.now) }
-        ensures grown { IfOk result
-            (λ r. (state_in self.new).history
-            ≡ (state_in self.old).history ++ (units.now, r.id) ∷ []) }
-        ensures kept { OnErr result ((state_in self.new).history ≡ (state_in self.old).history) }
-        ensures own { KeepsOwn (session_view self.old) (session_view self.new) }
-        ensures shut { SlotsShut (state_in self.new) (fault_of result) units.now }
-        ensures again { IsFoundAgain (session_view self.old) (session_view self.new) units.now result }
-        ensures plan { LeavesBy (session_view self.old) (session_view self.new) units.now
-            (copy_plan units.now) result }
-        ensures few { (k : ℕ) → loads_at (session_view self.new) k ≤ loads_at (session_view self.old) k + 2 }
-        ensures passes { PassesNoted (noted_in self.old) (session_view self.old) (session_view self.new)
-            units.now }
+        ensures interns { InternsList self.old self.new units.now result }
     {
         self.intern_list(units)
     }

@@ -11,6 +11,8 @@ mod building;
 #[cfg(test)]
 mod counted;
 #[cfg(test)]
+mod kept;
+#[cfg(test)]
 mod machine;
 #[cfg(test)]
 mod plays;

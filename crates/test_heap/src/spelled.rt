@@ -31,7 +31,7 @@ fn intern_from(text: &mut Text<&Heap>, source: &Spelling) -> Option<u32>
 {
     let key = Key::Spelled(*source);
     match search_key(&mut text.reader, &key, &mut []) {
-        KeySearch::Found { id } => Some(id),
+        KeySearch::Found(seat) => Some(seat.id),
         KeySearch::Open(opening) => {
             intern_key_at(&mut text.reader, &key, opening, None, &mut []).ok()
         }

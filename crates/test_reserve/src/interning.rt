@@ -28,7 +28,7 @@ fn intern_one(text: &mut Text<&Heap>, reserve: &mut Reserve, key: &Key) -> Resul
     ensures { IsReserve (view_of text.new.reader.agent) reserve.new }
 {
     match search_key(&mut text.reader, key, &mut []) {
-        KeySearch::Found { id } => Ok(id),
+        KeySearch::Found(seat) => Ok(seat.id),
         KeySearch::Open(opening) => reserve.intern_at(text, key, opening, &mut []),
         KeySearch::Shut { slots } => Err(TableFull::Slots { slots }),
     }
@@ -119,7 +119,7 @@ fn intern_opened(
     let answer = reserve.intern_at(&mut text, &key, opening, &mut []);
     let left = (reserve.ids_left(), reserve.words_left());
     let found = match search_key(&mut text.reader, &key, &mut []) {
-        KeySearch::Found { id } => answer == Ok(id),
+        KeySearch::Found(seat) => answer == Ok(seat.id),
         KeySearch::Open(_) => false,
         KeySearch::Shut { .. } => false,
     };
@@ -173,7 +173,7 @@ fn intern_string(alloc: Global, from: u32, kept: (u32, u32), units: &[u16]) -> O
     let left = (reserve.ids_left(), reserve.words_left());
     let key = Key::Units(&units[from as usize..]);
     let found = match search_key(&mut text.reader, &key, &mut []) {
-        KeySearch::Found { id } => answer == Ok(id),
+        KeySearch::Found(seat) => answer == Ok(seat.id),
         KeySearch::Open(_) => false,
         KeySearch::Shut { .. } => false,
     };

@@ -11,11 +11,11 @@ ghost use Rattle.heap_intern.specs.Answers.{FindsString, IsInternAnswer, StandsI
 ghost use Rattle.heap_intern.specs.Given.{FindsGiven};
 ghost use Rattle.heap_intern.specs.Hashes.{AreHashes, IsNotedApart, NotesHash};
 ghost use Rattle.heap_intern.specs.Keys.{IsKey, units_of_key};
-ghost use Rattle.heap_intern.specs.Searching.{IsOpening, LoadsFrom, SearchesKey, found_key};
+ghost use Rattle.heap_intern.specs.Searching.{IsOpening, LoadsFrom, SearchesKey, found_key, seat_found};
 ghost use Rattle.heap_intern.specs.SlotLoads.{answered, loads_at};
 ghost use Rattle.heap_intern.specs.Taking.{AnswersAt, HasGiven};
 ghost use Rattle.heap_intern.specs.Visits.{StandsAt};
-ghost use Rattle.heap_intern.specs.Seats.{id_in};
+ghost use Rattle.heap_intern.specs.Seats.{IsSeatOf, id_in};
 ghost use Rattle.heap_intern.specs.Wanted.{IsWanted, wanted_plan};
 
 use crate::table::faults::TableFull;
@@ -39,11 +39,11 @@ pub struct Opening {
     pub(crate) hash: u32,
 }
 
-/// What looking for units ends with: the number of their string; a slot that was found free behind slots with
+/// What looking for units ends with: their string and its slot; a slot that was found free behind slots with
 /// strings that differ; or every slot has such a string, and so many slots there are.
 #[derive(Clone, Copy)]
 pub enum KeySearch {
-    Found { id: u32 },
+    Found(Seat),
     Open(Opening),
     Shut { slots: u32 },
 }
@@ -54,7 +54,7 @@ impl KeySearch {
         ensures { result ≡ found_key self }
     {
         match self {
-            KeySearch::Found { id } => Some(id),
+            KeySearch::Found(seat) => Some(seat.id),
             KeySearch::Open(_) => None,
             KeySearch::Shut { .. } => None,
         }
@@ -76,6 +76,7 @@ fn search_key_by<L: Ledger, H: HeapRef>(
     ensures heap { reader.new.heap ≡ reader.old.heap }
     ensures searches { SearchesKey (view_in reader.old) (view_in reader.new) (units_of_key key.now) result }
     ensures forms { HoldsForms (view_in reader.old) (view_in reader.new) }
+    ensures seated { IfSome (seat_found result) (IsSeatOf (view_in reader.new) (units_of_key key.now)) }
     ensures notes { NotesHash (view_in reader.old) (view_in reader.new) (units_of_key key.now)
         (found_key result) hashes.old hashes.new }
 {
@@ -84,7 +85,7 @@ fn search_key_by<L: Ledger, H: HeapRef>(
     match walk_path(reader, &key.wanted(), hash, hashes, &mut steps) {
         WalkEnd::Found(seat) => {
             note_hash(hashes, seat.slot, hash.max(1));
-            KeySearch::Found { id: seat.id }
+            KeySearch::Found(seat)
         }
         WalkEnd::Free { slot, rank } => KeySearch::Open(Opening { slot, rank, hash }),
         WalkEnd::Shut => KeySearch::Shut {
@@ -104,6 +105,7 @@ pub fn search_key<H: HeapRef>(reader: &mut Reader<H>, key: &Key, hashes: &mut [u
     ensures heap { reader.new.heap ≡ reader.old.heap }
     ensures searches { SearchesKey (view_in reader.old) (view_in reader.new) (units_of_key key.now) result }
     ensures forms { HoldsForms (view_in reader.old) (view_in reader.new) }
+    ensures seated { IfSome (seat_found result) (IsSeatOf (view_in reader.new) (units_of_key key.now)) }
     ensures notes { NotesHash (view_in reader.old) (view_in reader.new) (units_of_key key.now)
         (found_key result) hashes.old hashes.new }
 {

@@ -3,9 +3,10 @@
 ghost use Rattle.std.specs.Prelude.{◌≡◌, ◌⊎◌, ℕ, List, ◌+◌, ◌≤◌, ◌<◌, ◌^◌, IfOk, Ok, Some, None, length, slice_index};
 ghost use Rattle.heap_rule.specs.Maps.{Has};
 ghost use Rattle.heap_intern.specs.Adopted.{LoadsHere};
-ghost use Rattle.heap_intern.specs.Answers.{HeaderPlan, IsForwarded, IsInternAnswer, IsPlan, UsesNothing};
+ghost use Rattle.heap_intern.specs.Answers.{UsesNothing};
 ghost use Rattle.heap_intern.specs.Given.{InternsGiven};
 ghost use Rattle.heap_intern.specs.Hashes.{AreHashes, NotesHash};
+ghost use Rattle.heap_intern.specs.Interning.{InternsSettled};
 ghost use Rattle.heap_intern.specs.Seats.{IsSeatOf, IsSeated, id_in};
 ghost use Rattle.heap_intern.specs.SlotLoads.{answered};
 ghost use Rattle.heap_read.specs.Readers.{view_in};
@@ -120,10 +121,7 @@ pub(crate) fn load_again<H: HeapRef>(reader: &mut Reader<H>, id: u32, slot: u32)
     ensures given { (us : List ℕ) → Has (view_in reader.old).units id us
         → InternsGiven (view_in reader.old) (view_in reader.new) us (Ok result) }
     ensures there { (t : ℕ) → Has (view_in reader.old).slots slot t → result ≡ t }
-    ensures interns { (us : List ℕ) → Has (view_in reader.old).units id us
-        → (plan : HeaderPlan) × IsPlan (view_in reader.old) (view_in reader.new) id us plan
-        × IsInternAnswer (view_in reader.old) (view_in reader.new) us plan (Ok result) }
-    ensures forwards { IsForwarded (view_in reader.new) id result }
+    ensures interns { InternsSettled (view_in reader.old) (view_in reader.new) id (Ok result) }
     ensures stands { Has (view_in reader.new).slots slot result }
     ensures nothing { UsesNothing (view_in reader.old) (view_in reader.new) }
     ensures loads { LoadsHere (view_in reader.old) (view_in reader.new) slot 1 }

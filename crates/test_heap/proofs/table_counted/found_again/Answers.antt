@@ -15,9 +15,9 @@ intern_counted-requires-clause-settled g c = let f = c.in-Ok-make_flat.ensures.f
 
 pub returns : goal.returns
 returns g c = let x : View = c.make_flat-2.new.self.reader.agent.seat.me.0 in let us : List ℕ = c.args.units.now in
-    let cont = c.make_flat-2.ensures.continues in let i = (c.in-Ok-intern.ensures.interns us c.in-Ok.ensures.units).2 in
+    let cont = c.make_flat-2.ensures.continues in let i = (c.in-Ok-intern.ensures.interns.answer us c.in-Ok.ensures.units).2 in
     let one : x.sizes.slots ≡ 1 = ap (λ (z : HeapSize). z.slots) (cont.sizes ∙ (i.0.sizes ∙ (c.make_flat.ensures.continues.sizes ∙ c.args.text.now.reader.belongs.1))) ∙ c.requires.one in record {
-      two = c.intern_counted.ensures.first us c.in-Ok-make_flat.ensures.units
+      two = c.intern_counted.ensures.counts.first us c.in-Ok-make_flat.ensures.units
           (first_of x c.make_flat-2.new.self.reader.belongs.5 one us i.4.0 c.in-Ok-intern.a (cont.known.slots i.4.0 c.in-Ok-intern.a i.4.1)
           (cont.known.units c.in-Ok-intern.a us i.3.1));
     }

@@ -10,6 +10,7 @@ use Rattle.heap_intern.proofs.Again.{find_again}
 use Rattle.heap_intern.proofs.Hashes.{notes_answer, notes_none}
 use Rattle.heap_intern.proofs.Loading.{slots_few}
 use Rattle.heap_intern.proofs.Opened.{opening_of}
+use Rattle.heap_intern.proofs.Seats.{seat_itself}
 use Rattle.heap_intern.proofs.Wanting.{one_wanted}
 use Rattle.heap_intern.proofs.table.searching.search_key_by.Goals as goal
 
@@ -30,6 +31,11 @@ returns-in-Found-clause-searches g c = let v : View = c.args.reader.now.agent.se
       };
       ends = tt;
     }
+
+pub returns-in-Found-clause-seated : goal.returns-in-Found-clause-seated
+returns-in-Found-clause-seated g c = let v : View = c.args.reader.now.agent.seat.me.0 in let u : View = c.walk_path.new.reader.agent.seat.me.0 in let ks : List ℕ = units_of_key c.args.key.now in
+    let f : FindsString v u ks (Some c.in-Found.seat.id) = c.in-Found.ensures.finds ks (c.wanted.ensures.wanted v) in
+    seat_itself u ks c.in-Found.seat f.2 (c.in-Found.ensures.ends ks (c.wanted.ensures.wanted v))
 
 pub returns-in-Found-clause-notes : goal.returns-in-Found-clause-notes
 returns-in-Found-clause-notes g c = let v : View = c.args.reader.now.agent.seat.me.0 in let u : View = c.walk_path.new.reader.agent.seat.me.0 in let ks : List ℕ = units_of_key c.args.key.now in

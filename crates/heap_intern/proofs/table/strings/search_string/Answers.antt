@@ -19,7 +19,7 @@ load_again-found-requires g c = let v : View = c.args.reader.now.agent.seat.me.0
 
 pub returns-in-Some-clause-searches : goal.returns-in-Some-clause-searches
 returns-in-Some-clause-searches g c us h = let v : View = c.args.reader.now.agent.seat.me.0 in let w : View = c.load_again-found.new.reader.agent.seat.me.0 in let e = c.load_again-found.ensures in
-    let t = e.interns us h in let i : ℕ = c.load_again-found.result in let f = finds_ready v w us t.0 i e.nothing t.2 in record {
+    let t = e.interns.answer us h in let i : ℕ = c.load_again-found.result in let f = finds_ready v w us t.0 i e.nothing t.2 in record {
       searched = record {
         finds = record {
           answer = f;
@@ -29,7 +29,7 @@ returns-in-Some-clause-searches g c us h = let v : View = c.args.reader.now.agen
         ends = tt;
       };
       plan = t.0;
-      planned = (t.1, e.forwards);
+      planned = (t.1, e.interns.forwards);
     }
 
 pub returns-in-Some-clause-once : goal.returns-in-Some-clause-once
@@ -39,12 +39,12 @@ returns-in-Some-clause-once g c some = let v : View = c.args.reader.now.agent.se
 
 pub returns-in-Some-clause-seated : goal.returns-in-Some-clause-seated
 returns-in-Some-clause-seated g c = let v : View = c.args.reader.now.agent.seat.me.0 in let w : View = c.load_again-found.new.reader.agent.seat.me.0 in
-    let u = has_key v.units c.args.id c.requires.known in let goes = (c.load_again-found.ensures.interns u.0 u.1).2.0 in
+    let u = has_key v.units c.args.id c.requires.known in let goes = (c.load_again-found.ensures.interns.answer u.0 u.1).2.0 in
     seats_kept v w c.args.reader.now.belongs.5 goes.known goes.sizes c.args.seats.now c.requires.seated
 
 pub returns-in-Some-clause-hashed : goal.returns-in-Some-clause-hashed
 returns-in-Some-clause-hashed g c = let v : View = c.args.reader.now.agent.seat.me.0 in let w : View = c.load_again-found.new.reader.agent.seat.me.0 in
-    let u = has_key v.units c.args.id c.requires.known in hashes_kept v w (c.load_again-found.ensures.interns u.0 u.1).2.0.known c.args.hashes.now c.requires.hashed
+    let u = has_key v.units c.args.id c.requires.known in hashes_kept v w (c.load_again-found.ensures.interns.answer u.0 u.1).2.0.known c.args.hashes.now c.requires.hashed
 
 pub note_seat-requires : goal.note_seat-requires
 note_seat-requires g c = let v : View = c.args.reader.now.agent.seat.me.0 in let w : View = c.search_seat_by.new.reader.agent.seat.me.0 in

@@ -4,7 +4,7 @@ use Rattle.js_store.specs.Limits.{limit_units}
 use Rattle.heap_rule.specs.declared.size.HeapSize.{HeapSize}
 use Rattle.heap_intern.specs.Counting.{count_below}
 use Rattle.heap_session.specs.Sessions.{table_of}
-use Rattle.heap_session.proofs.KeptKeys.{keys_by}
+use Rattle.heap_intern.proofs.KeptKeys.{keys_by}
 use Rattle.heap_session.proofs.States.{history_looks, step_looks, uses_at}
 use Rattle.heap_rule.specs.declared.view.View.{View}
 use Rattle.heap_session.proofs.Lately.{kept_by}

@@ -3,7 +3,7 @@ use Rattle.js_header.specs.declared.form.Form.TheVariants.{Flat}
 use Rattle.js_store.specs.Limits.{limit_units}
 use Rattle.heap_rule.specs.declared.view.View.{View}
 use Rattle.heap_session.specs.Sessions.{table_of}
-use Rattle.heap_session.proofs.KeptKeys.{keys_by}
+use Rattle.heap_intern.proofs.KeptKeys.{keys_by}
 use Rattle.heap_session.proofs.Lately.{finds_sizes, kept_by}
 use Rattle.heap_session.proofs.MadeLately.{recent_by}
 use Rattle.heap_session.proofs.OneUnit.{singles_by}

@@ -9,7 +9,7 @@ use Rattle.heap_table.specs.Agents.{size_of}
 use Rattle.js_units.specs.Lanes as texts
 use Rattle.heap_session.specs.Faults.{fault_in_text}
 use Rattle.heap_session.specs.Sound.{limit_high}
-use Rattle.heap_session.proofs.KeptKeys.{keys_by}
+use Rattle.heap_intern.proofs.KeptKeys.{keys_by}
 use Rattle.heap_session.proofs.Calls.{flat_is, never_slots, step_refused, step_used, told_here}
 use Rattle.heap_session.proofs.States.{history_continues, settled_test, uses_at}
 use Rattle.heap_session.proofs.Lately.{kept_by}

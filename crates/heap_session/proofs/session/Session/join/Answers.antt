@@ -5,7 +5,7 @@ use Rattle.heap_rule.specs.declared.view.View.{View}
 use Rattle.heap_table.specs.Known.{KeepsKnown}
 use Rattle.heap_session.specs.Sessions.{state_by, table_of}
 use Rattle.heap_session.specs.Shares.{IsSessionJoined}
-use Rattle.heap_session.proofs.KeptKeys.{keys_by}
+use Rattle.heap_intern.proofs.KeptKeys.{keys_by}
 use Rattle.heap_session.proofs.Shares.{belongs_here, sizes_are, state_joined}
 use Rattle.heap_session.proofs.Lately.{kept_by}
 use Rattle.heap_session.proofs.OneUnit.{singles_by}

@@ -11,7 +11,7 @@ use Rattle.heap_table.specs.Agents.{size_of}
 use Rattle.heap_text.specs.Joins.{IsCut}
 use Rattle.heap_session.specs.Faults.{fault_in_text}
 use Rattle.heap_session.specs.Sessions.{state_by}
-use Rattle.heap_session.proofs.KeptKeys.{keys_by}
+use Rattle.heap_intern.proofs.KeptKeys.{keys_by}
 use Rattle.heap_session.proofs.Calls.{cut_err, cut_ok, never_slots}
 use Rattle.heap_session.proofs.States.{history_continues, settled_test, test_settled, text_is, uses_at}
 use Rattle.heap_session.proofs.Lately.{kept_by}

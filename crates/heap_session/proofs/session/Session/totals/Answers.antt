@@ -8,7 +8,7 @@ use Rattle.heap_session.specs.Singles.{AreSingles}
 use Rattle.heap_session.specs.Recent.{AreRecent}
 use Rattle.std.proofs.Common.{ap, subst, sym}
 use Rattle.heap_table.specs.Known.{KeepsKnown}
-use Rattle.heap_session.proofs.KeptKeys.{keys_by}
+use Rattle.heap_intern.proofs.KeptKeys.{keys_by}
 use Rattle.heap_intern.proofs.Going.{counted_known}
 use Rattle.heap_text.specs.Texts.{KeepsOwn}
 use Rattle.heap_intern.proofs.Hashes.{hashes_kept}

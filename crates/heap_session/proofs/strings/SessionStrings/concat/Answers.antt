@@ -8,7 +8,7 @@ use Rattle.heap_rule.specs.declared.view.View.{View}
 use Rattle.heap_table.specs.Agents.{size_of}
 use Rattle.heap_session.specs.Faults.{fault_in_join}
 use Rattle.heap_session.specs.Sessions.{table_of}
-use Rattle.heap_session.proofs.KeptKeys.{keys_by}
+use Rattle.heap_intern.proofs.KeptKeys.{keys_by}
 use Rattle.heap_session.proofs.Calls.{joined_fits, joined_in, joined_ok, joined_step, joined_told, never_join}
 use Rattle.heap_session.proofs.States.{has_text, history_continues, uses_at}
 use Rattle.heap_session.proofs.Lately.{kept_by}

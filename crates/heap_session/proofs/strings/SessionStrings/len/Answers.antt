@@ -4,7 +4,7 @@ use Rattle.js_store.specs.Limits.{limit_units}
 use Rattle.heap_rule.proofs.MapLemmas.{has_key}
 use Rattle.heap_rule.proofs.Possible.{possible_short}
 use Rattle.heap_session.specs.Sessions.{table_of}
-use Rattle.heap_session.proofs.KeptKeys.{keys_by}
+use Rattle.heap_intern.proofs.KeptKeys.{keys_by}
 use Rattle.heap_session.proofs.States.{history_reads, step_reads, text_is, uses_at}
 use Rattle.heap_session.proofs.Lately.{kept_by}
 use Rattle.heap_session.proofs.OneUnit.{singles_by}

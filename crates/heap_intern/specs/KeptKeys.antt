@@ -1,10 +1,10 @@
--- The short lists of units that a session interned last. No public contract cites these.
+-- The short lists of units that were interned or found last, each with its interned string and its slot.
 use Rattle.std.specs.Prelude.{◌≡◌, ℕ, ◌≤◌, List, take, Some}
 use Rattle.std.specs.List.{slice_get}
 use Rattle.heap_rule.specs.declared.view.View.{View}
+use Rattle.heap_intern.specs.declared.table.kept.KeptKey.{KeptKey}
 use Rattle.heap_intern.specs.declared.table.probing.Seat.{Seat}
 use Rattle.heap_intern.specs.Seats.{IsSeatOf}
-use Rattle.heap_session.specs.declared.kept_keys.KeptKey.{KeptKey}
 
 -- the entry has the units us, with this string
 abbrev pub HasKept : KeptKey → List ℕ → Seat → Type 0
