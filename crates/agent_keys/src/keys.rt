@@ -44,9 +44,9 @@ pub fn intern_key(agent: &mut Held, key: &Key) -> Result<u32, TableFull>
     ensures { InternedUnits agent.old agent.new (units_of_key key.now) result }
 {
     match search_key(&mut agent.text, &mut agent.seats, key) {
-        KeySearch::Found { id } => {
-            agent.mark_interned(id);
-            Ok(id)
+        KeySearch::Found(seat) => {
+            agent.mark_interned(seat.id);
+            Ok(seat.id)
         }
         KeySearch::Open(opening) => {
             renew_for_key(agent, key);
@@ -84,9 +84,9 @@ pub fn find_key(agent: &mut Held, key: &Key) -> Option<u32>
     ensures { FoundUnits agent.old agent.new (units_of_key key.now) result }
 {
     match search_key(&mut agent.text, &mut agent.seats, key) {
-        KeySearch::Found { id } => {
-            agent.mark_interned(id);
-            Some(id)
+        KeySearch::Found(seat) => {
+            agent.mark_interned(seat.id);
+            Some(seat.id)
         }
         KeySearch::Open(_) => None,
         KeySearch::Shut { .. } => None,

@@ -28,6 +28,7 @@ use Rattle.heap_reserve.specs.declared.reserve.Reserve.{Reserve}
 use Rattle.heap_reserve.specs.Reserves.{IsReserve, kept_ids}
 use Rattle.heap_reserve.proofs.Kept.{ids_few, reserve_kept}
 use Rattle.heap_intern.proofs.Going.{left_known}
+use Rattle.heap_intern.specs.KeptKeys.{AreKeptKeys}
 use Rattle.heap_intern.specs.Seats.{AreSeats, IsSeated}
 use Rattle.heap_ids.specs.declared.ids.IdSet.{IdSet}
 use Rattle.heap_agents.specs.declared.seats.Seats.{Seats}
@@ -38,7 +39,7 @@ use Rattle.heap_agents.specs.Interned.{KeepsCalls}
 use Rattle.heap_agents.specs.Noted.{AreNoted}
 use Rattle.heap_agents.specs.Shared.{IsSameText, IsThere, SharedText, heap_of, share_if, size_if, view_if}
 use Rattle.heap_agents.proofs.Calls.{continued}
-use Rattle.heap_agents.proofs.NotesStay.{notes_kept}
+use Rattle.heap_agents.proofs.NotesStay.{keys_empty, notes_kept}
 
 -- what is known and which calls are known stay, so what was marked still may be
 marked_still : (v w : View) (known interned : IdSet) (ids : ℕ) → IsMarked v known interned ids
@@ -112,10 +113,11 @@ seats_still x y held there same known = notes_kept (view_by x) (view_if y) (poss
     (sizes_in y there ∙ (same_sizes x.text y same ∙ sym (sizes_in x.text held.there))) x.seats held.noted
 
 -- where none is noted, none is wrong
-pub none_noted : (v : View) (s : Seats) → s.slots.items ≡ [] → s.hashes.items ≡ [] → AreNoted v s
-none_noted v s e d = (
+pub none_noted : (v : View) (s : Seats) → s.slots.items ≡ [] → s.hashes.items ≡ [] → s.keys.items ≡ [] → AreNoted v s
+none_noted v s e d k = (
   λ i some. let none : slice_index s.slots.items i ≡ 0 = ap (λ (m : List ℕ). slice_index m i) e in absurd (omega arith),
   λ i some. let none : slice_index s.hashes.items i ≡ 0 = ap (λ (m : List ℕ). slice_index m i) d in absurd (omega arith),
+  subst (AreKeptKeys v) (sym k) (keys_empty v),
 )
 
 -- where each place has what it had, what is noted is as right
@@ -262,8 +264,8 @@ module _ (x : Held) (y : Option SharedText) (give : ℕ) (held : IsHeld x) (ther
   pub right_held : view_if y ≡ right_after_split (view_by x) give → (o z : Held) → ((i : ℕ) → IsIn o.known i ↔ IsIn x.known i) → ((i : ℕ) → IsIn o.interned i ↔ IsIn x.interned i)
       → ((n : ℕ) → Covers x.known n → Covers o.known n) → ((n : ℕ) → Covers x.interned n → Covers o.interned n) → z.text ≡ y → z.agents ≡
       x.agents → z.known ≡ o.known → z.interned ≡ o.interned → z.seats.slots.items ≡ []
-      → z.seats.hashes.items ≡ [] → ((v : View) → IsReserve v z.reserve) → IsHeld z × IsSame x z
-  right_held e o z known interned room calls_room member agents marks calls seats hashes reserved = (
+      → z.seats.hashes.items ≡ [] → z.seats.keys.items ≡ [] → ((v : View) → IsReserve v z.reserve) → IsHeld z × IsSame x z
+  right_held e o z known interned room calls_room member agents marks calls seats hashes keys reserved = (
     record {
       there = subst (λ (m : Option SharedText). IsThere m) (sym member) there;
       agents = agents ∙ (held.agents ∙ sym (ap (λ (m : Option SharedText). (view_if m).agents) member ∙ ap (λ (v : View). v.agents) e));
@@ -278,7 +280,7 @@ module _ (x : Held) (y : Option SharedText) (give : ℕ) (held : IsHeld x) (ther
             room = room (held_size x).ids held.marked.room;
             calls_room = calls_room (held_size x).ids held.marked.calls_room;
           }))));
-      noted = none_noted (view_by z) z.seats seats hashes;
+      noted = none_noted (view_by z) z.seats seats hashes keys;
       reserved = reserved (view_by z);
     },
     subst (λ (m : Option SharedText). IsSameText x.text m) (sym member) same,

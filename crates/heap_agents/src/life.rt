@@ -209,6 +209,7 @@ impl Held {
             (λ b. (n : ℕ) → Covers self.now.interned n → Covers b.value.interned n) }
         ensures seats { IfOk result (λ b. b.value.seats.slots.items ≡ []) }
         ensures hashes { IfOk result (λ b. b.value.seats.hashes.items ≡ []) }
+        ensures keys { IfOk result (λ b. b.value.seats.keys.items ≡ []) }
         ensures nothing { IfOk result (λ b. ReservesNothing b.value) }
         ensures reserve { IfOk result (λ b. (v : view.View) → IsReserve v b.value.reserve) }
         ensures agents { IfOk result (λ b. b.value.agents ≡ self.now.agents) }

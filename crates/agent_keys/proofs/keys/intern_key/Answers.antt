@@ -18,21 +18,21 @@ use Rattle.agent_keys.proofs.keys.intern_key.Goals as goal
 
 pub mark_interned-requires-clause-held : goal.mark_interned-requires-clause-held
 mark_interned-requires-clause-held c = let call = c.search_key in let e = call.ensures in
-    held_found c.args.agent.now call.new.text call.new.seats c.requires.held e.there e.same e.noted (units_of_key c.args.key.now) (Some c.in-Found.id) c.in-Found.ensures.searches.finds.answer
+    held_found c.args.agent.now call.new.text call.new.seats c.requires.held e.there e.same e.noted (units_of_key c.args.key.now) (Some c.in-Found.seat.id) c.in-Found.ensures.searches.finds.answer
 
 pub mark_interned-requires-clause-known : goal.mark_interned-requires-clause-known
 mark_interned-requires-clause-known c = let v : View = view_by c.args.agent.now in let w : View = view_if c.search_key.new.text in let us : List ℕ = units_of_key c.args.key.now in
-    key_of w.units c.in-Found.id us (entered_found v w us (Some c.in-Found.id) c.in-Found.ensures.searches.finds.answer).units
+    key_of w.units c.in-Found.seat.id us (entered_found v w us (Some c.in-Found.seat.id) c.in-Found.ensures.searches.finds.answer).units
 
 pub mark_interned-requires-clause-call : goal.mark_interned-requires-clause-call
 mark_interned-requires-clause-call c = let v : View = view_by c.args.agent.now in let w : View = view_if c.search_key.new.text in let us : List ℕ = units_of_key c.args.key.now in
-    (us, (entered_found v w us (Some c.in-Found.id) c.in-Found.ensures.searches.finds.answer).call)
+    (us, (entered_found v w us (Some c.in-Found.seat.id) c.in-Found.ensures.searches.finds.answer).call)
 
 pub returns-in-Found : goal.returns-in-Found
 returns-in-Found c = let x = c.args.agent.now in let call = c.search_key in let e = call.ensures in let mark = c.mark_interned in let us : List ℕ = units_of_key c.args.key.now in
     let f = c.in-Found.ensures.searches.finds in
-    units_interned x mark.new.self us (Ok c.in-Found.id) (found_by_plan x mark.new.self us (copy_plan us) c.in-Found.id
-    (found_marked x call.new.text call.new.seats c.requires.held e.there e.same e.noted us mark.new.self mark.ensures.text c.in-Found.id mark.ensures.held mark.ensures.marks mark.ensures.marked f)
+    units_interned x mark.new.self us (Ok c.in-Found.seat.id) (found_by_plan x mark.new.self us (copy_plan us) c.in-Found.seat.id
+    (found_marked x call.new.text call.new.seats c.requires.held e.there e.same e.noted us mark.new.self mark.ensures.text c.in-Found.seat.id mark.ensures.held mark.ensures.marks mark.ensures.marked f)
     (subst (λ (n : Option SharedText). (k : ℕ) → loads_at (view_if n) k ≤ loads_at (view_by x) k + 2) (sym mark.ensures.text) f.few))
     (subst (λ (n : Option SharedText). HoldsForms (view_by x) (view_if n)) (sym mark.ensures.text) e.forms)
 

@@ -5,8 +5,10 @@ use Rattle.heap_table.specs.Agents.{view_of}
 use Rattle.heap_intern.specs.Answers.{copy_plan}
 use Rattle.heap_intern.specs.Hashes.{AreHashes}
 use Rattle.heap_intern.specs.Keys.{units_of_key}
+use Rattle.heap_intern.specs.KeptKeys.{AreKeptKeys}
 use Rattle.heap_intern.specs.Searching.{IsOpening}
 use Rattle.heap_intern.specs.Seats.{AreSeats}
+use Rattle.heap_intern.proofs.KeptKeys.{keys_by}
 use Rattle.heap_intern.proofs.Seats.{seats_kept}
 use Rattle.heap_reserve.specs.Reserves.{IsReserve}
 use Rattle.heap_agents.specs.Shared.{SharedText, view_if}
@@ -32,4 +34,5 @@ returns-clause-noted c = let call = c.intern_at in let s = c.args.seats.now in l
       seats_kept v w t.reader.belongs.5 l.known l.sizes s.slots.items
           (subst (λ (o : Option SharedText). AreSeats (view_if o) s.slots.items) c.in-Some.is c.requires.noted.0),
       subst (λ (l : List ℕ). AreHashes w l) (sym (take_at call.new.hashes _ s.hashes.len len)) call.ensures.notes.right,
+      keys_by v w t.reader.belongs.5 l.known l.sizes s.keys.items (subst (λ (o : Option SharedText). AreKeptKeys (view_if o) s.keys.items) c.in-Some.is c.requires.noted.2),
     )

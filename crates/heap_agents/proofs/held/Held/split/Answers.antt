@@ -19,6 +19,7 @@ returns-clause-other c = let s = c.in_ok-split_text.ensures in let b = c.in_ok-o
     (ap (λ (h : Held). h.interned) c.deref_mut-2.ensures.value ∙ ap (λ (h : Held). h.interned) c.deref_mut.ensures.value)
     (ap (λ (h : Held). h.seats.slots.items) c.deref_mut-2.ensures.value ∙ (ap (λ (h : Held). h.seats.slots.items) c.deref_mut.ensures.value ∙ b.seats))
     (ap (λ (h : Held). h.seats.hashes.items) c.deref_mut-2.ensures.value ∙ (ap (λ (h : Held). h.seats.hashes.items) c.deref_mut.ensures.value ∙ b.hashes))
+    (ap (λ (h : Held). h.seats.keys.items) c.deref_mut-2.ensures.value ∙ (ap (λ (h : Held). h.seats.keys.items) c.deref_mut.ensures.value ∙ b.keys))
     (λ v. subst (λ (r : Reserve). IsReserve v r) (sym (ap (λ (h : Held). h.reserve) c.deref_mut-2.ensures.value ∙ ap (λ (h : Held). h.reserve) c.deref_mut.ensures.value)) (b.reserve v))
 
 pub returns-in_err-split_text-clause-held : goal.returns-in_err-split_text-clause-held
