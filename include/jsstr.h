@@ -64,7 +64,7 @@ typedef uint32_t jsstr_id;
    uses an id, and its units words of 8 bytes; each list of units that is interned uses a slot, and a second id
    where a string was made first. Set a prime number of slots, at least 2.6 for each. A heap occupies
    8 * (2 + slots + 2 * ids + words) bytes, twice that while it is made, and two bits an id for each agent
-   (tested, not proved). An agent that calls jsstr_intern notes slots in at most eight bytes an id besides. */
+   (tested, not proved). What an agent notes of the table adds at most eight bytes an id, 4 MB and 44 KB. */
 typedef struct jsstr_size { uint32_t ids, words, slots; } jsstr_size;
 
 /* The greatest length of a string, and the greatest limit. */
@@ -109,7 +109,7 @@ typedef struct jsstr_truth { uint32_t status; bool holds; } jsstr_truth;
 typedef struct jsstr_place { uint32_t status, at; } jsstr_place;
 typedef struct jsstr_words { uint32_t status; bool wide; uint32_t lane, length, count; } jsstr_words;
 typedef struct jsstr_bytes { uint32_t status, at, size; } jsstr_bytes;
-typedef struct jsstr_used { uint32_t status, ids, words; } jsstr_used;
+typedef struct jsstr_counts { uint32_t status, ids, words; } jsstr_counts;
 typedef struct jsstr_use { uint32_t ids, words; } jsstr_use;
 typedef struct jsstr_room {
   uint32_t status, ids, words;        /* what each counter was: claimed by all agents up to then */
@@ -166,7 +166,7 @@ jsstr_answer jsstr_reserve(jsstr_agent *agent, uint32_t ids, uint32_t words);
 uint32_t jsstr_renew(jsstr_agent *agent, uint32_t ids, uint32_t words);
 
 /* How many ids and words are reserved, and left. */
-jsstr_used jsstr_reserved(jsstr_agent *agent);
+jsstr_counts jsstr_reserved(jsstr_agent *agent);
 
 /* A new string with these units, settled. It uses an id, and a word for 8 units, or for 4 where one of
    them is over 255. */
@@ -355,7 +355,7 @@ jsstr_room jsstr_room_of(jsstr_agent *agent);
 /* What was used, by all agents, and how many different lists of units were interned.
    Condition: the agent has the whole share. Where others hold shares, the unchecked forms answer what each
    counter, or slot, was at some moment; no contract says so (of counters jsstr_room_of does). */
-jsstr_used jsstr_totals(jsstr_agent *agent);
+jsstr_counts jsstr_totals(jsstr_agent *agent);
 jsstr_number jsstr_count_interned(jsstr_agent *agent);
 
 /* THE SAME, with the same parameters, CONDITION NOT TESTED. And nothing is settled on the way: the strings that

@@ -432,7 +432,7 @@ private:
   static result<nothing> claimed(const jsstr_answer &a) {
     return a.status == JSSTR_DONE ? result<nothing>(nothing{}) : result<nothing>(made<string>(a).error());
   }
-  static result<use> used(const jsstr_used &u) {
+  static result<use> used(const jsstr_counts &u) {
     return u.status == JSSTR_DONE ? result<use>(use{u.ids, u.words}) : refused<use>(u.status);
   }
   static result<std::optional<key>> found(const jsstr_answer &a) {

@@ -16,7 +16,7 @@ static int is_string(jsstr_answer s, jsstr_id id) { return s.status == JSSTR_DON
 static int is_fault(jsstr_answer s, uint32_t at) { return s.status == JSSTR_NOT_UTF8 && !s.id && s.at == at && !s.want && !s.end; }
 
 static int has_used(jsstr_agent *a, uint32_t ids, uint32_t words) {
-  jsstr_used use = jsstr_totals(a);
+  jsstr_counts use = jsstr_totals(a);
   return use.status == JSSTR_DONE && use.ids == ids && use.words == words;
 }
 
@@ -69,7 +69,7 @@ static int is_written(jsstr_agent *a, jsstr_id s, const uint8_t *bytes, size_t s
 static void refuse_row(jsstr_agent *a, jsstr_builder *text, const row *r) {
   const uint8_t *bytes = (const uint8_t *)r->bytes;
   uint32_t at = (uint32_t)r->fault;
-  jsstr_used use = jsstr_totals(a);
+  jsstr_counts use = jsstr_totals(a);
   CHECK(is_fault(jsstr_from_wtf8(a, bytes, r->size), at) && is_fault(jsstr_from_wtf8_unchecked(a, bytes, r->size), at));
   CHECK(is_fault(jsstr_intern_wtf8(a, bytes, r->size), at) && is_fault(jsstr_intern_wtf8_unchecked(a, bytes, r->size), at));
   CHECK(is_fault(jsstr_find_wtf8(a, bytes, r->size), at) && is_fault(jsstr_find_wtf8_unchecked(a, bytes, r->size), at));
@@ -142,7 +142,7 @@ static void every_list(void) {
 static void try_all(jsstr_agent *a, jsstr_builder *text, const uint8_t *b, size_t n) {
   for (int wtf8 = 0; wtf8 < 2; wtf8++) {
     size_t good = well(b, n, wtf8);
-    jsstr_used use = jsstr_totals(a);
+    jsstr_counts use = jsstr_totals(a);
     const jsstr_answer told[] = {
       (wtf8 ? jsstr_from_wtf8 : jsstr_from_utf8)(a, b, n), (wtf8 ? jsstr_from_wtf8_unchecked : jsstr_from_utf8_unchecked)(a, b, n),
       (wtf8 ? jsstr_intern_wtf8 : jsstr_intern_utf8)(a, b, n), (wtf8 ? jsstr_find_wtf8 : jsstr_find_utf8)(a, b, n),
@@ -194,7 +194,7 @@ static void read_rows(void) {
   for (size_t i = 0; i < ROWS; i++) (rows[i].fault < 0 ? read_row : refuse_row)(&a, &text, &rows[i]);
   jsstr_answer empty = jsstr_from_wtf8(&a, &x, 0);
   CHECK(is_string(empty, empty.id) && jsstr_length(&a, empty.id).value == 0 && is_bare(jsstr_find_wtf8(&a, &x, 0), JSSTR_NONE));
-  jsstr_used use = jsstr_totals(&a);
+  jsstr_counts use = jsstr_totals(&a);
   const size_t lengths[] = {(size_t)JSSTR_MAX_LENGTH + 1, SIZE_MAX / 4};
   for (int i = 0; i < 2; i++) {
     CHECK(is_bare(jsstr_from_wtf8(&a, &x, lengths[i]), JSSTR_BAD_ARGUMENT) && is_bare(jsstr_intern_wtf8(&a, &x, lengths[i]), JSSTR_BAD_ARGUMENT));

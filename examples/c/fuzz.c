@@ -122,7 +122,7 @@ static void renewed(agent *a, jsstr_use *before, uint32_t most, uint32_t words) 
   int no_ids = !a->ids, few = a->words < most;
   if (!(no_ids || few) || (no_ids && !a->blocks.ids) || (few && !a->blocks.words)) return;
   uint32_t more = !few ? 0 : most > a->blocks.words ? most : a->blocks.words;
-  jsstr_used kept = jsstr_reserved(&a->handle);
+  jsstr_counts kept = jsstr_reserved(&a->handle);
   if (few && before->words == UINT32_MAX) {
     jsstr_use after = jsstr_totals_unchecked(&a->handle);
     uint32_t taken = kept.ids < a->ids || (no_ids && kept.ids + 1 == after.ids - before->ids);
@@ -164,7 +164,7 @@ static int is_linked(agent *a, jsstr_use before) {
 /* The same of the header of a string that is interned as a new one: an id, and where the string is a slice the words of a
    copy. Which of the two it is, what is left says; what was renewed in between is believed. */
 static int is_headed(agent *a, jsstr_answer s, const uint16_t *units, uint32_t len) {
-  jsstr_used kept = jsstr_reserved(&a->handle);
+  jsstr_counts kept = jsstr_reserved(&a->handle);
   uint32_t copy = words_of(units, len), ids = a->ids - kept.ids, words = a->words - kept.words;
   int lacks = !a->ids || copy > a->words, renews = a->blocks.ids || a->blocks.words;
   a->ids = kept.ids, a->words = kept.words;
@@ -174,7 +174,7 @@ static int is_headed(agent *a, jsstr_answer s, const uint16_t *units, uint32_t l
 }
 
 static int keeps_reserve(agent *a) {
-  jsstr_used kept = jsstr_reserved(&a->handle);
+  jsstr_counts kept = jsstr_reserved(&a->handle);
   if (!a->handle.live) return kept.status == JSSTR_BAD_ARGUMENT && !kept.ids && !kept.words;
   return kept.status == JSSTR_DONE && kept.ids == a->ids && kept.words == a->words;
 }
@@ -608,7 +608,7 @@ static void same(agent *a) {
 
 static void count(agent *a) {
   jsstr_number share = jsstr_share(&a->handle), lists = jsstr_count_interned(&a->handle);
-  jsstr_used used = jsstr_totals(&a->handle);
+  jsstr_counts used = jsstr_totals(&a->handle);
   CHECK(a->handle.live ? share.status == JSSTR_DONE && share.value == a->share : share.status == JSSTR_BAD_ARGUMENT);
   if (a->share < AGENTS) { CHECK(lists.status == JSSTR_BAD_ARGUMENT && used.status == JSSTR_BAD_ARGUMENT); return; }
   lawful++;
@@ -634,7 +634,7 @@ static void reserve(agent *a) {
   if (!a->handle.live) { CHECK(s.status == JSSTR_BAD_ARGUMENT); return; }
   lawful++;
   jsstr_use after = jsstr_totals_unchecked(&a->handle);
-  jsstr_used kept = jsstr_reserved(&a->handle);
+  jsstr_counts kept = jsstr_reserved(&a->handle);
   CHECK(kept.status == JSSTR_DONE && kept.ids - a->ids == after.ids - before.ids);
   CHECK(s.status == JSSTR_DONE ? !s.id && kept.ids == a->ids + ids : refused_for_room(s.status));
   CHECK(s.status == JSSTR_NO_WORDS ? after.ids == before.ids && after.words == before.words && kept.words == a->words

@@ -14,7 +14,7 @@ static const char LONGER[] = "a string of 64 units, which are 8 words, so more t
 /* What all agents used, and what this one has in reserve. */
 static int has(jsstr_agent *a, uint32_t used_ids, uint32_t used_words, uint32_t ids, uint32_t words) {
   jsstr_room room = jsstr_room_of(a);
-  jsstr_used kept = jsstr_reserved(a);
+  jsstr_counts kept = jsstr_reserved(a);
   jsstr_use again = jsstr_reserved_unchecked(a);
   CHECK(kept.status == JSSTR_DONE && again.ids == kept.ids && again.words == kept.words);
   return room.ids == used_ids && room.words == used_words && kept.ids == ids && kept.words == words;

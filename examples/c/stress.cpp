@@ -53,7 +53,7 @@ struct alignas(64) Worker {
 
   // Where what is reserved suffices, it is taken, and the string is never refused.
   jsstr_id made(const Text &text) {
-    jsstr_used before = jsstr_reserved(&agent);
+    jsstr_counts before = jsstr_reserved(&agent);
     bool enough = before.ids && before.words >= (text.size() + 3) / 4;
     jsstr_answer s = jsstr_from_units(&agent, reinterpret_cast<const uint16_t *>(text.data()), text.size());
     CHECK(!enough || (s.status == JSSTR_DONE && jsstr_reserved(&agent).ids == before.ids - 1));
@@ -65,10 +65,10 @@ struct alignas(64) Worker {
 
   // A few ids and words for what is made later. What isn't there is reported, and less of it is reserved.
   void reserve() {
-    jsstr_used before = jsstr_reserved(&agent);
+    jsstr_counts before = jsstr_reserved(&agent);
     uint32_t count = chance(20), size = chance(60);
     jsstr_answer s = jsstr_reserve(&agent, count, size);
-    jsstr_used after = jsstr_reserved(&agent);
+    jsstr_counts after = jsstr_reserved(&agent);
     if (s.status == JSSTR_DONE) CHECK(!s.id && after.ids == before.ids + count && after.words >= size);
     else {
       CHECK((s.status == JSSTR_NO_IDS && after.ids < before.ids + count) || (s.status == JSSTR_NO_WORDS && after.ids == before.ids && after.words == before.words));

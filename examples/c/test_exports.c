@@ -1,5 +1,5 @@
-/* Every export that out.c, building.c and board.c don't try, in both forms, each refusal and each bad argument, and
-   two threads that intern the same units. Prints "ok". */
+/* The exports that out.c, building.c and board.c don't try, beyond calls.c: calls in a row, each refusal, each kind of bad
+   argument, and two threads that intern the same units. Prints "ok". */
 #include "jsstr.h"
 #include <pthread.h>
 #include <stdio.h>
@@ -83,7 +83,7 @@ static void refuse_calls(void) {
   CHECK(one.status == JSSTR_DONE && jsstr_count_interned(&agent).value == 1);
   jsstr_answer slots = jsstr_intern(&agent, empty.id);
   CHECK(slots.status == JSSTR_NO_SLOTS && slots.end == 1);
-  jsstr_used use = jsstr_totals(&agent);
+  jsstr_counts use = jsstr_totals(&agent);
   CHECK(use.status == JSSTR_DONE && use.ids == 3 && use.words == 2);
   jsstr_answer ids = jsstr_from_units(&agent, &x, 0);
   CHECK(ids.status == JSSTR_NO_IDS && ids.at == 3 && ids.want == 1 && ids.end == 3);
@@ -204,43 +204,6 @@ static void free_in_any_order(void) {
   jsstr_free(&b);
 }
 
-/* Each call with a handle of nothing. */
-static void refuse_empty(void) {
-  jsstr_agent none = {0}, out = {0};
-  uint16_t x = 'x';
-  uint8_t y = 'y';
-  uint64_t w = 7;
-  CHECK(jsstr_free(&none) == JSSTR_BAD_ARGUMENT);
-  CHECK(jsstr_split(&none, 1, &out) == JSSTR_BAD_ARGUMENT && !out.at);
-  CHECK(jsstr_join(&none, &out) == JSSTR_BAD_ARGUMENT);
-  CHECK(jsstr_share(&none).status == JSSTR_BAD_ARGUMENT);
-  CHECK(jsstr_from_units(&none, &x, 1).status == JSSTR_BAD_ARGUMENT);
-  CHECK(jsstr_from_latin1(&none, &y, 1).status == JSSTR_BAD_ARGUMENT);
-  CHECK(jsstr_from_utf8(&none, &y, 1).status == JSSTR_BAD_ARGUMENT);
-  CHECK(jsstr_concat(&none, 0, 0).status == JSSTR_BAD_ARGUMENT);
-  CHECK(jsstr_slice(&none, 0, 0, 0).status == JSSTR_BAD_ARGUMENT);
-  CHECK(jsstr_length(&none, 0).status == JSSTR_BAD_ARGUMENT);
-  CHECK(jsstr_settle(&none, 0).status == JSSTR_BAD_ARGUMENT);
-  CHECK(jsstr_read(&none, 0, 0, &x, 1) == JSSTR_BAD_ARGUMENT && x == 'x');
-  CHECK(jsstr_window(&none, 0, 0, &w, 1).status == JSSTR_BAD_ARGUMENT && w == 7);
-  CHECK(jsstr_compare(&none, 0, 0).status == JSSTR_BAD_ARGUMENT);
-  CHECK(jsstr_equal(&none, 0, 0).status == JSSTR_BAD_ARGUMENT);
-  CHECK(jsstr_starts_with(&none, 0, 0, 0).status == JSSTR_BAD_ARGUMENT);
-  CHECK(jsstr_index_of(&none, 0, 0, 0).status == JSSTR_BAD_ARGUMENT);
-  CHECK(jsstr_last_index_of(&none, 0, 0, 0).status == JSSTR_BAD_ARGUMENT);
-  CHECK(jsstr_intern(&none, 0).status == JSSTR_BAD_ARGUMENT);
-  CHECK(jsstr_intern_units(&none, &x, 1).status == JSSTR_BAD_ARGUMENT);
-  CHECK(jsstr_intern_latin1(&none, &y, 1).status == JSSTR_BAD_ARGUMENT);
-  CHECK(jsstr_intern_utf8(&none, &y, 1).status == JSSTR_BAD_ARGUMENT);
-  CHECK(jsstr_find_units(&none, &x, 1).status == JSSTR_BAD_ARGUMENT);
-  CHECK(jsstr_find_latin1(&none, &y, 1).status == JSSTR_BAD_ARGUMENT);
-  CHECK(jsstr_find_utf8(&none, &y, 1).status == JSSTR_BAD_ARGUMENT);
-  CHECK(jsstr_is_interned(&none, 0).status == JSSTR_BAD_ARGUMENT);
-  CHECK(jsstr_same(&none, 0, 0).status == JSSTR_BAD_ARGUMENT);
-  CHECK(jsstr_totals(&none).status == JSSTR_BAD_ARGUMENT);
-  CHECK(jsstr_count_interned(&none).status == JSSTR_BAD_ARGUMENT);
-}
-
 /* Each call with a string that the agent doesn't know: one of another agent, one past the ids, a wild one. */
 static void refuse_strings(void) {
   jsstr_agent a = {0}, b = {0};
@@ -307,9 +270,7 @@ static void refuse_parts(void) {
     CHECK(jsstr_read(&a, both[i], n, units, 0) == JSSTR_DONE);
     CHECK(jsstr_index_of(&a, both[i], end.id, n).at == n);
   }
-  CHECK(jsstr_from_units(&a, units, (size_t)JSSTR_MAX_LENGTH + 1).status == JSSTR_BAD_ARGUMENT);
   CHECK(jsstr_from_latin1(&a, (uint8_t *)units, SIZE_MAX / 4).status == JSSTR_BAD_ARGUMENT);
-  CHECK(jsstr_from_utf8(&a, (uint8_t *)units, (size_t)JSSTR_MAX_LENGTH + 1).status == JSSTR_BAD_ARGUMENT);
   CHECK(jsstr_free(&a) == JSSTR_DONE);
 }
 
@@ -401,14 +362,14 @@ static int is_string(jsstr_answer s, jsstr_id id) {
 }
 
 static int has_used(jsstr_agent *a, uint32_t ids, uint32_t words) {
-  jsstr_used use = jsstr_totals(a);
+  jsstr_counts use = jsstr_totals(a);
   return use.status == JSSTR_DONE && use.ids == ids && use.words == words;
 }
 
 /* Units that aren't in the table, then are: an id and their words once, and never again. */
 static void intern_row(jsstr_agent *a, const uint16_t *units, uint32_t len, uint32_t words) {
   uint8_t bytes[16];
-  jsstr_used use = jsstr_totals(a);
+  jsstr_counts use = jsstr_totals(a);
   uint32_t lists = jsstr_count_interned(a).value, narrow = 1;
   CHECK(is_bare(jsstr_find_units(a, units, len), JSSTR_NONE) && has_used(a, use.ids, use.words));
   jsstr_answer key = jsstr_intern_units(a, units, len);
@@ -482,12 +443,9 @@ static void intern_units(void) {
   CHECK(jsstr_make((jsstr_size){100, 100, 20}, 1, 1000, &a) == JSSTR_DONE);
   for (uint32_t len = 0; len <= 9; len++) intern_row(&a, narrow, len, (len + 7) / 8);
   for (uint32_t len = 5; len <= 9; len++) intern_row(&a, wide, len, (len + 3) / 4);
-  jsstr_used use = jsstr_totals(&a);
-  CHECK(is_bare(jsstr_intern_units(&a, narrow, (size_t)JSSTR_MAX_LENGTH + 1), JSSTR_BAD_ARGUMENT));
+  jsstr_counts use = jsstr_totals(&a);
   CHECK(is_bare(jsstr_find_units(&a, narrow, SIZE_MAX / 4), JSSTR_BAD_ARGUMENT));
   CHECK(is_bare(jsstr_intern_latin1(&a, (const uint8_t *)narrow, SIZE_MAX / 4), JSSTR_BAD_ARGUMENT));
-  CHECK(is_bare(jsstr_intern_utf8(&a, (const uint8_t *)narrow, (size_t)JSSTR_MAX_LENGTH + 1), JSSTR_BAD_ARGUMENT));
-  CHECK(is_bare(jsstr_find_latin1(&a, (const uint8_t *)narrow, (size_t)JSSTR_MAX_LENGTH + 1), JSSTR_BAD_ARGUMENT));
   CHECK(is_bare(jsstr_find_utf8(&a, (const uint8_t *)narrow, SIZE_MAX / 4), JSSTR_BAD_ARGUMENT));
   CHECK(has_used(&a, use.ids, use.words) && jsstr_free(&a) == JSSTR_DONE);
 }
@@ -509,7 +467,7 @@ static void intern_again(void) {
     CHECK(one.status == JSSTR_DONE);
     keys[i] = one.id;
   }
-  jsstr_used use = jsstr_totals(&a);
+  jsstr_counts use = jsstr_totals(&a);
   for (int round = 0; round < ROUNDS; round++) {
     for (int i = 0; i < STRINGS; i++) {
       CHECK(is_string(jsstr_intern(&a, ids[i]), keys[i]) && is_string(jsstr_intern(&a, keys[i]), keys[i]));
@@ -684,7 +642,7 @@ static void copies(void) {
     for (uint32_t len = 0; len <= 40; len += len < 10 ? 1 : 15) {
       for (uint32_t i = 0; i < len; i++) units[i] = (uint16_t)(wide && i % 3 ? 0xD800 + i : i + 1);
       jsstr_id s = jsstr_from_units(&a, units, len).id;
-      jsstr_used use = jsstr_totals(&b), mine = jsstr_totals(&a);
+      jsstr_counts use = jsstr_totals(&b), mine = jsstr_totals(&a);
       jsstr_answer copy = jsstr_copy_into(&a, s, &b), again = jsstr_copy_into_unchecked(&a, s, &b);
       uint32_t lanes = wide && len > 1 ? 4 : 8, words = (len + lanes - 1) / lanes;
       CHECK(is_string(copy, copy.id) && is_string(again, again.id) && copy.id != again.id);
@@ -697,7 +655,7 @@ static void copies(void) {
   jsstr_id part = jsstr_slice(&a, rope, 3, 20).id;
   CHECK(has_units(&b, jsstr_copy_into(&a, rope, &b).id, units, 30) && has_units(&b, jsstr_copy_into(&a, part, &b).id, units + 3, 17));
   jsstr_id key = jsstr_intern_into(&a, part, &b).id;
-  jsstr_used use = jsstr_totals(&b);
+  jsstr_counts use = jsstr_totals(&b);
   CHECK(is_string(jsstr_intern_into(&a, part, &b), key) && is_string(jsstr_intern_into_unchecked(&a, part, &b), key));
   CHECK(is_string(jsstr_find_units(&b, units + 3, 17), key) && jsstr_is_interned(&b, key).holds && has_used(&b, use.ids, use.words));
   CHECK(jsstr_intern(&a, part).status == JSSTR_DONE && has_units(&b, jsstr_copy_into(&a, part, &b).id, units + 3, 17));
@@ -708,7 +666,7 @@ static void copies(void) {
   CHECK(jsstr_intern_into(&a, part, &c).id == jsstr_intern(&c, part).id && jsstr_join(&a, &c) == JSSTR_DONE);
   /* Bad arguments change neither heap. */
   use = jsstr_totals(&b);
-  jsstr_used mine = jsstr_totals(&a);
+  jsstr_counts mine = jsstr_totals(&a);
   CHECK(is_bare(jsstr_copy_into(&a, 199, &b), JSSTR_BAD_ARGUMENT) && is_bare(jsstr_intern_into(&a, UINT32_MAX, &b), JSSTR_BAD_ARGUMENT));
   CHECK(is_bare(jsstr_copy_into(&a, left, &c), JSSTR_BAD_ARGUMENT) && is_bare(jsstr_intern_into(&a, left, &c), JSSTR_BAD_ARGUMENT));
   CHECK(is_bare(jsstr_copy_into(&c, left, &a), JSSTR_BAD_ARGUMENT) && is_bare(jsstr_intern_into(&c, left, &a), JSSTR_BAD_ARGUMENT));
@@ -777,7 +735,6 @@ static void refuse_settling(void) {
 
 int main(void) {
   CHECK(jsstr_version() == JSSTR_VERSION_NUMBER);
-  refuse_empty();
   refuse_strings();
   refuse_parts();
   refuse_joins();
