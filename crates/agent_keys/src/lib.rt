@@ -1,6 +1,6 @@
 //! The string table as an agent uses it: strings and units interned and looked for, one by one or many in a call,
 //! and interned strings by their slots. An answer is marked as one of the table. A short list of units that an
-//! agent interned again or found lately is answered by one load, where there was memory to keep it.
+//! agent interned again or found lately is mostly answered by one load.
 #![tactic(auto)]
 
 mod batch;
