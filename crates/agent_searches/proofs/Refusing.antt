@@ -1,91 +1,59 @@
--- A session that makes nothing: what its calls leave of it, by what they leave of the session, and the refusals.
-use Rattle.std.proofs.Common.{◌≡◌, ◌∙◌, ℕ, true, refl, ap, sym, subst, arith, Some, None}
+-- A text that makes nothing: what its calls leave of its state, and the refusals.
+use Rattle.std.proofs.Common.{◌≡◌, ℕ, refl, arith, Some, None}
+use Rattle.std.specs.Borrow.{GName}
 use Rattle.js_store.specs.declared.faults.StoreFault.TheVariants.{Memory}
+use Rattle.js_store.specs.declared.limit.Limit.TheVariants.{Bits64}
 use Rattle.js_store.specs.Faults.{StoreStep, Uses}
-use Rattle.js_store.specs.State.{State}
-use Rattle.std.specs.FinMap.{FinMap}
-use Rattle.std.specs.Ordering.{nat_cmp}
+use Rattle.js_store.specs.Limits.{limit_units}
 use Rattle.heap_rule.specs.declared.view.View.{View}
-use Rattle.heap_rule.specs.Maps.{Has}
+use Rattle.heap_table.specs.Agents.{view_of}
 use Rattle.heap_read.specs.Reads.{OnlyLoads}
-use Rattle.heap_text.specs.Texts.{KeepsOwn}
-use Rattle.heap_session.specs.Sessions.{SessionFrame}
+use Rattle.heap_session.specs.Sessions.{table_of}
+use Rattle.heap_session.proofs.States.{history_reads, step_reads}
+use Rattle.heap_agents.specs.Shared.{SharedText, heap_of}
 use Rattle.heap_agents.specs.declared.seats.Seats.{Seats}
-use Rattle.agent_searches.specs.Looking.{looking_state}
+use Rattle.agent_searches.specs.Looking.{state_at}
 
--- a call on the session
-looks : (a b : State SessionFrame) (seats : Seats) (v w : View) → w.own_ids ≡ v.own_ids → w.own_words ≡ v.own_words → Uses a b None 0 0
-    → Uses (looking_state a seats v) (looking_state b seats w) None 0 0
-looks a b seats v w ids words u = let o = u.step.grows in record {
-  step = record {
-    grows = record {
-      known = o.known;
-      settled = o.settled;
-      shut = o.shut;
-      interned = o.interned;
-      used_ids = o.used_ids;
-      used_words = o.used_words;
-      low_ids = o.low_ids;
-      low_words = o.low_words;
-      sizes = o.sizes;
-      limit = o.limit;
-      bounded = o.bounded;
-      sure = refl;
-      frame = λ i. record { session = o.frame i; seats = seats; own_ids = ids i; own_words = words i };
-    };
-    honest = tt;
-    within_ids = u.step.within_ids;
-    within_words = u.step.within_words;
-  };
-  no_slots = tt;
-  history = u.history;
-}
-
-pub looks_as : (a b : State SessionFrame) (seats : Seats) (v w : View) → OnlyLoads v w → Uses a b None 0 0 → Uses (looking_state a seats v) (looking_state b seats w) None 0 0
-looks_as a b seats v w reads u = looks a b seats v w reads.own_ids reads.own_words u
-
-pub looks_same : (a b : State SessionFrame) (seats : Seats) (v w : View) → w ≡ v → Uses a b None 0 0 → Uses (looking_state a seats v) (looking_state b seats w) None 0 0
-looks_same a b seats v w e u = looks a b seats v w (ap (λ (x : View). x.own_ids) e) (ap (λ (x : View). x.own_words) e) u
-
--- and back
-pub looked_as : (a b : State SessionFrame) (s t : Seats) (v w : View) → a.sure ≡ true → b.sure ≡ true → Uses (looking_state a s v) (looking_state b t w) None 0 0 → Uses a b None 0 0
-looked_as a b s t v w sure' sure u = let o = u.step.grows in record {
-  step = record {
-    grows = record {
-      known = o.known;
-      settled = o.settled;
-      shut = o.shut;
-      interned = o.interned;
-      used_ids = o.used_ids;
-      used_words = o.used_words;
-      low_ids = o.low_ids;
-      low_words = o.low_words;
-      sizes = o.sizes;
-      limit = o.limit;
-      bounded = o.bounded;
-      sure = sure ∙ sym sure';
-      frame = λ i. (o.frame i).session;
-    };
-    honest = tt;
-    within_ids = u.step.within_ids;
-    within_words = u.step.within_words;
-  };
-  no_slots = tt;
-  history = u.history;
-}
-
-pub seats_left : (a b : State SessionFrame) (s t : Seats) (v w : View) → Uses (looking_state a s v) (looking_state b t w) None 0 0 → t ≡ s
-seats_left a b s t v w u = λ i. (u.step.grows.frame i).seats
-
-pub own_left : (a b : State SessionFrame) (s t : Seats) (v w : View) → Uses (looking_state a s v) (looking_state b t w) None 0 0 → KeepsOwn v w
-own_left a b s t v w u = let ids : w.own_ids ≡ v.own_ids = (λ i. (u.step.grows.frame i).own_ids) in let words : w.own_words ≡ v.own_words = (λ i. (u.step.grows.frame i).own_words) in record {
-  ids = λ i n h. subst (λ (m : FinMap nat_cmp ℕ). Has m i n) (sym ids) h;
-  words = λ c x h. subst (λ (m : FinMap nat_cmp ℕ). Has m c x) (sym words) h;
-}
+-- a call by loads alone
+pub looks : (a b : SharedText) (name : GName) (seats : Seats) → heap_of b ≡ heap_of a → b.limit ≡ a.limit → OnlyLoads (view_of a.reader.agent) (view_of b.reader.agent)
+    → Uses (state_at a name seats) (state_at b name seats) None 0 0
+looks a b name seats heap limit reads = let v : View = view_of a.reader.agent in let w : View = view_of b.reader.agent in
+    let step = step_reads v w (limit_units Bits64) (table_of (heap_of a)) a.reader.belongs.5 reads in let o = step.grows in record {
+      step = record {
+        grows = record {
+          known = o.known;
+          settled = o.settled;
+          shut = o.shut;
+          interned = o.interned;
+          used_ids = o.used_ids;
+          used_words = o.used_words;
+          low_ids = o.low_ids;
+          low_words = o.low_words;
+          sizes = o.sizes;
+          limit = o.limit;
+          bounded = o.bounded;
+          sure = refl;
+          frame = λ i. record {
+            session = record { table = table_of (heap i); share = (o.frame i).share; agents = (o.frame i).agents; seen = (o.frame i).seen };
+            text = name;
+            heap = heap i;
+            limit = limit i;
+            seats = seats;
+            own_ids = reads.own_ids i;
+            own_words = reads.own_words i;
+          };
+        };
+        honest = tt;
+        within_ids = step.within_ids;
+        within_words = step.within_words;
+      };
+      no_slots = tt;
+      history = history_reads v w reads;
+    }
 
 -- a call that is refused
-pub refused : (a : State SessionFrame) (seats : Seats) (v : View) (ids words : ℕ) → StoreStep (looking_state a seats v) (looking_state a seats v) (Some Memory) ids words
-refused a seats v ids words = record {
+pub refused : (a : SharedText) (name : GName) (seats : Seats) (ids words : ℕ) → StoreStep (state_at a name seats) (state_at a name seats) (Some Memory) ids words
+refused a name seats ids words = record {
   grows = record {
     known = λ n h. refl;
     settled = λ n h. h;
@@ -106,5 +74,5 @@ refused a seats v ids words = record {
   within_words = omega arith;
 }
 
-pub refused_use : (a : State SessionFrame) (seats : Seats) (v : View) (ids words : ℕ) → Uses (looking_state a seats v) (looking_state a seats v) (Some Memory) ids words
-refused_use a seats v ids words = record { step = refused a seats v ids words; no_slots = tt; history = refl }
+pub refused_use : (a : SharedText) (name : GName) (seats : Seats) (ids words : ℕ) → Uses (state_at a name seats) (state_at a name seats) (Some Memory) ids words
+refused_use a name seats ids words = record { step = refused a name seats ids words; no_slots = tt; history = refl }

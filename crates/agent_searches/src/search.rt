@@ -1,34 +1,18 @@
-// Comparing settled strings, and finding one in another, which goes by the calls of `js_search` on a session
+// Comparing settled strings, and finding one in another, which goes by the calls of `js_search` on a store
 // that makes nothing.
 ghost use Rattle.std.specs.Prelude.{◌≡◌, Some, ◌↔◌, ℕ, ◌≤◌, List, length, Option, IsTrue};
 ghost use Rattle.heap_rule.specs.Maps.{Has};
 ghost use Rattle.heap_read.specs.Reads.{OnlyLoads};
 ghost use Rattle.js_search.specs.Order.{units_cmp};
 ghost use Rattle.js_search.specs.Places.{IsFirst, IsLast, IsPartAt, first, last, stands};
-ghost use Rattle.heap_agents.specs.Held.{IsHeld, LeavesSearched, view_by, without_text};
+ghost use Rattle.heap_agents.specs.Held.{IsHeld, LeavesSearched, view_by};
 ghost use Rattle.agent_searches.specs.Order.{IsOrder};
 ghost use Rattle.heap_agents.specs.Searched.{IsSearchable};
 
 use crate::looking::Looking;
 use heap_agents::Held;
-use heap_read::Reader;
-use heap_table::Heap;
-use heap_text::{JsStr, Text};
-use std::alloc::Global;
+use heap_text::JsStr;
 use std::cmp::Ordering;
-use std::sync::Arc;
-
-// The text of an agent, which is to be put back.
-fn take_text(agent: &mut Held) -> Text<Arc<Heap, Global>>
-    requires { IsHeld agent.old }
-    ensures text { agent.old.text ≡ Some result }
-    ensures rest { agent.new ≡ without_text agent.old }
-{
-    match agent.text.take() {
-        Some(text) => text,
-        None => unreachable!(),
-    }
-}
 
 /// The order of two settled strings by their units, where a proper prefix comes first, by loads alone.
 pub fn compare(agent: &mut Held, a: JsStr, b: JsStr) -> Ordering
@@ -80,13 +64,16 @@ pub fn starts_with(agent: &mut Held, hay: JsStr, needle: JsStr, at: u32) -> bool
         → Has (view_by agent.old).units needle.id vs
         → result ≡ stands us vs at }
 {
-    let Text { reader, limit } = take_text(agent);
-    let Reader { heap, agent: own } = reader;
-    let mut store = Looking::new(&*heap, own, &agent.seats);
-    let answer = js_search::stands_at(&mut store, hay, needle, at);
-    let own = store.into_agent();
-    agent.text = Some(Text::new(heap, own, limit));
-    answer
+    match &mut agent.text {
+        Some(text) => {
+            let mut store = Looking {
+                text,
+                seats: &agent.seats,
+            };
+            js_search::stands_at(&mut store, hay, needle, at)
+        }
+        None => unreachable!(),
+    }
 }
 
 /// The least place at or after `from` at which `needle` occurs in `hay`, both settled.
@@ -103,13 +90,16 @@ pub fn index_of(agent: &mut Held, hay: JsStr, needle: JsStr, from: u32) -> Optio
         → Has (view_by agent.old).units needle.id vs
         → result ≡ first us vs from }
 {
-    let Text { reader, limit } = take_text(agent);
-    let Reader { heap, agent: own } = reader;
-    let mut store = Looking::new(&*heap, own, &agent.seats);
-    let answer = js_search::index_of(&mut store, hay, needle, from);
-    let own = store.into_agent();
-    agent.text = Some(Text::new(heap, own, limit));
-    answer
+    match &mut agent.text {
+        Some(text) => {
+            let mut store = Looking {
+                text,
+                seats: &agent.seats,
+            };
+            js_search::index_of(&mut store, hay, needle, from)
+        }
+        None => unreachable!(),
+    }
 }
 
 /// The greatest place at most `limit` at which `needle` occurs in `hay`, both settled.
@@ -125,14 +115,14 @@ pub fn last_index_of(agent: &mut Held, hay: JsStr, needle: JsStr, limit: u32) ->
         → Has (view_by agent.old).units needle.id vs
         → result ≡ last us vs limit }
 {
-    let Text {
-        reader,
-        limit: most,
-    } = take_text(agent);
-    let Reader { heap, agent: own } = reader;
-    let mut store = Looking::new(&*heap, own, &agent.seats);
-    let answer = js_search::last_index_of(&mut store, hay, needle, limit);
-    let own = store.into_agent();
-    agent.text = Some(Text::new(heap, own, most));
-    answer
+    match &mut agent.text {
+        Some(text) => {
+            let mut store = Looking {
+                text,
+                seats: &agent.seats,
+            };
+            js_search::last_index_of(&mut store, hay, needle, limit)
+        }
+        None => unreachable!(),
+    }
 }

@@ -1,7 +1,7 @@
 -- What is kept at run time beside an agent: which ids it may use, which of them are answers of the string
 -- table, what it notes of that table, what it claimed in advance, by which blocks that is renewed, and the
 -- numbers by which a join is known to be valid.
-use Rattle.std.specs.Prelude.{◌≡◌, ◌⊎◌, ℕ, ◌<◌, List, Contains, Result, Ok, Err, None}
+use Rattle.std.specs.Prelude.{◌≡◌, ◌⊎◌, ℕ, ◌<◌, List, Contains, Result, Ok, Err}
 use Rattle.heap_rule.specs.Maps.{HasKey}
 use Rattle.heap_rule.specs.Views.{history}
 use Rattle.heap_rule.specs.declared.size.HeapSize.{HeapSize}
@@ -28,10 +28,6 @@ held_size x = size_if x.text
 
 abbrev pub limit_by : Held → ℕ
 limit_by x = limit_if x.text
-
--- the same while its text is away
-abbrev pub without_text : Held → Held
-without_text x = record x { text = None }
 
 -- one heap, and one limit
 abbrev pub IsSame : Held → Held → Type 0

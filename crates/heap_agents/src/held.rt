@@ -16,10 +16,10 @@ use std::sync::atomic::AtomicU64;
 
 /// A text of the heap, which it owns together with the other agents of the heap, and beside it how many
 /// agents the heap may have, the ids that were answered to it, those of them that the string table
-/// answered, the slots of strings that it interned, what it claimed in advance, the blocks by which it
-/// renews that, its number and that of the agent that it was split off from. Numbers are counted by all
-/// agents of a heap together. The text is missing only while a split makes room for a new agent, and while
-/// strings are searched.
+/// answered, the slots of strings that it interned and short lists with theirs, what it claimed in advance,
+/// the blocks by which it renews that, its number and that of the agent that it was split off from. Numbers
+/// are counted by all agents of a heap together. The text is missing only while a split makes room for a new
+/// agent.
 #[derive(Drop)]
 pub struct Held {
     pub text: Option<Text<Arc<Heap, Global>>>,
