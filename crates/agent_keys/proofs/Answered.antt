@@ -5,11 +5,11 @@ use Rattle.heap_table.specs.Known.{KeepsKnown}
 use Rattle.heap_intern.specs.Answers.{FindsString}
 use Rattle.heap_intern.specs.Given.{FindsGiven}
 use Rattle.heap_agents.specs.declared.held.Held.{Held}
-use Rattle.heap_agents.specs.declared.seats.Seats.{Seats}
+use Rattle.heap_notes.specs.declared.seats.Seats.{Seats}
 use Rattle.heap_agents.specs.Held.{IsHeld, KeepsMarks, MarksOnlyKey, view_by}
 use Rattle.heap_agents.specs.Interned.{HasEntered, KeepsCalls}
 use Rattle.agent_keys.specs.Keys.{FoundUnits}
-use Rattle.heap_agents.specs.Noted.{AreNoted}
+use Rattle.heap_notes.specs.Noted.{AreNoted}
 use Rattle.heap_agents.specs.Shared.{IsSameText, IsThere, SharedText, view_if}
 use Rattle.agent_keys.proofs.Interned.{agents_found, calls_found, entered_found, known_found, own_found}
 use Rattle.heap_agents.proofs.Marks.{noted}

@@ -34,11 +34,11 @@ use Rattle.heap_reserve.specs.Reserves.{IsReserve}
 use Rattle.heap_ids.specs.declared.ids.IdSet.{IdSet}
 use Rattle.heap_ids.specs.Sets.{IsIn}
 use Rattle.heap_agents.specs.declared.held.Held.{Held}
-use Rattle.heap_agents.specs.declared.seats.Seats.{Seats}
+use Rattle.heap_notes.specs.declared.seats.Seats.{Seats}
 use Rattle.heap_agents.specs.Held.{IsHeld, KeepsMarks, MarksNothing, MarksOnlyKey, StaysMarked, view_by}
 use Rattle.heap_agents.specs.Interned.{HasEntered, IsEntered, KeepsCalls}
 use Rattle.agent_keys.specs.Keys.{FindsOpening, FoundUnits, InternedString, InternedUnits, InternsByPlan, MarksAnswer, PlansHeader, TakesNone}
-use Rattle.heap_agents.specs.Noted.{AreNoted}
+use Rattle.heap_notes.specs.Noted.{AreNoted}
 use Rattle.agent_keys.specs.Openings.{Interns, TakesKey}
 use Rattle.agent_makes.specs.Preparing.{IsPrepared, Prepares}
 use Rattle.heap_agents.specs.Shared.{IsSameText, IsThere, SharedText, view_if}

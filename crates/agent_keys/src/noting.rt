@@ -11,11 +11,11 @@ ghost use Rattle.heap_intern.specs.Searching.{IsOpening, LoadsFrom, SearchesKey,
 ghost use Rattle.heap_intern.specs.Seats.{IsSeatOf};
 ghost use Rattle.heap_reserve.specs.Interning.{InternsAt};
 ghost use Rattle.heap_reserve.specs.Reserves.{IsReserve};
-ghost use Rattle.heap_agents.specs.Noted.{AreNoted};
+ghost use Rattle.heap_notes.specs.Noted.{AreNoted};
 ghost use Rattle.heap_agents.specs.Shared.{IsSameText, IsThere, view_if};
 
-use heap_agents::Seats;
 use heap_intern::{Key, KeySearch, Opening, TableFull, intern_again};
+use heap_notes::Seats;
 use heap_reserve::Reserve;
 use heap_table::Heap;
 use heap_text::Text;

@@ -10,11 +10,12 @@ ghost use Rattle.heap_agents.specs.Held.{IsHeld, view_by};
 ghost use Rattle.agent_keys.specs.Keys.{InternedString};
 ghost use Rattle.agent_keys.specs.Openings.{TakesKey};
 ghost use Rattle.heap_agents.specs.Shared.{IsSameText, IsThere, view_if};
-ghost use Rattle.heap_agents.specs.Noted.{AreNoted};
+ghost use Rattle.heap_notes.specs.Noted.{AreNoted};
 
 use agent_makes::renew_for;
-use heap_agents::{Held, Seats};
+use heap_agents::Held;
 use heap_intern::{StringOpening, StringSearch, TableFull};
+use heap_notes::Seats;
 use heap_reserve::Reserve;
 use heap_table::Heap;
 use heap_text::Text;

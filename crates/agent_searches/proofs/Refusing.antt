@@ -11,7 +11,7 @@ use Rattle.heap_read.specs.Reads.{OnlyLoads}
 use Rattle.heap_session.specs.Sessions.{table_of}
 use Rattle.heap_session.proofs.States.{history_reads, step_reads}
 use Rattle.heap_agents.specs.Shared.{SharedText, heap_of}
-use Rattle.heap_agents.specs.declared.seats.Seats.{Seats}
+use Rattle.heap_notes.specs.declared.seats.Seats.{Seats}
 use Rattle.agent_searches.specs.Looking.{state_at}
 
 -- a call by loads alone

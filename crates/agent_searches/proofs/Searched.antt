@@ -18,9 +18,9 @@ use Rattle.heap_session.proofs.States.{settled_test, test_settled}
 use Rattle.js_search.specs.Order.{Precedes, units_cmp}
 use Rattle.js_search.proofs.Lexical.{is_greater, is_less, is_same}
 use Rattle.heap_agents.specs.declared.held.Held.{Held}
-use Rattle.heap_agents.specs.declared.seats.Seats.{Seats}
+use Rattle.heap_notes.specs.declared.seats.Seats.{Seats}
 use Rattle.heap_agents.specs.Held.{IsHeld, LeavesSearched, view_by}
-use Rattle.heap_agents.specs.Noted.{AreNoted}
+use Rattle.heap_notes.specs.Noted.{AreNoted}
 use Rattle.heap_agents.specs.Searched.{KeepsStrings}
 use Rattle.heap_agents.specs.Shared.{IsSameText, SharedText, heap_of, view_if}
 use Rattle.heap_agents.proofs.Marks.{held_on, kept_marks, same_text, still, told}

@@ -14,7 +14,7 @@ use Rattle.heap_table.specs.declared.heap.Heap.{Heap}
 use Rattle.heap_session.specs.Sessions.{SessionFrame, state_by, table_of}
 use Rattle.heap_session.specs.Sound.{session_sound}
 use Rattle.heap_agents.specs.Shared.{SharedText, heap_of}
-use Rattle.heap_agents.specs.declared.seats.Seats.{Seats}
+use Rattle.heap_notes.specs.declared.seats.Seats.{Seats}
 
 pub record LookFrame : Type 0 where
   pub session : SessionFrame

@@ -1,9 +1,9 @@
 // A store over the text of an agent, through which strings are searched: it makes nothing, so that what the agent
 // noted of the string table stays right.
 ghost use Rattle.heap_table.specs.Agents.{view_of};
-ghost use Rattle.heap_agents.specs.Noted.{AreNoted};
+ghost use Rattle.heap_notes.specs.Noted.{AreNoted};
 
-use heap_agents::Seats;
+use heap_notes::Seats;
 use heap_table::Heap;
 use heap_text::{JsStr, Text};
 use js_store::{ConcatFault, Limit, StoreFault, Strings};

@@ -31,15 +31,15 @@ use Rattle.heap_intern.proofs.Going.{left_known}
 use Rattle.heap_intern.specs.KeptKeys.{AreKeptKeys}
 use Rattle.heap_intern.specs.Seats.{AreSeats, IsSeated}
 use Rattle.heap_ids.specs.declared.ids.IdSet.{IdSet}
-use Rattle.heap_agents.specs.declared.seats.Seats.{Seats}
+use Rattle.heap_notes.specs.declared.seats.Seats.{Seats}
 use Rattle.heap_ids.specs.Sets.{Covers, IsIn}
 use Rattle.heap_agents.specs.declared.held.Held.{Held}
 use Rattle.heap_agents.specs.Held.{IsHeld, IsMarked, IsSame, KeepsMarks, LeavesStrings, SpendsReserve, share_by, held_size, view_by}
 use Rattle.heap_agents.specs.Interned.{KeepsCalls}
-use Rattle.heap_agents.specs.Noted.{AreNoted}
+use Rattle.heap_notes.specs.Noted.{AreNoted}
 use Rattle.heap_agents.specs.Shared.{IsSameText, IsThere, SharedText, heap_of, share_if, size_if, view_if}
 use Rattle.heap_agents.proofs.Calls.{continued}
-use Rattle.heap_agents.proofs.NotesStay.{keys_empty, notes_kept}
+use Rattle.heap_notes.proofs.NotesStay.{keys_empty, notes_kept}
 
 -- what is known and which calls are known stay, so what was marked still may be
 marked_still : (v w : View) (known interned : IdSet) (ids : ℕ) → IsMarked v known interned ids

@@ -13,7 +13,7 @@ use Rattle.heap_ids.specs.declared.ids.IdSet.{IdSet}
 use Rattle.heap_ids.specs.Sets.{Covers, IsIn}
 use Rattle.heap_agents.specs.declared.held.Held.{Held}
 use Rattle.heap_agents.specs.Shared.{IsSameText, IsThere, limit_if, share_if, size_if, view_if}
-use Rattle.heap_agents.specs.Noted.{AreNoted}
+use Rattle.heap_notes.specs.Noted.{AreNoted}
 use Rattle.heap_agents.specs.Searched.{KeepsStrings}
 
 -- what its agent knows, its share, the sizes of its heap, and the limit of the strings that it joins

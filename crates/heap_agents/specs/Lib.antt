@@ -1,7 +1,6 @@
 pub mod Shared
 pub mod Interned
 pub mod Searched
-pub mod Noted
 pub mod Held
 pub mod Reserved
 pub mod Ready

@@ -5,8 +5,8 @@ ghost use Rattle.heap_rule.specs.Views.{history};
 ghost use Rattle.heap_agents.specs.Held.{IsHeld, KeepsMarks, MarksOnly, MarksOnlyKey, view_by};
 ghost use Rattle.heap_ids.specs.Sets.{IsIn};
 
-use crate::seats::Seats;
 use heap_ids::IdSet;
+use heap_notes::Seats;
 use heap_reserve::Reserve;
 use heap_table::Heap;
 use heap_text::Text;

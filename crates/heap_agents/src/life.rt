@@ -15,8 +15,8 @@ ghost use Rattle.heap_agents.specs.Shared.{IsSameText, IsThere, heap_of, share_i
 ghost use Rattle.heap_ids.specs.Sets.{Covers, IsIn};
 
 use crate::held::{Held, ReserveBlocks};
-use crate::seats::Seats;
 use heap_ids::IdSet;
+use heap_notes::Seats;
 use heap_read::{HeapRef, Reader};
 use heap_reserve::Reserve;
 use heap_rule::{HeapSize, MAX};

@@ -5,7 +5,7 @@ use Rattle.heap_intern.specs.Given.{InternsGiven}
 use Rattle.heap_intern.specs.Hashes.{AreHashes}
 use Rattle.heap_intern.specs.Seats.{AreSeats, IsSeatOf}
 use Rattle.heap_intern.proofs.KeptKeys.{kept_searched}
-use Rattle.heap_agents.proofs.NotesStay.{notes_kept, notes_reached}
+use Rattle.heap_notes.proofs.NotesStay.{notes_kept, notes_reached}
 use Rattle.agent_keys.proofs.noting.search_units.Goals as goal
 
 pub search_by_hash-requires-clause-noted : goal.search_by_hash-requires-clause-noted

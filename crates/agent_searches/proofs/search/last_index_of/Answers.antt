@@ -1,5 +1,5 @@
 use Rattle.std.proofs.Common.{Option, subst}
-use Rattle.heap_agents.specs.Noted.{AreNoted}
+use Rattle.heap_notes.specs.Noted.{AreNoted}
 use Rattle.heap_agents.specs.Shared.{SharedText, view_if}
 use Rattle.agent_searches.proofs.Searched.{searched}
 use Rattle.agent_searches.proofs.search.last_index_of.Goals as goal

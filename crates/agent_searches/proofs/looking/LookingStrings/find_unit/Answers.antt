@@ -3,7 +3,7 @@ use Rattle.std.specs.Arc.{arc_value}
 use Rattle.heap_rule.specs.declared.view.View.{View}
 use Rattle.heap_table.specs.Agents.{view_of}
 use Rattle.heap_read.proofs.Loaded.{reads_trans}
-use Rattle.heap_agents.proofs.NotesStay.{notes_kept}
+use Rattle.heap_notes.proofs.NotesStay.{notes_kept}
 use Rattle.agent_searches.proofs.Refusing.{looks}
 use Rattle.agent_searches.proofs.looking.LookingStrings.find_unit.Goals as goal
 

@@ -4,7 +4,7 @@ use Rattle.heap_rule.specs.declared.view.View.{View}
 use Rattle.heap_rule.proofs.MapLemmas.{has_key}
 use Rattle.heap_rule.proofs.Possible.{possible_short}
 use Rattle.heap_table.specs.Agents.{view_of}
-use Rattle.heap_agents.proofs.NotesStay.{notes_kept}
+use Rattle.heap_notes.proofs.NotesStay.{notes_kept}
 use Rattle.agent_searches.proofs.Refusing.{looks}
 use Rattle.agent_searches.proofs.looking.LookingStrings.len.Goals as goal
 

@@ -1,7 +1,7 @@
 use Rattle.std.proofs.Common.{ap}
 use Rattle.std.specs.Arc.{arc_value}
 use Rattle.heap_table.specs.Agents.{view_of}
-use Rattle.heap_agents.proofs.NotesStay.{notes_kept}
+use Rattle.heap_notes.proofs.NotesStay.{notes_kept}
 use Rattle.agent_searches.proofs.Refusing.{looks}
 use Rattle.agent_searches.proofs.looking.LookingStrings.unit_at.Goals as goal
 

@@ -1,7 +1,7 @@
 use Rattle.std.proofs.Common.{◌≡◌, ◌∙◌, ℕ, length, subst, sym}
 use Rattle.std.proofs.lemmas.List.{take_at}
 use Rattle.heap_intern.specs.KeptKeys.{AreKeptKeys}
-use Rattle.heap_agents.proofs.seats.Seats.keep_list.Goals as goal
+use Rattle.heap_notes.proofs.seats.Seats.keep_list.Goals as goal
 
 pub returns-clause-right : goal.returns-clause-right
 returns-clause-right c v h seat = let n : ℕ = c.args.self.now.keys.len in let len : length c.keep_key.new.keys ≡ n = c.keep_key.ensures.room ∙ c.as_mut_slice.ensures.len in

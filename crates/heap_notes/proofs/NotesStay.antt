@@ -11,8 +11,8 @@ use Rattle.heap_intern.specs.declared.table.kept.KeptKey.{KeptKey}
 use Rattle.heap_intern.specs.Hashes.{AreHashes}
 use Rattle.heap_intern.specs.KeptKeys.{AreKeptKeys}
 use Rattle.heap_intern.specs.Seats.{AreSeats}
-use Rattle.heap_agents.specs.declared.seats.Seats.{Seats}
-use Rattle.heap_agents.specs.Noted.{AreNoted}
+use Rattle.heap_notes.specs.declared.seats.Seats.{Seats}
+use Rattle.heap_notes.specs.Noted.{AreNoted}
 
 pub notes_kept : (v w : View) → IsPossible v → KeepsKnown v w → w.sizes ≡ v.sizes → (s : Seats) → AreNoted v s → AreNoted w s
 notes_kept v w p known sizes s h = (

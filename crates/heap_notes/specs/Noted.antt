@@ -4,7 +4,7 @@ use Rattle.heap_rule.specs.declared.view.View.{View}
 use Rattle.heap_intern.specs.Hashes.{AreHashes}
 use Rattle.heap_intern.specs.KeptKeys.{AreKeptKeys}
 use Rattle.heap_intern.specs.Seats.{AreSeats}
-use Rattle.heap_agents.specs.declared.seats.Seats.{Seats}
+use Rattle.heap_notes.specs.declared.seats.Seats.{Seats}
 
 abbrev pub AreNoted : View → Seats → Type 0
 AreNoted v s = AreSeats v s.slots.items × AreHashes v s.hashes.items × AreKeptKeys v s.keys.items

@@ -45,8 +45,8 @@ fn trust_after(trust: u32, found: bool) -> u32 {
 }
 
 impl Seats {
-    // Nothing is noted.
-    pub(crate) fn none(alloc: Global) -> Seats
+    /// Nothing is noted.
+    pub fn none(alloc: Global) -> Seats
         ensures slots { result.slots.items ≡ [] }
         ensures hashes { result.hashes.items ≡ [] }
         ensures keys { result.keys.items ≡ [] }
