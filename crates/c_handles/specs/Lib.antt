@@ -1,3 +1,4 @@
 pub mod Owned
 pub mod OwnedText
 pub mod Handles
+pub mod Lending

@@ -1,9 +1,11 @@
 // What C holds of an agent.
 ghost use Rattle.std.specs.Prelude.{◌≡◌, ◌↔◌, ◌<◌, IsTrue, None, Some};
+ghost use Rattle.std.specs.Borrow.{sem};
 ghost use Rattle.heap_rule.specs.Maps.{HasKey};
 ghost use Rattle.heap_agents.specs.Held.{IsHeld};
 ghost use Rattle.heap_agents.specs.Ready.{HasInterned, HasWhole, IsReady, HandleKnows, giver_in, handle_number, handle_view, size_in};
 ghost use Rattle.c_handles.specs.Handles.{IsHandle};
+ghost use Rattle.c_handles.specs.Lending.{LendsAgent};
 
 use crate::handle::Boxed;
 use heap_agents::Held;
@@ -41,6 +43,17 @@ impl JsAgent {
         self.live = 1;
     }
 
+    /// The agent, lent. `live` is 1 from then on, as it is of a handle whose agent was put there.
+    pub fn held(&mut self) -> &mut Held
+        requires { IsReady self.old.at.value }
+        ensures* writes_back { sem 𝓛 (LendsAgent self.entry result) }
+        ensures value { self.old.at.value ≡ Some result.now }
+        ensures held { IsHeld result.now }
+    {
+        self.live = 1;
+        self.at.held()
+    }
+
     /// Whether a handle has no agent.
     pub fn is_empty(&self) -> bool
         requires { IsHandle self.now }
@@ -60,10 +73,7 @@ impl JsAgent {
         if self.is_empty() {
             return false;
         }
-        let held = self.take(alloc);
-        let interned = held.has_interned(id);
-        self.put(held);
-        interned
+        self.held().has_interned(id)
     }
 
     /// Whether its agent has the whole share.
@@ -77,10 +87,7 @@ impl JsAgent {
         if self.is_empty() {
             return false;
         }
-        let held = self.take(alloc);
-        let whole = held.has_whole();
-        self.put(held);
-        whole
+        self.held().has_whole()
     }
 
     /// Whether its heap has a slot with this number; false where there is no agent.
@@ -94,10 +101,7 @@ impl JsAgent {
         if self.is_empty() {
             return false;
         }
-        let held = self.take(alloc);
-        let inside = slot < held.slots();
-        self.put(held);
-        inside
+        slot < self.held().slots()
     }
 
     /// The number of its agent; 0 where there is none.
@@ -110,10 +114,7 @@ impl JsAgent {
         if self.is_empty() {
             return 0;
         }
-        let held = self.take(alloc);
-        let number = held.number();
-        self.put(held);
-        number
+        self.held().number()
     }
 
     /// The number of the agent that its agent was split off from; 0 where there is none.
@@ -126,10 +127,7 @@ impl JsAgent {
         if self.is_empty() {
             return 0;
         }
-        let held = self.take(alloc);
-        let giver = held.giver();
-        self.put(held);
-        giver
+        self.held().giver()
     }
 
     /// Whether its agent may use a string.
@@ -144,10 +142,7 @@ impl JsAgent {
         if self.is_empty() {
             return false;
         }
-        let held = self.take(alloc);
-        let known = held.knows(id);
-        self.put(held);
-        known
+        self.held().knows(id)
     }
 }
 

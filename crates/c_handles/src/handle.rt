@@ -1,6 +1,7 @@
 // The pointer of a handle. No clause of an export reads it; `value` is what lies there, and None of a
 // handle that is not made yet or was freed, whose pointer is never followed.
 ghost use Rattle.std.specs.Prelude.{◌≡◌, Option, None, Some};
+ghost use Rattle.std.specs.Borrow.{sem};
 ghost use Rattle.heap_agents.specs.declared.held.Held.{Held};
 ghost use Rattle.c_handles.specs.Owned.{handle_owns, held_coded};
 ghost use Rattle.heap_agents.specs.Held.{IsHeld};
@@ -27,6 +28,8 @@ impl Model for Boxed {
 }
 
 impl Boxed {
+    ghost use Rattle.c_handles.specs.Lending.{LendsHeld};
+
     // A handle of nothing.
     fn nothing(alloc: Global) -> Boxed
         ensures { result.value ≡ None }
@@ -82,6 +85,16 @@ impl Boxed {
     {
         let nothing = Boxed::nothing(alloc);
         replace(self, nothing).into_box()
+    }
+
+    /// What lies there, lent.
+    pub fn held(&mut self) -> &mut Held
+        requires { IsReady self.old.value }
+        ensures* writes_back { sem 𝓛 (LendsHeld self.entry result) }
+        ensures value { self.old.value ≡ Some result.now }
+        ensures held { IsHeld result.now }
+    {
+        unsafe { &mut *self.ptr.cast::<Held>() }
     }
 
     /// Puts a box here, where nothing is.

@@ -1,8 +1,9 @@
 //! What C holds of an agent, and of a text that is built up: a `#[repr(C)]` pointer to a box that the handle
 //! owns, whose clauses speak of what lies there.
 //!
-//! A [`JsAgent`] takes its box out for a call and puts it back; while it is out, the handle has nothing. A
-//! [`BoxedText`] is the same of a text of `heap_build`.
+//! A [`JsAgent`] lends its agent for a call. Its box is taken out only where the agent goes to another owner.
+//! A [`BoxedText`] has a text of `heap_build`, whose box a call takes out and puts back; while it is out, the
+//! handle has nothing.
 #![tactic(auto)]
 
 mod agent;
