@@ -14,7 +14,7 @@ import re
 
 REFERENCE = re.compile(r"`(\w+/(?:src|specs|proofs)[\w/]*(?:\.rt|\.antt)?): ([^`]+)`")
 FUNCTION = re.compile(r'\s*(pub )?(?:pub\(crate\) )?(?:const )?(?:unsafe )?(?:extern "C" )?fn (\w+)')
-CLAUSE = re.compile(r"\s*ensures (?:(\w+) )?\{")
+CLAUSE = re.compile(r"\s*ensures\*? (?:(\w+) )?\{")
 DEFINITION = r"(?m)^\s*(?:abbrev |unfoldable |pub |record |data |let |lemma |theorem |private )*%s(?=[ :(]|$)"
 
 Contract = collections.namedtuple("Contract", "name is_public clauses")

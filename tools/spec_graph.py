@@ -526,7 +526,7 @@ def field_names(text):
 def ghost_parts(text):
     """The clauses and ghost parts in a text of code: what is in braces behind `requires`, `ensures` or `ghost`."""
     found = []
-    for match in re.finditer(r"(?:requires|ensures|decreases)\b\s*\w*\s*\{|ghost \w+\s*[:=]\s*\{", text):
+    for match in re.finditer(r"(?:requires|ensures|decreases)\b\*?\s*\w*\s*\{|ghost \w+\s*[:=]\s*\{", text):
         depth, at = 1, match.end()
         while depth and at < len(text):
             depth += {"{": 1, "}": -1}.get(text[at], 0)
