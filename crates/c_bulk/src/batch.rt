@@ -7,13 +7,11 @@ ghost use Rattle.c_steps.specs.Reports as reports;
 
 use c_handles::JsAgent;
 use c_steps::{JsAnswer, are_lists, bad_argument, of_batch};
-use std::alloc::Global;
 
 /// The one string of the table for each of many lists of units, in turn, up to the first one that is refused.
 /// The lists lie one behind another; `ends` has where each ends.
 #[unsafe(no_mangle)]
 pub extern "C" fn jsstr_intern_many_unchecked(
-    alloc: Global,
     agent: &mut JsAgent,
     units: &[u16],
     ends: &[u32],
@@ -26,16 +24,13 @@ pub extern "C" fn jsstr_intern_many_unchecked(
     ensures interns { InternsMany agent.old.at.value agent.new.at.value units.now ends.now ids.old ids.new
         result }
 {
-    let mut held = agent.take(alloc);
-    let batch = agent_keys::intern_many(&mut held, units, ends, ids);
-    agent.put(held);
+    let batch = agent_keys::intern_many(agent.held(), units, ends, ids);
     of_batch(batch)
 }
 
 /// The same, with its conditions tested.
 #[unsafe(no_mangle)]
 pub extern "C" fn jsstr_intern_many(
-    alloc: Global,
     agent: &mut JsAgent,
     units: &[u16],
     ends: &[u32],
@@ -53,5 +48,5 @@ pub extern "C" fn jsstr_intern_many(
     if agent.is_empty() || !are_lists(units.len(), ends, ids.len()) {
         return bad_argument();
     }
-    jsstr_intern_many_unchecked(alloc, agent, units, ends, ids)
+    jsstr_intern_many_unchecked(agent, units, ends, ids)
 }

@@ -125,18 +125,14 @@ pub extern "C" fn jsstr_build_string_unchecked(
     ensures builds { (us : List ℕ) → Has (handle_view agent.old.at.value).units s us
         → AddsToText text.old.at.value text.new.at.value us result }
 {
-    let mut held = agent.take(alloc);
+    let held = agent.held();
     match text.open(alloc) {
         Ok(mut opened) => {
-            let answer = agent_reads::add_to(&mut held, JsStr { id: s }, &mut opened);
-            agent.put(held);
+            let answer = agent_reads::add_to(held, JsStr { id: s }, &mut opened);
             text.put(opened);
             status_of(answer)
         }
-        Err(_) => {
-            agent.put(held);
-            NO_MEMORY
-        }
+        Err(_) => NO_MEMORY,
     }
 }
 
@@ -156,7 +152,7 @@ pub extern "C" fn jsstr_build_string(
         (text.new.at.value ≡ text.old.at.value)
         (λ us. AddsToText text.old.at.value text.new.at.value us result) }
 {
-    let settled = settle_known(alloc, agent, s);
+    let settled = settle_known(agent, s);
     if settled.status != DONE {
         return settled.status;
     }

@@ -61,7 +61,7 @@ pub extern "C" fn jsstr_copy_into(
     if to.is_empty() {
         return bad_argument();
     }
-    let settled = settle_known(alloc, from, s);
+    let settled = settle_known(from, s);
     if settled.status != DONE {
         return settled;
     }
@@ -115,7 +115,7 @@ pub extern "C" fn jsstr_intern_into(
     if to.is_empty() {
         return bad_argument();
     }
-    let settled = settle_known(alloc, from, s);
+    let settled = settle_known(from, s);
     if settled.status != DONE {
         return settled;
     }

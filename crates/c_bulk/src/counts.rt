@@ -16,26 +16,23 @@ use c_steps::{
     BAD_ARGUMENT, DONE, JsNumber, JsRoom, JsTotals, JsUse, of_room, without_number, without_room,
     without_totals,
 };
-use std::alloc::Global;
 
 /// What is used of the heap at this moment, while other agents use it.
 #[unsafe(no_mangle)]
-pub extern "C" fn jsstr_room_of_unchecked(alloc: Global, agent: &mut JsAgent) -> JsRoom
+pub extern "C" fn jsstr_room_of_unchecked(agent: &mut JsAgent) -> JsRoom
     requires ready { IsReady agent.old.at.value }
     ensures handle { IsHandle agent.new }
     ensures ready { IsReady agent.new.at.value }
     ensures told { result.status ≡ reports.DONE }
     ensures gauges { IsGauging agent.old.at.value agent.new.at.value result }
 {
-    let mut held = agent.take(alloc);
-    let room = held.room();
-    agent.put(held);
+    let room = agent.held().room();
     of_room(room)
 }
 
 /// The same, with its conditions tested.
 #[unsafe(no_mangle)]
-pub extern "C" fn jsstr_room_of(alloc: Global, agent: &mut JsAgent) -> JsRoom
+pub extern "C" fn jsstr_room_of(agent: &mut JsAgent) -> JsRoom
     requires { IsHandle agent.old }
     ensures handle { IsHandle agent.new }
     ensures bad { result.status ≡ reports.BAD_ARGUMENT ↔ ¬ (IsReady agent.old.at.value) }
@@ -47,12 +44,12 @@ pub extern "C" fn jsstr_room_of(alloc: Global, agent: &mut JsAgent) -> JsRoom
     if agent.is_empty() {
         return without_room(BAD_ARGUMENT);
     }
-    jsstr_room_of_unchecked(alloc, agent)
+    jsstr_room_of_unchecked(agent)
 }
 
 /// The ids and the content words that were ever claimed, for an agent that has the whole share.
 #[unsafe(no_mangle)]
-pub extern "C" fn jsstr_totals_unchecked(alloc: Global, agent: &mut JsAgent) -> JsUse
+pub extern "C" fn jsstr_totals_unchecked(agent: &mut JsAgent) -> JsUse
     requires ready { IsReady agent.old.at.value }
     requires whole { (handle_view agent.old.at.value).share ≡ (handle_view agent.old.at.value).agents }
     ensures handle { IsHandle agent.new }
@@ -66,15 +63,13 @@ pub extern "C" fn jsstr_totals_unchecked(alloc: Global, agent: &mut JsAgent) -> 
     ensures ids { result.ids ≡ (handle_view agent.old.at.value).used.ids }
     ensures words { result.words ≡ (handle_view agent.old.at.value).used.words }
 {
-    let mut held = agent.take(alloc);
-    let (ids, words) = held.totals();
-    agent.put(held);
+    let (ids, words) = agent.held().totals();
     JsUse { ids, words }
 }
 
 /// The same, with its conditions tested.
 #[unsafe(no_mangle)]
-pub extern "C" fn jsstr_totals(alloc: Global, agent: &mut JsAgent) -> JsTotals
+pub extern "C" fn jsstr_totals(agent: &mut JsAgent) -> JsTotals
     requires { IsHandle agent.old }
     ensures handle { IsHandle agent.new }
     ensures bad { result.status ≡ reports.BAD_ARGUMENT ↔ ¬ (HasWhole agent.old.at.value) }
@@ -91,10 +86,10 @@ pub extern "C" fn jsstr_totals(alloc: Global, agent: &mut JsAgent) -> JsTotals
     ensures words { result.status ≡ reports.DONE → result.words
         ≡ (handle_view agent.old.at.value).used.words }
 {
-    if !agent.has_whole(alloc) {
+    if !agent.has_whole() {
         return without_totals(BAD_ARGUMENT);
     }
-    let used = jsstr_totals_unchecked(alloc, agent);
+    let used = jsstr_totals_unchecked(agent);
     JsTotals {
         status: DONE,
         ids: used.ids,
@@ -104,7 +99,7 @@ pub extern "C" fn jsstr_totals(alloc: Global, agent: &mut JsAgent) -> JsTotals
 
 /// How many different lists of units were interned, for an agent that has the whole share.
 #[unsafe(no_mangle)]
-pub extern "C" fn jsstr_count_interned_unchecked(alloc: Global, agent: &mut JsAgent) -> u32
+pub extern "C" fn jsstr_count_interned_unchecked(agent: &mut JsAgent) -> u32
     requires ready { IsReady agent.old.at.value }
     requires whole { (handle_view agent.old.at.value).share ≡ (handle_view agent.old.at.value).agents }
     ensures handle { IsHandle agent.new }
@@ -114,15 +109,12 @@ pub extern "C" fn jsstr_count_interned_unchecked(alloc: Global, agent: &mut JsAg
     ensures looks { LoadsAlone (handle_view agent.old.at.value) (handle_view agent.new.at.value) }
     ensures count { result ≡ different (history (handle_view agent.old.at.value)) }
 {
-    let mut held = agent.take(alloc);
-    let answer = held.count_interned();
-    agent.put(held);
-    answer
+    agent.held().count_interned()
 }
 
 /// The same, with its conditions tested.
 #[unsafe(no_mangle)]
-pub extern "C" fn jsstr_count_interned(alloc: Global, agent: &mut JsAgent) -> JsNumber
+pub extern "C" fn jsstr_count_interned(agent: &mut JsAgent) -> JsNumber
     requires { IsHandle agent.old }
     ensures handle { IsHandle agent.new }
     ensures bad { result.status ≡ reports.BAD_ARGUMENT ↔ ¬ (HasWhole agent.old.at.value) }
@@ -136,10 +128,10 @@ pub extern "C" fn jsstr_count_interned(alloc: Global, agent: &mut JsAgent) -> Js
     ensures count { result.status ≡ reports.DONE
         → result.value ≡ different (history (handle_view agent.old.at.value)) }
 {
-    if !agent.has_whole(alloc) {
+    if !agent.has_whole() {
         return without_number(BAD_ARGUMENT);
     }
-    let value = jsstr_count_interned_unchecked(alloc, agent);
+    let value = jsstr_count_interned_unchecked(agent);
     JsNumber {
         status: DONE,
         value,

@@ -10,35 +10,22 @@ use c_handles::JsAgent;
 use c_steps::{
     BAD_ARGUMENT, DONE, JsAnswer, JsTotals, JsUse, bad_argument, of_reserve, without_totals,
 };
-use std::alloc::Global;
 
 /// Claims so many content words in one piece, and then so many ids, from which later strings are taken.
 #[unsafe(no_mangle)]
-pub extern "C" fn jsstr_reserve_unchecked(
-    alloc: Global,
-    agent: &mut JsAgent,
-    ids: u32,
-    words: u32,
-) -> JsAnswer
+pub extern "C" fn jsstr_reserve_unchecked(agent: &mut JsAgent, ids: u32, words: u32) -> JsAnswer
     requires ready { IsReady agent.old.at.value }
     ensures handle { IsHandle agent.new }
     ensures told { result.status ≢ reports.BAD_ARGUMENT }
     ensures claims { IsReserving agent.old.at.value agent.new.at.value ids words result }
 {
-    let mut held = agent.take(alloc);
-    let answer = agent_makes::reserve(&mut held, ids, words);
-    agent.put(held);
+    let answer = agent_makes::reserve(agent.held(), ids, words);
     of_reserve(answer)
 }
 
 /// The same, with its conditions tested.
 #[unsafe(no_mangle)]
-pub extern "C" fn jsstr_reserve(
-    alloc: Global,
-    agent: &mut JsAgent,
-    ids: u32,
-    words: u32,
-) -> JsAnswer
+pub extern "C" fn jsstr_reserve(agent: &mut JsAgent, ids: u32, words: u32) -> JsAnswer
     requires { IsHandle agent.old }
     ensures handle { IsHandle agent.new }
     ensures bad { result.status ≡ reports.BAD_ARGUMENT ↔ ¬ (IsReady agent.old.at.value) }
@@ -50,27 +37,25 @@ pub extern "C" fn jsstr_reserve(
     if agent.is_empty() {
         return bad_argument();
     }
-    jsstr_reserve_unchecked(alloc, agent, ids, words)
+    jsstr_reserve_unchecked(agent, ids, words)
 }
 
 /// How many ids and content words of an agent were claimed in advance, and are left.
 #[unsafe(no_mangle)]
-pub extern "C" fn jsstr_reserved_unchecked(alloc: Global, agent: &mut JsAgent) -> JsUse
+pub extern "C" fn jsstr_reserved_unchecked(agent: &mut JsAgent) -> JsUse
     requires ready { IsReady agent.old.at.value }
     ensures handle { IsHandle agent.new }
     ensures same { agent.new.at.value ≡ agent.old.at.value }
     ensures ids { result.ids ≡ handle_reserved_ids agent.old.at.value }
     ensures words { result.words ≡ handle_reserved_words agent.old.at.value }
 {
-    let held = agent.take(alloc);
-    let (ids, words) = agent_makes::reserved(&held);
-    agent.put(held);
+    let (ids, words) = agent_makes::reserved(agent.held());
     JsUse { ids, words }
 }
 
 /// The same, with its conditions tested.
 #[unsafe(no_mangle)]
-pub extern "C" fn jsstr_reserved(alloc: Global, agent: &mut JsAgent) -> JsTotals
+pub extern "C" fn jsstr_reserved(agent: &mut JsAgent) -> JsTotals
     requires { IsHandle agent.old }
     ensures handle { IsHandle agent.new }
     ensures unchanged { agent.new.at.value ≡ agent.old.at.value }
@@ -82,7 +67,7 @@ pub extern "C" fn jsstr_reserved(alloc: Global, agent: &mut JsAgent) -> JsTotals
     if agent.is_empty() {
         return without_totals(BAD_ARGUMENT);
     }
-    let kept = jsstr_reserved_unchecked(alloc, agent);
+    let kept = jsstr_reserved_unchecked(agent);
     JsTotals {
         status: DONE,
         ids: kept.ids,
@@ -93,19 +78,17 @@ pub extern "C" fn jsstr_reserved(alloc: Global, agent: &mut JsAgent) -> JsTotals
 /// Sets how many ids and content words the agent claims at once from now on, where a new string finds too few
 /// in reserve; 0 and 0 to stop that.
 #[unsafe(no_mangle)]
-pub extern "C" fn jsstr_renew_unchecked(alloc: Global, agent: &mut JsAgent, ids: u32, words: u32)
+pub extern "C" fn jsstr_renew_unchecked(agent: &mut JsAgent, ids: u32, words: u32)
     requires ready { IsReady agent.old.at.value }
     ensures handle { IsHandle agent.new }
     ensures sets { HandleSetsBlocks agent.old.at.value agent.new.at.value ids words }
 {
-    let mut held = agent.take(alloc);
-    agent_makes::renew(&mut held, ids, words);
-    agent.put(held);
+    agent_makes::renew(agent.held(), ids, words);
 }
 
 /// The same, with its conditions tested.
 #[unsafe(no_mangle)]
-pub extern "C" fn jsstr_renew(alloc: Global, agent: &mut JsAgent, ids: u32, words: u32) -> u32
+pub extern "C" fn jsstr_renew(agent: &mut JsAgent, ids: u32, words: u32) -> u32
     requires { IsHandle agent.old }
     ensures handle { IsHandle agent.new }
     ensures bad { result ≡ reports.BAD_ARGUMENT ↔ ¬ (IsReady agent.old.at.value) }
@@ -117,6 +100,6 @@ pub extern "C" fn jsstr_renew(alloc: Global, agent: &mut JsAgent, ids: u32, word
     if agent.is_empty() {
         return BAD_ARGUMENT;
     }
-    jsstr_renew_unchecked(alloc, agent, ids, words);
+    jsstr_renew_unchecked(agent, ids, words);
     DONE
 }

@@ -64,7 +64,7 @@ impl JsAgent {
     }
 
     /// Whether a string is an answer of the string table that its agent knows.
-    pub fn has_interned(&mut self, alloc: Global, id: u32) -> bool
+    pub fn has_interned(&mut self, id: u32) -> bool
         requires { IsHandle self.old }
         ensures handle { IsHandle self.new }
         ensures same { self.new.at.value ≡ self.old.at.value }
@@ -77,7 +77,7 @@ impl JsAgent {
     }
 
     /// Whether its agent has the whole share.
-    pub fn has_whole(&mut self, alloc: Global) -> bool
+    pub fn has_whole(&mut self) -> bool
         requires { IsHandle self.old }
         ensures handle { IsHandle self.new }
         ensures same { self.new.at.value ≡ self.old.at.value }
@@ -91,7 +91,7 @@ impl JsAgent {
     }
 
     /// Whether its heap has a slot with this number; false where there is no agent.
-    pub fn has_slot(&mut self, alloc: Global, slot: u32) -> bool
+    pub fn has_slot(&mut self, slot: u32) -> bool
         requires { IsHandle self.old }
         ensures handle { IsHandle self.new }
         ensures same { self.new.at.value ≡ self.old.at.value }
@@ -105,7 +105,7 @@ impl JsAgent {
     }
 
     /// The number of its agent; 0 where there is none.
-    pub fn number(&mut self, alloc: Global) -> u64
+    pub fn number(&mut self) -> u64
         requires { IsHandle self.old }
         ensures handle { IsHandle self.new }
         ensures same { self.new.at.value ≡ self.old.at.value }
@@ -118,7 +118,7 @@ impl JsAgent {
     }
 
     /// The number of the agent that its agent was split off from; 0 where there is none.
-    pub fn giver(&mut self, alloc: Global) -> u64
+    pub fn giver(&mut self) -> u64
         requires { IsHandle self.old }
         ensures handle { IsHandle self.new }
         ensures same { self.new.at.value ≡ self.old.at.value }
@@ -131,7 +131,7 @@ impl JsAgent {
     }
 
     /// Whether its agent may use a string.
-    pub fn knows(&mut self, alloc: Global, id: u32) -> bool
+    pub fn knows(&mut self, id: u32) -> bool
         requires { IsHandle self.old }
         ensures handle { IsHandle self.new }
         ensures same { self.new.at.value ≡ self.old.at.value }

@@ -19,16 +19,10 @@ use c_steps::{
 use heap_bytes::{Encoding, Spelling};
 use heap_rule::MAX;
 use heap_text::JsStr;
-use std::alloc::Global;
 
 /// Whether a settled string has just these units.
 #[unsafe(no_mangle)]
-pub extern "C" fn jsstr_equals_units_unchecked(
-    alloc: Global,
-    agent: &mut JsAgent,
-    s: u32,
-    units: &[u16],
-) -> bool
+pub extern "C" fn jsstr_equals_units_unchecked(agent: &mut JsAgent, s: u32, units: &[u16]) -> bool
     requires ready { IsReady agent.old.at.value }
     requires known { HasKey (handle_view agent.old.at.value).units s }
     requires settled { IsSeenSettled (handle_view agent.old.at.value) s }
@@ -37,30 +31,22 @@ pub extern "C" fn jsstr_equals_units_unchecked(
     ensures same { (us : List ℕ) → Has (handle_view agent.old.at.value).units s us
         → IsTrue result ↔ (us ≡ units.now) }
 {
-    let mut held = agent.take(alloc);
-    let answer = agent_reads::has_units(&mut held, JsStr { id: s }, units);
-    agent.put(held);
-    answer
+    agent_reads::has_units(agent.held(), JsStr { id: s }, units)
 }
 
 /// The same, with its conditions tested and the string settled first.
 #[unsafe(no_mangle)]
-pub extern "C" fn jsstr_equals_units(
-    alloc: Global,
-    agent: &mut JsAgent,
-    s: u32,
-    units: &[u16],
-) -> JsTruth
+pub extern "C" fn jsstr_equals_units(agent: &mut JsAgent, s: u32, units: &[u16]) -> JsTruth
     requires { IsHandle agent.old }
     ensures handle { IsHandle agent.new }
     ensures bad { result.status ≡ reports.BAD_ARGUMENT ↔ ¬ (HandleKnows agent.old.at.value s) }
     ensures compares { ComparesUnits agent.old.at.value agent.new.at.value s units.now result }
 {
-    let settled = settle_known(alloc, agent, s);
+    let settled = settle_known(agent, s);
     if settled.status != DONE {
         return without_truth(settled.status);
     }
-    let holds = jsstr_equals_units_unchecked(alloc, agent, s, units);
+    let holds = jsstr_equals_units_unchecked(agent, s, units);
     JsTruth {
         status: DONE,
         holds,
@@ -69,12 +55,7 @@ pub extern "C" fn jsstr_equals_units(
 
 /// Whether a settled string has just these one-byte units, as Latin-1 is.
 #[unsafe(no_mangle)]
-pub extern "C" fn jsstr_equals_latin1_unchecked(
-    alloc: Global,
-    agent: &mut JsAgent,
-    s: u32,
-    bytes: &[u8],
-) -> bool
+pub extern "C" fn jsstr_equals_latin1_unchecked(agent: &mut JsAgent, s: u32, bytes: &[u8]) -> bool
     requires ready { IsReady agent.old.at.value }
     requires known { HasKey (handle_view agent.old.at.value).units s }
     requires settled { IsSeenSettled (handle_view agent.old.at.value) s }
@@ -83,35 +64,25 @@ pub extern "C" fn jsstr_equals_latin1_unchecked(
     ensures same { (us : List ℕ) → Has (handle_view agent.old.at.value).units s us
         → IsTrue result ↔ (us ≡ bytes.now) }
 {
-    has_spelled(alloc, agent, s, &Spelling::Latin1(bytes))
+    has_spelled(agent, s, &Spelling::Latin1(bytes))
 }
 
 /// The same, with its conditions tested and the string settled first.
 #[unsafe(no_mangle)]
-pub extern "C" fn jsstr_equals_latin1(
-    alloc: Global,
-    agent: &mut JsAgent,
-    s: u32,
-    bytes: &[u8],
-) -> JsTruth
+pub extern "C" fn jsstr_equals_latin1(agent: &mut JsAgent, s: u32, bytes: &[u8]) -> JsTruth
     requires { IsHandle agent.old }
     ensures handle { IsHandle agent.new }
     ensures bad { result.status ≡ reports.BAD_ARGUMENT ↔ ¬ (HandleKnows agent.old.at.value s) }
     ensures memory { result.status ≢ reports.NO_MEMORY }
     ensures compares { ComparesUnits agent.old.at.value agent.new.at.value s bytes.now result }
 {
-    equals_spelled(alloc, agent, s, &Spelling::Latin1(bytes))
+    equals_spelled(agent, s, &Spelling::Latin1(bytes))
 }
 
 /// Whether a settled string has just the units of the text whose UTF-8 these bytes are. Other bytes are
 /// refused before anything is done.
 #[unsafe(no_mangle)]
-pub extern "C" fn jsstr_equals_utf8_unchecked(
-    alloc: Global,
-    agent: &mut JsAgent,
-    s: u32,
-    bytes: &[u8],
-) -> JsTruth
+pub extern "C" fn jsstr_equals_utf8_unchecked(agent: &mut JsAgent, s: u32, bytes: &[u8]) -> JsTruth
     requires ready { IsReady agent.old.at.value }
     requires known { HasKey (handle_view agent.old.at.value).units s }
     requires settled { IsSeenSettled (handle_view agent.old.at.value) s }
@@ -124,24 +95,19 @@ pub extern "C" fn jsstr_equals_utf8_unchecked(
 {
     match Spelling::read(Encoding::Utf8, bytes) {
         Ok(spelled) => {
-            let holds = has_spelled(alloc, agent, s, &spelled);
+            let holds = has_spelled(agent, s, &spelled);
             JsTruth {
                 status: DONE,
                 holds,
             }
         }
-        Err(at) => without_truth(left(alloc, agent, not_utf8(at as u32)).status),
+        Err(at) => without_truth(left(agent, not_utf8(at as u32)).status),
     }
 }
 
 /// The same, with its conditions tested; where the bytes are UTF-8, the string is settled first.
 #[unsafe(no_mangle)]
-pub extern "C" fn jsstr_equals_utf8(
-    alloc: Global,
-    agent: &mut JsAgent,
-    s: u32,
-    bytes: &[u8],
-) -> JsTruth
+pub extern "C" fn jsstr_equals_utf8(agent: &mut JsAgent, s: u32, bytes: &[u8]) -> JsTruth
     requires { IsHandle agent.old }
     ensures handle { IsHandle agent.new }
     ensures bad { result.status ≡ reports.BAD_ARGUMENT
@@ -154,11 +120,11 @@ pub extern "C" fn jsstr_equals_utf8(
         (result ≡ no_truth result.status)
         (λ vs. ComparesUnits agent.old.at.value agent.new.at.value s vs result) }
 {
-    if bytes.len() > MAX as usize || !agent.knows(alloc, s) {
+    if bytes.len() > MAX as usize || !agent.knows(s) {
         return without_truth(BAD_ARGUMENT);
     }
     match Spelling::read(Encoding::Utf8, bytes) {
-        Ok(spelled) => equals_spelled(alloc, agent, s, &spelled),
+        Ok(spelled) => equals_spelled(agent, s, &spelled),
         Err(_) => without_truth(NOT_UTF8),
     }
 }
@@ -166,12 +132,7 @@ pub extern "C" fn jsstr_equals_utf8(
 /// The order of a settled string and a list by units, where a proper prefix comes first: -1 where the
 /// string comes first, 0 where both have the same units, else 1.
 #[unsafe(no_mangle)]
-pub extern "C" fn jsstr_compare_units_unchecked(
-    alloc: Global,
-    agent: &mut JsAgent,
-    s: u32,
-    units: &[u16],
-) -> i32
+pub extern "C" fn jsstr_compare_units_unchecked(agent: &mut JsAgent, s: u32, units: &[u16]) -> i32
     requires ready { IsReady agent.old.at.value }
     requires known { HasKey (handle_view agent.old.at.value).units s }
     requires settled { IsSeenSettled (handle_view agent.old.at.value) s }
@@ -180,30 +141,23 @@ pub extern "C" fn jsstr_compare_units_unchecked(
     ensures order { (us : List ℕ) → Has (handle_view agent.old.at.value).units s us
         → result ≡ order_number (units_cmp us units.now) }
 {
-    let mut held = agent.take(alloc);
-    let answer = agent_reads::compare_units(&mut held, JsStr { id: s }, units);
-    agent.put(held);
+    let answer = agent_reads::compare_units(agent.held(), JsStr { id: s }, units);
     of_order(answer)
 }
 
 /// The same, with its conditions tested and the string settled first.
 #[unsafe(no_mangle)]
-pub extern "C" fn jsstr_compare_units(
-    alloc: Global,
-    agent: &mut JsAgent,
-    s: u32,
-    units: &[u16],
-) -> JsOrder
+pub extern "C" fn jsstr_compare_units(agent: &mut JsAgent, s: u32, units: &[u16]) -> JsOrder
     requires { IsHandle agent.old }
     ensures handle { IsHandle agent.new }
     ensures bad { result.status ≡ reports.BAD_ARGUMENT ↔ ¬ (HandleKnows agent.old.at.value s) }
     ensures compares { OrdersUnits agent.old.at.value agent.new.at.value s units.now result }
 {
-    let settled = settle_known(alloc, agent, s);
+    let settled = settle_known(agent, s);
     if settled.status != DONE {
         return without_order(settled.status);
     }
-    let order = jsstr_compare_units_unchecked(alloc, agent, s, units);
+    let order = jsstr_compare_units_unchecked(agent, s, units);
     JsOrder {
         status: DONE,
         order,
@@ -212,12 +166,7 @@ pub extern "C" fn jsstr_compare_units(
 
 /// The order of a settled string and one-byte units, as Latin-1 is.
 #[unsafe(no_mangle)]
-pub extern "C" fn jsstr_compare_latin1_unchecked(
-    alloc: Global,
-    agent: &mut JsAgent,
-    s: u32,
-    bytes: &[u8],
-) -> i32
+pub extern "C" fn jsstr_compare_latin1_unchecked(agent: &mut JsAgent, s: u32, bytes: &[u8]) -> i32
     requires ready { IsReady agent.old.at.value }
     requires known { HasKey (handle_view agent.old.at.value).units s }
     requires settled { IsSeenSettled (handle_view agent.old.at.value) s }
@@ -226,35 +175,25 @@ pub extern "C" fn jsstr_compare_latin1_unchecked(
     ensures order { (us : List ℕ) → Has (handle_view agent.old.at.value).units s us
         → result ≡ order_number (units_cmp us bytes.now) }
 {
-    compare_spelled(alloc, agent, s, &Spelling::Latin1(bytes))
+    compare_spelled(agent, s, &Spelling::Latin1(bytes))
 }
 
 /// The same, with its conditions tested and the string settled first.
 #[unsafe(no_mangle)]
-pub extern "C" fn jsstr_compare_latin1(
-    alloc: Global,
-    agent: &mut JsAgent,
-    s: u32,
-    bytes: &[u8],
-) -> JsOrder
+pub extern "C" fn jsstr_compare_latin1(agent: &mut JsAgent, s: u32, bytes: &[u8]) -> JsOrder
     requires { IsHandle agent.old }
     ensures handle { IsHandle agent.new }
     ensures bad { result.status ≡ reports.BAD_ARGUMENT ↔ ¬ (HandleKnows agent.old.at.value s) }
     ensures memory { result.status ≢ reports.NO_MEMORY }
     ensures compares { OrdersUnits agent.old.at.value agent.new.at.value s bytes.now result }
 {
-    order_spelled(alloc, agent, s, &Spelling::Latin1(bytes))
+    order_spelled(agent, s, &Spelling::Latin1(bytes))
 }
 
 /// The order of a settled string and the units of the text whose UTF-8 these bytes are. Other bytes are
 /// refused before anything is done.
 #[unsafe(no_mangle)]
-pub extern "C" fn jsstr_compare_utf8_unchecked(
-    alloc: Global,
-    agent: &mut JsAgent,
-    s: u32,
-    bytes: &[u8],
-) -> JsOrder
+pub extern "C" fn jsstr_compare_utf8_unchecked(agent: &mut JsAgent, s: u32, bytes: &[u8]) -> JsOrder
     requires ready { IsReady agent.old.at.value }
     requires known { HasKey (handle_view agent.old.at.value).units s }
     requires settled { IsSeenSettled (handle_view agent.old.at.value) s }
@@ -267,24 +206,19 @@ pub extern "C" fn jsstr_compare_utf8_unchecked(
 {
     match Spelling::read(Encoding::Utf8, bytes) {
         Ok(spelled) => {
-            let order = compare_spelled(alloc, agent, s, &spelled);
+            let order = compare_spelled(agent, s, &spelled);
             JsOrder {
                 status: DONE,
                 order,
             }
         }
-        Err(at) => without_order(left(alloc, agent, not_utf8(at as u32)).status),
+        Err(at) => without_order(left(agent, not_utf8(at as u32)).status),
     }
 }
 
 /// The same, with its conditions tested; where the bytes are UTF-8, the string is settled first.
 #[unsafe(no_mangle)]
-pub extern "C" fn jsstr_compare_utf8(
-    alloc: Global,
-    agent: &mut JsAgent,
-    s: u32,
-    bytes: &[u8],
-) -> JsOrder
+pub extern "C" fn jsstr_compare_utf8(agent: &mut JsAgent, s: u32, bytes: &[u8]) -> JsOrder
     requires { IsHandle agent.old }
     ensures handle { IsHandle agent.new }
     ensures bad { result.status ≡ reports.BAD_ARGUMENT
@@ -297,11 +231,11 @@ pub extern "C" fn jsstr_compare_utf8(
         (result ≡ no_order result.status)
         (λ vs. OrdersUnits agent.old.at.value agent.new.at.value s vs result) }
 {
-    if bytes.len() > MAX as usize || !agent.knows(alloc, s) {
+    if bytes.len() > MAX as usize || !agent.knows(s) {
         return without_order(BAD_ARGUMENT);
     }
     match Spelling::read(Encoding::Utf8, bytes) {
-        Ok(spelled) => order_spelled(alloc, agent, s, &spelled),
+        Ok(spelled) => order_spelled(agent, s, &spelled),
         Err(_) => without_order(NOT_UTF8),
     }
 }

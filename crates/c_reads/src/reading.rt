@@ -22,23 +22,22 @@ use c_steps::{
     without_truth, without_words,
 };
 use heap_text::JsStr;
-use std::alloc::Global;
 
 /// The length of a string, in units.
 #[unsafe(no_mangle)]
-pub extern "C" fn jsstr_length_unchecked(alloc: Global, agent: &mut JsAgent, s: u32) -> u32
+pub extern "C" fn jsstr_length_unchecked(agent: &mut JsAgent, s: u32) -> u32
     requires ready { IsReady agent.old.at.value }
     requires known { HasKey (handle_view agent.old.at.value).units s }
     ensures handle { IsHandle agent.new }
     ensures measures { ReadsLength agent.old.at.value agent.new.at.value }
     ensures length { (us : List ℕ) → Has (handle_view agent.old.at.value).units s us → result ≡ length us }
 {
-    length_of(alloc, agent, s)
+    length_of(agent, s)
 }
 
 /// The same, with its conditions tested.
 #[unsafe(no_mangle)]
-pub extern "C" fn jsstr_length(alloc: Global, agent: &mut JsAgent, s: u32) -> JsNumber
+pub extern "C" fn jsstr_length(agent: &mut JsAgent, s: u32) -> JsNumber
     requires { IsHandle agent.old }
     ensures handle { IsHandle agent.new }
     ensures bad { result.status ≡ reports.BAD_ARGUMENT ↔ ¬ (HandleKnows agent.old.at.value s) }
@@ -50,10 +49,10 @@ pub extern "C" fn jsstr_length(alloc: Global, agent: &mut JsAgent, s: u32) -> Js
     ensures length { result.status ≡ reports.DONE → (us : List ℕ)
         → Has (handle_view agent.old.at.value).units s us → result.value ≡ length us }
 {
-    if !agent.knows(alloc, s) {
+    if !agent.knows(s) {
         return without_number(BAD_ARGUMENT);
     }
-    let value = jsstr_length_unchecked(alloc, agent, s);
+    let value = jsstr_length_unchecked(agent, s);
     JsNumber {
         status: DONE,
         value,
@@ -62,13 +61,7 @@ pub extern "C" fn jsstr_length(alloc: Global, agent: &mut JsAgent, s: u32) -> Js
 
 /// The units of a settled string from unit `from` on, as many as there is room for.
 #[unsafe(no_mangle)]
-pub extern "C" fn jsstr_read_unchecked(
-    alloc: Global,
-    agent: &mut JsAgent,
-    s: u32,
-    from: u32,
-    out: &mut [u16],
-)
+pub extern "C" fn jsstr_read_unchecked(agent: &mut JsAgent, s: u32, from: u32, out: &mut [u16])
     requires ready { IsReady agent.old.at.value }
     requires settled { IsSeenSettled (handle_view agent.old.at.value) s }
     requires within { (us : List ℕ) × Has (handle_view agent.old.at.value).units s us
@@ -78,18 +71,12 @@ pub extern "C" fn jsstr_read_unchecked(
     ensures units { (us : List ℕ) → Has (handle_view agent.old.at.value).units s us
         → out.new ≡ slice_range us from (from + length out.old) }
 {
-    read_into(alloc, agent, s, from, out)
+    read_into(agent, s, from, out)
 }
 
 /// The same, with its conditions tested and the string settled first.
 #[unsafe(no_mangle)]
-pub extern "C" fn jsstr_read(
-    alloc: Global,
-    agent: &mut JsAgent,
-    s: u32,
-    from: u32,
-    out: &mut [u16],
-) -> u32
+pub extern "C" fn jsstr_read(agent: &mut JsAgent, s: u32, from: u32, out: &mut [u16]) -> u32
     requires { IsHandle agent.old }
     ensures handle { IsHandle agent.new }
     ensures bad { result ≡ reports.BAD_ARGUMENT
@@ -97,22 +84,17 @@ pub extern "C" fn jsstr_read(
     ensures reads { ReadsSettled agent.old.at.value agent.new.at.value s result (out.new ≡ out.old)
         (λ us. (result ≡ reports.DONE) × (out.new ≡ slice_range us from (from + length out.old))) }
 {
-    let settled = settle_reaching(alloc, agent, s, from, out.len());
+    let settled = settle_reaching(agent, s, from, out.len());
     if settled.status != DONE {
         return settled.status;
     }
-    jsstr_read_unchecked(alloc, agent, s, from, out);
+    jsstr_read_unchecked(agent, s, from, out);
     DONE
 }
 
 /// All units of a settled string into `out`; how many they are.
 #[unsafe(no_mangle)]
-pub extern "C" fn jsstr_read_all_unchecked(
-    alloc: Global,
-    agent: &mut JsAgent,
-    s: u32,
-    out: &mut [u16],
-) -> JsBytes
+pub extern "C" fn jsstr_read_all_unchecked(agent: &mut JsAgent, s: u32, out: &mut [u16]) -> JsBytes
     requires ready { IsReady agent.old.at.value }
     requires known { HasKey (handle_view agent.old.at.value).units s }
     requires settled { IsSeenSettled (handle_view agent.old.at.value) s }
@@ -123,20 +105,13 @@ pub extern "C" fn jsstr_read_all_unchecked(
     ensures given { (us : List ℕ) → Has (handle_view agent.old.at.value).units s us
         → IsGiven None us out.old out.new result }
 {
-    let mut held = agent.take(alloc);
-    let answer = agent_reads::write_units(&mut held, JsStr { id: s }, out);
-    agent.put(held);
+    let answer = agent_reads::write_units(agent.held(), JsStr { id: s }, out);
     of_bytes(answer)
 }
 
 /// The same, with its conditions tested and the string settled first.
 #[unsafe(no_mangle)]
-pub extern "C" fn jsstr_read_all(
-    alloc: Global,
-    agent: &mut JsAgent,
-    s: u32,
-    out: &mut [u16],
-) -> JsBytes
+pub extern "C" fn jsstr_read_all(agent: &mut JsAgent, s: u32, out: &mut [u16]) -> JsBytes
     requires { IsHandle agent.old }
     ensures handle { IsHandle agent.new }
     ensures bad { result.status ≡ reports.BAD_ARGUMENT ↔ ¬ (HandleKnows agent.old.at.value s) }
@@ -144,21 +119,16 @@ pub extern "C" fn jsstr_read_all(
         ((result ≡ no_bytes result.status) × (out.new ≡ out.old))
         (λ us. IsGiven None us out.old out.new result) }
 {
-    let settled = settle_known(alloc, agent, s);
+    let settled = settle_known(agent, s);
     if settled.status != DONE {
         return without_bytes(settled.status);
     }
-    jsstr_read_all_unchecked(alloc, agent, s, out)
+    jsstr_read_all_unchecked(agent, s, out)
 }
 
 /// Unit number `place` of a settled string.
 #[unsafe(no_mangle)]
-pub extern "C" fn jsstr_unit_at_unchecked(
-    alloc: Global,
-    agent: &mut JsAgent,
-    s: u32,
-    place: u32,
-) -> u16
+pub extern "C" fn jsstr_unit_at_unchecked(agent: &mut JsAgent, s: u32, place: u32) -> u16
     requires ready { IsReady agent.old.at.value }
     requires settled { IsSeenSettled (handle_view agent.old.at.value) s }
     requires within { (us : List ℕ) × Has (handle_view agent.old.at.value).units s us × (place < length us) }
@@ -167,26 +137,23 @@ pub extern "C" fn jsstr_unit_at_unchecked(
     ensures unit { (us : List ℕ) → Has (handle_view agent.old.at.value).units s us
         → result ≡ slice_index us place }
 {
-    let mut held = agent.take(alloc);
-    let answer = agent_reads::unit_at(&mut held, JsStr { id: s }, place);
-    agent.put(held);
-    answer
+    agent_reads::unit_at(agent.held(), JsStr { id: s }, place)
 }
 
 /// The same, with its conditions tested and the string settled first.
 #[unsafe(no_mangle)]
-pub extern "C" fn jsstr_unit_at(alloc: Global, agent: &mut JsAgent, s: u32, place: u32) -> JsNumber
+pub extern "C" fn jsstr_unit_at(agent: &mut JsAgent, s: u32, place: u32) -> JsNumber
     requires { IsHandle agent.old }
     ensures handle { IsHandle agent.new }
     ensures bad { result.status ≡ reports.BAD_ARGUMENT ↔ ¬ (ReachesLength agent.old.at.value s (place + 1)) }
     ensures reads { ReadsSettled agent.old.at.value agent.new.at.value s result.status
         (result ≡ no_number result.status) (λ us. result ≡ number_answer (Some (slice_index us place))) }
 {
-    let settled = settle_reaching(alloc, agent, s, place, 1);
+    let settled = settle_reaching(agent, s, place, 1);
     if settled.status != DONE {
         return without_number(settled.status);
     }
-    let unit = jsstr_unit_at_unchecked(alloc, agent, s, place);
+    let unit = jsstr_unit_at_unchecked(agent, s, place);
     of_number(Some(u32::from(unit)))
 }
 
@@ -194,7 +161,6 @@ pub extern "C" fn jsstr_unit_at(alloc: Global, agent: &mut JsAgent, s: u32, plac
 /// room for, and where its units are in them.
 #[unsafe(no_mangle)]
 pub extern "C" fn jsstr_window_unchecked(
-    alloc: Global,
     agent: &mut JsAgent,
     s: u32,
     at: u32,
@@ -211,21 +177,13 @@ pub extern "C" fn jsstr_window_unchecked(
     ensures there { (us : List ℕ) → Has (handle_view agent.old.at.value).units s us
         → AreThere (handle_view agent.new.at.value) us (shown_by result) }
 {
-    let mut held = agent.take(alloc);
-    let shown = agent_reads::window(&mut held, JsStr { id: s }, at, out);
-    agent.put(held);
+    let shown = agent_reads::window(agent.held(), JsStr { id: s }, at, out);
     of_words(shown)
 }
 
 /// The same, with its conditions tested and the string settled first.
 #[unsafe(no_mangle)]
-pub extern "C" fn jsstr_window(
-    alloc: Global,
-    agent: &mut JsAgent,
-    s: u32,
-    at: u32,
-    out: &mut [u64],
-) -> JsWords
+pub extern "C" fn jsstr_window(agent: &mut JsAgent, s: u32, at: u32, out: &mut [u64]) -> JsWords
     requires { IsHandle agent.old }
     ensures handle { IsHandle agent.new }
     ensures bad { result.status ≡ reports.BAD_ARGUMENT ↔ ¬ (HandleKnows agent.old.at.value s) }
@@ -234,18 +192,17 @@ pub extern "C" fn jsstr_window(
         (λ us. (result.status ≡ reports.DONE) × AreShown us at out.old out.new (shown_by result)
         × AreThere (handle_view agent.new.at.value) us (shown_by result)) }
 {
-    let settled = settle_known(alloc, agent, s);
+    let settled = settle_known(agent, s);
     if settled.status != DONE {
         return without_words(settled.status);
     }
-    jsstr_window_unchecked(alloc, agent, s, at, out)
+    jsstr_window_unchecked(agent, s, at, out)
 }
 
 /// The UTF-8 of a settled string into `out`. An unpaired surrogate becomes U+FFFD (0), refuses the call
 /// (1), or stays, as WTF-8 has it (2).
 #[unsafe(no_mangle)]
 pub extern "C" fn jsstr_to_utf8_unchecked(
-    alloc: Global,
     agent: &mut JsAgent,
     s: u32,
     unpaired: u32,
@@ -264,16 +221,13 @@ pub extern "C" fn jsstr_to_utf8_unchecked(
         out.old out.new result }
 {
     let way = unpaired_by(unpaired);
-    let mut held = agent.take(alloc);
-    let answer = agent_reads::write_utf8(&mut held, JsStr { id: s }, way, out);
-    agent.put(held);
+    let answer = agent_reads::write_utf8(agent.held(), JsStr { id: s }, way, out);
     of_bytes(answer)
 }
 
 /// The same, with its conditions tested and the string settled first.
 #[unsafe(no_mangle)]
 pub extern "C" fn jsstr_to_utf8(
-    alloc: Global,
     agent: &mut JsAgent,
     s: u32,
     unpaired: u32,
@@ -292,22 +246,17 @@ pub extern "C" fn jsstr_to_utf8(
     if unpaired > 2 {
         return without_bytes(BAD_ARGUMENT);
     }
-    let settled = settle_known(alloc, agent, s);
+    let settled = settle_known(agent, s);
     if settled.status != DONE {
         return without_bytes(settled.status);
     }
-    jsstr_to_utf8_unchecked(alloc, agent, s, unpaired, out)
+    jsstr_to_utf8_unchecked(agent, s, unpaired, out)
 }
 
 /// The units of a settled string into `out`, a byte each, as Latin-1 has them. A unit over 255 refuses the
 /// call.
 #[unsafe(no_mangle)]
-pub extern "C" fn jsstr_to_latin1_unchecked(
-    alloc: Global,
-    agent: &mut JsAgent,
-    s: u32,
-    out: &mut [u8],
-) -> JsBytes
+pub extern "C" fn jsstr_to_latin1_unchecked(agent: &mut JsAgent, s: u32, out: &mut [u8]) -> JsBytes
     requires ready { IsReady agent.old.at.value }
     requires known { HasKey (handle_view agent.old.at.value).units s }
     requires settled { IsSeenSettled (handle_view agent.old.at.value) s }
@@ -318,20 +267,13 @@ pub extern "C" fn jsstr_to_latin1_unchecked(
     ensures given { (us : List ℕ) → Has (handle_view agent.old.at.value).units s us
         → IsGiven (past_latin1 0 us) us out.old out.new result }
 {
-    let mut held = agent.take(alloc);
-    let answer = agent_reads::write_latin1(&mut held, JsStr { id: s }, out);
-    agent.put(held);
+    let answer = agent_reads::write_latin1(agent.held(), JsStr { id: s }, out);
     of_bytes(answer)
 }
 
 /// The same, with its conditions tested and the string settled first.
 #[unsafe(no_mangle)]
-pub extern "C" fn jsstr_to_latin1(
-    alloc: Global,
-    agent: &mut JsAgent,
-    s: u32,
-    out: &mut [u8],
-) -> JsBytes
+pub extern "C" fn jsstr_to_latin1(agent: &mut JsAgent, s: u32, out: &mut [u8]) -> JsBytes
     requires { IsHandle agent.old }
     ensures handle { IsHandle agent.new }
     ensures bad { result.status ≡ reports.BAD_ARGUMENT ↔ ¬ (HandleKnows agent.old.at.value s) }
@@ -339,16 +281,16 @@ pub extern "C" fn jsstr_to_latin1(
         ((result ≡ no_bytes result.status) × (out.new ≡ out.old))
         (λ us. IsGiven (past_latin1 0 us) us out.old out.new result) }
 {
-    let settled = settle_known(alloc, agent, s);
+    let settled = settle_known(agent, s);
     if settled.status != DONE {
         return without_bytes(settled.status);
     }
-    jsstr_to_latin1_unchecked(alloc, agent, s, out)
+    jsstr_to_latin1_unchecked(agent, s, out)
 }
 
 /// The hash by which the string table looks for the units of a settled string.
 #[unsafe(no_mangle)]
-pub extern "C" fn jsstr_hash_unchecked(alloc: Global, agent: &mut JsAgent, s: u32) -> u32
+pub extern "C" fn jsstr_hash_unchecked(agent: &mut JsAgent, s: u32) -> u32
     requires ready { IsReady agent.old.at.value }
     requires known { HasKey (handle_view agent.old.at.value).units s }
     requires settled { IsSeenSettled (handle_view agent.old.at.value) s }
@@ -356,36 +298,29 @@ pub extern "C" fn jsstr_hash_unchecked(alloc: Global, agent: &mut JsAgent, s: u3
     ensures looks { OnlyLooks agent.old.at.value agent.new.at.value }
     ensures hash { (us : List ℕ) → Has (handle_view agent.old.at.value).units s us → result ≡ hash_of us }
 {
-    let mut held = agent.take(alloc);
-    let answer = agent_reads::hash(&mut held, JsStr { id: s });
-    agent.put(held);
-    answer
+    agent_reads::hash(agent.held(), JsStr { id: s })
 }
 
 /// The same, with its conditions tested and the string settled first.
 #[unsafe(no_mangle)]
-pub extern "C" fn jsstr_hash(alloc: Global, agent: &mut JsAgent, s: u32) -> JsNumber
+pub extern "C" fn jsstr_hash(agent: &mut JsAgent, s: u32) -> JsNumber
     requires { IsHandle agent.old }
     ensures handle { IsHandle agent.new }
     ensures bad { result.status ≡ reports.BAD_ARGUMENT ↔ ¬ (HandleKnows agent.old.at.value s) }
     ensures reads { ReadsSettled agent.old.at.value agent.new.at.value s result.status
         (result ≡ no_number result.status) (λ us. result ≡ number_answer (Some (hash_of us))) }
 {
-    let settled = settle_known(alloc, agent, s);
+    let settled = settle_known(agent, s);
     if settled.status != DONE {
         return without_number(settled.status);
     }
-    let value = jsstr_hash_unchecked(alloc, agent, s);
+    let value = jsstr_hash_unchecked(agent, s);
     of_number(Some(value))
 }
 
 /// The number of a settled string that is an array index (ECMA-262, "array index"); NONE where it is none.
 #[unsafe(no_mangle)]
-pub extern "C" fn jsstr_array_index_unchecked(
-    alloc: Global,
-    agent: &mut JsAgent,
-    s: u32,
-) -> JsNumber
+pub extern "C" fn jsstr_array_index_unchecked(agent: &mut JsAgent, s: u32) -> JsNumber
     requires ready { IsReady agent.old.at.value }
     requires known { HasKey (handle_view agent.old.at.value).units s }
     requires settled { IsSeenSettled (handle_view agent.old.at.value) s }
@@ -396,15 +331,13 @@ pub extern "C" fn jsstr_array_index_unchecked(
     ensures index { (us : List ℕ) → Has (handle_view agent.old.at.value).units s us
         → (n : Option ℕ) × (result ≡ number_answer n) × IsArrayIndex us n }
 {
-    let mut held = agent.take(alloc);
-    let answer = agent_reads::array_index(&mut held, JsStr { id: s });
-    agent.put(held);
+    let answer = agent_reads::array_index(agent.held(), JsStr { id: s });
     of_number(answer)
 }
 
 /// The same, with its conditions tested and the string settled first.
 #[unsafe(no_mangle)]
-pub extern "C" fn jsstr_array_index(alloc: Global, agent: &mut JsAgent, s: u32) -> JsNumber
+pub extern "C" fn jsstr_array_index(agent: &mut JsAgent, s: u32) -> JsNumber
     requires { IsHandle agent.old }
     ensures handle { IsHandle agent.new }
     ensures bad { result.status ≡ reports.BAD_ARGUMENT ↔ ¬ (HandleKnows agent.old.at.value s) }
@@ -412,16 +345,16 @@ pub extern "C" fn jsstr_array_index(alloc: Global, agent: &mut JsAgent, s: u32) 
         (result ≡ no_number result.status)
         (λ us. (n : Option ℕ) × (result ≡ number_answer n) × IsArrayIndex us n) }
 {
-    let settled = settle_known(alloc, agent, s);
+    let settled = settle_known(agent, s);
     if settled.status != DONE {
         return without_number(settled.status);
     }
-    jsstr_array_index_unchecked(alloc, agent, s)
+    jsstr_array_index_unchecked(agent, s)
 }
 
 /// Whether a string is settled, by one load of its form, which the agent knows from then on.
 #[unsafe(no_mangle)]
-pub extern "C" fn jsstr_is_settled_unchecked(alloc: Global, agent: &mut JsAgent, s: u32) -> bool
+pub extern "C" fn jsstr_is_settled_unchecked(agent: &mut JsAgent, s: u32) -> bool
     requires ready { IsReady agent.old.at.value }
     requires known { HasKey (handle_view agent.old.at.value).units s }
     ensures handle { IsHandle agent.new }
@@ -430,15 +363,12 @@ pub extern "C" fn jsstr_is_settled_unchecked(alloc: Global, agent: &mut JsAgent,
         × (IsTrue result ↔ ¬ IsCons f) }
     ensures stays { IsSeenSettled (handle_view agent.old.at.value) s → IsTrue result }
 {
-    let mut held = agent.take(alloc);
-    let answer = agent_reads::is_settled(&mut held, JsStr { id: s });
-    agent.put(held);
-    answer
+    agent_reads::is_settled(agent.held(), JsStr { id: s })
 }
 
 /// The same, with its conditions tested.
 #[unsafe(no_mangle)]
-pub extern "C" fn jsstr_is_settled(alloc: Global, agent: &mut JsAgent, s: u32) -> JsTruth
+pub extern "C" fn jsstr_is_settled(agent: &mut JsAgent, s: u32) -> JsTruth
     requires { IsHandle agent.old }
     ensures handle { IsHandle agent.new }
     ensures bad { result.status ≡ reports.BAD_ARGUMENT ↔ ¬ (HandleKnows agent.old.at.value s) }
@@ -451,10 +381,10 @@ pub extern "C" fn jsstr_is_settled(alloc: Global, agent: &mut JsAgent, s: u32) -
     ensures stays { result.status ≡ reports.DONE → IsSeenSettled (handle_view agent.old.at.value) s
         → IsTrue result.holds }
 {
-    if !agent.knows(alloc, s) {
+    if !agent.knows(s) {
         return without_truth(BAD_ARGUMENT);
     }
-    let holds = jsstr_is_settled_unchecked(alloc, agent, s);
+    let holds = jsstr_is_settled_unchecked(agent, s);
     JsTruth {
         status: DONE,
         holds,

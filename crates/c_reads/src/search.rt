@@ -15,13 +15,11 @@ use c_steps::{
     without_truth,
 };
 use heap_text::JsStr;
-use std::alloc::Global;
 
 /// Whether the units of `needle` occur in `hay` at place `at`, both settled. At a place where they have no
 /// room they don't.
 #[unsafe(no_mangle)]
 pub extern "C" fn jsstr_starts_with_unchecked(
-    alloc: Global,
     agent: &mut JsAgent,
     hay: u32,
     needle: u32,
@@ -39,26 +37,12 @@ pub extern "C" fn jsstr_starts_with_unchecked(
         → Has (handle_view agent.old.at.value).units needle vs
         → result ≡ stands us vs at }
 {
-    let mut held = agent.take(alloc);
-    let answer = agent_searches::starts_with(
-        &mut held,
-        JsStr { id: hay },
-        JsStr { id: needle },
-        at,
-    );
-    agent.put(held);
-    answer
+    agent_searches::starts_with(agent.held(), JsStr { id: hay }, JsStr { id: needle }, at)
 }
 
 /// The same, with its conditions tested and both strings settled first.
 #[unsafe(no_mangle)]
-pub extern "C" fn jsstr_starts_with(
-    alloc: Global,
-    agent: &mut JsAgent,
-    hay: u32,
-    needle: u32,
-    at: u32,
-) -> JsTruth
+pub extern "C" fn jsstr_starts_with(agent: &mut JsAgent, hay: u32, needle: u32, at: u32) -> JsTruth
     requires { IsHandle agent.old }
     ensures handle { IsHandle agent.new }
     ensures bad { result.status ≡ reports.BAD_ARGUMENT
@@ -68,11 +52,11 @@ pub extern "C" fn jsstr_starts_with(
         (λ us vs. (result.status ≡ reports.DONE) × (result.holds ≡ stands us vs at)
         × (IsTrue result.holds ↔ IsPartAt us vs at)) }
 {
-    let status = settle_both(alloc, agent, hay, needle);
+    let status = settle_both(agent, hay, needle);
     if status != DONE {
         return without_truth(status);
     }
-    let holds = jsstr_starts_with_unchecked(alloc, agent, hay, needle, at);
+    let holds = jsstr_starts_with_unchecked(agent, hay, needle, at);
     JsTruth {
         status: DONE,
         holds,
@@ -83,7 +67,6 @@ pub extern "C" fn jsstr_starts_with(
 /// at every place.
 #[unsafe(no_mangle)]
 pub extern "C" fn jsstr_index_of_unchecked(
-    alloc: Global,
     agent: &mut JsAgent,
     hay: u32,
     needle: u32,
@@ -104,21 +87,18 @@ pub extern "C" fn jsstr_index_of_unchecked(
         → Has (handle_view agent.old.at.value).units needle vs
         → result ≡ place_answer (first us vs from) }
 {
-    let mut held = agent.take(alloc);
-    let answer = agent_searches::index_of(&mut held, JsStr { id: hay }, JsStr { id: needle }, from);
-    agent.put(held);
+    let answer = agent_searches::index_of(
+        agent.held(),
+        JsStr { id: hay },
+        JsStr { id: needle },
+        from,
+    );
     of_place(answer)
 }
 
 /// The same, with its conditions tested and both strings settled first.
 #[unsafe(no_mangle)]
-pub extern "C" fn jsstr_index_of(
-    alloc: Global,
-    agent: &mut JsAgent,
-    hay: u32,
-    needle: u32,
-    from: u32,
-) -> JsPlace
+pub extern "C" fn jsstr_index_of(agent: &mut JsAgent, hay: u32, needle: u32, from: u32) -> JsPlace
     requires { IsHandle agent.old }
     ensures handle { IsHandle agent.new }
     ensures bad { result.status ≡ reports.BAD_ARGUMENT
@@ -128,18 +108,17 @@ pub extern "C" fn jsstr_index_of(
         (λ us vs. (result ≡ place_answer (first us vs from))
         × ((r : Option ℕ) × (result ≡ place_answer r) × IsFirst us vs from r)) }
 {
-    let status = settle_both_reaching(alloc, agent, hay, needle, from);
+    let status = settle_both_reaching(agent, hay, needle, from);
     if status != DONE {
         return without_place(status);
     }
-    jsstr_index_of_unchecked(alloc, agent, hay, needle, from)
+    jsstr_index_of_unchecked(agent, hay, needle, from)
 }
 
 /// The greatest place at most `limit` at which `needle` occurs in `hay`, both settled. An empty one occurs
 /// at every place.
 #[unsafe(no_mangle)]
 pub extern "C" fn jsstr_last_index_of_unchecked(
-    alloc: Global,
     agent: &mut JsAgent,
     hay: u32,
     needle: u32,
@@ -159,21 +138,18 @@ pub extern "C" fn jsstr_last_index_of_unchecked(
         → Has (handle_view agent.old.at.value).units needle vs
         → result ≡ place_answer (last us vs limit) }
 {
-    let mut held = agent.take(alloc);
     let answer = agent_searches::last_index_of(
-        &mut held,
+        agent.held(),
         JsStr { id: hay },
         JsStr { id: needle },
         limit,
     );
-    agent.put(held);
     of_place(answer)
 }
 
 /// The same, with its conditions tested and both strings settled first.
 #[unsafe(no_mangle)]
 pub extern "C" fn jsstr_last_index_of(
-    alloc: Global,
     agent: &mut JsAgent,
     hay: u32,
     needle: u32,
@@ -188,9 +164,9 @@ pub extern "C" fn jsstr_last_index_of(
         (λ us vs. (result ≡ place_answer (last us vs limit))
         × ((r : Option ℕ) × (result ≡ place_answer r) × IsLast us vs limit r)) }
 {
-    let status = settle_both(alloc, agent, hay, needle);
+    let status = settle_both(agent, hay, needle);
     if status != DONE {
         return without_place(status);
     }
-    jsstr_last_index_of_unchecked(alloc, agent, hay, needle, limit)
+    jsstr_last_index_of_unchecked(agent, hay, needle, limit)
 }

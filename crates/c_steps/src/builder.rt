@@ -90,10 +90,10 @@ impl JsBuilder {
         ensures spent { EmptiesText self.old.at.value self.new.at.value result.status }
     {
         if self.live == 0 {
-            return on_units(alloc, agent, task, &[]);
+            return on_units(agent, task, &[]);
         }
         let text = self.take(alloc);
-        let answer = on_units(alloc, agent, task, text.as_slice());
+        let answer = on_units(agent, task, text.as_slice());
         self.give_back(text, answer.status);
         answer
     }

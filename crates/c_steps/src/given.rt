@@ -56,50 +56,44 @@ pub enum Task {
 }
 
 /// A new string with these units, settled.
-pub fn from_units(alloc: Global, agent: &mut JsAgent, units: &[u16]) -> JsAnswer
+pub fn from_units(agent: &mut JsAgent, units: &[u16]) -> JsAnswer
     requires ready { IsReady agent.old.at.value }
     requires short { length units.now ≤ MAX }
     ensures handle { IsHandle agent.new }
     ensures told { result.status ≢ reports.BAD_ARGUMENT }
     ensures makes { MakesString agent.old.at.value agent.new.at.value units.now result }
 {
-    let mut held = agent.take(alloc);
-    let answer = agent_makes::from_units(&mut held, units);
-    agent.put(held);
+    let answer = agent_makes::from_units(agent.held(), units);
     of_text(answer)
 }
 
 /// The one string of the table with these units. No string is made first: where it is in the table,
 /// nothing is used.
-pub fn intern_units(alloc: Global, agent: &mut JsAgent, units: &[u16]) -> JsAnswer
+pub fn intern_units(agent: &mut JsAgent, units: &[u16]) -> JsAnswer
     requires ready { IsReady agent.old.at.value }
     requires short { length units.now ≤ MAX }
     ensures handle { IsHandle agent.new }
     ensures told { result.status ≢ reports.BAD_ARGUMENT }
     ensures interns { IsInterning agent.old.at.value agent.new.at.value units.now result }
 {
-    let mut held = agent.take(alloc);
-    let answer = agent_keys::intern_units(&mut held, units);
-    agent.put(held);
+    let answer = agent_keys::intern_units(agent.held(), units);
     of_table(answer)
 }
 
 /// The one string of the table with these units, if it is there. Nothing is used, ever.
-pub fn find_units(alloc: Global, agent: &mut JsAgent, units: &[u16]) -> JsAnswer
+pub fn find_units(agent: &mut JsAgent, units: &[u16]) -> JsAnswer
     requires ready { IsReady agent.old.at.value }
     requires short { length units.now ≤ MAX }
     ensures handle { IsHandle agent.new }
     ensures told { result.status ≢ reports.BAD_ARGUMENT }
     ensures finds { IsFinding agent.old.at.value agent.new.at.value units.now result }
 {
-    let mut held = agent.take(alloc);
-    let answer = agent_keys::find_units(&mut held, units);
-    agent.put(held);
+    let answer = agent_keys::find_units(agent.held(), units);
     of_found(answer)
 }
 
 // A task on units.
-pub(crate) fn on_units(alloc: Global, agent: &mut JsAgent, task: Task, units: &[u16]) -> JsAnswer
+pub(crate) fn on_units(agent: &mut JsAgent, task: Task, units: &[u16]) -> JsAnswer
     requires ready { IsReady agent.old.at.value }
     requires short { length units.now ≤ MAX }
     ensures handle { IsHandle agent.new }
@@ -108,26 +102,25 @@ pub(crate) fn on_units(alloc: Global, agent: &mut JsAgent, task: Task, units: &[
     ensures leaves { Leaves task agent.old.at.value agent.new.at.value }
 {
     match task {
-        Task::Make => from_units(alloc, agent, units),
-        Task::Intern => intern_units(alloc, agent, units),
-        Task::Find => find_units(alloc, agent, units),
+        Task::Make => from_units(agent, units),
+        Task::Intern => intern_units(agent, units),
+        Task::Find => find_units(agent, units),
     }
 }
 
 /// A refusal that leaves the agent as it was.
-pub fn left(alloc: Global, agent: &mut JsAgent, refusal: JsAnswer) -> JsAnswer
+pub fn left(agent: &mut JsAgent, refusal: JsAnswer) -> JsAnswer
     requires { IsReady agent.old.at.value }
     ensures handle { IsHandle agent.new }
     ensures same { agent.new.at.value ≡ agent.old.at.value }
     ensures answer { result ≡ refusal }
 {
-    let held = agent.take(alloc);
-    agent.put(held);
+    let _ = agent.held();
     refusal
 }
 
 // A string made of the units that bytes spell.
-fn make_from(alloc: Global, agent: &mut JsAgent, spelled: &Spelling) -> JsAnswer
+fn make_from(agent: &mut JsAgent, spelled: &Spelling) -> JsAnswer
     requires ready { IsReady agent.old.at.value }
     requires read { IsReadable spelled.now }
     requires short { length (spelling_units spelled.now) ≤ MAX }
@@ -135,14 +128,12 @@ fn make_from(alloc: Global, agent: &mut JsAgent, spelled: &Spelling) -> JsAnswer
     ensures told { result.status ≢ reports.BAD_ARGUMENT }
     ensures makes { MakesString agent.old.at.value agent.new.at.value (spelling_units spelled.now) result }
 {
-    let mut held = agent.take(alloc);
-    let answer = agent_makes::make_from(&mut held, spelled);
-    agent.put(held);
+    let answer = agent_makes::make_from(agent.held(), spelled);
     of_text(answer)
 }
 
 // The one string of the table with the units that bytes spell.
-fn intern_from(alloc: Global, agent: &mut JsAgent, spelled: &Spelling) -> JsAnswer
+fn intern_from(agent: &mut JsAgent, spelled: &Spelling) -> JsAnswer
     requires ready { IsReady agent.old.at.value }
     requires read { IsReadable spelled.now }
     requires short { length (spelling_units spelled.now) ≤ MAX }
@@ -150,14 +141,12 @@ fn intern_from(alloc: Global, agent: &mut JsAgent, spelled: &Spelling) -> JsAnsw
     ensures told { result.status ≢ reports.BAD_ARGUMENT }
     ensures interns { IsInterning agent.old.at.value agent.new.at.value (spelling_units spelled.now) result }
 {
-    let mut held = agent.take(alloc);
-    let answer = agent_keys::intern_key(&mut held, &Key::Spelled(*spelled));
-    agent.put(held);
+    let answer = agent_keys::intern_key(agent.held(), &Key::Spelled(*spelled));
     of_table(answer)
 }
 
 // The one string of the table with the units that bytes spell, if it is there.
-fn find_from(alloc: Global, agent: &mut JsAgent, spelled: &Spelling) -> JsAnswer
+fn find_from(agent: &mut JsAgent, spelled: &Spelling) -> JsAnswer
     requires ready { IsReady agent.old.at.value }
     requires read { IsReadable spelled.now }
     requires short { length (spelling_units spelled.now) ≤ MAX }
@@ -165,14 +154,12 @@ fn find_from(alloc: Global, agent: &mut JsAgent, spelled: &Spelling) -> JsAnswer
     ensures told { result.status ≢ reports.BAD_ARGUMENT }
     ensures finds { IsFinding agent.old.at.value agent.new.at.value (spelling_units spelled.now) result }
 {
-    let mut held = agent.take(alloc);
-    let answer = agent_keys::find_key(&mut held, &Key::Spelled(*spelled));
-    agent.put(held);
+    let answer = agent_keys::find_key(agent.held(), &Key::Spelled(*spelled));
     of_found(answer)
 }
 
 // A task on the units that bytes spell.
-fn on_spelling(alloc: Global, agent: &mut JsAgent, task: Task, spelled: &Spelling) -> JsAnswer
+fn on_spelling(agent: &mut JsAgent, task: Task, spelled: &Spelling) -> JsAnswer
     requires ready { IsReady agent.old.at.value }
     requires read { IsReadable spelled.now }
     requires short { length (spelling_units spelled.now) ≤ MAX }
@@ -182,20 +169,14 @@ fn on_spelling(alloc: Global, agent: &mut JsAgent, task: Task, spelled: &Spellin
     ensures leaves { Leaves task agent.old.at.value agent.new.at.value }
 {
     match task {
-        Task::Make => make_from(alloc, agent, spelled),
-        Task::Intern => intern_from(alloc, agent, spelled),
-        Task::Find => find_from(alloc, agent, spelled),
+        Task::Make => make_from(agent, spelled),
+        Task::Intern => intern_from(agent, spelled),
+        Task::Find => find_from(agent, spelled),
     }
 }
 
 // A task on the units that bytes of UTF-8 or WTF-8 spell, if they spell any.
-fn on_bytes(
-    alloc: Global,
-    agent: &mut JsAgent,
-    task: Task,
-    encoding: Encoding,
-    bytes: &[u8],
-) -> JsAnswer
+fn on_bytes(agent: &mut JsAgent, task: Task, encoding: Encoding, bytes: &[u8]) -> JsAnswer
     requires ready { IsReady agent.old.at.value }
     requires short { length bytes.now ≤ MAX }
     ensures handle { IsHandle agent.new }
@@ -204,13 +185,13 @@ fn on_bytes(
     ensures leaves { Leaves task agent.old.at.value agent.new.at.value }
 {
     match Spelling::read(encoding, bytes) {
-        Ok(spelled) => on_spelling(alloc, agent, task, &spelled),
-        Err(at) => left(alloc, agent, not_utf8(at as u32)),
+        Ok(spelled) => on_spelling(agent, task, &spelled),
+        Err(at) => left(agent, not_utf8(at as u32)),
     }
 }
 
 /// A task on the units of a source.
-pub fn on_source(alloc: Global, agent: &mut JsAgent, task: Task, source: Source) -> JsAnswer
+pub fn on_source(agent: &mut JsAgent, task: Task, source: Source) -> JsAnswer
     requires ready { IsReady agent.old.at.value }
     requires short { length (given source) ≤ MAX }
     ensures handle { IsHandle agent.new }
@@ -219,15 +200,15 @@ pub fn on_source(alloc: Global, agent: &mut JsAgent, task: Task, source: Source)
     ensures leaves { Leaves task agent.old.at.value agent.new.at.value }
 {
     match source {
-        Source::Units(units) => on_units(alloc, agent, task, units),
-        Source::Latin1(bytes) => on_spelling(alloc, agent, task, &Spelling::Latin1(bytes)),
-        Source::Utf8(bytes) => on_bytes(alloc, agent, task, Encoding::Utf8, bytes),
-        Source::Wtf8(bytes) => on_bytes(alloc, agent, task, Encoding::Wtf8, bytes),
+        Source::Units(units) => on_units(agent, task, units),
+        Source::Latin1(bytes) => on_spelling(agent, task, &Spelling::Latin1(bytes)),
+        Source::Utf8(bytes) => on_bytes(agent, task, Encoding::Utf8, bytes),
+        Source::Wtf8(bytes) => on_bytes(agent, task, Encoding::Wtf8, bytes),
     }
 }
 
 /// The same, where its condition holds: there is an agent, and no more is given than a string may have.
-pub fn tested(alloc: Global, agent: &mut JsAgent, task: Task, source: Source) -> JsAnswer
+pub fn tested(agent: &mut JsAgent, task: Task, source: Source) -> JsAnswer
     requires { IsHandle agent.old }
     ensures handle { IsHandle agent.new }
     ensures bad { result.status ≡ reports.BAD_ARGUMENT
@@ -242,7 +223,7 @@ pub fn tested(alloc: Global, agent: &mut JsAgent, task: Task, source: Source) ->
     if agent.is_empty() || source.len() > MAX as usize {
         return bad_argument();
     }
-    on_source(alloc, agent, task, source)
+    on_source(agent, task, source)
 }
 
 /// Whether the ends are those of lists within so many units, and there is room for their ids.
@@ -263,9 +244,9 @@ fn copied(alloc: Global, agent: &mut JsAgent, s: u32) -> Result<Vec<u16>, AllocE
         → v.items ≡ us) }
     ensures short { IfOk result (λ v. length v.items ≤ MAX) }
 {
-    let len = length_of(alloc, agent, s);
+    let len = length_of(agent, s);
     let mut units = Vec::from_elem(alloc, 0u16, len as usize)?;
-    read_into(alloc, agent, s, 0, units.as_mut_slice());
+    read_into(agent, s, 0, units.as_mut_slice());
     Ok(units)
 }
 
@@ -290,7 +271,7 @@ pub fn on_string(
         → OrNoMemory (Does task) to.old.at.value to.new.at.value us result }
 {
     match copied(alloc, from, s) {
-        Ok(units) => on_units(alloc, to, task, units.as_slice()),
-        Err(_) => left(alloc, to, no_memory()),
+        Ok(units) => on_units(to, task, units.as_slice()),
+        Err(_) => left(to, no_memory()),
     }
 }

@@ -34,14 +34,10 @@ pub fn join_child(alloc: Global, agent: &mut JsAgent, other: &mut JsAgent) -> u3
         → (i : ℕ) → HasInterned other.old.at.value i → HasInterned agent.new.at.value i }
     ensures gone { result ≡ reports.DONE → other.new.at.value ≡ None }
 {
-    let mut held = agent.take(alloc);
-    let theirs = other.take(alloc);
-    if !held.counts_with(&theirs) {
-        agent.put(held);
-        other.put(theirs);
+    if !agent.held().counts_with(other.held()) {
         return BAD_ARGUMENT;
     }
-    held.join(Box::into_inner(theirs));
-    agent.put(held);
+    let theirs = other.take(alloc);
+    agent.held().join(Box::into_inner(theirs));
     DONE
 }

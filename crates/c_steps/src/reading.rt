@@ -9,33 +9,27 @@ ghost use Rattle.c_steps.specs.Checked.{OnlyLooks, ReadsLength, SettlesKnown};
 use crate::answer::{JsAnswer, of_text};
 use c_handles::JsAgent;
 use heap_text::JsStr;
-use std::alloc::Global;
 
 /// The length of a string, in units.
-pub fn length_of(alloc: Global, agent: &mut JsAgent, s: u32) -> u32
+pub fn length_of(agent: &mut JsAgent, s: u32) -> u32
     requires ready { IsReady agent.old.at.value }
     requires known { HasKey (handle_view agent.old.at.value).units s }
     ensures handle { IsHandle agent.new }
     ensures measures { ReadsLength agent.old.at.value agent.new.at.value }
     ensures length { (us : List ℕ) → Has (handle_view agent.old.at.value).units s us → result ≡ length us }
 {
-    let mut held = agent.take(alloc);
-    let answer = agent_reads::length(&mut held, JsStr { id: s });
-    agent.put(held);
-    answer
+    agent_reads::length(agent.held(), JsStr { id: s })
 }
 
 /// Sees to it that a string is settled, so that it may be cut, read and interned. The answer is the
 /// string.
-pub fn settle(alloc: Global, agent: &mut JsAgent, s: u32) -> JsAnswer
+pub fn settle(agent: &mut JsAgent, s: u32) -> JsAnswer
     requires ready { IsReady agent.old.at.value }
     requires known { HasKey (handle_view agent.old.at.value).units s }
     ensures handle { IsHandle agent.new }
     ensures settles { SettlesKnown agent.old.at.value agent.new.at.value s result }
 {
-    let mut held = agent.take(alloc);
-    let answer = agent_reads::settle(&mut held, JsStr { id: s });
-    agent.put(held);
+    let answer = agent_reads::settle(agent.held(), JsStr { id: s });
     match answer {
         Ok(()) => of_text(Ok(JsStr { id: s })),
         Err(full) => of_text(Err(full)),
@@ -43,7 +37,7 @@ pub fn settle(alloc: Global, agent: &mut JsAgent, s: u32) -> JsAnswer
 }
 
 /// The units of a settled string from unit `from` on, as many as there is room for.
-pub fn read_into(alloc: Global, agent: &mut JsAgent, s: u32, from: u32, out: &mut [u16])
+pub fn read_into(agent: &mut JsAgent, s: u32, from: u32, out: &mut [u16])
     requires ready { IsReady agent.old.at.value }
     requires settled { IsSeenSettled (handle_view agent.old.at.value) s }
     requires within { (us : List ℕ) × Has (handle_view agent.old.at.value).units s us
@@ -53,7 +47,5 @@ pub fn read_into(alloc: Global, agent: &mut JsAgent, s: u32, from: u32, out: &mu
     ensures units { (us : List ℕ) → Has (handle_view agent.old.at.value).units s us
         → out.new ≡ slice_range us from (from + length out.old) }
 {
-    let mut held = agent.take(alloc);
-    agent_reads::read(&mut held, JsStr { id: s }, from, out);
-    agent.put(held);
+    agent_reads::read(agent.held(), JsStr { id: s }, from, out);
 }

@@ -11,10 +11,9 @@ ghost use Rattle.c_steps.specs.Reports as reports;
 use crate::answer::{BAD_ARGUMENT, DONE, JsAnswer, bad_argument};
 use crate::reading::{length_of, settle};
 use c_handles::JsAgent;
-use std::alloc::Global;
 
 // Whether a string is known, and has `room` units or more from unit `from` on.
-fn reaches(alloc: Global, agent: &mut JsAgent, s: u32, from: u32, room: usize) -> bool
+fn reaches(agent: &mut JsAgent, s: u32, from: u32, room: usize) -> bool
     requires { IsHandle agent.old }
     ensures handle { IsHandle agent.new }
     ensures reaches { IsTrue result ↔ ReachesLength agent.old.at.value s (from + room) }
@@ -26,10 +25,10 @@ fn reaches(alloc: Global, agent: &mut JsAgent, s: u32, from: u32, room: usize) -
     ensures long { IsTrue result → (us : List ℕ) → Has (handle_view agent.new.at.value).units s us
         → from + room ≤ length us }
 {
-    if !agent.knows(alloc, s) {
+    if !agent.knows(s) {
         return false;
     }
-    let all = length_of(alloc, agent, s);
+    let all = length_of(agent, s);
     if all < from {
         return false;
     }
@@ -37,7 +36,7 @@ fn reaches(alloc: Global, agent: &mut JsAgent, s: u32, from: u32, room: usize) -
 }
 
 /// Sees to it that a string is settled, where it is known.
-pub fn settle_known(alloc: Global, agent: &mut JsAgent, s: u32) -> JsAnswer
+pub fn settle_known(agent: &mut JsAgent, s: u32) -> JsAnswer
     requires { IsHandle agent.old }
     ensures handle { IsHandle agent.new }
     ensures bad { result.status ≡ reports.BAD_ARGUMENT ↔ ¬ (HandleKnows agent.old.at.value s) }
@@ -45,20 +44,14 @@ pub fn settle_known(alloc: Global, agent: &mut JsAgent, s: u32) -> JsAnswer
     ensures ready { result.status ≡ reports.DONE → IsReady agent.new.at.value }
     ensures readable { result.status ≡ reports.DONE → IsSearchable (handle_view agent.new.at.value) s }
 {
-    if !agent.knows(alloc, s) {
+    if !agent.knows(s) {
         return bad_argument();
     }
-    settle(alloc, agent, s)
+    settle(agent, s)
 }
 
 /// The same, where it has `room` units or more from unit `from` on.
-pub fn settle_reaching(
-    alloc: Global,
-    agent: &mut JsAgent,
-    s: u32,
-    from: u32,
-    room: usize,
-) -> JsAnswer
+pub fn settle_reaching(agent: &mut JsAgent, s: u32, from: u32, room: usize) -> JsAnswer
     requires { IsHandle agent.old }
     ensures handle { IsHandle agent.new }
     ensures bad { result.status ≡ reports.BAD_ARGUMENT
@@ -69,14 +62,14 @@ pub fn settle_reaching(
     ensures long { result.status ≡ reports.DONE → (us : List ℕ)
         → Has (handle_view agent.new.at.value).units s us → from + room ≤ length us }
 {
-    if !reaches(alloc, agent, s, from, room) {
+    if !reaches(agent, s, from, room) {
         return bad_argument();
     }
-    settle(alloc, agent, s)
+    settle(agent, s)
 }
 
 /// Sees to it that both are settled, where both are known.
-pub fn settle_both(alloc: Global, agent: &mut JsAgent, a: u32, b: u32) -> u32
+pub fn settle_both(agent: &mut JsAgent, a: u32, b: u32) -> u32
     requires { IsHandle agent.old }
     ensures handle { IsHandle agent.new }
     ensures bad { result ≡ reports.BAD_ARGUMENT
@@ -86,18 +79,18 @@ pub fn settle_both(alloc: Global, agent: &mut JsAgent, a: u32, b: u32) -> u32
     ensures left { result ≡ reports.DONE → IsSearchable (handle_view agent.new.at.value) a }
     ensures right { result ≡ reports.DONE → IsSearchable (handle_view agent.new.at.value) b }
 {
-    if !agent.knows(alloc, a) || !agent.knows(alloc, b) {
+    if !agent.knows(a) || !agent.knows(b) {
         return BAD_ARGUMENT;
     }
-    let left = settle(alloc, agent, a);
+    let left = settle(agent, a);
     if left.status != DONE {
         return left.status;
     }
-    settle(alloc, agent, b).status
+    settle(agent, b).status
 }
 
 /// The same, where the first has `from` units or more.
-pub fn settle_both_reaching(alloc: Global, agent: &mut JsAgent, a: u32, b: u32, from: u32) -> u32
+pub fn settle_both_reaching(agent: &mut JsAgent, a: u32, b: u32, from: u32) -> u32
     requires { IsHandle agent.old }
     ensures handle { IsHandle agent.new }
     ensures bad { result ≡ reports.BAD_ARGUMENT
@@ -109,11 +102,11 @@ pub fn settle_both_reaching(alloc: Global, agent: &mut JsAgent, a: u32, b: u32, 
     ensures long { result ≡ reports.DONE → (us : List ℕ) → Has (handle_view agent.new.at.value).units a us
         → from ≤ length us }
 {
-    if !agent.knows(alloc, b) {
+    if !agent.knows(b) {
         return BAD_ARGUMENT;
     }
-    if !reaches(alloc, agent, a, from, 0) {
+    if !reaches(agent, a, from, 0) {
         return BAD_ARGUMENT;
     }
-    settle_both(alloc, agent, a, b)
+    settle_both(agent, a, b)
 }

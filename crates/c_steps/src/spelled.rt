@@ -16,10 +16,9 @@ use crate::settling::settle_known;
 use c_handles::JsAgent;
 use heap_bytes::Spelling;
 use heap_text::JsStr;
-use std::alloc::Global;
 
 /// Whether a settled string has just the units that bytes spell.
-pub fn has_spelled(alloc: Global, agent: &mut JsAgent, s: u32, source: &Spelling) -> bool
+pub fn has_spelled(agent: &mut JsAgent, s: u32, source: &Spelling) -> bool
     requires ready { IsReady agent.old.at.value }
     requires known { HasKey (handle_view agent.old.at.value).units s }
     requires settled { IsSeenSettled (handle_view agent.old.at.value) s }
@@ -29,14 +28,11 @@ pub fn has_spelled(alloc: Global, agent: &mut JsAgent, s: u32, source: &Spelling
     ensures same { (us : List ℕ) → Has (handle_view agent.old.at.value).units s us
         → IsTrue result ↔ (us ≡ spelling_units source.now) }
 {
-    let mut held = agent.take(alloc);
-    let answer = agent_reads::has_spelled(&mut held, JsStr { id: s }, source);
-    agent.put(held);
-    answer
+    agent_reads::has_spelled(agent.held(), JsStr { id: s }, source)
 }
 
 /// The order of a settled string and the units that bytes spell.
-pub fn compare_spelled(alloc: Global, agent: &mut JsAgent, s: u32, source: &Spelling) -> i32
+pub fn compare_spelled(agent: &mut JsAgent, s: u32, source: &Spelling) -> i32
     requires ready { IsReady agent.old.at.value }
     requires known { HasKey (handle_view agent.old.at.value).units s }
     requires settled { IsSeenSettled (handle_view agent.old.at.value) s }
@@ -46,14 +42,12 @@ pub fn compare_spelled(alloc: Global, agent: &mut JsAgent, s: u32, source: &Spel
     ensures order { (us : List ℕ) → Has (handle_view agent.old.at.value).units s us
         → result ≡ order_number (units_cmp us (spelling_units source.now)) }
 {
-    let mut held = agent.take(alloc);
-    let answer = agent_reads::compare_spelled(&mut held, JsStr { id: s }, source);
-    agent.put(held);
+    let answer = agent_reads::compare_spelled(agent.held(), JsStr { id: s }, source);
     of_order(answer)
 }
 
 /// Whether a string has just the units that bytes spell.
-pub fn equals_spelled(alloc: Global, agent: &mut JsAgent, s: u32, source: &Spelling) -> JsTruth
+pub fn equals_spelled(agent: &mut JsAgent, s: u32, source: &Spelling) -> JsTruth
     requires handle { IsHandle agent.old }
     requires read { IsReadable source.now }
     ensures handle { IsHandle agent.new }
@@ -62,11 +56,11 @@ pub fn equals_spelled(alloc: Global, agent: &mut JsAgent, s: u32, source: &Spell
     ensures compares { ComparesUnits agent.old.at.value agent.new.at.value s (spelling_units source.now)
         result }
 {
-    let settled = settle_known(alloc, agent, s);
+    let settled = settle_known(agent, s);
     if settled.status != DONE {
         return without_truth(settled.status);
     }
-    let holds = has_spelled(alloc, agent, s, source);
+    let holds = has_spelled(agent, s, source);
     JsTruth {
         status: DONE,
         holds,
@@ -74,7 +68,7 @@ pub fn equals_spelled(alloc: Global, agent: &mut JsAgent, s: u32, source: &Spell
 }
 
 /// The order of a string and the units that bytes spell.
-pub fn order_spelled(alloc: Global, agent: &mut JsAgent, s: u32, source: &Spelling) -> JsOrder
+pub fn order_spelled(agent: &mut JsAgent, s: u32, source: &Spelling) -> JsOrder
     requires handle { IsHandle agent.old }
     requires read { IsReadable source.now }
     ensures handle { IsHandle agent.new }
@@ -83,11 +77,11 @@ pub fn order_spelled(alloc: Global, agent: &mut JsAgent, s: u32, source: &Spelli
     ensures compares { OrdersUnits agent.old.at.value agent.new.at.value s (spelling_units source.now)
         result }
 {
-    let settled = settle_known(alloc, agent, s);
+    let settled = settle_known(agent, s);
     if settled.status != DONE {
         return without_order(settled.status);
     }
-    let order = compare_spelled(alloc, agent, s, source);
+    let order = compare_spelled(agent, s, source);
     JsOrder {
         status: DONE,
         order,

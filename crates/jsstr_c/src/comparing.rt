@@ -14,12 +14,11 @@ ghost use Rattle.c_steps.specs.Reports as reports;
 use c_handles::JsAgent;
 use c_steps::{DONE, JsOrder, JsTruth, of_order, settle_both, without_order, without_truth};
 use heap_text::JsStr;
-use std::alloc::Global;
 
 /// The order of two settled strings by their units, where a proper prefix comes first: -1 where `a` comes
 /// before `b`, 0 where both have the same units, else 1.
 #[unsafe(no_mangle)]
-pub extern "C" fn jsstr_compare_unchecked(alloc: Global, agent: &mut JsAgent, a: u32, b: u32) -> i32
+pub extern "C" fn jsstr_compare_unchecked(agent: &mut JsAgent, a: u32, b: u32) -> i32
     requires ready { IsReady agent.old.at.value }
     requires left { IsSearchable (handle_view agent.old.at.value) a }
     requires right { IsSearchable (handle_view agent.old.at.value) b }
@@ -32,15 +31,13 @@ pub extern "C" fn jsstr_compare_unchecked(alloc: Global, agent: &mut JsAgent, a:
         → Has (handle_view agent.old.at.value).units b vs
         → (o : ordering.Ordering) × (result ≡ order_number o) × IsOrder us vs o }
 {
-    let mut held = agent.take(alloc);
-    let answer = agent_searches::compare(&mut held, JsStr { id: a }, JsStr { id: b });
-    agent.put(held);
+    let answer = agent_searches::compare(agent.held(), JsStr { id: a }, JsStr { id: b });
     of_order(answer)
 }
 
 /// The same, with its conditions tested and both strings settled first.
 #[unsafe(no_mangle)]
-pub extern "C" fn jsstr_compare(alloc: Global, agent: &mut JsAgent, a: u32, b: u32) -> JsOrder
+pub extern "C" fn jsstr_compare(agent: &mut JsAgent, a: u32, b: u32) -> JsOrder
     requires { IsHandle agent.old }
     ensures handle { IsHandle agent.new }
     ensures bad { result.status ≡ reports.BAD_ARGUMENT
@@ -50,11 +47,11 @@ pub extern "C" fn jsstr_compare(alloc: Global, agent: &mut JsAgent, a: u32, b: u
         (λ us vs. (result ≡ order_answer (units_cmp us vs))
         × ((o : ordering.Ordering) × (result.order ≡ order_number o) × IsOrder us vs o)) }
 {
-    let status = settle_both(alloc, agent, a, b);
+    let status = settle_both(agent, a, b);
     if status != DONE {
         return without_order(status);
     }
-    let order = jsstr_compare_unchecked(alloc, agent, a, b);
+    let order = jsstr_compare_unchecked(agent, a, b);
     JsOrder {
         status: DONE,
         order,
@@ -63,7 +60,7 @@ pub extern "C" fn jsstr_compare(alloc: Global, agent: &mut JsAgent, a: u32, b: u
 
 /// Whether two settled strings have the same units.
 #[unsafe(no_mangle)]
-pub extern "C" fn jsstr_equal_unchecked(alloc: Global, agent: &mut JsAgent, a: u32, b: u32) -> bool
+pub extern "C" fn jsstr_equal_unchecked(agent: &mut JsAgent, a: u32, b: u32) -> bool
     requires ready { IsReady agent.old.at.value }
     requires left { IsSearchable (handle_view agent.old.at.value) a }
     requires right { IsSearchable (handle_view agent.old.at.value) b }
@@ -73,15 +70,12 @@ pub extern "C" fn jsstr_equal_unchecked(alloc: Global, agent: &mut JsAgent, a: u
         → Has (handle_view agent.old.at.value).units b vs
         → IsTrue result ↔ (us ≡ vs) }
 {
-    let mut held = agent.take(alloc);
-    let answer = agent_searches::equal(&mut held, JsStr { id: a }, JsStr { id: b });
-    agent.put(held);
-    answer
+    agent_searches::equal(agent.held(), JsStr { id: a }, JsStr { id: b })
 }
 
 /// The same, with its conditions tested and both strings settled first.
 #[unsafe(no_mangle)]
-pub extern "C" fn jsstr_equal(alloc: Global, agent: &mut JsAgent, a: u32, b: u32) -> JsTruth
+pub extern "C" fn jsstr_equal(agent: &mut JsAgent, a: u32, b: u32) -> JsTruth
     requires { IsHandle agent.old }
     ensures handle { IsHandle agent.new }
     ensures bad { result.status ≡ reports.BAD_ARGUMENT
@@ -90,11 +84,11 @@ pub extern "C" fn jsstr_equal(alloc: Global, agent: &mut JsAgent, a: u32, b: u32
         (result ≡ no_truth result.status)
         (λ us vs. (result.status ≡ reports.DONE) × (IsTrue result.holds ↔ (us ≡ vs))) }
 {
-    let status = settle_both(alloc, agent, a, b);
+    let status = settle_both(agent, a, b);
     if status != DONE {
         return without_truth(status);
     }
-    let holds = jsstr_equal_unchecked(alloc, agent, a, b);
+    let holds = jsstr_equal_unchecked(agent, a, b);
     JsTruth {
         status: DONE,
         holds,

@@ -109,21 +109,18 @@ pub extern "C" fn jsstr_free(alloc: Global, agent: &mut JsAgent) -> u32
 
 /// How many agents this one may become, itself counted.
 #[unsafe(no_mangle)]
-pub extern "C" fn jsstr_share_unchecked(alloc: Global, agent: &mut JsAgent) -> u32
+pub extern "C" fn jsstr_share_unchecked(agent: &mut JsAgent) -> u32
     requires ready { IsReady agent.old.at.value }
     ensures handle { IsHandle agent.new }
     ensures same { agent.new.at.value ≡ agent.old.at.value }
     ensures share { result ≡ share_in agent.old.at.value }
 {
-    let held = agent.take(alloc);
-    let answer = held.share();
-    agent.put(held);
-    answer
+    agent.held().share()
 }
 
 /// The same, with its conditions tested.
 #[unsafe(no_mangle)]
-pub extern "C" fn jsstr_share(alloc: Global, agent: &mut JsAgent) -> JsNumber
+pub extern "C" fn jsstr_share(agent: &mut JsAgent) -> JsNumber
     requires { IsHandle agent.old }
     ensures handle { IsHandle agent.new }
     ensures unchanged { agent.new.at.value ≡ agent.old.at.value }
@@ -134,7 +131,7 @@ pub extern "C" fn jsstr_share(alloc: Global, agent: &mut JsAgent) -> JsNumber
     if agent.is_empty() {
         return without_number(BAD_ARGUMENT);
     }
-    let value = jsstr_share_unchecked(alloc, agent);
+    let value = jsstr_share_unchecked(agent);
     JsNumber {
         status: DONE,
         value,
@@ -179,10 +176,7 @@ pub extern "C" fn jsstr_split_unchecked(
     ensures refused { result ≢ reports.DONE
         → (agent.new.at.value ≡ agent.old.at.value) × (out.new.at.value ≡ None) }
 {
-    let mut held = agent.take(alloc);
-    let answer = held.split(alloc, give);
-    agent.put(held);
-    match answer {
+    match agent.held().split(alloc, give) {
         Ok(other) => {
             out.put(other);
             DONE
@@ -229,7 +223,7 @@ pub extern "C" fn jsstr_split(
     if agent.is_empty() || !out.is_empty() {
         return BAD_ARGUMENT;
     }
-    let share = jsstr_share_unchecked(alloc, agent);
+    let share = jsstr_share_unchecked(agent);
     if give < 1 || give >= share {
         return BAD_ARGUMENT;
     }
@@ -256,9 +250,7 @@ pub extern "C" fn jsstr_join_unchecked(alloc: Global, agent: &mut JsAgent, other
     ensures gone { other.new.at.value ≡ None }
     ensures other_handle { IsHandle other.new }
 {
-    let mut held = agent.take(alloc);
-    held.join(Box::into_inner(other.take(alloc)));
-    agent.put(held);
+    agent.held().join(Box::into_inner(other.take(alloc)));
 }
 
 /// The same, with its conditions tested. The other was split off from this one, as shown by their numbers;
@@ -293,8 +285,8 @@ pub extern "C" fn jsstr_join(alloc: Global, agent: &mut JsAgent, other: &mut JsA
     if agent.is_empty() || other.is_empty() {
         return BAD_ARGUMENT;
     }
-    let number = agent.number(alloc);
-    if other.giver(alloc) != number {
+    let number = agent.number();
+    if other.giver() != number {
         return BAD_ARGUMENT;
     }
     join_child(alloc, agent, other)

@@ -14,16 +14,10 @@ use c_steps::{
     DONE, JsAnswer, bad_argument, of_join, of_text, settle, settle_known, settle_reaching,
 };
 use heap_text::JsStr;
-use std::alloc::Global;
 
 /// The units of one string, and then those of another.
 #[unsafe(no_mangle)]
-pub extern "C" fn jsstr_concat_unchecked(
-    alloc: Global,
-    agent: &mut JsAgent,
-    a: u32,
-    b: u32,
-) -> JsAnswer
+pub extern "C" fn jsstr_concat_unchecked(agent: &mut JsAgent, a: u32, b: u32) -> JsAnswer
     requires ready { IsReady agent.old.at.value }
     requires known { HasKey (handle_view agent.old.at.value).units a
         × HasKey (handle_view agent.old.at.value).units b }
@@ -35,15 +29,13 @@ pub extern "C" fn jsstr_concat_unchecked(
         → Has (handle_view agent.old.at.value).units b vs
         → Has (handle_view agent.new.at.value).units result.id (us ++ vs) }
 {
-    let mut held = agent.take(alloc);
-    let answer = agent_makes::concat(&mut held, JsStr { id: a }, JsStr { id: b });
-    agent.put(held);
+    let answer = agent_makes::concat(agent.held(), JsStr { id: a }, JsStr { id: b });
     of_join(answer)
 }
 
 /// The same, with its conditions tested.
 #[unsafe(no_mangle)]
-pub extern "C" fn jsstr_concat(alloc: Global, agent: &mut JsAgent, a: u32, b: u32) -> JsAnswer
+pub extern "C" fn jsstr_concat(agent: &mut JsAgent, a: u32, b: u32) -> JsAnswer
     requires { IsHandle agent.old }
     ensures handle { IsHandle agent.new }
     ensures bad { result.status ≡ reports.BAD_ARGUMENT
@@ -57,44 +49,38 @@ pub extern "C" fn jsstr_concat(alloc: Global, agent: &mut JsAgent, a: u32, b: u3
         → Has (handle_view agent.old.at.value).units b vs
         → Has (handle_view agent.new.at.value).units result.id (us ++ vs) }
 {
-    if !agent.knows(alloc, a) || !agent.knows(alloc, b) {
+    if !agent.knows(a) || !agent.knows(b) {
         return bad_argument();
     }
-    jsstr_concat_unchecked(alloc, agent, a, b)
+    jsstr_concat_unchecked(agent, a, b)
 }
 
 /// Sees to it that a string is settled, so that it may be cut, read and interned. The answer is the
 /// string.
 #[unsafe(no_mangle)]
-pub extern "C" fn jsstr_settle_unchecked(alloc: Global, agent: &mut JsAgent, s: u32) -> JsAnswer
+pub extern "C" fn jsstr_settle_unchecked(agent: &mut JsAgent, s: u32) -> JsAnswer
     requires ready { IsReady agent.old.at.value }
     requires known { HasKey (handle_view agent.old.at.value).units s }
     ensures handle { IsHandle agent.new }
     ensures settles { SettlesKnown agent.old.at.value agent.new.at.value s result }
 {
-    settle(alloc, agent, s)
+    settle(agent, s)
 }
 
 /// The same, with its conditions tested. The calls that settle first then have no units to copy.
 #[unsafe(no_mangle)]
-pub extern "C" fn jsstr_settle(alloc: Global, agent: &mut JsAgent, s: u32) -> JsAnswer
+pub extern "C" fn jsstr_settle(agent: &mut JsAgent, s: u32) -> JsAnswer
     requires { IsHandle agent.old }
     ensures handle { IsHandle agent.new }
     ensures bad { result.status ≡ reports.BAD_ARGUMENT ↔ ¬ (HandleKnows agent.old.at.value s) }
     ensures settles { SettlesFirst agent.old.at.value agent.new.at.value s result }
 {
-    settle_known(alloc, agent, s)
+    settle_known(agent, s)
 }
 
 /// The part of a settled string from unit `from` up to unit `to`, settled.
 #[unsafe(no_mangle)]
-pub extern "C" fn jsstr_slice_unchecked(
-    alloc: Global,
-    agent: &mut JsAgent,
-    s: u32,
-    from: u32,
-    to: u32,
-) -> JsAnswer
+pub extern "C" fn jsstr_slice_unchecked(agent: &mut JsAgent, s: u32, from: u32, to: u32) -> JsAnswer
     requires ready { IsReady agent.old.at.value }
     requires settled { IsSeenSettled (handle_view agent.old.at.value) s }
     requires within { (us : List ℕ) × Has (handle_view agent.old.at.value).units s us × (from ≤ to)
@@ -108,21 +94,13 @@ pub extern "C" fn jsstr_slice_unchecked(
     ensures settled { result.status ≡ reports.DONE
         → IsSeenSettled (handle_view agent.new.at.value) result.id }
 {
-    let mut held = agent.take(alloc);
-    let answer = agent_makes::slice(&mut held, JsStr { id: s }, from, to);
-    agent.put(held);
+    let answer = agent_makes::slice(agent.held(), JsStr { id: s }, from, to);
     of_text(answer)
 }
 
 /// The same, with its conditions tested and the string settled first.
 #[unsafe(no_mangle)]
-pub extern "C" fn jsstr_slice(
-    alloc: Global,
-    agent: &mut JsAgent,
-    s: u32,
-    from: u32,
-    to: u32,
-) -> JsAnswer
+pub extern "C" fn jsstr_slice(agent: &mut JsAgent, s: u32, from: u32, to: u32) -> JsAnswer
     requires { IsHandle agent.old }
     ensures handle { IsHandle agent.new }
     ensures bad { result.status ≡ reports.BAD_ARGUMENT
@@ -141,9 +119,9 @@ pub extern "C" fn jsstr_slice(
     if to < from {
         return bad_argument();
     }
-    let settled = settle_reaching(alloc, agent, s, from, (to - from) as usize);
+    let settled = settle_reaching(agent, s, from, (to - from) as usize);
     if settled.status != DONE {
         return settled;
     }
-    jsstr_slice_unchecked(alloc, agent, s, from, to)
+    jsstr_slice_unchecked(agent, s, from, to)
 }

@@ -17,11 +17,10 @@ use c_steps::{
     BAD_ARGUMENT, DONE, JsAnswer, JsNumber, JsTruth, bad_argument, of_found, of_table,
     settle_known, without_number, without_truth,
 };
-use std::alloc::Global;
 
 /// The one string of the table with the units of a settled string.
 #[unsafe(no_mangle)]
-pub extern "C" fn jsstr_intern_unchecked(alloc: Global, agent: &mut JsAgent, s: u32) -> JsAnswer
+pub extern "C" fn jsstr_intern_unchecked(agent: &mut JsAgent, s: u32) -> JsAnswer
     requires ready { IsReady agent.old.at.value }
     requires known { HasKey (handle_view agent.old.at.value).units s }
     requires settled { IsSeenSettled (handle_view agent.old.at.value) s }
@@ -32,15 +31,13 @@ pub extern "C" fn jsstr_intern_unchecked(alloc: Global, agent: &mut JsAgent, s: 
     ensures entered { result.status ≡ reports.DONE
         → IsEntered (handle_view agent.old.at.value) (handle_view agent.new.at.value) s result.id }
 {
-    let mut held = agent.take(alloc);
-    let answer = agent_keys::intern(&mut held, s);
-    agent.put(held);
+    let answer = agent_keys::intern(agent.held(), s);
     of_table(answer)
 }
 
 /// The same, with its conditions tested and the string settled first.
 #[unsafe(no_mangle)]
-pub extern "C" fn jsstr_intern(alloc: Global, agent: &mut JsAgent, s: u32) -> JsAnswer
+pub extern "C" fn jsstr_intern(agent: &mut JsAgent, s: u32) -> JsAnswer
     requires { IsHandle agent.old }
     ensures handle { IsHandle agent.new }
     ensures bad { result.status ≡ reports.BAD_ARGUMENT ↔ ¬ (HandleKnows agent.old.at.value s) }
@@ -57,30 +54,27 @@ pub extern "C" fn jsstr_intern(alloc: Global, agent: &mut JsAgent, s: u32) -> Js
     ensures enters { result.status ≢ reports.BAD_ARGUMENT
         → EntersSettled agent.old.at.value agent.new.at.value s result }
 {
-    let settled = settle_known(alloc, agent, s);
+    let settled = settle_known(agent, s);
     if settled.status != DONE {
         return settled;
     }
-    jsstr_intern_unchecked(alloc, agent, s)
+    jsstr_intern_unchecked(agent, s)
 }
 
 /// Whether a string is an answer of the string table that the agent knows. Any number may be asked for.
 #[unsafe(no_mangle)]
-pub extern "C" fn jsstr_is_interned_unchecked(alloc: Global, agent: &mut JsAgent, s: u32) -> bool
+pub extern "C" fn jsstr_is_interned_unchecked(agent: &mut JsAgent, s: u32) -> bool
     requires ready { IsReady agent.old.at.value }
     ensures handle { IsHandle agent.new }
     ensures unchanged { agent.new.at.value ≡ agent.old.at.value }
     ensures interned { IsTrue result ↔ HasInterned agent.old.at.value s }
 {
-    let held = agent.take(alloc);
-    let interned = held.has_interned(s);
-    agent.put(held);
-    interned
+    agent.held().has_interned(s)
 }
 
 /// The same, with its conditions tested.
 #[unsafe(no_mangle)]
-pub extern "C" fn jsstr_is_interned(alloc: Global, agent: &mut JsAgent, s: u32) -> JsTruth
+pub extern "C" fn jsstr_is_interned(agent: &mut JsAgent, s: u32) -> JsTruth
     requires { IsHandle agent.old }
     ensures handle { IsHandle agent.new }
     ensures unchanged { agent.new.at.value ≡ agent.old.at.value }
@@ -91,7 +85,7 @@ pub extern "C" fn jsstr_is_interned(alloc: Global, agent: &mut JsAgent, s: u32) 
     if agent.is_empty() {
         return without_truth(BAD_ARGUMENT);
     }
-    let holds = jsstr_is_interned_unchecked(alloc, agent, s);
+    let holds = jsstr_is_interned_unchecked(agent, s);
     JsTruth {
         status: DONE,
         holds,
@@ -113,7 +107,7 @@ pub extern "C" fn jsstr_same_unchecked(_agent: &JsAgent, a: u32, b: u32) -> bool
 
 /// The same, with its conditions tested.
 #[unsafe(no_mangle)]
-pub extern "C" fn jsstr_same(alloc: Global, agent: &mut JsAgent, a: u32, b: u32) -> JsTruth
+pub extern "C" fn jsstr_same(agent: &mut JsAgent, a: u32, b: u32) -> JsTruth
     requires { IsHandle agent.old }
     ensures handle { IsHandle agent.new }
     ensures unchanged { agent.new.at.value ≡ agent.old.at.value }
@@ -126,7 +120,7 @@ pub extern "C" fn jsstr_same(alloc: Global, agent: &mut JsAgent, a: u32, b: u32)
         → Has (handle_view agent.old.at.value).units a us
         → Has (handle_view agent.old.at.value).units b vs → IsTrue result.holds ↔ (us ≡ vs) }
 {
-    if !agent.has_interned(alloc, a) || !agent.has_interned(alloc, b) {
+    if !agent.has_interned(a) || !agent.has_interned(b) {
         return without_truth(BAD_ARGUMENT);
     }
     JsTruth {
@@ -137,7 +131,7 @@ pub extern "C" fn jsstr_same(alloc: Global, agent: &mut JsAgent, a: u32, b: u32)
 
 /// The slot of an interned string, for good. Nothing is used, ever.
 #[unsafe(no_mangle)]
-pub extern "C" fn jsstr_slot_of_unchecked(alloc: Global, agent: &mut JsAgent, s: u32) -> u32
+pub extern "C" fn jsstr_slot_of_unchecked(agent: &mut JsAgent, s: u32) -> u32
     requires ready { IsReady agent.old.at.value }
     requires known { HasKey (handle_view agent.old.at.value).units s }
     requires call { (u : List ℕ) × Contains (history (handle_view agent.old.at.value)) (u, s) }
@@ -145,15 +139,12 @@ pub extern "C" fn jsstr_slot_of_unchecked(alloc: Global, agent: &mut JsAgent, s:
     ensures ready { IsReady agent.new.at.value }
     ensures tells { TellsSlot agent.old.at.value agent.new.at.value s result }
 {
-    let mut held = agent.take(alloc);
-    let slot = agent_keys::slot_of(&mut held, s);
-    agent.put(held);
-    slot
+    agent_keys::slot_of(agent.held(), s)
 }
 
 /// The same, with its conditions tested.
 #[unsafe(no_mangle)]
-pub extern "C" fn jsstr_slot_of(alloc: Global, agent: &mut JsAgent, s: u32) -> JsNumber
+pub extern "C" fn jsstr_slot_of(agent: &mut JsAgent, s: u32) -> JsNumber
     requires { IsHandle agent.old }
     ensures handle { IsHandle agent.new }
     ensures bad { result.status ≡ reports.BAD_ARGUMENT ↔ ¬ (HasInterned agent.old.at.value s) }
@@ -163,10 +154,10 @@ pub extern "C" fn jsstr_slot_of(alloc: Global, agent: &mut JsAgent, s: u32) -> J
     ensures tells { result.status ≡ reports.DONE
         → TellsSlot agent.old.at.value agent.new.at.value s result.value }
 {
-    if !agent.has_interned(alloc, s) {
+    if !agent.has_interned(s) {
         return without_number(BAD_ARGUMENT);
     }
-    let value = jsstr_slot_of_unchecked(alloc, agent, s);
+    let value = jsstr_slot_of_unchecked(agent, s);
     JsNumber {
         status: DONE,
         value,
@@ -176,7 +167,7 @@ pub extern "C" fn jsstr_slot_of(alloc: Global, agent: &mut JsAgent, s: u32) -> J
 /// The interned string in a slot, known, settled and interned from then on, if there is one. Nothing
 /// is used, ever.
 #[unsafe(no_mangle)]
-pub extern "C" fn jsstr_adopt_unchecked(alloc: Global, agent: &mut JsAgent, slot: u32) -> JsAnswer
+pub extern "C" fn jsstr_adopt_unchecked(agent: &mut JsAgent, slot: u32) -> JsAnswer
     requires ready { IsReady agent.old.at.value }
     requires inside { slot < (size_in agent.old.at.value).slots }
     ensures handle { IsHandle agent.new }
@@ -184,15 +175,13 @@ pub extern "C" fn jsstr_adopt_unchecked(alloc: Global, agent: &mut JsAgent, slot
     ensures told { result.status ≢ reports.BAD_ARGUMENT }
     ensures adopts { IsAdopting agent.old.at.value agent.new.at.value slot result }
 {
-    let mut held = agent.take(alloc);
-    let answer = agent_keys::adopt(&mut held, slot);
-    agent.put(held);
+    let answer = agent_keys::adopt(agent.held(), slot);
     of_found(answer)
 }
 
 /// The same, with its conditions tested.
 #[unsafe(no_mangle)]
-pub extern "C" fn jsstr_adopt(alloc: Global, agent: &mut JsAgent, slot: u32) -> JsAnswer
+pub extern "C" fn jsstr_adopt(agent: &mut JsAgent, slot: u32) -> JsAnswer
     requires { IsHandle agent.old }
     ensures handle { IsHandle agent.new }
     ensures bad { result.status ≡ reports.BAD_ARGUMENT ↔ ¬ (slot < (size_in agent.old.at.value).slots) }
@@ -201,8 +190,8 @@ pub extern "C" fn jsstr_adopt(alloc: Global, agent: &mut JsAgent, slot: u32) -> 
     ensures adopts { result.status ≢ reports.BAD_ARGUMENT
         → IsAdopting agent.old.at.value agent.new.at.value slot result }
 {
-    if !agent.has_slot(alloc, slot) {
+    if !agent.has_slot(slot) {
         return bad_argument();
     }
-    jsstr_adopt_unchecked(alloc, agent, slot)
+    jsstr_adopt_unchecked(agent, slot)
 }

@@ -8,43 +8,34 @@ ghost use Rattle.c_steps.specs.Reports as reports;
 
 use c_handles::JsAgent;
 use c_steps::{JsAnswer, Source, Task, find_units, from_units, intern_units, on_source, tested};
-use std::alloc::Global;
 
 /// A new string with these units, settled.
 #[unsafe(no_mangle)]
-pub extern "C" fn jsstr_from_units_unchecked(
-    alloc: Global,
-    agent: &mut JsAgent,
-    units: &[u16],
-) -> JsAnswer
+pub extern "C" fn jsstr_from_units_unchecked(agent: &mut JsAgent, units: &[u16]) -> JsAnswer
     requires ready { IsReady agent.old.at.value }
     requires short { length units.now ≤ MAX }
     ensures handle { IsHandle agent.new }
     ensures told { result.status ≢ reports.BAD_ARGUMENT }
     ensures makes { MakesString agent.old.at.value agent.new.at.value units.now result }
 {
-    from_units(alloc, agent, units)
+    from_units(agent, units)
 }
 
 /// The same, with its conditions tested.
 #[unsafe(no_mangle)]
-pub extern "C" fn jsstr_from_units(alloc: Global, agent: &mut JsAgent, units: &[u16]) -> JsAnswer
+pub extern "C" fn jsstr_from_units(agent: &mut JsAgent, units: &[u16]) -> JsAnswer
     requires { IsHandle agent.old }
     ensures handle { IsHandle agent.new }
     ensures bad { result.status ≡ reports.BAD_ARGUMENT
         ↔ ¬ (IsReady agent.old.at.value × (length units.now ≤ MAX)) }
     ensures makes { TestsGiven MakesString agent.old.at.value agent.new.at.value units.now result }
 {
-    tested(alloc, agent, Task::Make, Source::Units(units))
+    tested(agent, Task::Make, Source::Units(units))
 }
 
 /// A new string of one-byte units, as Latin-1 is, settled.
 #[unsafe(no_mangle)]
-pub extern "C" fn jsstr_from_latin1_unchecked(
-    alloc: Global,
-    agent: &mut JsAgent,
-    bytes: &[u8],
-) -> JsAnswer
+pub extern "C" fn jsstr_from_latin1_unchecked(agent: &mut JsAgent, bytes: &[u8]) -> JsAnswer
     requires ready { IsReady agent.old.at.value }
     requires short { length bytes.now ≤ MAX }
     ensures handle { IsHandle agent.new }
@@ -52,12 +43,12 @@ pub extern "C" fn jsstr_from_latin1_unchecked(
     ensures goes { HandleSpends agent.old.at.value agent.new.at.value }
     ensures makes { MakesString agent.old.at.value agent.new.at.value bytes.now result }
 {
-    on_source(alloc, agent, Task::Make, Source::Latin1(bytes))
+    on_source(agent, Task::Make, Source::Latin1(bytes))
 }
 
 /// The same, with its conditions tested.
 #[unsafe(no_mangle)]
-pub extern "C" fn jsstr_from_latin1(alloc: Global, agent: &mut JsAgent, bytes: &[u8]) -> JsAnswer
+pub extern "C" fn jsstr_from_latin1(agent: &mut JsAgent, bytes: &[u8]) -> JsAnswer
     requires { IsHandle agent.old }
     ensures handle { IsHandle agent.new }
     ensures bad { result.status ≡ reports.BAD_ARGUMENT
@@ -65,17 +56,13 @@ pub extern "C" fn jsstr_from_latin1(alloc: Global, agent: &mut JsAgent, bytes: &
     ensures goes { result.status ≢ reports.BAD_ARGUMENT → HandleSpends agent.old.at.value agent.new.at.value }
     ensures makes { TestsGiven MakesString agent.old.at.value agent.new.at.value bytes.now result }
 {
-    tested(alloc, agent, Task::Make, Source::Latin1(bytes))
+    tested(agent, Task::Make, Source::Latin1(bytes))
 }
 
 /// A new string decoded from these bytes of UTF-8, settled. Other bytes are refused
 /// before anything is done.
 #[unsafe(no_mangle)]
-pub extern "C" fn jsstr_from_utf8_unchecked(
-    alloc: Global,
-    agent: &mut JsAgent,
-    bytes: &[u8],
-) -> JsAnswer
+pub extern "C" fn jsstr_from_utf8_unchecked(agent: &mut JsAgent, bytes: &[u8]) -> JsAnswer
     requires ready { IsReady agent.old.at.value }
     requires short { length bytes.now ≤ MAX }
     ensures handle { IsHandle agent.new }
@@ -83,12 +70,12 @@ pub extern "C" fn jsstr_from_utf8_unchecked(
     ensures goes { HandleSpends agent.old.at.value agent.new.at.value }
     ensures makes { OnUtf8 MakesString agent.old.at.value agent.new.at.value bytes.now result }
 {
-    on_source(alloc, agent, Task::Make, Source::Utf8(bytes))
+    on_source(agent, Task::Make, Source::Utf8(bytes))
 }
 
 /// The same, with its conditions tested.
 #[unsafe(no_mangle)]
-pub extern "C" fn jsstr_from_utf8(alloc: Global, agent: &mut JsAgent, bytes: &[u8]) -> JsAnswer
+pub extern "C" fn jsstr_from_utf8(agent: &mut JsAgent, bytes: &[u8]) -> JsAnswer
     requires { IsHandle agent.old }
     ensures handle { IsHandle agent.new }
     ensures bad { result.status ≡ reports.BAD_ARGUMENT
@@ -96,17 +83,13 @@ pub extern "C" fn jsstr_from_utf8(alloc: Global, agent: &mut JsAgent, bytes: &[u
     ensures goes { result.status ≢ reports.BAD_ARGUMENT → HandleSpends agent.old.at.value agent.new.at.value }
     ensures makes { TestsGiven (OnUtf8 MakesString) agent.old.at.value agent.new.at.value bytes.now result }
 {
-    tested(alloc, agent, Task::Make, Source::Utf8(bytes))
+    tested(agent, Task::Make, Source::Utf8(bytes))
 }
 
 /// A new string decoded from these bytes of WTF-8, settled. Other bytes are refused
 /// before anything is done.
 #[unsafe(no_mangle)]
-pub extern "C" fn jsstr_from_wtf8_unchecked(
-    alloc: Global,
-    agent: &mut JsAgent,
-    bytes: &[u8],
-) -> JsAnswer
+pub extern "C" fn jsstr_from_wtf8_unchecked(agent: &mut JsAgent, bytes: &[u8]) -> JsAnswer
     requires ready { IsReady agent.old.at.value }
     requires short { length bytes.now ≤ MAX }
     ensures handle { IsHandle agent.new }
@@ -114,12 +97,12 @@ pub extern "C" fn jsstr_from_wtf8_unchecked(
     ensures goes { HandleSpends agent.old.at.value agent.new.at.value }
     ensures makes { OnWtf8 MakesString agent.old.at.value agent.new.at.value bytes.now result }
 {
-    on_source(alloc, agent, Task::Make, Source::Wtf8(bytes))
+    on_source(agent, Task::Make, Source::Wtf8(bytes))
 }
 
 /// The same, with its conditions tested.
 #[unsafe(no_mangle)]
-pub extern "C" fn jsstr_from_wtf8(alloc: Global, agent: &mut JsAgent, bytes: &[u8]) -> JsAnswer
+pub extern "C" fn jsstr_from_wtf8(agent: &mut JsAgent, bytes: &[u8]) -> JsAnswer
     requires { IsHandle agent.old }
     ensures handle { IsHandle agent.new }
     ensures bad { result.status ≡ reports.BAD_ARGUMENT
@@ -127,234 +110,202 @@ pub extern "C" fn jsstr_from_wtf8(alloc: Global, agent: &mut JsAgent, bytes: &[u
     ensures goes { result.status ≢ reports.BAD_ARGUMENT → HandleSpends agent.old.at.value agent.new.at.value }
     ensures makes { TestsGiven (OnWtf8 MakesString) agent.old.at.value agent.new.at.value bytes.now result }
 {
-    tested(alloc, agent, Task::Make, Source::Wtf8(bytes))
+    tested(agent, Task::Make, Source::Wtf8(bytes))
 }
 
 /// The one string of the table with these units. No string is made first: where it is in the table,
 /// nothing is used.
 #[unsafe(no_mangle)]
-pub extern "C" fn jsstr_intern_units_unchecked(
-    alloc: Global,
-    agent: &mut JsAgent,
-    units: &[u16],
-) -> JsAnswer
+pub extern "C" fn jsstr_intern_units_unchecked(agent: &mut JsAgent, units: &[u16]) -> JsAnswer
     requires ready { IsReady agent.old.at.value }
     requires short { length units.now ≤ MAX }
     ensures handle { IsHandle agent.new }
     ensures told { result.status ≢ reports.BAD_ARGUMENT }
     ensures interns { IsInterning agent.old.at.value agent.new.at.value units.now result }
 {
-    intern_units(alloc, agent, units)
+    intern_units(agent, units)
 }
 
 /// The same, with its conditions tested.
 #[unsafe(no_mangle)]
-pub extern "C" fn jsstr_intern_units(alloc: Global, agent: &mut JsAgent, units: &[u16]) -> JsAnswer
+pub extern "C" fn jsstr_intern_units(agent: &mut JsAgent, units: &[u16]) -> JsAnswer
     requires { IsHandle agent.old }
     ensures handle { IsHandle agent.new }
     ensures bad { result.status ≡ reports.BAD_ARGUMENT
         ↔ ¬ (IsReady agent.old.at.value × (length units.now ≤ MAX)) }
     ensures interns { TestsGiven IsInterning agent.old.at.value agent.new.at.value units.now result }
 {
-    tested(alloc, agent, Task::Intern, Source::Units(units))
+    tested(agent, Task::Intern, Source::Units(units))
 }
 
 /// The one string of the table with one-byte units, as Latin-1 is.
 #[unsafe(no_mangle)]
-pub extern "C" fn jsstr_intern_latin1_unchecked(
-    alloc: Global,
-    agent: &mut JsAgent,
-    bytes: &[u8],
-) -> JsAnswer
+pub extern "C" fn jsstr_intern_latin1_unchecked(agent: &mut JsAgent, bytes: &[u8]) -> JsAnswer
     requires ready { IsReady agent.old.at.value }
     requires short { length bytes.now ≤ MAX }
     ensures handle { IsHandle agent.new }
     ensures told { result.status ≢ reports.BAD_ARGUMENT }
     ensures interns { IsInterning agent.old.at.value agent.new.at.value bytes.now result }
 {
-    on_source(alloc, agent, Task::Intern, Source::Latin1(bytes))
+    on_source(agent, Task::Intern, Source::Latin1(bytes))
 }
 
 /// The same, with its conditions tested.
 #[unsafe(no_mangle)]
-pub extern "C" fn jsstr_intern_latin1(alloc: Global, agent: &mut JsAgent, bytes: &[u8]) -> JsAnswer
+pub extern "C" fn jsstr_intern_latin1(agent: &mut JsAgent, bytes: &[u8]) -> JsAnswer
     requires { IsHandle agent.old }
     ensures handle { IsHandle agent.new }
     ensures bad { result.status ≡ reports.BAD_ARGUMENT
         ↔ ¬ (IsReady agent.old.at.value × (length bytes.now ≤ MAX)) }
     ensures interns { TestsGiven IsInterning agent.old.at.value agent.new.at.value bytes.now result }
 {
-    tested(alloc, agent, Task::Intern, Source::Latin1(bytes))
+    tested(agent, Task::Intern, Source::Latin1(bytes))
 }
 
 /// The one string of the table that these bytes of UTF-8 spell. Other bytes are refused
 /// before anything is done.
 #[unsafe(no_mangle)]
-pub extern "C" fn jsstr_intern_utf8_unchecked(
-    alloc: Global,
-    agent: &mut JsAgent,
-    bytes: &[u8],
-) -> JsAnswer
+pub extern "C" fn jsstr_intern_utf8_unchecked(agent: &mut JsAgent, bytes: &[u8]) -> JsAnswer
     requires ready { IsReady agent.old.at.value }
     requires short { length bytes.now ≤ MAX }
     ensures handle { IsHandle agent.new }
     ensures told { result.status ≢ reports.BAD_ARGUMENT }
     ensures interns { OnUtf8 IsInterning agent.old.at.value agent.new.at.value bytes.now result }
 {
-    on_source(alloc, agent, Task::Intern, Source::Utf8(bytes))
+    on_source(agent, Task::Intern, Source::Utf8(bytes))
 }
 
 /// The same, with its conditions tested.
 #[unsafe(no_mangle)]
-pub extern "C" fn jsstr_intern_utf8(alloc: Global, agent: &mut JsAgent, bytes: &[u8]) -> JsAnswer
+pub extern "C" fn jsstr_intern_utf8(agent: &mut JsAgent, bytes: &[u8]) -> JsAnswer
     requires { IsHandle agent.old }
     ensures handle { IsHandle agent.new }
     ensures bad { result.status ≡ reports.BAD_ARGUMENT
         ↔ ¬ (IsReady agent.old.at.value × (length bytes.now ≤ MAX)) }
     ensures interns { TestsGiven (OnUtf8 IsInterning) agent.old.at.value agent.new.at.value bytes.now result }
 {
-    tested(alloc, agent, Task::Intern, Source::Utf8(bytes))
+    tested(agent, Task::Intern, Source::Utf8(bytes))
 }
 
 /// The one string of the table that these bytes of WTF-8 spell. Other bytes are refused
 /// before anything is done.
 #[unsafe(no_mangle)]
-pub extern "C" fn jsstr_intern_wtf8_unchecked(
-    alloc: Global,
-    agent: &mut JsAgent,
-    bytes: &[u8],
-) -> JsAnswer
+pub extern "C" fn jsstr_intern_wtf8_unchecked(agent: &mut JsAgent, bytes: &[u8]) -> JsAnswer
     requires ready { IsReady agent.old.at.value }
     requires short { length bytes.now ≤ MAX }
     ensures handle { IsHandle agent.new }
     ensures told { result.status ≢ reports.BAD_ARGUMENT }
     ensures interns { OnWtf8 IsInterning agent.old.at.value agent.new.at.value bytes.now result }
 {
-    on_source(alloc, agent, Task::Intern, Source::Wtf8(bytes))
+    on_source(agent, Task::Intern, Source::Wtf8(bytes))
 }
 
 /// The same, with its conditions tested.
 #[unsafe(no_mangle)]
-pub extern "C" fn jsstr_intern_wtf8(alloc: Global, agent: &mut JsAgent, bytes: &[u8]) -> JsAnswer
+pub extern "C" fn jsstr_intern_wtf8(agent: &mut JsAgent, bytes: &[u8]) -> JsAnswer
     requires { IsHandle agent.old }
     ensures handle { IsHandle agent.new }
     ensures bad { result.status ≡ reports.BAD_ARGUMENT
         ↔ ¬ (IsReady agent.old.at.value × (length bytes.now ≤ MAX)) }
     ensures interns { TestsGiven (OnWtf8 IsInterning) agent.old.at.value agent.new.at.value bytes.now result }
 {
-    tested(alloc, agent, Task::Intern, Source::Wtf8(bytes))
+    tested(agent, Task::Intern, Source::Wtf8(bytes))
 }
 
 /// The one string of the table with these units, if it is there. Nothing is used, ever.
 #[unsafe(no_mangle)]
-pub extern "C" fn jsstr_find_units_unchecked(
-    alloc: Global,
-    agent: &mut JsAgent,
-    units: &[u16],
-) -> JsAnswer
+pub extern "C" fn jsstr_find_units_unchecked(agent: &mut JsAgent, units: &[u16]) -> JsAnswer
     requires ready { IsReady agent.old.at.value }
     requires short { length units.now ≤ MAX }
     ensures handle { IsHandle agent.new }
     ensures told { result.status ≢ reports.BAD_ARGUMENT }
     ensures finds { IsFinding agent.old.at.value agent.new.at.value units.now result }
 {
-    find_units(alloc, agent, units)
+    find_units(agent, units)
 }
 
 /// The same, with its conditions tested.
 #[unsafe(no_mangle)]
-pub extern "C" fn jsstr_find_units(alloc: Global, agent: &mut JsAgent, units: &[u16]) -> JsAnswer
+pub extern "C" fn jsstr_find_units(agent: &mut JsAgent, units: &[u16]) -> JsAnswer
     requires { IsHandle agent.old }
     ensures handle { IsHandle agent.new }
     ensures bad { result.status ≡ reports.BAD_ARGUMENT
         ↔ ¬ (IsReady agent.old.at.value × (length units.now ≤ MAX)) }
     ensures finds { TestsGiven IsFinding agent.old.at.value agent.new.at.value units.now result }
 {
-    tested(alloc, agent, Task::Find, Source::Units(units))
+    tested(agent, Task::Find, Source::Units(units))
 }
 
 /// The one string of the table with one-byte units, as Latin-1 is, if it is there.
 #[unsafe(no_mangle)]
-pub extern "C" fn jsstr_find_latin1_unchecked(
-    alloc: Global,
-    agent: &mut JsAgent,
-    bytes: &[u8],
-) -> JsAnswer
+pub extern "C" fn jsstr_find_latin1_unchecked(agent: &mut JsAgent, bytes: &[u8]) -> JsAnswer
     requires ready { IsReady agent.old.at.value }
     requires short { length bytes.now ≤ MAX }
     ensures handle { IsHandle agent.new }
     ensures told { result.status ≢ reports.BAD_ARGUMENT }
     ensures finds { IsFinding agent.old.at.value agent.new.at.value bytes.now result }
 {
-    on_source(alloc, agent, Task::Find, Source::Latin1(bytes))
+    on_source(agent, Task::Find, Source::Latin1(bytes))
 }
 
 /// The same, with its conditions tested.
 #[unsafe(no_mangle)]
-pub extern "C" fn jsstr_find_latin1(alloc: Global, agent: &mut JsAgent, bytes: &[u8]) -> JsAnswer
+pub extern "C" fn jsstr_find_latin1(agent: &mut JsAgent, bytes: &[u8]) -> JsAnswer
     requires { IsHandle agent.old }
     ensures handle { IsHandle agent.new }
     ensures bad { result.status ≡ reports.BAD_ARGUMENT
         ↔ ¬ (IsReady agent.old.at.value × (length bytes.now ≤ MAX)) }
     ensures finds { TestsGiven IsFinding agent.old.at.value agent.new.at.value bytes.now result }
 {
-    tested(alloc, agent, Task::Find, Source::Latin1(bytes))
+    tested(agent, Task::Find, Source::Latin1(bytes))
 }
 
 /// The one string of the table that these bytes of UTF-8 spell, if it is there. Bytes that
 /// are none are refused before anything is done.
 #[unsafe(no_mangle)]
-pub extern "C" fn jsstr_find_utf8_unchecked(
-    alloc: Global,
-    agent: &mut JsAgent,
-    bytes: &[u8],
-) -> JsAnswer
+pub extern "C" fn jsstr_find_utf8_unchecked(agent: &mut JsAgent, bytes: &[u8]) -> JsAnswer
     requires ready { IsReady agent.old.at.value }
     requires short { length bytes.now ≤ MAX }
     ensures handle { IsHandle agent.new }
     ensures told { result.status ≢ reports.BAD_ARGUMENT }
     ensures finds { OnUtf8 IsFinding agent.old.at.value agent.new.at.value bytes.now result }
 {
-    on_source(alloc, agent, Task::Find, Source::Utf8(bytes))
+    on_source(agent, Task::Find, Source::Utf8(bytes))
 }
 
 /// The same, with its conditions tested.
 #[unsafe(no_mangle)]
-pub extern "C" fn jsstr_find_utf8(alloc: Global, agent: &mut JsAgent, bytes: &[u8]) -> JsAnswer
+pub extern "C" fn jsstr_find_utf8(agent: &mut JsAgent, bytes: &[u8]) -> JsAnswer
     requires { IsHandle agent.old }
     ensures handle { IsHandle agent.new }
     ensures bad { result.status ≡ reports.BAD_ARGUMENT
         ↔ ¬ (IsReady agent.old.at.value × (length bytes.now ≤ MAX)) }
     ensures finds { TestsGiven (OnUtf8 IsFinding) agent.old.at.value agent.new.at.value bytes.now result }
 {
-    tested(alloc, agent, Task::Find, Source::Utf8(bytes))
+    tested(agent, Task::Find, Source::Utf8(bytes))
 }
 
 /// The one string of the table that these bytes of WTF-8 spell, if it is there. Bytes that
 /// are none are refused before anything is done.
 #[unsafe(no_mangle)]
-pub extern "C" fn jsstr_find_wtf8_unchecked(
-    alloc: Global,
-    agent: &mut JsAgent,
-    bytes: &[u8],
-) -> JsAnswer
+pub extern "C" fn jsstr_find_wtf8_unchecked(agent: &mut JsAgent, bytes: &[u8]) -> JsAnswer
     requires ready { IsReady agent.old.at.value }
     requires short { length bytes.now ≤ MAX }
     ensures handle { IsHandle agent.new }
     ensures told { result.status ≢ reports.BAD_ARGUMENT }
     ensures finds { OnWtf8 IsFinding agent.old.at.value agent.new.at.value bytes.now result }
 {
-    on_source(alloc, agent, Task::Find, Source::Wtf8(bytes))
+    on_source(agent, Task::Find, Source::Wtf8(bytes))
 }
 
 /// The same, with its conditions tested.
 #[unsafe(no_mangle)]
-pub extern "C" fn jsstr_find_wtf8(alloc: Global, agent: &mut JsAgent, bytes: &[u8]) -> JsAnswer
+pub extern "C" fn jsstr_find_wtf8(agent: &mut JsAgent, bytes: &[u8]) -> JsAnswer
     requires { IsHandle agent.old }
     ensures handle { IsHandle agent.new }
     ensures bad { result.status ≡ reports.BAD_ARGUMENT
         ↔ ¬ (IsReady agent.old.at.value × (length bytes.now ≤ MAX)) }
     ensures finds { TestsGiven (OnWtf8 IsFinding) agent.old.at.value agent.new.at.value bytes.now result }
 {
-    tested(alloc, agent, Task::Find, Source::Wtf8(bytes))
+    tested(agent, Task::Find, Source::Wtf8(bytes))
 }

@@ -12,17 +12,15 @@ pub returns-clause-shown : goal.returns-clause-shown
 returns-clause-shown c us h =
     let s : ℕ = c.args.s in
     let call = c.window-shown in
-    let has = subst (λ (o : Option Held). Has (handle_view o).units s us) c.take-held.ensures.taken h in
+    let has = subst (λ (o : Option Held). Has (handle_view o).units s us) c.held.ensures.value h in
     let is : shown_by c.of_words.result ≡ call.result = ap shown_by c.of_words.ensures in
     subst (λ (r : Shown). AreShown us c.args.at c.args.out.now call.new.into r) (sym is)
-    (call.ensures.shown us (subst (λ (x : Held). Has (view_by x).units s us) (sym c.deref_mut.ensures.value) has))
+    (call.ensures.shown us has)
 
 pub returns-clause-there : goal.returns-clause-there
 returns-clause-there c us h =
     let s : ℕ = c.args.s in
     let call = c.window-shown in
-    let has = subst (λ (o : Option Held). Has (handle_view o).units s us) c.take-held.ensures.taken h in
+    let has = subst (λ (o : Option Held). Has (handle_view o).units s us) c.held.ensures.value h in
     let is : shown_by c.of_words.result ≡ call.result = ap shown_by c.of_words.ensures in
-    let there = call.ensures.there us (subst (λ (x : Held). Has (view_by x).units s us) (sym c.deref_mut.ensures.value) has) in
-    subst (λ (o : Option Held). AreThere (handle_view o) us (shown_by c.of_words.result)) (sym c.put.ensures.there)
-    (subst (λ (r : Shown). AreThere (view_by call.new.agent) us r) (sym is) there)
+    subst (λ (r : Shown). AreThere (view_by call.new.agent) us r) (sym is) (call.ensures.there us has)

@@ -1,12 +1,12 @@
-use Rattle.std.specs.Prelude.{Option, Some}
-use Rattle.std.proofs.Common.{ap, subst, sym, ◌∙◌}
+use Rattle.std.specs.Prelude.{Option}
+use Rattle.std.proofs.Common.{subst}
 use Rattle.heap_rule.specs.Maps.{Has}
 use Rattle.heap_agents.specs.declared.held.Held.{Held}
 use Rattle.heap_agents.specs.Ready.{handle_view}
 use Rattle.c_reads.proofs.search.jsstr_index_of_unchecked.Goals as goal
 
 pub returns-clause-least : goal.returns-clause-least
-returns-clause-least c us vs h k = let taken = c.take-held.ensures.taken ∙ ap Some (sym c.deref_mut.ensures.value) in (
+returns-clause-least c us vs h k = let taken = c.held.ensures.value in (
   c.index_of-answer.result,
   c.of_place.ensures.value,
   c.index_of-answer.ensures.least us vs

@@ -1,10 +1,10 @@
-use Rattle.std.specs.Prelude.{Option, Some}
-use Rattle.std.proofs.Common.{ap, subst, sym, ◌∙◌}
+use Rattle.std.specs.Prelude.{Option}
+use Rattle.std.proofs.Common.{subst}
 use Rattle.heap_rule.specs.Maps.{Has}
 use Rattle.heap_agents.specs.declared.held.Held.{Held}
 use Rattle.heap_agents.specs.Ready.{handle_view}
 use Rattle.c_reads.proofs.search.jsstr_starts_with_unchecked.Goals as goal
 
 pub returns-clause-stands : goal.returns-clause-stands
-returns-clause-stands c us vs h k = let taken = c.take-held.ensures.taken ∙ ap Some (sym c.deref_mut.ensures.value) in c.starts_with-answer.ensures.stands us vs
+returns-clause-stands c us vs h k = let taken = c.held.ensures.value in c.starts_with-answer.ensures.stands us vs
     (subst (λ (o : Option Held). Has (handle_view o).units c.args.hay us) taken h) (subst (λ (o : Option Held). Has (handle_view o).units c.args.needle vs) taken k)

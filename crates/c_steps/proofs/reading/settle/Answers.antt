@@ -1,4 +1,4 @@
-use Rattle.std.proofs.Common.{◌∙◌, Some, ap, sym}
+use Rattle.std.proofs.Common.{Some, ap, refl}
 use Rattle.c_steps.specs.declared.answer.JsAnswer.{JsAnswer}
 use Rattle.c_steps.proofs.Settled.{held_refuses, held_settles, never_done}
 use Rattle.c_steps.proofs.reading.settle.Goals as goal
@@ -8,8 +8,8 @@ returns-in-Ok-clause-settles c = let i = c.in-Ok.ensures in record {
   told = c.of_text.ensures.told;
   done = λ e. (
     c.of_text.ensures.value,
-    held_settles c.args.agent.now.at.value c.put.new.self.at.value c.deref_mut.result.now c.settle-answer.new.agent c.args.s
-        (c.take-held.ensures.taken ∙ ap Some (sym c.deref_mut.ensures.value)) c.put.ensures.there i.leaves tt i.marked i.settles,
+    held_settles c.args.agent.now.at.value (Some c.settle-answer.new.agent) c.held.result.now c.settle-answer.new.agent c.args.s
+        c.held.ensures.value refl i.leaves tt i.marked i.settles,
   );
   refused = λ n. absurd (n (ap (λ (a : JsAnswer). a.status) c.of_text.ensures.value));
 }
@@ -18,6 +18,6 @@ pub returns-in-Err-clause-settles : goal.returns-in-Err-clause-settles
 returns-in-Err-clause-settles c = let i = c.in-Err.ensures in let told = c.of_text-in-Err in record {
   told = told.ensures.told;
   done = λ e. absurd (never_done c.in-Err.full told.result told.ensures.value e);
-  refused = λ n. held_refuses c.args.agent.now.at.value c.put.new.self.at.value c.deref_mut.result.now c.settle-answer.new.agent c.args.s
-      (c.take-held.ensures.taken ∙ ap Some (sym c.deref_mut.ensures.value)) c.put.ensures.there i.leaves c.in-Err.full told.result told.ensures.value c.requires.known i.marked i.settles;
+  refused = λ n. held_refuses c.args.agent.now.at.value (Some c.settle-answer.new.agent) c.held.result.now c.settle-answer.new.agent c.args.s
+      c.held.ensures.value refl i.leaves c.in-Err.full told.result told.ensures.value c.requires.known i.marked i.settles;
 }

@@ -1,5 +1,5 @@
-use Rattle.std.specs.Prelude.{Option, Some}
-use Rattle.std.proofs.Common.{ap, refl, subst, sym, ◌≡◌, ◌∙◌, w32, to_z, of_z}
+use Rattle.std.specs.Prelude.{Option}
+use Rattle.std.proofs.Common.{ap, refl, subst, ◌≡◌, ◌∙◌, w32, to_z, of_z}
 use Rattle.std.specs.declared.cmp.Ordering.{Ordering}
 use Rattle.std.specs.declared.cmp.Ordering.TheVariants.{Less, Equal, Greater}
 use Rattle.c_steps.specs.Reports.{order_number}
@@ -15,7 +15,7 @@ fits Equal = refl
 fits Greater = refl
 
 pub returns-clause-means : goal.returns-clause-means
-returns-clause-means c us vs h k = let taken = c.take-held.ensures.taken ∙ ap Some (sym c.deref_mut.ensures.value) in (
+returns-clause-means c us vs h k = let taken = c.held.ensures.value in (
   c.compare-answer.result,
   ap (λ z. to_z w32 (of_z w32 z)) c.of_order.ensures ∙ fits c.compare-answer.result,
   c.compare-answer.ensures.means us vs
