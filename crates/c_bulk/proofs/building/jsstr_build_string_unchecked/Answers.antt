@@ -1,7 +1,6 @@
 use Rattle.std.proofs.Common.{Option, Some, subst, sym}
 use Rattle.heap_rule.specs.Maps.{Has}
 use Rattle.heap_agents.specs.declared.held.Held.{Held}
-use Rattle.heap_agents.specs.Held.{view_by}
 use Rattle.heap_agents.specs.Ready.{handle_view}
 use Rattle.c_steps.proofs.Texts.{builds, looks_same, no_box}
 use Rattle.c_bulk.proofs.building.jsstr_build_string_unchecked.Goals as goal

@@ -6,5 +6,5 @@ use Rattle.heap_agents.specs.Ready.{handle_view}
 use Rattle.c_reads.proofs.search.jsstr_starts_with_unchecked.Goals as goal
 
 pub returns-clause-stands : goal.returns-clause-stands
-returns-clause-stands c us vs h k = let taken = c.held.ensures.value in c.starts_with-answer.ensures.stands us vs
+returns-clause-stands c us vs h k = let taken = c.held.ensures.value in c.starts_with.ensures.stands us vs
     (subst (λ (o : Option Held). Has (handle_view o).units c.args.hay us) taken h) (subst (λ (o : Option Held). Has (handle_view o).units c.args.needle vs) taken k)
