@@ -1,7 +1,7 @@
 -- Helpers: no public contract reaches these definitions.
--- The state of a text through which strings are searched: that of a session with its agent, but for memory, which
--- it always lacks, and with the reference to the text, its heap and its limit, what its agent noted, and what is
--- the agent's own, which stay.
+-- The state of a text through which strings are searched: that of a session with its agent, but for memory,
+-- which it always lacks, and with the reference to the text, its heap and its limit, what its agent noted,
+-- and what is the agent's own, which stay.
 use Rattle.std.specs.Prelude.{ℕ, false}
 use Rattle.std.specs.Borrow.{GName, MutBor}
 use Rattle.std.specs.FinMap.{FinMap}
@@ -59,14 +59,16 @@ looking_state r seats = state_at r.now r.ghost_name seats
 
 -- what the trait of stores asks of it
 pub looking_sound : (t : SharedText) (name : GName) (seats : Seats) → Sound (state_at t name seats)
-looking_sound t name seats = let p = session_sound (view_of t.reader.agent) Bits64 (table_of (heap_of t)) t.reader.belongs.5 in record {
-  one_number = p.one_number;
-  one_list = p.one_list;
-  agrees = p.agrees;
-  shut_apart = p.shut_apart;
-  numbers = p.numbers;
-  lengths = p.lengths;
-  units = p.units;
-  low = p.low;
-  high = p.high;
-}
+looking_sound t name seats =
+    let v = view_of t.reader.agent in
+    let p = session_sound v Bits64 (table_of (heap_of t)) t.reader.belongs.5 in record {
+      one_number = p.one_number;
+      one_list = p.one_list;
+      agrees = p.agrees;
+      shut_apart = p.shut_apart;
+      numbers = p.numbers;
+      lengths = p.lengths;
+      units = p.units;
+      low = p.low;
+      high = p.high;
+    }

@@ -22,7 +22,7 @@ pub struct JsAgent {
 }
 
 impl JsAgent {
-    /// The box, which leaves nothing here until it is put back.
+    /// The box, which leaves nothing here.
     pub fn take(&mut self, alloc: Global) -> Box<Held>
         requires { IsReady self.old.at.value }
         ensures held { IsHeld result.value }

@@ -76,7 +76,7 @@ impl Boxed {
         self.into_parts().close()
     }
 
-    /// The box, which leaves nothing here until it is put back.
+    /// The box, which leaves nothing here.
     pub fn take(&mut self, alloc: Global) -> Box<Held>
         requires { IsReady self.old.value }
         ensures held { IsHeld result.value }
