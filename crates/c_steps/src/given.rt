@@ -108,7 +108,7 @@ pub(crate) fn on_units(agent: &mut JsAgent, task: Task, units: &[u16]) -> JsAnsw
     }
 }
 
-/// A refusal that leaves the agent as it was. It is lent once, so that its handle tells that it has one.
+/// A refusal that leaves the agent as it was. It is lent once, so that its handle says that it has one.
 pub fn left(agent: &mut JsAgent, refusal: JsAnswer) -> JsAnswer
     requires { IsReady agent.old.at.value }
     ensures handle { IsHandle agent.new }
