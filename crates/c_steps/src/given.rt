@@ -93,6 +93,7 @@ pub fn find_units(agent: &mut JsAgent, units: &[u16]) -> JsAnswer
 }
 
 // A task on units.
+#[inline(always)]
 pub(crate) fn on_units(agent: &mut JsAgent, task: Task, units: &[u16]) -> JsAnswer
     requires ready { IsReady agent.old.at.value }
     requires short { length units.now ≤ MAX }
@@ -191,6 +192,7 @@ fn on_bytes(agent: &mut JsAgent, task: Task, encoding: Encoding, bytes: &[u8]) -
 }
 
 /// A task on the units of a source.
+#[inline(always)]
 pub fn on_source(agent: &mut JsAgent, task: Task, source: Source) -> JsAnswer
     requires ready { IsReady agent.old.at.value }
     requires short { length (given source) ≤ MAX }
@@ -208,6 +210,7 @@ pub fn on_source(agent: &mut JsAgent, task: Task, source: Source) -> JsAnswer
 }
 
 /// The same, where its condition holds: there is an agent, and no more is given than a string may have.
+#[inline(always)]
 pub fn tested(agent: &mut JsAgent, task: Task, source: Source) -> JsAnswer
     requires { IsHandle agent.old }
     ensures handle { IsHandle agent.new }
