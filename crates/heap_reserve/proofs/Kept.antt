@@ -1,25 +1,25 @@
 -- What is kept stays kept, and what is taken leaves the rest.
-use Rattle.std.proofs.Common.{◌≡◌, ◌≢◌, ℕ, suc, ◌+◌, ◌-◌, ◌^◌, ◌<◌, ◌≤◌, ⊎_elim, ◌⊎◌, inl, inr, Bool, true, false, List, [], ◌∷◌, ◌++◌, length, get_or, append-nil, refl, ap, sym, subst, ◌∙◌, arith}
+use Rattle.std.proofs.Common.{◌≡◌, ◌≢◌, ℕ, zero, suc, ◌+◌, ◌-◌, ◌^◌, ◌<◌, ◌≤◌, ⊎_elim, ◌⊎◌, inl, inr, Bool, true, false, List, [], ◌∷◌, ◌++◌, length, get_or, append-nil, refl, ap, sym, subst, ◌∙◌, arith}
 use Rattle.std.specs.Prelude.{All, Result, Ok, Err, OnOk, IfErr}
 use Rattle.std.proofs.lemmas.List.{append_assoc, length-append}
 use Rattle.std.proofs.lemmas.List.Elements.{All-push}
 use mathlib.Core.Logic.{dite}
 use native.Mathlib.Decide.{ℕ_discrete, dec_le}
-use Rattle.std.specs.FinMap.{FinMap}
+use Rattle.std.specs.FinMap.{FinMap, insert}
 use Rattle.std.specs.Ordering.{nat_cmp}
 use Rattle.js_units.specs.Lanes.{words_over}
 use Rattle.heap_rule.specs.declared.size.HeapSize.{HeapSize}
 use Rattle.heap_rule.specs.declared.view.View.{View}
 use Rattle.heap_rule.specs.declared.size.Counters.{Counters}
-use Rattle.heap_rule.specs.Maps.{Has, HasKey}
+use Rattle.heap_rule.specs.Maps.{Has, HasKey, with_run}
 use Rattle.heap_rule.specs.Sound.{IsPossible}
 use Rattle.heap_rule.specs.declared.size.Counter.TheVariants.{Ids, Words}
 use Rattle.heap_rule.specs.Claims.{won_claim}
-use Rattle.heap_rule.proofs.MapLemmas.{has_key, insert_other, insert_same, key_of}
+use Rattle.heap_rule.proofs.MapLemmas.{has_key, insert_same, key_of}
 use Rattle.heap_rule.proofs.Possible.{possible_lawful}
 use Rattle.heap_rule.proofs.Steps.{possible_within}
 use Rattle.heap_read.specs.Reads.{KeepsBeside, OnlyLoads, WritesOwnWords}
-use Rattle.heap_read.proofs.Going.{run_below}
+use Rattle.heap_read.proofs.Going.{run_below, run_kept}
 use Rattle.heap_bytes.proofs.Runs.{run_zero}
 use Rattle.heap_read.specs.Written.{AreWords, IsWritten}
 use Rattle.heap_text.specs.Texts.{KeepsOwn, KeepsOwnBut}
@@ -29,6 +29,7 @@ use Rattle.heap_reserve.specs.declared.faults.ReserveFault.{ReserveFault}
 use Rattle.heap_reserve.specs.declared.faults.ReserveFault.TheVariants.{Memory, Full}
 use Rattle.heap_reserve.specs.declared.reserve.Reserve.{Reserve}
 use Rattle.heap_reserve.specs.Claims.{IsClaimAnswer, IsIdRefused}
+use Rattle.heap_reserve.specs.Trying.{ids_from}
 use Rattle.heap_reserve.specs.Reserves.{IsAscending, IsClaimed, IsGrown, IsReserve, IsTakenFrom, TakesOverReserve, kept_ids, words_kept}
 
 -- any call that leaves the agent what it owns leaves it what it keeps
@@ -41,9 +42,9 @@ reserve_kept v w r kept h = record {
 }
 
 -- and so does a claim
-pub own_claimed_id : (v x : View) (id : ℕ) → x ≡ won_claim v Ids id 1 → ((i : ℕ) → HasKey v.own_ids i → i < id) → KeepsOwn v x
-own_claimed_id v x id e above = subst (KeepsOwn v) (sym e) (record {
-  ids = λ i n h. let low = above i (key_of v.own_ids i n h) in insert_other v.own_ids id i 0 (λ d. omega (arith, low, d)) ∙ h;
+pub own_claimed_ids : (v x : View) (first n : ℕ) → x ≡ won_claim v Ids first n → ((i : ℕ) → HasKey v.own_ids i → i < first) → KeepsOwn v x
+own_claimed_ids v x first n e above = subst (KeepsOwn v) (sym e) (record {
+  ids = λ i k h. run_below v.own_ids first n i 0 k (above i (key_of v.own_ids i k h)) h;
   words = λ c y h. h;
 })
 
@@ -135,16 +136,51 @@ pub ascending_push : (is : List ℕ) (x : ℕ) → IsAscending is → All (λ i.
 ascending_push [] x h l = (λ k d m. absurd (omega arith), tt)
 ascending_push (i ∷ is) x h l = (All-push (λ j. i < j) is x h.0 (l 0 0 (omega arith)), ascending_push is x h.1 (λ k d m. l (suc k) d (omega arith)))
 
--- an id that was claimed comes last
-pub reserve_pushed : (v x : View) (r s : Reserve) (id : ℕ) → x ≡ won_claim v Ids id 1 → ((i : ℕ) → HasKey v.own_ids i → i < id) → IsReserve
-    v r → kept_ids s ≡ kept_ids r ++ id ∷ [] → s.start ≡ r.start → s.end ≡ r.end → IsReserve x s
-reserve_pushed v x r s id e above h ids start end = let up = h.ordered in let kept = reserve_kept v x r (own_claimed_id v x id e above) h in
-    let here : HasKey x.own_ids id = subst (λ (y : View). HasKey y.own_ids id) (sym e) (key_of (won_claim v Ids id 1).own_ids id 0 (insert_same v.own_ids id 0)) in record {
-      ids = subst (λ (is : List ℕ). All (λ i. HasKey x.own_ids i) is) (sym ids) (All-push (λ i. HasKey x.own_ids i) (kept_ids r) id kept.ids here);
-      ascending = subst IsAscending (sym ids) (ascending_push (kept_ids r) id h.ascending (λ k d l. above (get_or (kept_ids r) k d) (h.ids k d l)));
+-- ids that were claimed at once
+pub more_ids : (first n : ℕ) → ids_from first (suc n) ≡ ids_from first n ++ (first + n) ∷ []
+more_ids first zero = let e : first ≡ first + 0 = omega arith in λ j. e j ∷ []
+more_ids first (suc n) = let e : suc first + n ≡ first + suc n = omega arith in
+    ap (λ (is : List ℕ). first ∷ is) (more_ids (suc first) n) ∙ (λ j. first ∷ (ids_from (suc first) n ++ e j ∷ []))
+
+pub count_ids : (first n : ℕ) → length (ids_from first n) ≡ n
+count_ids first zero = refl
+count_ids first (suc n) = λ j. suc (count_ids (suc first) n j)
+
+own_more : (m : FinMap nat_cmp ℕ) (first : ℕ) (is : List ℕ) → All (λ i. HasKey m i) is → All (λ i. HasKey (insert m first 0) i) (is ++ first ∷ [])
+own_more m first is h = All-push (λ i. HasKey (insert m first 0) i) is first
+    (λ k d l. run_kept m first 1 (get_or is k d) 0 (h k d l)) (key_of (insert m first 0) first 0 (insert_same m first 0))
+
+own_ids_from : (m : FinMap nat_cmp ℕ) (first n : ℕ) (is : List ℕ) → All (λ i. HasKey m i) is → All (λ i. HasKey (with_run m first n 0) i) (is ++ ids_from first n)
+own_ids_from m first zero is h = subst (All (λ i. HasKey m i)) (sym (append-nil is)) h
+own_ids_from m first (suc n) is h = let m' : FinMap nat_cmp ℕ = insert m first 0 in
+    subst (All (λ i. HasKey (with_run m' (suc first) n 0) i)) (append_assoc is (first ∷ []) (ids_from (suc first) n))
+    (own_ids_from m' (suc first) n (is ++ first ∷ []) (own_more m first is h))
+
+ascending_from : (first n : ℕ) (is : List ℕ) → IsAscending is → All (λ i. i < first) is → IsAscending (is ++ ids_from first n)
+ascending_from first zero is h l = subst IsAscending (sym (append-nil is)) h
+ascending_from first (suc n) is h l = subst IsAscending (append_assoc is (first ∷ []) (ids_from (suc first) n))
+    (ascending_from (suc first) n (is ++ first ∷ []) (ascending_push is first h l)
+    (All-push (λ i. i < suc first) is first (λ k d m. let less = l k d m in omega (arith, less)) (omega arith)))
+
+-- they come last
+pub reserve_pushed : (v x : View) (r s : Reserve) (first n : ℕ) → x ≡ won_claim v Ids first n → ((i : ℕ) → HasKey v.own_ids i → i < first) → IsReserve
+    v r → kept_ids s ≡ kept_ids r ++ ids_from first n → s.start ≡ r.start → s.end ≡ r.end → IsReserve x s
+reserve_pushed v x r s first n e above h ids start end = let up = h.ordered in let kept = reserve_kept v x r (own_claimed_ids v x first n e above) h in
+    record {
+      ids = subst (λ (is : List ℕ). All (λ i. HasKey x.own_ids i) is) (sym ids)
+          (subst (λ (y : View). All (λ i. HasKey y.own_ids i) (kept_ids r ++ ids_from first n)) (sym e) (own_ids_from v.own_ids first n (kept_ids r) h.ids));
+      ascending = subst IsAscending (sym ids) (ascending_from first n (kept_ids r) h.ascending (λ k d l. above (get_or (kept_ids r) k d) (h.ids k d l)));
       ordered = omega (arith, up, start, end);
       words = λ c low high. kept.words c (omega (arith, low, start)) (omega (arith, high, end));
     }
+
+-- and they are what was claimed
+pub claimed_ids : (v x : View) (r s : Reserve) (first n : ℕ) → x ≡ won_claim v Ids first n → kept_ids s ≡ kept_ids r ++ ids_from first n → s.start ≡ r.start → s.end ≡ r.end → IsClaimed v x r s n 0
+claimed_ids v x r s first n e ids start end = record {
+  used = subst (λ (y : View). (y.used.ids ≡ v.used.ids + n) × (y.used.words ≡ v.used.words + 0)) (sym e) (refl, omega arith);
+  added = (ids_from first n, ids, count_ids first n);
+  run = inl (start, omega (arith, end));
+}
 
 -- words that were claimed are the run, or the end of it
 pub reserve_grown : (v w : View) (r s : Reserve) (start want : ℕ) → w ≡ won_claim v

@@ -1,6 +1,7 @@
 -- Helpers: no public contract reaches these definitions.
--- What a call makes with the reserve: a string, or none where the reserve has not what that needs.
-use Rattle.std.specs.Prelude.{◌≡◌, ℕ, ◌-◌, ◌++◌, List, Option, Some, None}
+-- What a call makes with the reserve: a string, or none where the reserve has not what that needs; and what
+-- one exchange of the counter claims for it.
+use Rattle.std.specs.Prelude.{◌≡◌, ℕ, zero, suc, ◌-◌, [], ◌∷◌, ◌++◌, List, Option, Some, None}
 use Rattle.heap_rule.specs.declared.view.View.{View}
 use Rattle.heap_rule.specs.Births.{part}
 use Rattle.heap_read.specs.declared.string.JsStr.{JsStr}
@@ -9,6 +10,11 @@ use Rattle.heap_reserve.specs.declared.reserve.Reserve.{Reserve}
 use Rattle.heap_reserve.specs.Making.{IsFlatTaken, IsLongCut, IsLongJoin, IsPartTaken, IsRopeTaken}
 use Rattle.heap_reserve.specs.Making.{IsShortCut, IsShortJoin, words_holding}
 use Rattle.heap_reserve.specs.Reserves.{HasAbove, HasEnough}
+
+-- so many ids, one behind the other
+abbrev pub ids_from : ℕ → ℕ → List ℕ
+ids_from first zero = []
+ids_from first (suc n) = first ∷ ids_from (suc first) n
 
 module _ (v w : View) (r s : Reserve) where
   abbrev pub IsLeft : Option JsStr → Type 0

@@ -1,5 +1,5 @@
 // Claiming in advance.
-ghost use Rattle.std.specs.Prelude.{◌≡◌, ◌≢◌, ◌<◌, ◌++◌, ◌∷◌, [], IfErr, OnOk};
+ghost use Rattle.std.specs.Prelude.{◌≡◌, ◌≢◌, ◌+◌, ◌^◌, ◌<◌, ◌≤◌, ◌++◌, IfErr, IfOk, OnOk};
 ghost use Rattle.std.specs.VecDeque.{deque_capacity, deque_len};
 ghost use Rattle.heap_table.specs.Agents.{size_of, view_of};
 ghost use Rattle.heap_table.specs.Full.{IsFull};
@@ -9,6 +9,7 @@ ghost use Rattle.heap_text.specs.Keeping.{KeepsText};
 ghost use Rattle.heap_text.specs.Texts.{KeepsOwn};
 ghost use Rattle.heap_reserve.specs.Reserves.{IsClaimed, IsReserve, kept_ids};
 ghost use Rattle.heap_reserve.specs.Claims.{IsClaimAnswer, IsIdRefused};
+ghost use Rattle.heap_reserve.specs.Trying.{ids_from};
 
 use crate::faults::ReserveFault;
 use crate::reserve::Reserve;
@@ -16,8 +17,12 @@ use heap_read::{HeapRef, Reader};
 use heap_table::CounterFull;
 use heap_text::{Text, TextFull};
 
+// The most ids that one exchange of the counter claims. Memory for their list is reserved before, so the
+// piece bounds what is reserved for ids that the heap does not have.
+const PIECE: u32 = 1024;
+
 impl Reserve {
-    /// Claims so many content words in one piece, and then so many ids one after another; 0 claims none.
+    /// Claims so many content words in one piece, and then so many ids in pieces; 0 claims none.
     /// Where there are not that many words nothing is claimed. Where ids or memory for their list end
     /// before, the words and the ids that were claimed are kept. If the new words do not begin where
     /// the run ends, the rest of that run is given up: its words stay the agent's own, in no string.
@@ -77,7 +82,7 @@ impl Reserve {
         if start == self.end { self.start } else { start }
     }
 
-    // Ids, one after another.
+    // Ids, in pieces.
     fn claim_ids<H: HeapRef>(
         &mut self,
         reader: &mut Reader<H>,
@@ -94,46 +99,53 @@ impl Reserve {
             (λ f. IsIdRefused (view_in reader.old) (view_in reader.new)
             (size_of (H.reached reader.old.heap)) self.old self.new ids 0 f) }
     {
-        for _done in 0..ids {
-            self.claim_id(reader)?;
+        let mut done = 0;
+        'pieces: while done < ids {
+            done += self.claim_piece(reader, ids - done)?;
         }
         Ok(())
     }
 
-    // One id.
-    fn claim_id<H: HeapRef>(&mut self, reader: &mut Reader<H>) -> Result<(), ReserveFault>
+    // At least one id and at most `most`, and how many: a piece, which one exchange of the counter claims.
+    fn claim_piece<H: HeapRef>(
+        &mut self,
+        reader: &mut Reader<H>,
+        most: u32,
+    ) -> Result<u32, ReserveFault>
         requires reserve { IsReserve (view_in reader.old) self.old }
+        requires some { 1 ≤ most }
         ensures continues { MovesView Continues reader.old reader.new }
         ensures own { KeepsOwn (view_in reader.old) (view_in reader.new) }
         ensures forms { HoldsForms (view_in reader.old) (view_in reader.new) }
         ensures reserve { IsReserve (view_in reader.new) self.new }
-        ensures ok { OnOk result
-            (IsClaimed (view_in reader.old) (view_in reader.new) self.old self.new 1 0) }
+        ensures ok { IfOk result (λ n. (1 ≤ n) × (n ≤ most)
+            × IsClaimed (view_in reader.old) (view_in reader.new) self.old self.new n 0) }
         ensures refused { IfErr result
             (λ f. IsIdRefused (view_in reader.old) (view_in reader.new)
             (size_of (H.reached reader.old.heap)) self.old self.new 1 0 f) }
     {
-        if self.ids.reserve(1).is_err() {
+        let piece = most.min(PIECE);
+        if self.ids.reserve(piece as usize).is_err() {
             return Err(ReserveFault::Memory);
         }
-        match reader.agent.claim_id(reader.heap.heap()) {
-            Ok(id) => {
-                self.keep(id);
-                Ok(())
+        match reader.agent.claim_ids(reader.heap.heap(), piece) {
+            Ok((first, count)) => {
+                self.keep_all(first, count);
+                Ok(count)
             }
             Err(full) => Err(ReserveFault::Full(TextFull::Ids(full))),
         }
     }
 
-    // An id more, the last one, for which there is room.
-    fn keep(&mut self, id: u32)
-        requires { deque_len self.old.ids < deque_capacity self.old.ids }
-        ensures ids { kept_ids self.new ≡ kept_ids self.old ++ id ∷ [] }
+    // So many ids more, the last ones, for which there is room.
+    fn keep_all(&mut self, first: u32, count: u32)
+        requires room { deque_len self.old.ids + count ≤ deque_capacity self.old.ids }
+        requires small { first + count < 2 ^ 32 }
+        ensures ids { kept_ids self.new ≡ kept_ids self.old ++ ids_from first count }
         ensures words { (self.new.start ≡ self.old.start) × (self.new.end ≡ self.old.end) }
     {
-        match self.ids.push_back(id) {
-            Ok(()) => (),
-            Err(_) => unreachable!(),
+        for done in 0..count {
+            self.ids.push_back_reserved(first + done);
         }
     }
 }

@@ -88,7 +88,7 @@ module _ (z : HeapSize) (agents : ℕ) (W : List ℕ) (vs : List View) (s : IsSo
   pub claim_by : (k : Counter) (a want : ℕ) (b : Bool) → MayClaim v k a want → (b ≡ true → get_or W (counter_at k) 0 ≡ a)
       → KeepsRule z agents W (set W (counter_at k) (cond b (a + want) (get_or W (counter_at k) 0))) (set vs j (cond b (won_claim v k a want) (loaded_counter v k (get_or W (counter_at k) 0))))
   claim_by k a want true may won = by_agrees (set W (counter_at k) (a + want)) (set vs j (won_claim v k a want))
-      (agrees_won_claim z agents W vs s j v at live k a want (sym (won refl))) (keeps_won_claim z agents W vs s j v at live k a want may (sym (won refl)))
+      (agrees_won_claim z agents W vs s j v at live k a want (sym (won refl))) (keeps_won_claim z agents W vs s j v at live k a want may.1 (sym (won refl)))
   claim_by k a want false may won = same_word (counter_at k) (set vs j (loaded_counter v k (get_or W (counter_at k) 0))) (counter_kept k)
 
   -- stores to what is own, and births

@@ -24,6 +24,7 @@ pub mod Paths
 pub mod Loads
 pub mod Seen
 pub mod KindsKept
+pub mod InTurn
 pub mod Whole
 pub mod Possible
 pub mod SlotTests

@@ -14,7 +14,7 @@ use Rattle.heap_rule.specs.Views.{MayUse}
 use Rattle.heap_rule.specs.Sound.{At, IsFree, IsKept, IsCounted, OwnsIds, OwnsWords, Knows, Recalls, AreAdded, IsLow, IsSound, IsWithin, IsPossible, StandsIn, total}
 use Rattle.std.proofs.Math.Logic.{∥∥₁_elim}
 use Rattle.std.proofs.Props.{props}
-use Rattle.heap_rule.specs.Claims.{MayClaim, won_claim, loaded_counter}
+use Rattle.heap_rule.specs.Claims.{won_claim, loaded_counter}
 use Rattle.heap_rule.specs.Births.{stored_word, MayStoreLength, stored_length}
 use Rattle.heap_rule.proofs.MapLemmas.{has_insert, has_key, key_of, key_insert}
 use Rattle.heap_rule.proofs.ListLemmas.{each_set, total_set}
@@ -297,11 +297,11 @@ module _ (z : HeapSize) (agents : ℕ) (W : List ℕ) (vs : List View) (s : IsSo
       claim_agrees 1 (a + n) (won_claim v Words a n) (omega arith) (omega arith) (omega arith)
       (λ c l h. ⊎_elim (λ (t : (a ≤ c) × (c < a + n)). let lo = t.0 in absurd (omega arith)) (λ t. t) (key_run v.own_words a n 0 c h))
 
-  -- a claim on a counter that is still where it was seen
-  pub keeps_won_claim : (k : Counter) (at' want : ℕ) → MayClaim v k at' want → at' ≡ get_or W (counter_at k) 0 → IsSound z agents
+  -- a claim, of however many pieces, on a counter that is still where it was seen
+  pub keeps_won_claim : (k : Counter) (at' want : ℕ) → at' + want ≤ end_of v.sizes k → at' ≡ get_or W (counter_at k) 0 → IsSound z agents
       (set W (counter_at k) (at' + want)) (set vs j (won_claim v k at' want))
-  keeps_won_claim Ids a n may e = let w : View = won_claim v Ids a n in let W' : List ℕ = set W 0 (a + n) in let counted = s.counted in let long = counted.long in let ends = counted.words_end in
-      let room : a + n ≤ z.ids = subst (λ (y : HeapSize). a + n ≤ y.ids) sizes_are may.1 in
+  keeps_won_claim Ids a n fits e = let w : View = won_claim v Ids a n in let W' : List ℕ = set W 0 (a + n) in let counted = s.counted in let long = counted.long in let ends = counted.words_end in
+      let room : a + n ≤ z.ids = subst (λ (y : HeapSize). a + n ≤ y.ids) sizes_are fits in
       let ids_are : next_id W' ≡ a + n = get_or-set_same W 0 (a + n) 0 (omega arith) in let words_are : next_word W' ≡ next_word W = get_or-set_other W 0 1 (a + n) 0 (λ h. omega arith) in
       let grows : next_id W ≤ next_id W' = omega arith in let stays : next_word W ≤ next_word W' = omega arith in
       let agrees : Agrees z W vs W' (set vs j w) = claim_agrees 0 (a + n) w (omega arith) grows stays (λ c _ h. h) in
@@ -340,8 +340,8 @@ module _ (z : HeapSize) (agents : ℕ) (W : List ℕ) (vs : List View) (s : IsSo
         member = s.members j v at live;
         new_slots = no_slot z W vs W' (set vs j w) (λ k h. counter_moved 0 (a + n) (omega arith) (2 + k) (omega arith));
       }
-  keeps_won_claim Words a n may e = let w : View = won_claim v Words a n in let W' : List ℕ = set W 1 (a + n) in let counted = s.counted in let long = counted.long in let ends = counted.ids_end in
-      let room : a + n ≤ z.words = subst (λ (y : HeapSize). a + n ≤ y.words) sizes_are may.1 in
+  keeps_won_claim Words a n fits e = let w : View = won_claim v Words a n in let W' : List ℕ = set W 1 (a + n) in let counted = s.counted in let long = counted.long in let ends = counted.ids_end in
+      let room : a + n ≤ z.words = subst (λ (y : HeapSize). a + n ≤ y.words) sizes_are fits in
       let words_are : next_word W' ≡ a + n = get_or-set_same W 1 (a + n) 0 (omega arith) in let ids_are : next_id W' ≡ next_id W = get_or-set_other W 1 0 (a + n) 0 (λ h. omega arith) in
       let grows : next_id W ≤ next_id W' = omega arith in let stays : next_word W ≤ next_word W' = omega arith in
       let agrees : Agrees z W vs W' (set vs j w) = claim_agrees 1 (a + n) w (omega arith) grows stays

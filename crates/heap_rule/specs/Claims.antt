@@ -16,6 +16,11 @@ abbrev pub MayClaim : View → Counter → ℕ → ℕ → Type 0
 MayClaim v k at want =
     (at ≤ counter_value v.low k) × (at + want ≤ end_of v.sizes k) × (1 ≤ want) × (k ≡ Ids → want ≡ 1)
 
+-- The same but for the last: so many pieces that one compare-exchange claims at once. Of ids these are as
+-- many claims, each of one id, in turn (`ClaimsInTurn` in `Kinds`).
+abbrev pub MayClaimAtOnce : View → Counter → ℕ → ℕ → Type 0
+MayClaimAtOnce v k at want = (at ≤ counter_value v.low k) × (at + want ≤ end_of v.sizes k) × (1 ≤ want)
+
 -- the pieces from `at` on are own, each with the word 0
 abbrev pub with_pieces : View → Counter → ℕ → ℕ → View
 with_pieces v Ids at want = record v { own_ids = with_run v.own_ids at want 0 }

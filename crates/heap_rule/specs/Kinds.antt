@@ -1,20 +1,21 @@
 -- The kinds of step that an agent makes on one word of the heap: where each may come, which word it is on,
 -- what that word becomes, and what the agent's view becomes. Here x is the word found. (Making, splitting and
 -- joining are no steps on a word: their conditions and views are in `Agents`.)
-use Rattle.std.specs.Prelude.{◌≡◌, ℕ, ◌+◌, ◌<◌, ◌≤◌, ◌==◌, Bool, true, false, if◌then◌else◌, List, [], ◌∷◌}
-use Rattle.std.specs.Prelude.{◌++◌, slice_index, slice_set, replicate, Option}
+use Rattle.std.specs.Prelude.{◌≡◌, ℕ, zero, suc, ◌+◌, ◌<◌, ◌≤◌, ◌==◌, Bool, true, false}
+use Rattle.std.specs.Prelude.{if◌then◌else◌, List, [], ◌∷◌, ◌++◌, slice_index, slice_set, replicate, Option}
 use Rattle.js_header.specs.Form.{word_of}
 use Rattle.js_header.specs.declared.form.Form.{Form}
 use Rattle.js_header.specs.declared.form.Form.TheVariants.{Thin}
 use Rattle.heap_rule.specs.declared.view.View.{View}
 use Rattle.heap_rule.specs.declared.size.HeapSize.{HeapSize}
 use Rattle.heap_rule.specs.declared.size.Counter.{Counter}
+use Rattle.heap_rule.specs.declared.size.Counter.TheVariants.{Ids}
 use Rattle.heap_rule.specs.Layout.{IsLawfulSize, counter_at, slot_at, form_at, length_at, content_at}
 use Rattle.heap_rule.specs.Layout.{word_count, IsBorn}
 use Rattle.heap_rule.specs.Contents.{units_of}
 use Rattle.heap_rule.specs.Maps.{HasKey}
 use Rattle.heap_rule.specs.Views.{MayUse}
-use Rattle.heap_rule.specs.Claims.{loaded_counter, MayClaim, claimed}
+use Rattle.heap_rule.specs.Claims.{loaded_counter, MayClaim, MayClaimAtOnce, claimed}
 use Rattle.heap_rule.specs.Births.{stored_word, MayStoreLength, stored_length, MayBear, born}
 use Rattle.heap_rule.specs.Learning.{learned, learned_all}
 use Rattle.heap_rule.specs.Loads.{loaded_form, loaded_length, MayLoadWord, loaded_word}
@@ -121,6 +122,40 @@ learns _ = true
 -- what the view becomes on the running heap, where all that can be learned is learned
 abbrev pub view_on_heap : View → StepKind → ℕ → View
 view_on_heap v e x = if learns e then learned_all (view_after v e x) else view_after v e x
+
+-- Steps on one word in turn, with no other step between them: the first finds x there, and each other one
+-- what the one before it left. What they make of the view
+abbrev pub view_in_turn : View → List StepKind → ℕ → View
+view_in_turn v [] x = v
+view_in_turn v (e ∷ es) x = view_in_turn (view_on_heap v e x) es (word_left (access_of e) x)
+
+-- what the last one leaves there
+abbrev pub word_in_turn : List StepKind → ℕ → ℕ
+word_in_turn [] x = x
+word_in_turn (e ∷ es) x = word_in_turn es (word_left (access_of e) x)
+
+-- each may come, by the view that the ones before it left
+abbrev pub MayComeInTurn : View → List StepKind → ℕ → Type 0
+MayComeInTurn v [] x = Unit {0}
+MayComeInTurn v (e ∷ es) x = MayCome v e × MayComeInTurn (view_on_heap v e x) es (word_left (access_of e) x)
+
+-- n claims of one id each, from `at` on
+abbrev pub claims_of_ids : ℕ → ℕ → List StepKind
+claims_of_ids at zero = []
+claims_of_ids at (suc n) = claim Ids at 1 ∷ claims_of_ids (suc at) n
+
+-- what one compare-exchange of the counter of ids from `at` to `at + want` does, where it finds x: as many
+-- claims of one id, each won; or one that is lost
+abbrev pub claims_at_once : ℕ → ℕ → ℕ → List StepKind
+claims_at_once at want x = if x == at then claims_of_ids at want else claim Ids at 1 ∷ []
+
+-- These claims may come in turn. They leave the word as the compare-exchange does, and of the view they make
+-- what one claim of so many pieces would make of it.
+abbrev pub ClaimsInTurn : Type 0
+ClaimsInTurn = (v : View) (at want x : ℕ) → MayClaimAtOnce v Ids at want
+    → MayComeInTurn v (claims_at_once at want x) x
+    × (word_in_turn (claims_at_once at want x) x ≡ word_left (exchanges at (at + want)) x)
+    × (view_in_turn v (claims_at_once at want x) x ≡ claimed v Ids at want x)
 
 -- the rule holds of the new words and views, and every born id stays born and keeps its units
 abbrev pub KeepsRule : HeapSize → ℕ → List ℕ → List ℕ → List View → Type 0

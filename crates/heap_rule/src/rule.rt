@@ -9,13 +9,14 @@ ghost use Rattle.heap_rule.specs.Sound.{IsPossible};
 ghost use Rattle.heap_rule.specs.Slots.{Differs, IsShutAt};
 ghost use Rattle.heap_rule.specs.SlotTests.{differs, shut};
 ghost use Rattle.heap_rule.specs.Paths.{path, path_slot, rank};
-ghost use Rattle.heap_rule.specs.Kinds.{KindsKeep, MakingKeeps, SplittingKeeps, JoiningKeeps, SoundIsLegal};
+ghost use Rattle.heap_rule.specs.Kinds.{KindsKeep, ClaimsInTurn, MakingKeeps, SplittingKeeps, JoiningKeeps, SoundIsLegal};
 
 /// Every kind of step keeps the rule, and the units of every string that is born, wherever it may
-/// come; and where the rule holds, the histories of all agents together are legal. The call does
-/// nothing.
+/// come; and where the rule holds, the histories of all agents together are legal. One
+/// compare-exchange that claims several ids is that many claims in turn. The call does nothing.
 pub fn every_step()
     ensures kinds { KindsKeep }
+    ensures in_turn { ClaimsInTurn }
     ensures making { MakingKeeps }
     ensures splitting { SplittingKeeps }
     ensures joining { JoiningKeeps }

@@ -19,7 +19,7 @@ use Rattle.heap_rule.specs.Agents.{joined_view, spent, noted, left_after_split, 
 use Rattle.heap_rule.specs.Loads.{with_form, added_loads, loaded_form, loaded_length, loaded_word, MayLoadWord}
 use Rattle.heap_rule.specs.Slots.{MayEnter, units_seen, entry_in, loaded_slot, MayTakeSlot, took_slot}
 use Rattle.heap_rule.specs.Learning.{learned_all, all_named}
-use Rattle.heap_rule.specs.Claims.{loaded_counter, claimed, won_claim, MayClaim}
+use Rattle.heap_rule.specs.Claims.{loaded_counter, claimed, won_claim, MayClaimAtOnce}
 use Rattle.heap_rule.specs.Births.{stored_word, MayStoreLength, stored_length, FormFits, MayBear, freeze_form, born, born_with}
 use Rattle.heap_rule.specs.HeaderMoves.{CanThin, MayFlatten, MayThin, flattened, seen_form, thinned}
 use Rattle.heap_rule.specs.Forms.{IsCons, IsLater, IsSliced, IsSolidForm}
@@ -264,20 +264,20 @@ module _ (key : HeapKey) (slots id : ℕ) (me : AgentSeat) (live : me.0.live ≡
     ),
   )
 
-  -- a claim, whether it is won or lost
-  claim_keeps : (k : Counter) (a want : ℕ) → MayClaim me.0 k a want → (s : State (Unit {0}) View) → IsSound key.size key.agents s.words
+  -- a claim, whether it is won or lost, of however many pieces
+  claim_keeps : (k : Counter) (a want : ℕ) → MayClaimAtOnce me.0 k a want → (s : State (Unit {0}) View) → IsSound key.size key.agents s.words
       s.views → get_elem? s.views id ≡ some me.0 → (x : ℕ) → x ≡ get_or s.words (counter_at k) 0 → Dec (x ≡ a)
       → IsSound key.size key.agents (set s.words (counter_at k) (either (eqb x a) (a + want) x)) (set s.views id (claimed me.0 k a want x))
   claim_keeps k a want may s h at x is (yes hit) = subst (λ b. IsSound key.size key.agents
       (set s.words (counter_at k) (either b (a + want) x)) (set s.views id (cond b (won_claim me.0 k a want) (loaded_counter me.0 k x)))) (sym (eq-eqb x a hit))
-      (keeps_won_claim key.size key.agents s.words s.views h id me.0 at live k a want may (sym hit ∙ is))
+      (keeps_won_claim key.size key.agents s.words s.views h id me.0 at live k a want may.1 (sym hit ∙ is))
   claim_keeps k a want may s h at x is (no miss) = subst (λ b. IsSound key.size key.agents
       (set s.words (counter_at k) (either b (a + want) x)) (set s.views id (cond b (won_claim me.0 k a want) (loaded_counter me.0 k x)))) (sym (ne_eqb x a miss))
       (subst (λ (ws : List ℕ). IsSound key.size key.agents ws (set s.views id (loaded_counter me.0 k x)))
       (sym (ap (set s.words (counter_at k)) is ∙ set-get_or s.words (counter_at k) 0))
       (keeps_loaded_counter key.size key.agents s.words s.views h id me.0 at live k x is))
 
-  pub claims : (k : Counter) (a want : ℕ) → MayClaim me.0 k a want → Allows (KeepsHeap key) slots id me (counter_at k)
+  pub claims : (k : Counter) (a want : ℕ) → MayClaimAtOnce me.0 k a want → Allows (KeepsHeap key) slots id me (counter_at k)
       (λ n. either (eqb n a) (a + want) n) (IsClaim (step slots (counter_at k) a (a + want) none) me)
   claims k a want may s (h, b) _ at _ = let x : ℕ = get_or s.words (counter_at k) 0 in let w : View = claimed me.0 k a want x in (
     w,

@@ -1,10 +1,13 @@
 -- The running heap as the machine: what holds between any two steps, and of which kind each step is.
-use Rattle.std.specs.Prelude.{◌≡◌, ℕ}
+use Rattle.std.specs.Prelude.{◌≡◌, ℕ, ◌+◌}
 use mathlib.Core.Option.{none}
 use Rattle.atomic_table.specs.Table.{State, Step, step}
 use Rattle.heap_rule.specs.declared.view.View.{View}
 use Rattle.heap_rule.specs.Kinds.{StepKind, Access, loads, stores, exchanges, place_of, access_of}
-use Rattle.heap_rule.specs.Kinds.{view_on_heap}
+use Rattle.heap_rule.specs.Kinds.{view_on_heap, claims_at_once, view_in_turn, MayComeInTurn}
+use Rattle.heap_rule.specs.declared.size.Counter.TheVariants.{Ids}
+use Rattle.heap_rule.specs.Layout.{counter_at}
+use Rattle.heap_rule.specs.Claims.{MayClaimAtOnce}
 use Rattle.heap_rule.specs.Sound.{IsSound, AreLegal}
 use Rattle.heap_table.specs.declared.rule.HeapKey.{HeapKey}
 use Rattle.heap_table.specs.Plays.{AgentSeat}
@@ -40,3 +43,12 @@ IsOfKindBy tells e = (slots : ℕ) (me me' : AgentSeat) (x : ℕ)
 -- the same for one kind, whatever the view is
 abbrev pub IsOfKind : (Step (Unit {0}) → AgentSeat → ℕ → AgentSeat → Type 0) → StepKind → Type 0
 IsOfKind tells e = IsOfKindBy tells (λ v. e)
+
+-- What a play says of one compare-exchange of the counter of ids that claims several at once: it is claims
+-- of one id each, in turn, each of which may come. They find the word that it finds, and make of the view
+-- what it does.
+abbrev pub AreClaimsInTurn : (Step (Unit {0}) → AgentSeat → ℕ → AgentSeat → Type 0) → Type 0
+AreClaimsInTurn tells = (slots at want : ℕ) (me me' : AgentSeat) (x : ℕ) → MayClaimAtOnce me.0 Ids at want
+    → tells (step slots (counter_at Ids) at (at + want) none) me x me'
+    → MayComeInTurn me.0 (claims_at_once at want x) x
+    × (me'.0 ≡ view_in_turn me.0 (claims_at_once at want x) x)

@@ -5,7 +5,7 @@ ghost use Rattle.js_header.specs.Form.{IsInRange};
 ghost use Rattle.js_header.specs.declared.form.Form.{Form};
 ghost use Rattle.heap_rule.specs.declared.size.Counter.{Counter};
 ghost use Rattle.heap_rule.specs.Kinds.{load_counter, claim, store_word, store_length, birth, flatten, load_form, load_length, load_slot, load_word, take_slot, thin};
-ghost use Rattle.heap_table.specs.Moments.{IsSoundTable, IsLegalTable, IsOfKind, IsOfKindBy};
+ghost use Rattle.heap_table.specs.Moments.{IsSoundTable, IsLegalTable, IsOfKind, IsOfKindBy, AreClaimsInTurn};
 
 use crate::rule::{
     Claims, EntersSlot, Flattens, GivesBirth, HeapKey, HeapRule, LoadsCounter, LoadsForm,
@@ -23,11 +23,13 @@ pub fn every_moment()
 {}
 
 /// The step of each call is a step of its kind: what it makes of the agent's view is what that
-/// kind does to it by the word found. The call does nothing.
+/// kind does to it by the word found. A step that claims several ids is that many claims in turn.
+/// The call does nothing.
 pub fn every_play()
     ensures counter { (k : Counter) → IsOfKind ⟦<LoadsCounter as Play<(), View>>⟧.then (load_counter k) }
     ensures claim { (k : Counter) (at want : ℕ)
         → IsOfKind ⟦<Claims as Play<(), View>>⟧.then (claim k at want) }
+    ensures claim_ids { AreClaimsInTurn ⟦<Claims as Play<(), View>>⟧.then }
     ensures word { (c n : ℕ) → IsOfKind ⟦<StoresWord as Play<(), View>>⟧.then (store_word c n) }
     ensures length { (i n : ℕ) → IsOfKind ⟦<StoresLength as Play<(), View>>⟧.then (store_length i n) }
     ensures birth { (i : ℕ) (f : Form) → IsInRange f

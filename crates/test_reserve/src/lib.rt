@@ -7,6 +7,8 @@ mod beside;
 #[cfg(test)]
 mod interning;
 #[cfg(test)]
+mod pieces;
+#[cfg(test)]
 mod strings;
 #[cfg(test)]
 mod taking;

@@ -1,4 +1,5 @@
 use Rattle.heap_rule.proofs.KindsKept.{kinds_keep}
+use Rattle.heap_rule.proofs.InTurn.{claims_in_turn}
 use Rattle.heap_rule.proofs.Making.{keeps_making}
 use Rattle.heap_rule.proofs.Splitting.{keeps_split}
 use Rattle.heap_rule.proofs.Joining.{keeps_joined}
@@ -7,6 +8,9 @@ use Rattle.heap_rule.proofs.rule.every_step.Goals as goal
 
 pub returns-clause-kinds : goal.returns-clause-kinds
 returns-clause-kinds c = kinds_keep
+
+pub returns-clause-in_turn : goal.returns-clause-in_turn
+returns-clause-in_turn c = claims_in_turn
 
 pub returns-clause-making : goal.returns-clause-making
 returns-clause-making c = keeps_making

@@ -1,4 +1,6 @@
-use Rattle.std.proofs.Common.{refl}
+use Rattle.std.proofs.Common.{refl, sym, ◌∙◌}
+use Rattle.heap_rule.specs.declared.size.Counter.TheVariants.{Ids}
+use Rattle.heap_rule.proofs.InTurn.{claims_in_turn}
 use Rattle.heap_table.proofs.laws.every_play.Goals as goal
 
 pub returns-clause-counter : goal.returns-clause-counter
@@ -6,6 +8,9 @@ returns-clause-counter c k slots me me' x h = (h.1 k refl).0
 
 pub returns-clause-claim : goal.returns-clause-claim
 returns-clause-claim c k at want slots me me' x h = (h.1 k want refl refl).0
+
+pub returns-clause-claim_ids : goal.returns-clause-claim_ids
+returns-clause-claim_ids c slots at want me me' x may h = let t = claims_in_turn me.0 at want x may in (t.0, (h.1 Ids want refl refl).0 ∙ sym t.2)
 
 pub returns-clause-word : goal.returns-clause-word
 returns-clause-word c p n slots me me' x h = h.1 p refl
