@@ -31,7 +31,8 @@ use Rattle.heap_intern.specs.Answers.{IsFixed}
 use Rattle.heap_intern.specs.Goes.{LoadsAlone}
 use Rattle.heap_intern.specs.SlotLoads.{counted_on, loads_at}
 use Rattle.heap_intern.proofs.Going.{forms_trans, goes_slot, goes_trans, looks_trans}
-use Rattle.heap_intern.proofs.Loading.{Walking, on_most, walking_next, walking_none}
+use Rattle.heap_intern.specs.Visits.{Walking}
+use Rattle.heap_intern.proofs.Loading.{on_most, walking_next, walking_none}
 use Rattle.heap_intern.proofs.Seeking.{words_frozen}
 use Rattle.heap_intern.proofs.Visiting.{entered_is, fixed_kept}
 
@@ -129,9 +130,9 @@ module _ (a v w : View) (possible : IsPossible a) (us : List ℕ) (i r n h : ℕ
   at_rank : rank us a.sizes.slots ((h % n + r) % n) ≡ r
   at_rank = subst (λ (k : ℕ). rank us a.sizes.slots k ≡ r) (sym place) (rank_place us a.sizes.slots r (omega arith))
 
-  walked : LoadsHere v w ((h % n + r) % n) 1 → Walking a w us (r + 1) 0 (r + 1)
-  walked e = walking_next a v w us r 0 r (r + 1) ((h % n + r) % n) 1 p.walking place_within at_rank
-      (record { times = 1; few = omega arith; here = e.here; others = e.others; sum = refl }) (omega arith)
+  walked : w.sizes ≡ v.sizes → LoadsHere v w ((h % n + r) % n) 1 → Walking a w us (r + 1) 0 (r + 1)
+  walked z e = walking_next a v w us r 0 r (r + 1) ((h % n + r) % n) 1 p.walking place_within
+      (record { times = 1; few = omega arith; here = e.here; others = e.others; sum = refl }) at_rank z (omega arith)
 
   -- it has another string, or none
   pub ahead_next : LoadsAlone v w → HoldsForms v w → LoadsHere v w ((h % n + r) % n) 1 → (Has w.slots ((h % n + r) % n) i → ⊥) → IsAhead a w us i (r + 1)
@@ -141,15 +142,15 @@ module _ (a v w : View) (possible : IsPossible a) (us : List ℕ) (i r n h : ℕ
     ahead = λ k has. let before = p.ahead k has in let inside = possible_inside a possible k i has in let there : Has w.slots k i = go.goes.known.slots k i (p.looks.goes.known.slots k i has) in
         let other : r ≢ rank us a.sizes.slots k = (λ same. never (subst (λ (q : ℕ). Has w.slots q i)
         (sym (place ∙ (ap (path_slot us a.sizes.slots) same ∙ place_rank us a.sizes.slots k inside))) there)) in omega arith;
-    walking = walked e;
+    walking = walked go.goes.sizes e;
   }
 
   -- the walk ends there
-  pub loaded_once : LoadsHere v w ((h % n + r) % n) 1 → (j : ℕ) → loads_at w j ≤ loads_at a j + 1
-  loaded_once e j = let t = walked e in let each = t.each j in let few = t.once j in let most = on_most (loads_at a j) (t.times j) in omega arith
+  pub loaded_once : w.sizes ≡ v.sizes → LoadsHere v w ((h % n + r) % n) 1 → (j : ℕ) → loads_at w j ≤ loads_at a j + 1
+  loaded_once z e j = let t = walked z e in let each = t.each j in let few = t.once j in let most = on_most (loads_at a j) (t.times j) in omega arith
 
-  pub none_behind : LoadsHere v w ((h % n + r) % n) 1 → LoadsNoneBehind a w us ((h % n + r) % n)
-  none_behind e j less = let t = walked e in let at = at_rank in t.each j ∙ ap (counted_on (loads_at a j)) (t.ahead j (omega arith))
+  pub none_behind : w.sizes ≡ v.sizes → LoadsHere v w ((h % n + r) % n) 1 → LoadsNoneBehind a w us ((h % n + r) % n)
+  none_behind z e j less = let t = walked z e in let at = at_rank in t.each j ∙ ap (counted_on (loads_at a j)) (t.ahead j (omega arith))
 
 -- it comes to the string before the path ends
 pub never_passed : (a v : View) → IsPossible a → (us : List ℕ) (i r n : ℕ) → IsAhead a v us i r → n ≡ a.sizes.slots → n ≤ r → (k : ℕ) → Has a.slots k i → ⊥

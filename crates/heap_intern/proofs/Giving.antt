@@ -2,7 +2,7 @@
 use Rattle.std.proofs.Common.{◌≡◌, ◌≢◌, ℕ, ◌+◌, ◌<◌, ◌≤◌, ⊎_elim, Bool, true, false, ◌^◌, List, [], ◌∷◌, length, sym, refl, ap, ◌∙◌, subst, arith, append-nil, Option, Some, None, Result, Ok, Err}
 use Rattle.std.specs.Prelude.{unwrap_or}
 use mathlib.Core.Logic.{dite}
-use native.Mathlib.Decide.{ℕ_discrete, dec_le}
+use native.Mathlib.Decide.{ℕ_discrete}
 use Rattle.std.proofs.lemmas.List.{get_or_past}
 use Rattle.std.specs.FinMap.{FinMap, get}
 use Rattle.std.specs.Ordering.{nat_cmp}
@@ -30,8 +30,7 @@ use Rattle.heap_read.specs.Written.{AreWords, IsWritten}
 use Rattle.heap_intern.specs.declared.table.faults.TableFull.{TableFull}
 use Rattle.heap_intern.specs.declared.table.faults.TableFull.TheVariants.{Ids, Words, Slots}
 use Rattle.heap_intern.specs.declared.table.given.Given.{Given}
-use Rattle.heap_intern.specs.declared.table.probing.Seat.{Seat}
-use Rattle.heap_intern.specs.Answers.{HeaderPlan, IsBehind, IsHeader, IsInternAnswer, IsOpenAt, copy_plan, words_of_copy}
+use Rattle.heap_intern.specs.Answers.{IsBehind, IsFixed, IsOpenAt, words_of_copy}
 use Rattle.heap_intern.specs.Goes.{AddsCalls}
 use Rattle.heap_intern.specs.Hashes.{AreHashes, IsNotedApart}
 use Rattle.heap_intern.specs.Headers.{IsFlat, MayBeOver}
@@ -41,8 +40,7 @@ use Rattle.heap_rule.specs.Layout.{MAX}
 use Rattle.heap_intern.specs.Keys.{IsKey, units_of_key}
 use Rattle.heap_intern.specs.SlotLoads.{loads_at}
 use Rattle.heap_intern.specs.Taking.{HasGiven, IsKeyAnswer, without_given}
-use Rattle.heap_intern.specs.Visits.{IsNeverUnmade, IsPassed, IsPlace, LoadsOne}
-use Rattle.heap_intern.specs.Seats.{id_in}
+use Rattle.heap_intern.specs.Visits.{IsPassed, IsPlace, LoadsOne}
 use Rattle.heap_intern.proofs.Bearing.{known_length, shown_span, without_keeps}
 use Rattle.heap_intern.proofs.Going.{goes_self, goes_trans}
 use Rattle.heap_intern.proofs.Hashes.{note_of}
@@ -150,16 +148,10 @@ module _ (v : View) (wide : Bool) (start n : ℕ) (us : List ℕ) (h : MayBeOver
       }
 
 -- a header over the words
-pub header_given : (w : View) (us : List ℕ) (start id : ℕ) → IsFlat w (is_wide us) start us id → IsHeader w (copy_plan us) us id
-header_given w us start id h = ((start, tt, h.0), h.1)
+pub flat_fixed : (w : View) (wide : Bool) (start : ℕ) (us : List ℕ) (id : ℕ) → IsFlat w wide start us id → IsFixed w us id
+flat_fixed w wide start us id h = ((wide, start, h.0), h.1)
 
 -- What is settled.
-pub settled_by : (v w : View) (us : List ℕ) (plan : HeaderPlan) (r : Result Seat TableFull) → IsNeverUnmade r → IsInternAnswer v w us plan (id_in r) → IsKeyAnswer v w us (id_in r)
-settled_by v w us plan (Ok s) n h = (h.0, h.3, h.4)
-settled_by v w us plan (Err (Slots m)) n h = (h.0, h.1.0, h.1.1)
-settled_by v w us plan (Err (Ids f)) n h = absurd n
-settled_by v w us plan (Err (Words f)) n h = absurd n
-
 pub settled_after : (a v w : View) (us : List ℕ) (r : Result ℕ TableFull) → AddsCalls a v [] → IsKeyAnswer v w us r → IsKeyAnswer a w us r
 settled_after a v w us (Ok i) g h = (goes_trans a v w [] ((us, i) ∷ []) g h.0, h.1, h.2)
 settled_after a v w us (Err (Slots m)) g h = (goes_trans a v w [] [] g h.0, h.1, h.2)
@@ -205,15 +197,15 @@ module _ (v u : View) (n : ℕ) (x : Given) (l : AddsCalls v u []) where
   }
 
 -- A slot that was found free.
-pub place_behind : (v : View) (us : List ℕ) (k r : ℕ) → IsPlace v us k r → IsBehind v us k
-place_behind v us k r p j l m = p.passed j l (subst (λ (n : ℕ). rank us v.sizes.slots j < n) p.at m)
+pub place_is_behind : (v : View) (us : List ℕ) (k r : ℕ) → IsPlace v us k r → IsBehind v us k
+place_is_behind v us k r p j l m = p.passed j l (subst (λ (n : ℕ). rank us v.sizes.slots j < n) p.at m)
 
 pub place_open : (v u w : View) (us : List ℕ) (k r : ℕ) → KeepsKnown v u → IsPossible u → KeepsKnown u w → w.sizes ≡ u.sizes → IsPlace u us k r → get u.slots k ≡ None → IsOpenAt v w us
 place_open v u w us k r known p later z here free = (
   k,
   subst (λ (y : HeapSize). k < y.slots) (sym z) here.inside,
   none_before v u known k free,
-  behind_kept u w p later us z k (place_behind u us k r here),
+  behind_kept u w p later us z k (place_is_behind u us k r here),
 )
 
 -- it isn't noted with another hash
@@ -244,14 +236,6 @@ one_few v w k most before after h j m l = dite (ℕ_discrete j k)
     (λ ne. let c = h.others j ne in omega (arith, c))
 
 -- a claim of slot k, and the probe behind it
-pub place_most : (v y w : View) (us : List ℕ) (k r most before after : ℕ) → y.sizes ≡ v.sizes → IsPlace v us k r → LoadsOne v y k most before after → most ≤ 1
-    → ((j : ℕ) → rank us y.sizes.slots j < r + 1 → loads_at w j ≡ loads_at y j) → ((j : ℕ) → loads_at w j ≤ loads_at y j + 2) → (j : ℕ) → loads_at w j ≤ loads_at v j + 2
-place_most v y w us k r most before after z p h small same few j = dite (dec_le (rank us v.sizes.slots j) r)
-    (λ l. let m : rank us v.sizes.slots j < r + 1 = omega (arith, l) in let e = same j (subst (λ (s : HeapSize). rank us s.slots j < r + 1) (sym z) m) in
-    let f = one_few v y k most before after h j 1 small in omega (arith, e, f))
-    (λ l. let ne : j ≢ k = (λ d. let c : rank us v.sizes.slots j ≡ rank us v.sizes.slots k = ap (rank us v.sizes.slots) d in let e = p.at in omega (arith, c, e, l)) in
-    let e = h.others j ne in let f = few j in omega (arith, e, f))
-
 pub place_once : (v y w : View) (us : List ℕ) (k r most before after : ℕ) → y.sizes ≡ v.sizes → LoadsOne v y k most before after → most ≤ 1
     → ((j : ℕ) → rank us y.sizes.slots j < r + 1 → loads_at w j ≡ loads_at y j) → (j : ℕ) → rank us v.sizes.slots j ≤ r → loads_at w j ≤ loads_at v j + 1
 place_once v y w us k r most before after z h small same j l = let m : rank us v.sizes.slots j < r + 1 = omega (arith, l) in

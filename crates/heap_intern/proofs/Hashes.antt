@@ -15,12 +15,10 @@ use Rattle.heap_rule.proofs.MapLemmas.{has_key, key_of}
 use Rattle.heap_rule.proofs.Paths.{Below, ranks_next}
 use Rattle.heap_table.specs.Known.{KeepsKnown}
 use Rattle.heap_intern.specs.declared.table.wanted.Wanted.{Wanted}
-use Rattle.heap_intern.specs.Answers.{HeaderPlan}
 use Rattle.heap_intern.specs.Hashes.{AreHashes, IsHashed, IsNotedApart, NotesHash, noted_hash}
 use Rattle.heap_intern.specs.SlotLoads.{loads_at}
-use Rattle.heap_intern.specs.Visits.{LoadsOne}
+use Rattle.heap_intern.specs.Visits.{LoadsOne, Walking}
 use Rattle.heap_intern.proofs.Adopting.{one_slot, one_units}
-use Rattle.heap_intern.proofs.Loading.{Walking}
 use Rattle.heap_intern.proofs.Visiting.{Probing}
 
 -- what a note says, with its witnesses
@@ -76,29 +74,26 @@ ranks_more P u n r (suc m) b h = let e : r + m + 1 ≡ r + suc m = omega arith i
     (ranks_next P u n (r + m) (ranks_more P u n r m b (λ j l s. h j l (omega arith))) (h (r + m) (omega arith) (omega arith)))
 
 -- the walk goes on to a later rank, where each slot between is noted with another hash
-module _ (a v : View) (want : Wanted) (us : List ℕ) (plan : HeaderPlan) (ready : Option ℕ) (hashes : List ℕ) (n h mark r q : ℕ) (slots : n ≡ a.sizes.slots)
+module _ (a v : View) (want : Wanted) (us : List ℕ) (hashes : List ℕ) (n h mark r q : ℕ) (slots : n ≡ a.sizes.slots)
     (hash : h ≡ hash_of us) (is : mark ≡ noted_hash us) (noted : AreHashes v hashes) (reach : r ≤ q)
     (apart : (j : ℕ) → r ≤ j → j < q → IsNotedApart hashes ((h % n + j) % n) mark) where
   passed_at : (j : ℕ) → r ≤ j → j < q → IsShutAt v us (path_slot us a.sizes.slots j)
   passed_at j l s = subst (λ (y : ℕ). IsShutAt v us ((y % a.sizes.slots + j) % a.sizes.slots)) hash
       (subst (λ (m : ℕ). IsShutAt v us ((h % m + j) % m)) slots (shut_by v hashes us ((h % n + j) % n) mark noted is (apart j l s)))
 
-  pub probing_on : (header : Option ℕ) → Probing a v want us plan ready r header → Probing a v want us plan ready q header
-  probing_on header p = let e : r + (q - r) ≡ q = omega arith in record {
-    goes = p.goes;
+  pub probing_on : Probing a v want us r → Probing a v want us q
+  probing_on p = let e : r + (q - r) ≡ q = omega arith in record {
+    looks = p.looks;
     forms = p.forms;
-    used = p.used;
-    used_words = p.used_words;
     wanted = p.wanted;
     passed = subst (Below (IsShutAt v us) us a.sizes.slots) e
         (ranks_more (IsShutAt v us) us a.sizes.slots r (q - r) p.passed (λ j l s. passed_at j l (omega arith)));
-    made = p.made;
-    opened = p.opened;
   }
 
 -- and loads none of them
 pub walking_on : (a v : View) (us : List ℕ) (r q before now : ℕ) → r ≤ q → Walking a v us r before now → Walking a v us q before now
 walking_on a v us r q before now reach p = record {
+  sizes = p.sizes;
   times = p.times;
   each = p.each;
   once = p.once;

@@ -1,5 +1,5 @@
 -- Loads of slots, one by one and along the path.
-use Rattle.std.proofs.Common.{◌≡◌, ◌≢◌, ℕ, zero, suc, ◌+◌, ◌*◌, ◌<◌, ◌≤◌, List, sym, refl, ap, ◌∙◌, subst, arith, Option, Some, nat_eq, if◌then◌else◌, Bool, eq-eqb, ne_eqb}
+use Rattle.std.proofs.Common.{◌≡◌, ◌≢◌, ℕ, zero, suc, ◌+◌, ◌*◌, ◌<◌, ◌≤◌, List, sym, refl, ap, ◌∙◌, subst, arith, Option, Some, None, nat_eq, if◌then◌else◌, Bool, eq-eqb, ne_eqb}
 use Rattle.std.specs.Prelude.{unwrap_or}
 use mathlib.Core.Logic.{dite}
 use native.Mathlib.Decide.{ℕ_discrete}
@@ -13,8 +13,10 @@ use Rattle.heap_rule.specs.Maps.{Has}
 use Rattle.heap_rule.specs.Paths.{rank}
 use Rattle.heap_rule.specs.Slots.{loaded_slot, took_slot}
 use Rattle.heap_rule.proofs.MapLemmas.{insert_other, insert_same}
+use Rattle.heap_intern.specs.declared.table.finding.WalkEnd.{WalkEnd}
+use Rattle.heap_intern.specs.declared.table.finding.WalkEnd.TheVariants.{Found, Free, Shut}
 use Rattle.heap_intern.specs.SlotLoads.{LoadsSlots, counted_on, loads_at, sum_below}
-use Rattle.heap_intern.specs.Visits.{LoadsOne}
+use Rattle.heap_intern.specs.Visits.{LoadsOne, Walking, WalksOn, found_id}
 
 -- a claim of a slot is no load
 took_by : (v : View) (k i x : ℕ) → (learned_all (took_slot v k i x)).slot_loads ≡ v.slot_loads
@@ -93,17 +95,10 @@ sum_none : (f : ℕ → ℕ) (n : ℕ) → ((k : ℕ) → f k ≡ 0) → sum_bel
 sum_none f zero z = refl
 sum_none f (suc n) z = let a = sum_none f n z in let b = z n in omega arith
 
--- What a walk has loaded when it comes to the slot of rank r: no slot twice, and none of those that lie ahead on the path.
-pub record Walking (a v : View) (us : List ℕ) (r before now : ℕ) : Type 0 where
-  pub times : ℕ → ℕ
-  pub each : (k : ℕ) → loads_at v k ≡ counted_on (loads_at a k) (times k)
-  pub once : (k : ℕ) → times k ≤ 1
-  pub ahead : (k : ℕ) → r ≤ rank us a.sizes.slots k → times k ≡ 0
-  pub inside : (k : ℕ) → 0 < times k → k < a.sizes.slots
-  pub sum : now ≡ before + sum_below times a.sizes.slots
-
+-- A walk.
 pub walking_none : (a : View) (us : List ℕ) (before : ℕ) → Walking a a us 0 before before
 walking_none a us before = let z = sum_none (λ k. 0) a.sizes.slots (λ k. refl) in record {
+  sizes = refl;
   times = λ k. 0;
   each = λ k. refl;
   once = λ k. omega arith;
@@ -112,18 +107,29 @@ walking_none a us before = let z = sum_none (λ k. 0) a.sizes.slots (λ k. refl)
   sum = omega arith;
 }
 
+-- a walk that begins at any rank
+pub walking_start : (a : View) (us : List ℕ) (r before : ℕ) → Walking a a us r before before
+walking_start a us r before = let p = walking_none a us before in record {
+  sizes = refl;
+  times = p.times;
+  each = p.each;
+  once = p.once;
+  ahead = λ k l. p.ahead k (omega arith);
+  inside = p.inside;
+  sum = p.sum;
+}
+
 -- at the first slot none was loaded so far
 pub walking_first : (a v : View) (us : List ℕ) (r before now : ℕ) → Walking a v us r before now → r ≡ 0 → now ≡ before
 walking_first a v us r before now p e = let s = p.sum in let z = sum_none p.times a.sizes.slots (λ k. p.ahead k (omega arith)) in omega arith
 
--- the slot of rank r
-module _ (a v w : View) (us : List ℕ) (r before now after k most : ℕ) (p : Walking a v
-    us r before now) (inside : k < a.sizes.slots) (at : rank us a.sizes.slots k ≡ r) (h : LoadsOne v w k most now after) where
+-- one more slot, with the count of its loads
+module _ (a v w : View) (us : List ℕ) (r before now after k most : ℕ) (p : Walking a v us r before now) (inside : k < a.sizes.slots) (h : LoadsOne v w k most now after) where
   abbrev loaded : ℕ → ℕ
   loaded = with_more p.times k h.times
 
-  none_so_far : p.times k ≡ 0
-  none_so_far = p.ahead k (omega arith)
+  none_so_far : rank us a.sizes.slots k ≡ r → p.times k ≡ 0
+  none_so_far at = p.ahead k (omega arith)
 
   loaded_each : (j : ℕ) → loads_at w j ≡ counted_on (loads_at a j) (loaded j)
   loaded_each j = dite (ℕ_discrete j k)
@@ -139,13 +145,14 @@ module _ (a v w : View) (us : List ℕ) (r before now after k most : ℕ) (p : W
   loaded_sum : after ≡ before + sum_below loaded a.sizes.slots
   loaded_sum = let c = p.sum in let d = h.sum in let e = sum_more p.times k h.times a.sizes.slots inside in omega arith
 
-  -- it is passed
-  pub walking_next : most ≤ 1 → Walking a w us (r + 1) before after
-  walking_next few = record {
+  -- it has rank r, and is passed
+  pub walking_next : rank us a.sizes.slots k ≡ r → w.sizes ≡ v.sizes → most ≤ 1 → Walking a w us (r + 1) before after
+  walking_next at z few = record {
+    sizes = z ∙ p.sizes;
     times = loaded;
     each = loaded_each;
     once = λ j. dite (ℕ_discrete j k)
-        (λ e. let m = more_here p.times k h.times j e in let z = p.once j in let n = none_so_far in let n' : p.times j ≡ 0 = ap p.times e ∙ n in let f = h.few in omega arith)
+        (λ e. let m = more_here p.times k h.times j e in let z = p.once j in let n = none_so_far at in let n' : p.times j ≡ 0 = ap p.times e ∙ n in let f = h.few in omega arith)
         (λ ne. let m = more_other p.times k h.times j ne in let z = p.once j in omega arith);
     ahead = λ j l. let ne : j ≢ k = (λ e. let same : rank us a.sizes.slots j ≡ rank us a.sizes.slots k = ap (rank us a.sizes.slots) e in omega arith) in
         more_other p.times k h.times j ne ∙ p.ahead j (omega arith);
@@ -154,20 +161,59 @@ module _ (a v w : View) (us : List ℕ) (r before now after k most : ℕ) (p : W
   }
 
   -- the walk ends there
-  pub walked_to : (answer : Option ℕ) → most ≤ 2 → (1 < most → (i : ℕ) × (answer ≡ Some i) × Has w.slots k i) → LoadsSlots a w answer before after
-  walked_to answer few has = record {
+  pub walked_to : rank us a.sizes.slots k ≡ r → (answer : Option ℕ) → most ≤ 2 → (1 < most → (i : ℕ) × (answer ≡ Some i) × Has w.slots k i) → LoadsSlots a w answer before after
+  walked_to at answer few has = record {
     times = loaded;
     each = loaded_each;
     twice = λ j. dite (ℕ_discrete j k)
-        (λ e. let m = more_here p.times k h.times j e in let n' : p.times j ≡ 0 = ap p.times e ∙ none_so_far in let f = h.few in omega arith)
+        (λ e. let m = more_here p.times k h.times j e in let n' : p.times j ≡ 0 = ap p.times e ∙ none_so_far at in let f = h.few in omega arith)
         (λ ne. let m = more_other p.times k h.times j ne in let z = p.once j in omega arith);
     entered = λ j l. dite (ℕ_discrete j k)
-        (λ e. let m = more_here p.times k h.times j e in let n' : p.times j ≡ 0 = ap p.times e ∙ none_so_far in let f = h.few in let t = has (omega arith) in
+        (λ e. let m = more_here p.times k h.times j e in let n' : p.times j ≡ 0 = ap p.times e ∙ none_so_far at in let f = h.few in let t = has (omega arith) in
         (t.0, t.1, subst (λ (i : ℕ). Has w.slots i t.0) (sym e) t.2))
         (λ ne. let m = more_other p.times k h.times j ne in let z = p.once j in absurd (omega arith));
     inside = loaded_inside;
     sum = loaded_sum;
   }
+
+  -- it was loaded before, and has the answer
+  pub walked_put : (answer : Option ℕ) → most ≤ 1 → (i : ℕ) → answer ≡ Some i → Has w.slots k i → LoadsSlots a w answer before after
+  walked_put answer few i is has = record {
+    times = loaded;
+    each = loaded_each;
+    twice = λ j. dite (ℕ_discrete j k)
+        (λ e. let m = more_here p.times k h.times j e in let z = p.once j in let f = h.few in omega arith)
+        (λ ne. let m = more_other p.times k h.times j ne in let z = p.once j in omega arith);
+    entered = λ j l. dite (ℕ_discrete j k)
+        (λ e. (i, is, subst (λ (x : ℕ). Has w.slots x i) (sym e) has))
+        (λ ne. let m = more_other p.times k h.times j ne in let z = p.once j in absurd (omega arith));
+    inside = loaded_inside;
+    sum = loaded_sum;
+  }
+
+-- steps that load no slot
+pub walking_same : (a v w : View) (us : List ℕ) (r before now : ℕ) → w.sizes ≡ v.sizes → ((j : ℕ) → loads_at w j ≡ loads_at v j) → Walking a v us r before now → Walking a w us r before now
+walking_same a v w us r before now z same p = record {
+  sizes = z ∙ p.sizes;
+  times = p.times;
+  each = λ k. same k ∙ p.each k;
+  once = p.once;
+  ahead = p.ahead;
+  inside = p.inside;
+  sum = p.sum;
+}
+
+pub same_loads : (v w : View) → w.slot_loads ≡ v.slot_loads → (j : ℕ) → loads_at w j ≡ loads_at v j
+same_loads v w e j = ap (λ (m : FinMap nat_cmp ℕ). unwrap_or (get m j) 0) e
+
+none_times : (a n : ℕ) → n ≡ 0 → counted_on a n ≡ a
+none_times a n e = ap (counted_on a) e
+
+pub none_loaded : (v w : View) (k before after : ℕ) → LoadsOne v w k 0 before after → (after ≡ before) × ((j : ℕ) → loads_at w j ≡ loads_at v j)
+none_loaded v w k before after h = let f = h.few in let s = h.sum in let none : h.times ≡ 0 = omega arith in (
+  omega arith,
+  λ j. dite (ℕ_discrete j k) (λ e. subst (λ (i : ℕ). loads_at w i ≡ loads_at v i) (sym e) (h.here ∙ none_times (loads_at v k) h.times none)) (λ ne. h.others j ne),
+)
 
 -- it ends at a slot that is free: none was loaded twice, and none behind it
 pub free_once : (a v : View) (us : List ℕ) (r before now : ℕ) → Walking a v us r before now → (j : ℕ) → loads_at v j ≤ loads_at a j + 1
@@ -194,6 +240,11 @@ walked_all a v us r before now answer p = record {
   inside = p.inside;
   sum = p.sum;
 }
+
+pub walks_loads : (v w : View) (us : List ℕ) (r : ℕ) (end : WalkEnd) (before now : ℕ) → WalksOn v w us r end before now → LoadsSlots v w (found_id end) before now
+walks_loads v w us r (Found s) before now h = h v before (walking_start v us r before)
+walks_loads v w us r (Free k q) before now h = walked_all v w us (q + 1) before now None (h v before (walking_start v us r before))
+walks_loads v w us r Shut before now h = h v before (walking_start v us r before)
 
 -- no slot was loaded
 pub slots_none : (v w : View) (answer : Option ℕ) (before : ℕ) → w.slot_loads ≡ v.slot_loads → LoadsSlots v w answer before before

@@ -1,5 +1,5 @@
 -- The plan of a header, by the form that was loaded of the string.
-use Rattle.std.proofs.Common.{◌≡◌, ℕ, zero, suc, ◌<◌, ◌⊎◌, ⊎_elim, inl, inr, Bool, true, List, length, sym, refl, ap, ◌∙◌, subst, arith, Some}
+use Rattle.std.proofs.Common.{◌≡◌, ℕ, zero, suc, ◌<◌, ◌⊎◌, ⊎_elim, inl, inr, Bool, true, List, length, sym, refl, ap, ◌∙◌, subst, arith, Some, IfSome}
 use Rattle.js_header.specs.declared.form.Form.{Form}
 use Rattle.js_header.specs.declared.form.Form.TheVariants.{Unborn, Flat, Cons, Sliced, Thin}
 use Rattle.heap_rule.specs.declared.view.View.{View}
@@ -11,7 +11,6 @@ use Rattle.heap_table.specs.Known.{KeepsKnown}
 use Rattle.heap_intern.specs.declared.table.sought.Sought.{Sought}
 use Rattle.heap_intern.specs.Answers.{BeginsAt, IsFixed, IsFound, IsHeader, IsPlan, IsPlanBy, MakesNone, HeaderPlan, UsesNothing, words_of_copy}
 use Rattle.heap_intern.specs.Headers.{IsFlat, begins, header_plan, plain_plan, plan_by, target_of}
-use Rattle.heap_intern.specs.Visits.{IsMade}
 use Rattle.heap_intern.proofs.Going.{no_slice}
 use Rattle.heap_read.proofs.Freezing.{possible_fixed}
 use Rattle.heap_intern.proofs.Possibly.{possible_born, possible_thin_units}
@@ -93,16 +92,16 @@ module _ (v : View) (p : IsPossible v) (s : Sought) (us : List ℕ) (h : IsSough
   thin_made target own known = let ts = has_key v.units target known in let same = possible_thin_units v p s.id target us ts.0 own u ts.1 in
       ((s.window.start, begins_at s.window.len s.window.start s.window.start (λ some. refl), thin_is target own), subst (λ (xs : List ℕ). Has v.units target xs) same ts.1)
 
-  ready_at : (f : Form) → Has v.forms s.id f → ((t : ℕ) → f ≡ Thin t → HasKey v.units t) → IsMade v (plan_by f s us) us (target_of f)
-  ready_at (Thin target) own known = thin_made target own (known target refl)
+  ready_at : (f : Form) → Has v.forms s.id f → ((t : ℕ) → f ≡ Thin t → HasKey v.units t) → IfSome (target_of f) (IsFixed v us)
+  ready_at (Thin target) own known = fixed_of v (plain_plan s) us target (thin_made target own (known target refl))
   ready_at Unborn own known = tt
   ready_at (Flat wide start fixed) own known = tt
   ready_at (Cons wide left right) own known = tt
   ready_at (Sliced wide parent offset) own known = tt
 
-  -- where the string forwards, its target is a header by the plan
-  pub ready_made : ((t : ℕ) → s.form ≡ Thin t → HasKey v.units t) → IsMade v (header_plan s us) us (target_of s.form)
-  ready_made known = ready_at s.form h.own known
+  -- where the string forwards, its target has its units
+  pub ready_fixed : ((t : ℕ) → s.form ≡ Thin t → HasKey v.units t) → IfSome (target_of s.form) (IsFixed v us)
+  ready_fixed known = ready_at s.form h.own known
 
 -- what forwards makes nothing, where there is a header already for it
 pub makes_none : (v w : View) (f : Form) → ((i : ℕ) → target_of f ≡ Some i → UsesNothing v w) → MakesNone f v w

@@ -18,32 +18,51 @@ use Rattle.heap_intern.specs.declared.table.faults.TableFull.TheVariants.{Ids, W
 use Rattle.heap_intern.specs.declared.table.given.Given.{Given}
 use Rattle.heap_intern.specs.declared.table.searching.Opening.{Opening}
 use Rattle.heap_intern.specs.declared.table.strings.StringOpening.{StringOpening}
-use Rattle.heap_intern.specs.Answers.{BeginsAt, FindsString, HeaderPlan, IsFixed, IsHeader, IsInternAnswer, StandsInSlot, UsesNothing}
-use Rattle.heap_intern.specs.Goes.{LoadsAlone}
-use Rattle.heap_intern.specs.Headers.{IsFlat, begins, target_of}
+use Rattle.heap_intern.specs.Answers.{FindsString, HeaderPlan, IsFixed, IsInternAnswer, StandsInSlot, UsesNothing}
+use Rattle.heap_intern.specs.Goes.{AddsCalls, LoadsAlone}
+use Rattle.heap_intern.specs.Headers.{begins, target_of}
 use Rattle.heap_intern.specs.Searching.{IsOpening, IsStringOpening, LoadsUpTo}
 use Rattle.heap_intern.specs.SlotLoads.{loads_at}
 use Rattle.heap_intern.specs.Taking.{AnswersAt, IsGivenTaken, IsKeyAnswer, without_given}
 use Rattle.heap_intern.specs.Wanted.{IsWanted}
 use Rattle.heap_intern.specs.declared.table.wanted.Wanted.TheVariants.{Str}
-use Rattle.heap_intern.specs.Visits.{IsFreeAt, IsNeverUnmade, StandsAt}
+use Rattle.heap_intern.specs.Visits.{IsFreeAt, StandsAt}
 use Rattle.heap_intern.proofs.Going.{goes_self, goes_trans, looks_reads, looks_trans}
 use Rattle.heap_intern.proofs.Opened.{opening_kept, opening_open}
 use Rattle.heap_intern.proofs.Seeking.{frozen_kept, sought_kept}
 use Rattle.heap_intern.proofs.Wanting.{wanted_kept}
 use Rattle.heap_intern.proofs.Visiting.{behind_kept, fixed_kept, interned_then, open_later, stands_kept}
 
--- A header that was there was put into a slot, or found there.
+-- A slot was found free, and a string that was there was put into it, or was found behind it.
+pub placed_finds : (v w x : View) (us : List ℕ) (i : ℕ) → LoadsAlone v w → UsesNothing w x → IsKeyAnswer w x us (Ok i) → FindsString v x us (Some i)
+placed_finds v w x us i l n h = (goes_trans v w x [] ((us, i) ∷ []) l.goes h.0, (n.0 ∙ l.used, n.1 ∙ l.words), h.1, h.2)
+
+pub placed_shut : (w x : View) (us : List ℕ) (f : TableFull) → IsKeyAnswer w x us (Err f) → IsTrue (shut x us x.sizes.slots)
+placed_shut w x us (Slots m) h = h.2
+placed_shut w x us (Ids f) h = absurd h
+placed_shut w x us (Words f) h = absurd h
+
+goes_refused : (w x : View) (us : List ℕ) (f : TableFull) → IsKeyAnswer w x us (Err f) → AddsCalls w x []
+goes_refused w x us (Slots m) h = h.0
+goes_refused w x us (Ids f) h = absurd h
+goes_refused w x us (Words f) h = absurd h
+
+pub placed_none : (v w x : View) (us : List ℕ) (f : TableFull) → LoadsAlone v w → UsesNothing w x → IsKeyAnswer w x us (Err f) → FindsString v x us None
+placed_none v w x us f l n h = (
+  record { goes = goes_trans v w x [] [] l.goes (goes_refused w x us f h); used = n.0 ∙ l.used; words = n.1 ∙ l.words },
+  inr (placed_shut w x us f h),
+)
+
+-- What interning answered with nothing used is what a search finds.
 pub finds_ready : (v w : View) (us : List ℕ) (plan : HeaderPlan) (i : ℕ) → UsesNothing v w → IsInternAnswer v w us plan (Ok i) → FindsString v w us (Some i)
 finds_ready v w us plan i n h = (h.0, n, h.3, h.4)
 
-pub shut_ready : (v w : View) (us : List ℕ) (plan : HeaderPlan) (f : TableFull) → UsesNothing v w → IsNeverUnmade (Err f) → IsInternAnswer v w us plan (Err f) → IsTrue (shut w us w.sizes.slots)
-shut_ready v w us plan (Slots m) n o h = h.1.1
-shut_ready v w us plan (Ids f) n o h = absurd o
-shut_ready v w us plan (Words f) n o h = absurd o
+-- What a search found, or that every slot differs, is what interning answers.
+pub finds_answer : (v w : View) (us : List ℕ) (plan : HeaderPlan) (i : ℕ) → FindsString v w us (Some i) → IsInternAnswer v w us plan (Ok i)
+finds_answer v w us plan i f = let a = f.1.0 in let b = f.1.1 in (f.0, omega (arith, a), omega (arith, b), f.2, f.3, inl f.1)
 
-pub none_ready : (v w : View) (us : List ℕ) (plan : HeaderPlan) (f : TableFull) → UsesNothing v w → IsNeverUnmade (Err f) → IsInternAnswer v w us plan (Err f) → FindsString v w us None
-none_ready v w us plan f n o h = (record { goes = h.0; used = n.0; words = n.1 }, inr (shut_ready v w us plan f n o h))
+pub shut_answer : (v w : View) (us : List ℕ) (plan : HeaderPlan) (n : ℕ) → LoadsAlone v w → n ≡ w.sizes.slots → IsTrue (shut w us w.sizes.slots) → IsInternAnswer v w us plan (Err (Slots n))
+shut_answer v w us plan n l e all = (l.goes, (e, all, inl (l.used, l.words)))
 
 -- Loads before the walk, and a step behind it that loads.
 pub finds_around : (a u w x : View) (us : List ℕ) (i : ℕ) → IsPossible w → LoadsAlone a u → FindsString u w us (Some i) → LoadsAlone w x → FindsString a x us (Some i)
@@ -151,13 +170,6 @@ plain_start (suc n) start first given none some e = some (omega arith)
 
 pub opening_wanted : (v w : View) (us : List ℕ) (o : StringOpening) → KeepsKnown v w → HoldsForms v w → IsStringOpening v us o → IsWanted w (Str o.sought) us
 opening_wanted v w us o k f h = wanted_kept v w k f (Str o.sought) us (h.sought, h.units, h.frozen)
-
-header_begins : (o : Option ℕ) (start : ℕ) → BeginsAt o (unwrap_or o start)
-header_begins None start = tt
-header_begins (Some first) start = refl
-
-pub planned_header : (w : View) (plan : HeaderPlan) (us : List ℕ) (start id : ℕ) → IsFlat w plan.wide (unwrap_or plan.start start) us id → IsHeader w plan us id
-planned_header w plan us start id f = ((unwrap_or plan.start start, header_begins plan.start start, f.0), f.1)
 
 -- what a search leaves, whatever it ends with
 pub search_known : (v w : View) (us : List ℕ) (r : Option ℕ) → FindsString v w us r → KeepsKnown v w × (w.sizes ≡ v.sizes)

@@ -1,5 +1,5 @@
 // Interning with an id and content words that the caller has claimed before.
-ghost use Rattle.std.specs.Prelude.{◌≡◌, ◌≢◌, ℕ, List, ◌+◌, ◌≤◌, ◌<◌, Some, IfOk, [], max};
+ghost use Rattle.std.specs.Prelude.{◌≡◌, ◌≢◌, ◌-◌, ℕ, List, ◌+◌, ◌≤◌, ◌<◌, IfOk, [], max};
 ghost use Rattle.js_units.specs.Lanes.{hash_of, is_wide, words_over};
 ghost use Rattle.heap_rule.specs.declared.view.View.{View};
 ghost use Rattle.heap_rule.specs.Maps.{HasKey};
@@ -7,20 +7,21 @@ ghost use Rattle.heap_rule.specs.Paths.{rank};
 ghost use Rattle.heap_table.specs.Agents.{size_of};
 ghost use Rattle.heap_read.specs.Readers.{view_in};
 ghost use Rattle.heap_read.specs.Reads.{HoldsForms};
-ghost use Rattle.heap_intern.specs.Answers.{UsesNothing, words_of_copy};
+ghost use Rattle.heap_intern.specs.Answers.{IsFixed, UsesNothing, words_of_copy};
 ghost use Rattle.heap_intern.specs.Goes.{AddsCalls};
 ghost use Rattle.heap_intern.specs.Hashes.{AreHashes, IsNotedApart};
 ghost use Rattle.heap_intern.specs.Headers.{IsFlat, MayBeOver};
 ghost use Rattle.heap_intern.specs.Keys.{IsKey, units_of_key};
-ghost use Rattle.heap_intern.specs.SlotLoads.{loads_at};
+ghost use Rattle.heap_intern.specs.SlotLoads.{answered, loads_at};
 ghost use Rattle.heap_intern.specs.Taking.{HasGiven, IsKeyAnswer, without_given};
 ghost use Rattle.heap_intern.specs.Seats.{id_in};
-ghost use Rattle.heap_intern.specs.Visits.{IsMade, IsPlace, StandsAt};
-ghost use Rattle.heap_intern.specs.Wanted.{IsWanted, wanted_plan};
+ghost use Rattle.heap_intern.specs.Visits.{IsPassed, IsPlace, PutsOn, StandsAt};
+ghost use Rattle.heap_intern.specs.Wanted.{IsWanted};
 
 use crate::table::faults::TableFull;
+use crate::table::finding::{WalkEnd, walk_path};
 use crate::table::key::{Key, write_key};
-use crate::table::probing::{Seat, Visit, probe_path, put};
+use crate::table::probing::{Seat, Visit, put};
 use crate::table::wanted::Wanted;
 use heap_read::{HeapRef, Reader, Steps};
 use js_header::Form;
@@ -84,8 +85,58 @@ fn make_given<H: HeapRef>(reader: &mut Reader<H>, key: &Key, given: Given)
     bear_given(reader, given.id, wide, given.start, n);
 }
 
+// A fixed Flat that is there is put into the first slot that a walk from rank `from` on finds free. Where that is
+// lost, and the winner's string differs, the walk goes on behind it.
+pub(crate) fn place_behind<L: Ledger, H: HeapRef>(
+    reader: &mut Reader<H>,
+    wanted: &Wanted,
+    header: u32,
+    hash: u32,
+    from: u32,
+    hashes: &[u32],
+    steps: &mut Steps<L>,
+) -> Result<Seat, TableFull>
+    requires wanted { (us : List ℕ) × IsWanted (view_in reader.old) wanted.now us }
+    requires hash { (us : List ℕ) → IsWanted (view_in reader.old) wanted.now us → hash ≡ hash_of us }
+    requires from { from ≤ (size_of (H.reached reader.old.heap)).slots }
+    requires passed { (us : List ℕ) → IsWanted (view_in reader.old) wanted.now us
+        → IsPassed (view_in reader.old) us from }
+    requires hashed { AreHashes (view_in reader.old) hashes.now }
+    requires fixed { (us : List ℕ) → IsWanted (view_in reader.old) wanted.now us
+        → IsFixed (view_in reader.old) us header }
+    ensures heap { reader.new.heap ≡ reader.old.heap }
+    ensures forms { HoldsForms (view_in reader.old) (view_in reader.new) }
+    ensures places { (us : List ℕ) → IsWanted (view_in reader.old) wanted.now us
+        → IsKeyAnswer (view_in reader.old) (view_in reader.new) us (id_in result) }
+    ensures nothing { UsesNothing (view_in reader.old) (view_in reader.new) }
+    ensures stands { IfOk result (λ s. (us : List ℕ) → IsWanted (view_in reader.old) wanted.now us
+        → StandsAt (view_in reader.new) us s.slot s.id) }
+    ensures loads { (us : List ℕ) → IsWanted (view_in reader.old) wanted.now us
+        → PutsOn (view_in reader.old) (view_in reader.new) us from (answered (id_in result))
+        steps.old steps.new }
+    ensures before { (us : List ℕ) → IsWanted (view_in reader.old) wanted.now us
+        → (k : ℕ) → rank us (view_in reader.old).sizes.slots k < from
+        → loads_at (view_in reader.new) k ≡ loads_at (view_in reader.old) k }
+    ensures apart { (k : ℕ) → IsNotedApart hashes.now k (max hash 1)
+        → loads_at (view_in reader.new) k ≡ loads_at (view_in reader.old) k }
+{
+    let n = reader.heap.heap().size().slots;
+    let mut r = from;
+    while r < n {
+        match walk_path(reader, wanted, hash, r, hashes, steps) {
+            WalkEnd::Found(seat) => return Ok(seat),
+            WalkEnd::Free { slot, rank } => match put(reader, wanted, slot, header, steps) {
+                Visit::Answer { id } => return Ok(Seat { id, slot }),
+                Visit::Next => r = rank + 1,
+            },
+            WalkEnd::Shut => return Err(TableFull::Slots { slots: n }),
+        }
+    }
+    Err(TableFull::Slots { slots: n })
+}
+
 // A fixed Flat that is there is put into a slot that was found free; where that is lost, and the winner's
-// string differs, the probe goes on behind it.
+// string differs, into one behind it.
 pub(crate) fn place<L: Ledger, H: HeapRef>(
     reader: &mut Reader<H>,
     wanted: &Wanted,
@@ -101,15 +152,18 @@ pub(crate) fn place<L: Ledger, H: HeapRef>(
     requires hashed { AreHashes (view_in reader.old) hashes.now }
     requires place { (us : List ℕ) → IsWanted (view_in reader.old) wanted.now us
         → IsPlace (view_in reader.old) us slot at }
-    requires header { (us : List ℕ) → IsWanted (view_in reader.old) wanted.now us
-        → IsMade (view_in reader.old) (wanted_plan wanted.now us) us (Some header) }
+    requires fixed { (us : List ℕ) → IsWanted (view_in reader.old) wanted.now us
+        → IsFixed (view_in reader.old) us header }
     ensures heap { reader.new.heap ≡ reader.old.heap }
     ensures forms { HoldsForms (view_in reader.old) (view_in reader.new) }
-    ensures settles { (us : List ℕ) → IsWanted (view_in reader.old) wanted.now us
+    ensures places { (us : List ℕ) → IsWanted (view_in reader.old) wanted.now us
         → IsKeyAnswer (view_in reader.old) (view_in reader.new) us (id_in result) }
     ensures nothing { UsesNothing (view_in reader.old) (view_in reader.new) }
     ensures stands { IfOk result (λ s. (us : List ℕ) → IsWanted (view_in reader.old) wanted.now us
         → StandsAt (view_in reader.new) us s.slot s.id) }
+    ensures loads { (us : List ℕ) → IsWanted (view_in reader.old) wanted.now us
+        → PutsOn (view_in reader.old) (view_in reader.new) us (at + 1) (answered (id_in result))
+        steps.old steps.new }
     ensures once { (us : List ℕ) → IsWanted (view_in reader.old) wanted.now us
         → (k : ℕ) → rank us (view_in reader.old).sizes.slots k ≤ at
         → loads_at (view_in reader.new) k ≤ loads_at (view_in reader.old) k + 1 }
@@ -119,12 +173,12 @@ pub(crate) fn place<L: Ledger, H: HeapRef>(
 {
     match put(reader, wanted, slot, header, steps) {
         Visit::Answer { id } => Ok(Seat { id, slot }),
-        Visit::Next { .. } => probe_path(reader, wanted, Some(header), hash, at + 1, hashes, steps),
+        Visit::Next => place_behind(reader, wanted, header, hash, at + 1, hashes, steps),
     }
 }
 
 // What was given is born, and put into a slot that was found free.
-pub(crate) fn settle<L: Ledger, H: HeapRef>(
+pub(crate) fn place_given<L: Ledger, H: HeapRef>(
     reader: &mut Reader<H>,
     key: &Key,
     given: Given,
@@ -141,7 +195,7 @@ pub(crate) fn settle<L: Ledger, H: HeapRef>(
     requires place { IsPlace (view_in reader.old) (units_of_key key.now) slot at }
     ensures heap { reader.new.heap ≡ reader.old.heap }
     ensures forms { HoldsForms (view_in reader.old) (view_in reader.new) }
-    ensures settles { IsKeyAnswer
+    ensures places { IsKeyAnswer
         (without_given (view_in reader.old) (words_of_copy (units_of_key key.now)) given) (view_in reader.new)
         (units_of_key key.now) (id_in result) }
     ensures flat { IsFlat (view_in reader.new) (is_wide (units_of_key key.now)) given.start

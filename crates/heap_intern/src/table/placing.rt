@@ -23,7 +23,7 @@ use crate::table::given::{Given, bear_given, place};
 use crate::table::hashes::note_hash;
 use crate::table::header::first_word;
 use crate::table::probing::Seat;
-use crate::table::searching::settle_new;
+use crate::table::searching::place_new;
 use crate::table::seats::note_seat;
 use crate::table::sought::Sought;
 use crate::table::strings::StringOpening;
@@ -83,7 +83,7 @@ fn make_string<H: HeapRef>(reader: &mut Reader<H>, opening: StringOpening, given
 }
 
 // The header is made of what was given, and put into the opening.
-fn settle_string<L: Ledger, H: HeapRef>(
+fn place_string<L: Ledger, H: HeapRef>(
     reader: &mut Reader<H>,
     opening: StringOpening,
     given: Given,
@@ -123,7 +123,7 @@ fn settle_string<L: Ledger, H: HeapRef>(
 }
 
 // The header is made of what was given, if anything was; else by claims.
-fn settle_with<L: Ledger, H: HeapRef>(
+fn place_with<L: Ledger, H: HeapRef>(
     reader: &mut Reader<H>,
     opening: StringOpening,
     given: Option<Given>,
@@ -149,8 +149,8 @@ fn settle_with<L: Ledger, H: HeapRef>(
         → loads_at (view_in reader.new) k ≡ loads_at (view_in reader.old) k }
 {
     match given {
-        Some(given) => settle_string(reader, opening, given, hashes, steps),
-        None => settle_new(
+        Some(given) => place_string(reader, opening, given, hashes, steps),
+        None => place_new(
             reader,
             &Wanted::Str(opening.sought),
             opening.opening,
@@ -190,7 +190,7 @@ fn intern_string_at_by<L: Ledger, H: HeapRef>(
         → NotesHash (view_in reader.old) (view_in reader.new) us (answered result) hashes.old hashes.new }
 {
     let mut steps = Steps::<L>::start(blank);
-    let seat = match settle_with(reader, opening, given, hashes, &mut steps) {
+    let seat = match place_with(reader, opening, given, hashes, &mut steps) {
         Ok(seat) => seat,
         Err(full) => return Err(full),
     };

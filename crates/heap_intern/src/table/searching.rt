@@ -14,13 +14,13 @@ ghost use Rattle.heap_intern.specs.Keys.{IsKey, units_of_key};
 ghost use Rattle.heap_intern.specs.Searching.{IsOpening, LoadsFrom, SearchesKey, found_key, seat_found};
 ghost use Rattle.heap_intern.specs.SlotLoads.{answered, loads_at};
 ghost use Rattle.heap_intern.specs.Taking.{AnswersAt, HasGiven};
-ghost use Rattle.heap_intern.specs.Visits.{StandsAt};
+ghost use Rattle.heap_intern.specs.Visits.{PutsOn, StandsAt};
 ghost use Rattle.heap_intern.specs.Seats.{IsSeatOf, id_in};
 ghost use Rattle.heap_intern.specs.Wanted.{IsWanted, wanted_plan};
 
 use crate::table::faults::TableFull;
 use crate::table::finding::{WalkEnd, walk_path};
-use crate::table::given::{Given, place, settle};
+use crate::table::given::{Given, place, place_given};
 use crate::table::hashes::note_hash;
 use crate::table::header::make_header;
 use crate::table::key::Key;
@@ -82,7 +82,7 @@ fn search_key_by<L: Ledger, H: HeapRef>(
 {
     let mut steps = Steps::<L>::start(blank);
     let hash = key.hash();
-    match walk_path(reader, &key.wanted(), hash, hashes, &mut steps) {
+    match walk_path(reader, &key.wanted(), hash, 0, hashes, &mut steps) {
         WalkEnd::Found(seat) => {
             note_hash(hashes, seat.slot, hash.max(1));
             KeySearch::Found(seat)
@@ -143,7 +143,7 @@ pub fn find_from<H: HeapRef>(reader: &mut Reader<H>, source: &Spelling) -> Optio
 }
 
 // A fixed Flat is made by claims, and put into the opening.
-pub(crate) fn settle_new<L: Ledger, H: HeapRef>(
+pub(crate) fn place_new<L: Ledger, H: HeapRef>(
     reader: &mut Reader<H>,
     wanted: &Wanted,
     opening: Opening,
@@ -160,6 +160,9 @@ pub(crate) fn settle_new<L: Ledger, H: HeapRef>(
         (id_in result) }
     ensures stands { IfOk result (λ s. (us : List ℕ) → IsWanted (view_in reader.old) wanted.now us
         → StandsAt (view_in reader.new) us s.slot s.id) }
+    ensures loads { (us : List ℕ) → IsWanted (view_in reader.old) wanted.now us
+        → PutsOn (view_in reader.old) (view_in reader.new) us (opening.rank + 1) (answered (id_in result))
+        steps.old steps.new }
     ensures once { (us : List ℕ) → IsWanted (view_in reader.old) wanted.now us
         → (k : ℕ) → rank us (view_in reader.old).sizes.slots k ≤ opening.rank
         → loads_at (view_in reader.new) k ≤ loads_at (view_in reader.old) k + 1 }
@@ -176,7 +179,7 @@ pub(crate) fn settle_new<L: Ledger, H: HeapRef>(
 }
 
 // The string is made of what was given, if anything was; else by claims.
-fn settle_key<L: Ledger, H: HeapRef>(
+fn place_key<L: Ledger, H: HeapRef>(
     reader: &mut Reader<H>,
     key: &Key,
     opening: Opening,
@@ -200,9 +203,9 @@ fn settle_key<L: Ledger, H: HeapRef>(
     match given {
         Some(given) => {
             let Opening { slot, rank, hash } = opening;
-            settle(reader, key, given, slot, rank, hash, hashes, steps)
+            place_given(reader, key, given, slot, rank, hash, hashes, steps)
         }
-        None => settle_new(reader, &key.wanted(), opening, hashes, steps),
+        None => place_new(reader, &key.wanted(), opening, hashes, steps),
     }
 }
 
@@ -231,7 +234,7 @@ fn intern_key_at_by<L: Ledger, H: HeapRef>(
         (answered result) hashes.old hashes.new }
 {
     let mut steps = Steps::<L>::start(blank);
-    match settle_key(reader, key, opening, given, hashes, &mut steps) {
+    match place_key(reader, key, opening, given, hashes, &mut steps) {
         Ok(seat) => {
             note_hash(hashes, seat.slot, opening.hash.max(1));
             Ok(seat.id)

@@ -13,7 +13,7 @@ ghost use Rattle.heap_read.specs.Readers.{view_in};
 ghost use Rattle.heap_rule.specs.Layout.{MAX};
 
 use crate::table::faults::TableFull;
-use crate::table::probing::{Seat, probe};
+use crate::table::probing::{Seat, intern_wanted};
 use crate::table::wanted::Wanted;
 use heap_read::{HeapRef, Reader, Steps};
 use js_units::hash_units;
@@ -53,7 +53,7 @@ fn intern_units_by<L: Ledger, H: HeapRef>(
 {
     let mut steps = Steps::<L>::start(blank);
     let hash = hash_units(0, units);
-    probe(
+    intern_wanted(
         reader,
         &Wanted::Units(units),
         None,

@@ -1,5 +1,5 @@
 // Strings that are interned: their units are looked for before anything is claimed for a header.
-ghost use Rattle.std.specs.Prelude.{◌≡◌, ◌+◌, ◌-◌, ◌<◌, ◌≤◌, ◌⊎◌, ℕ, List, Some, None, max, length, slice_index};
+ghost use Rattle.std.specs.Prelude.{◌≡◌, ◌+◌, ◌-◌, ◌<◌, ◌≤◌, ◌⊎◌, ℕ, List, Some, None, IfSome, max, length, slice_index};
 ghost use Rattle.js_units.specs.Lanes.{hash_of};
 ghost use Rattle.heap_rule.specs.Maps.{Has, HasKey};
 ghost use Rattle.heap_rule.specs.Views.{IsSeenSettled};
@@ -7,20 +7,21 @@ ghost use Rattle.heap_read.specs.Frozen.{AreFrozen};
 ghost use Rattle.heap_read.specs.Readers.{MovesView, view_in};
 ghost use Rattle.heap_read.specs.Reads.{HoldsForms, KeepsForms, OnlyLoads};
 ghost use Rattle.heap_intern.specs.Adopted.{LoadsHere};
-ghost use Rattle.heap_intern.specs.Answers.{FindsString};
+ghost use Rattle.heap_intern.specs.Answers.{FindsString, IsFixed};
 ghost use Rattle.heap_intern.specs.Hashes.{AreHashes, IsNotedApart, NotesHash};
 ghost use Rattle.heap_intern.specs.Headers.{header_plan};
 ghost use Rattle.heap_intern.specs.Searching.{SearchesString, found_seat, found_key, key_search};
 ghost use Rattle.heap_intern.specs.Seats.{AreSeats};
 ghost use Rattle.heap_intern.specs.Seeking.{IsSought};
-ghost use Rattle.heap_intern.specs.SlotLoads.{LoadsSlots, loads_at};
-ghost use Rattle.heap_intern.specs.Visits.{Ends, IsFreed, IsMade, StandsAt, found_id};
-ghost use Rattle.heap_intern.specs.Wanted.{IsWanted, wanted_plan};
+ghost use Rattle.heap_intern.specs.SlotLoads.{IsInFirstSlot, LoadsSlots, loads_at};
+ghost use Rattle.heap_intern.specs.Visits.{Ends, IsFreed, StandsAt, WalksOn, found_id};
+ghost use Rattle.heap_intern.specs.Wanted.{IsWanted};
 
 use crate::table::finding::{WalkEnd, walk_path};
 use crate::table::forwarding::{forward, forwards_to};
+use crate::table::given::place;
 use crate::table::hashes::note_hash;
-use crate::table::probing::{Seat, probe_path};
+use crate::table::probing::Seat;
 use crate::table::searching::Opening;
 use crate::table::seats::{load_again, note_seat, seat_in};
 use crate::table::sought::{Sought, seek};
@@ -59,8 +60,8 @@ pub enum StringSearch {
     Shut { slots: u32 },
 }
 
-// The walk of a header that is there already, which is put into a slot that is found free.
-fn put_ready<L: Ledger, H: HeapRef>(
+// The walk for a string that forwards to one in the table: where a slot is found free, that is put there.
+fn walk_and_put<L: Ledger, H: HeapRef>(
     reader: &mut Reader<H>,
     wanted: &Wanted,
     header: u32,
@@ -69,8 +70,8 @@ fn put_ready<L: Ledger, H: HeapRef>(
     steps: &mut Steps<L>,
 ) -> WalkEnd
     requires wanted { (us : List ℕ) × IsWanted (view_in reader.old) wanted.now us }
-    requires header { (us : List ℕ) → IsWanted (view_in reader.old) wanted.now us
-        → IsMade (view_in reader.old) (wanted_plan wanted.now us) us (Some header) }
+    requires fixed { (us : List ℕ) → IsWanted (view_in reader.old) wanted.now us
+        → IsFixed (view_in reader.old) us header }
     requires hash { (us : List ℕ) → IsWanted (view_in reader.old) wanted.now us → hash ≡ hash_of us }
     requires hashed { AreHashes (view_in reader.old) hashes.now }
     ensures heap { reader.new.heap ≡ reader.old.heap }
@@ -79,20 +80,29 @@ fn put_ready<L: Ledger, H: HeapRef>(
         → FindsString (view_in reader.old) (view_in reader.new) us (found_id result) }
     ensures loads { LoadsSlots (view_in reader.old) (view_in reader.new) (found_id result)
         steps.old steps.new }
+    ensures first { (us : List ℕ) → IsWanted (view_in reader.old) wanted.now us
+        → IsInFirstSlot (view_in reader.old) us → steps.new ≡ steps.old + 2 }
     ensures ends { (us : List ℕ) → IsWanted (view_in reader.old) wanted.now us
         → Ends (view_in reader.old) (view_in reader.new) us result }
     ensures apart { (k : ℕ) → IsNotedApart hashes.now k (max hash 1)
         → loads_at (view_in reader.new) k ≡ loads_at (view_in reader.old) k }
     ensures never { IsFreed result → ⊥ }
 {
-    match probe_path(reader, wanted, Some(header), hash, 0, hashes, steps) {
-        Ok(seat) => WalkEnd::Found(seat),
-        Err(_full) => WalkEnd::Shut,
+    match walk_path(reader, wanted, hash, 0, hashes, steps) {
+        WalkEnd::Found(seat) => WalkEnd::Found(seat),
+        WalkEnd::Free { slot, rank } => {
+            match place(reader, wanted, header, slot, rank, hash, hashes, steps) {
+                Ok(seat) => WalkEnd::Found(seat),
+                Err(_full) => WalkEnd::Shut,
+            }
+        }
+        WalkEnd::Shut => WalkEnd::Shut,
     }
 }
 
-// The walk on the path. Where a header is there already, it is put into a slot that is found free.
-fn walk_ready<L: Ledger, H: HeapRef>(
+// The walk on the path. A string to which another forwards is in the table; where a slot is found free, it is put
+// there.
+pub(crate) fn walk_ready<L: Ledger, H: HeapRef>(
     reader: &mut Reader<H>,
     wanted: &Wanted,
     ready: Option<u32>,
@@ -102,7 +112,7 @@ fn walk_ready<L: Ledger, H: HeapRef>(
 ) -> WalkEnd
     requires wanted { (us : List ℕ) × IsWanted (view_in reader.old) wanted.now us }
     requires ready { (us : List ℕ) → IsWanted (view_in reader.old) wanted.now us
-        → IsMade (view_in reader.old) (wanted_plan wanted.now us) us ready }
+        → IfSome ready (IsFixed (view_in reader.old) us) }
     requires hash { (us : List ℕ) → IsWanted (view_in reader.old) wanted.now us → hash ≡ hash_of us }
     requires hashed { AreHashes (view_in reader.old) hashes.now }
     ensures heap { reader.new.heap ≡ reader.old.heap }
@@ -111,6 +121,10 @@ fn walk_ready<L: Ledger, H: HeapRef>(
         → FindsString (view_in reader.old) (view_in reader.new) us (found_id result) }
     ensures loads { LoadsSlots (view_in reader.old) (view_in reader.new) (found_id result)
         steps.old steps.new }
+    ensures walks { (us : List ℕ) → IsWanted (view_in reader.old) wanted.now us → IsFreed result
+        → WalksOn (view_in reader.old) (view_in reader.new) us 0 result steps.old steps.new }
+    ensures first { (us : List ℕ) → IsWanted (view_in reader.old) wanted.now us
+        → IsInFirstSlot (view_in reader.old) us → steps.new ≡ steps.old + 2 }
     ensures ends { (us : List ℕ) → IsWanted (view_in reader.old) wanted.now us
         → Ends (view_in reader.old) (view_in reader.new) us result }
     ensures apart { (k : ℕ) → IsNotedApart hashes.now k (max hash 1)
@@ -118,8 +132,8 @@ fn walk_ready<L: Ledger, H: HeapRef>(
     ensures free { IsFreed result → ready ≡ None }
 {
     match ready {
-        Some(header) => put_ready(reader, wanted, header, hash, hashes, steps),
-        None => walk_path(reader, wanted, hash, hashes, steps),
+        Some(header) => walk_and_put(reader, wanted, header, hash, hashes, steps),
+        None => walk_path(reader, wanted, hash, 0, hashes, steps),
     }
 }
 

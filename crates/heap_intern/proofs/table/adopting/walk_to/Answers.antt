@@ -41,14 +41,14 @@ pub returns-then-has_string-clause-once : goal.returns-then-has_string-clause-on
 returns-then-has_string-clause-once g c = let a : View = c.args.reader.now.agent.seat.me.0 in
     let v : View = c.loop-r.reader.agent.seat.me.0 in let w : View = c.has_string.new.reader.agent.seat.me.0 in let own = c.requires.hash in
     let n = c.size-n.result.slots in let slots : n ≡ a.sizes.slots = ap (λ (z : HeapSize). z.slots) ((c.size-n.ensures ∙ ap size_of c.heap.ensures) ∙ sym c.args.reader.now.belongs.1) in
-    loaded_once a v w c.args.reader.now.belongs.5 own.0 c.args.id c.loop-r.r n c.args.hash (c.loop-r.invariant.ahead own.0 own.1) slots own.2 c.loop-r-test.true c.has_string.ensures.loads
+    loaded_once a v w c.args.reader.now.belongs.5 own.0 c.args.id c.loop-r.r n c.args.hash (c.loop-r.invariant.ahead own.0 own.1) slots own.2 c.loop-r-test.true c.has_string.ensures.looks.goes.sizes c.has_string.ensures.loads
 
 pub returns-then-has_string-clause-few : goal.returns-then-has_string-clause-few
 returns-then-has_string-clause-few g c us h = let a : View = c.args.reader.now.agent.seat.me.0 in
     let v : View = c.loop-r.reader.agent.seat.me.0 in let w : View = c.has_string.new.reader.agent.seat.me.0 in let own = c.requires.hash in
     let n = c.size-n.result.slots in let slots : n ≡ a.sizes.slots = ap (λ (z : HeapSize). z.slots) ((c.size-n.ensures ∙ ap size_of c.heap.ensures) ∙ sym c.args.reader.now.belongs.1) in
     let hash : c.args.hash ≡ hash_of us = own.2 ∙ ap hash_of (one_units a c.args.id own.0 us own.1 h) in
-    none_behind a v w c.args.reader.now.belongs.5 us c.args.id c.loop-r.r n c.args.hash (c.loop-r.invariant.ahead us h) slots hash c.loop-r-test.true c.has_string.ensures.loads
+    none_behind a v w c.args.reader.now.belongs.5 us c.args.id c.loop-r.r n c.args.hash (c.loop-r.invariant.ahead us h) slots hash c.loop-r-test.true c.has_string.ensures.looks.goes.sizes c.has_string.ensures.loads
 
 pub unreachable-requires : goal.unreachable-requires
 unreachable-requires g c = let a : View = c.args.reader.now.agent.seat.me.0 in let v : View = c.loop-r.reader.agent.seat.me.0 in let own = c.requires.hash in let there = c.requires.stands in

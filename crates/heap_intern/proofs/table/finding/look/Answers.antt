@@ -1,14 +1,13 @@
-use Rattle.std.proofs.Common.{◌+◌, ℕ, None, Ok, ap, refl, ◌∙◌, arith}
+use Rattle.std.proofs.Common.{◌+◌, ℕ, None, ap, refl, ◌∙◌, arith}
 use Rattle.std.specs.FinMap.{FinMap, get}
 use Rattle.std.specs.Ordering.{nat_cmp}
 use Rattle.heap_rule.specs.declared.view.View.{View}
 use Rattle.heap_read.proofs.Showing.{forms_held}
-use Rattle.heap_intern.specs.Wanted.{wanted_plan}
 use Rattle.heap_intern.specs.Visits.{entries}
 use Rattle.heap_intern.proofs.Going.{free_there, looks_slot, stands_there}
 use Rattle.heap_intern.proofs.Loading.{loads_after, loads_once}
 use Rattle.heap_intern.proofs.Wanting.{wanted_kept}
-use Rattle.heap_intern.proofs.Visiting.{none_there, visits_after, wanted_stays}
+use Rattle.heap_intern.proofs.Visiting.{none_there, visited_after, wanted_stays}
 use Rattle.heap_intern.proofs.table.finding.look.Goals as goal
 
 pub visit_used-requires-clause-used : goal.visit_used-requires-clause-used
@@ -22,11 +21,9 @@ visit_used-requires-clause-wanted g c = wanted_stays c.args.reader.now.agent.sea
 pub returns-in-Some-clause-looked : goal.returns-in-Some-clause-looked
 returns-in-Some-clause-looked g c us h = let v : View = c.args.reader.now.agent.seat.me.0 in
     let u : View = c.load_slot.new.self.seat.me.0 in let w : View = c.visit_used.new.reader.agent.seat.me.0 in let k = c.load_slot.ensures.known in
-    let l = looks_slot v u c.args.k _ k c.in-Some.ensures.view in let forms = forms_held v u c.load_slot.ensures.forms in let nothing = c.visit_used.ensures.nothing in (
-      visits_after v u w us (wanted_plan c.args.wanted.now us) c.args.k None (Ok c.visit_used.result) l forms
-          (c.visit_used.ensures.visited us (wanted_kept v u k forms c.args.wanted.now us h)),
-      (nothing.0 ∙ l.used, nothing.1 ∙ l.words),
-    )
+    let forms = forms_held v u c.load_slot.ensures.forms in
+    visited_after v u w us c.args.k (looks_slot v u c.args.k _ k c.in-Some.ensures.view) forms c.visit_used.result
+    (c.visit_used.ensures.visited us (wanted_kept v u k forms c.args.wanted.now us h))
 
 pub returns-in-None-clause-looked : goal.returns-in-None-clause-looked
 returns-in-None-clause-looked g c us h = let v : View = c.args.reader.now.agent.seat.me.0 in let u : View = c.load_slot.new.self.seat.me.0 in (

@@ -11,6 +11,7 @@ use Rattle.heap_intern.proofs.Hashes.{notes_answer, notes_none}
 use Rattle.heap_intern.proofs.Loading.{slots_few}
 use Rattle.heap_intern.proofs.Opened.{opening_of}
 use Rattle.heap_intern.proofs.Seats.{seat_itself}
+use Rattle.heap_intern.proofs.Visiting.{none_passed}
 use Rattle.heap_intern.proofs.Wanting.{one_wanted}
 use Rattle.heap_intern.proofs.table.searching.search_key_by.Goals as goal
 
@@ -20,6 +21,9 @@ walk_path-requires-clause-wanted g c = (units_of_key c.args.key.now, c.wanted.en
 pub walk_path-requires-clause-hash : goal.walk_path-requires-clause-hash
 walk_path-requires-clause-hash g c us h = let v : View = c.args.reader.now.agent.seat.me.0 in
     c.hash-hash.ensures ∙ ap hash_of (one_wanted v c.wanted.result (units_of_key c.args.key.now) us (c.wanted.ensures.wanted v) h)
+
+pub walk_path-requires-clause-passed : goal.walk_path-requires-clause-passed
+walk_path-requires-clause-passed g c us h = none_passed c.args.reader.now.agent.seat.me.0 us
 
 pub returns-in-Found-clause-searches : goal.returns-in-Found-clause-searches
 returns-in-Found-clause-searches g c = let v : View = c.args.reader.now.agent.seat.me.0 in let u : View = c.walk_path.new.reader.agent.seat.me.0 in let ks : List ℕ = units_of_key c.args.key.now in

@@ -1,4 +1,5 @@
-use Rattle.std.proofs.Common.{◌≡◌, ◌∙◌, ℕ, List, Some, None, ap, refl, subst, sym}
+use Rattle.std.proofs.Common.{◌≡◌, ◌∙◌, ℕ, List, Option, Some, None, ap, refl, subst, sym}
+use Rattle.std.specs.Prelude.{IfSome}
 use Rattle.js_units.specs.Lanes.{hash_of}
 use Rattle.heap_rule.specs.declared.size.HeapSize.{HeapSize}
 use Rattle.heap_rule.specs.declared.view.View.{View}
@@ -8,10 +9,10 @@ use Rattle.heap_table.specs.Agents.{size_of}
 use Rattle.heap_table.specs.Known.{KeepsKnown}
 use Rattle.heap_intern.specs.declared.table.probing.Seat.{Seat}
 use Rattle.heap_intern.specs.declared.table.searching.Opening.{Opening}
-use Rattle.heap_intern.specs.Answers.{FindsString, IsForwarded}
+use Rattle.heap_intern.specs.Answers.{FindsString, IsFixed, IsForwarded}
 use Rattle.heap_intern.specs.Goes.{LoadsAlone}
 use Rattle.heap_intern.specs.Headers.{header_plan}
-use Rattle.heap_intern.specs.Visits.{IsFreeAt, IsMade, StandsAt}
+use Rattle.heap_intern.specs.Visits.{IsFreeAt, StandsAt}
 use Rattle.heap_read.proofs.Showing.{forms_held}
 use Rattle.heap_read.proofs.Loaded.{key_kept, known_trans}
 use Rattle.heap_intern.proofs.Again.{find_again}
@@ -19,7 +20,7 @@ use Rattle.heap_intern.proofs.Going.{looks_reads, looks_trans}
 use Rattle.heap_intern.proofs.Hashes.{hashes_kept, notes_answer, notes_from, notes_none, notes_none_then, notes_then}
 use Rattle.heap_intern.proofs.Loading.{slots_few, slots_from, slots_then}
 use Rattle.heap_intern.proofs.Opened.{opening_of}
-use Rattle.heap_intern.proofs.Planning.{makes_none, plan_is, ready_made}
+use Rattle.heap_intern.proofs.Planning.{makes_none, plan_is, ready_fixed}
 use Rattle.heap_intern.proofs.Searches.{finds_around, loads_around, never_thin, none_before_walk, opened_around, opening_around, stands_around}
 use Rattle.heap_intern.proofs.Seeking.{frozen_kept, sought_kept, sought_window}
 use Rattle.heap_intern.proofs.Visiting.{only_units}
@@ -50,8 +51,8 @@ walk_ready-requires-clause-hash g c us h = let v : View = c.args.reader.now.agen
 
 pub walk_ready-requires-clause-ready : goal.walk_ready-requires-clause-ready
 walk_ready-requires-clause-ready g c us h = let v : View = c.seek-s.new.reader.agent.seat.me.0 in let u : View = c.hash_in-hash.new.self.agent.seat.me.0 in let s = c.seek-s.result in
-    subst (IsMade u (header_plan s us) us) (sym c.forwards_to-ready.ensures)
-    (ready_made u c.hash_in-hash.new.self.belongs.5 s us h.0 h.1 (λ t is. key_kept v u t c.hash_in-hash.ensures.reads.view.known
+    subst (λ (o : Option ℕ). IfSome o (IsFixed u us)) (sym c.forwards_to-ready.ensures)
+    (ready_fixed u c.hash_in-hash.new.self.belongs.5 s us h.0 h.1 (λ t is. key_kept v u t c.hash_in-hash.ensures.reads.view.known
     (c.seek-s.ensures.target t is)))
 
 pub walk_ready-requires-clause-hashed : goal.walk_ready-requires-clause-hashed

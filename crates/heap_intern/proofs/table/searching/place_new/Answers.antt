@@ -1,4 +1,4 @@
-use Rattle.std.proofs.Common.{◌≡◌, ◌+◌, ◌≤◌, ◌∙◌, ℕ, List, ap, subst, sym, arith}
+use Rattle.std.proofs.Common.{◌≡◌, ◌+◌, ◌≤◌, ◌∙◌, ℕ, List, None, ap, subst, sym, arith}
 use Rattle.std.specs.Prelude.{unwrap_or}
 use Rattle.std.specs.FinMap.{FinMap, get}
 use Rattle.std.specs.Ordering.{nat_cmp}
@@ -7,6 +7,7 @@ use Rattle.js_units.specs.Lanes.{hash_of}
 use Rattle.heap_rule.specs.declared.view.View.{View}
 use Rattle.heap_rule.specs.declared.size.HeapSize.{HeapSize}
 use Rattle.heap_rule.specs.Paths.{rank}
+use Rattle.heap_intern.specs.Answers.{IsFixed}
 use Rattle.heap_intern.specs.Searching.{IsOpening}
 use Rattle.heap_intern.specs.SlotLoads.{loads_at}
 use Rattle.heap_intern.specs.Visits.{IsPlace}
@@ -15,10 +16,12 @@ use Rattle.heap_intern.specs.Wanted.{wanted_plan}
 use Rattle.heap_intern.proofs.Giving.{place_kept}
 use Rattle.heap_intern.proofs.Going.{forms_trans}
 use Rattle.heap_intern.proofs.Hashes.{hashes_kept}
+use Rattle.heap_intern.proofs.Loading.{same_loads, walked_all, walking_same}
 use Rattle.heap_intern.proofs.Opened.{answer_new, opening_place, refused_new}
-use Rattle.heap_intern.proofs.Visiting.{each_header, each_wanted, wanted_stays}
+use Rattle.heap_intern.proofs.Planning.{fixed_of}
+use Rattle.heap_intern.proofs.Visiting.{each_wanted, wanted_stays}
 use Rattle.heap_intern.proofs.Wanting.{only_wanted, wanted_kept}
-use Rattle.heap_intern.proofs.table.searching.settle_new.Goals as goal
+use Rattle.heap_intern.proofs.table.searching.place_new.Goals as goal
 
 pub make_header-requires : goal.make_header-requires
 make_header-requires g c = record { wanted = (c.requires.wanted.0, c.requires.wanted.1) }
@@ -41,9 +44,21 @@ place-requires-clause-place g c = let v : View = c.args.reader.now.agent.seat.me
     each_wanted v u c.args.reader.now.belongs.5 m.goes.known m.forms c.args.wanted.now (want.0, want.1) (λ (us : List ℕ). IsPlace u us o.slot o.rank)
     (place_kept v u want.0 o.slot o.rank c.args.reader.now.belongs.5 m.goes.known m.goes.sizes (opening_place v want.0 o want.2))
 
-pub place-requires-clause-header : goal.place-requires-clause-header
-place-requires-clause-header g c = let v : View = c.args.reader.now.agent.seat.me.0 in let u : View = c.make_header.new.reader.agent.seat.me.0 in let m = c.make_header.ensures in
-    each_header v u c.args.reader.now.belongs.5 m.goes.known m.forms c.args.wanted.now (c.requires.wanted.0, c.requires.wanted.1) c.in-Ok.header (λ us h. (c.in-Ok.ensures.ok us h).0)
+pub place-requires-clause-fixed : goal.place-requires-clause-fixed
+place-requires-clause-fixed g c = let v : View = c.args.reader.now.agent.seat.me.0 in let u : View = c.make_header.new.reader.agent.seat.me.0 in let m = c.make_header.ensures in
+    let want = c.requires.wanted in let x = c.args.wanted.now in
+    each_wanted v u c.args.reader.now.belongs.5 m.goes.known m.forms x (want.0, want.1) (λ (us : List ℕ). IsFixed u us c.in-Ok.header)
+    (fixed_of u (wanted_plan x want.0) want.0 c.in-Ok.header (c.in-Ok.ensures.ok want.0 want.1).0)
+
+pub returns-in-Err-clause-loads : goal.returns-in-Err-clause-loads
+returns-in-Err-clause-loads g c us h a n p = let v : View = c.args.reader.now.agent.seat.me.0 in let u : View = c.make_header.new.reader.agent.seat.me.0 in let e = c.in-Err.ensures in
+    walked_all a u us (c.args.opening.rank + 1) n c.args.steps.now None
+    (walking_same a v u us (c.args.opening.rank + 1) n c.args.steps.now e.goes.sizes (same_loads v u e.loads) p)
+
+pub returns-clause-loads : goal.returns-clause-loads
+returns-clause-loads g c us h a n p = let v : View = c.args.reader.now.agent.seat.me.0 in let u : View = c.make_header.new.reader.agent.seat.me.0 in let e = c.make_header.ensures in
+    c.place.ensures.loads us (wanted_kept v u e.goes.known e.forms c.args.wanted.now us h) a n
+    (walking_same a v u us (c.args.opening.rank + 1) n c.args.steps.now e.goes.sizes (same_loads v u e.loads) p)
 
 pub returns-in-Err-clause-interns : goal.returns-in-Err-clause-interns
 returns-in-Err-clause-interns g c us h = let v : View = c.args.reader.now.agent.seat.me.0 in let u : View = c.make_header.new.reader.agent.seat.me.0 in
@@ -69,7 +84,7 @@ returns-clause-interns g c us h = let v : View = c.args.reader.now.agent.seat.me
     let o = c.args.opening in let want = c.requires.wanted in let e = c.in-Ok.ensures in let x = c.args.wanted.now in
     answer_new v u w us (wanted_plan x us) o c.in-Ok.header c.args.reader.now.belongs.5 c.make_header.new.reader.belongs.5
     (only_wanted v x us want.0 (λ (ws : List ℕ). IsOpening v ws o) want.1 h want.2) e.goes e.used (e.ok us h)
-    c.place.ensures.nothing (id_in c.place.result) (c.place.ensures.settles us (wanted_kept v u e.goes.known e.forms x us h))
+    c.place.ensures.nothing (id_in c.place.result) (c.place.ensures.places us (wanted_kept v u e.goes.known e.forms x us h))
 
 pub returns-clause-stands : goal.returns-clause-stands
 returns-clause-stands g c = let v : View = c.args.reader.now.agent.seat.me.0 in let u : View = c.make_header.new.reader.agent.seat.me.0 in let e = c.in-Ok.ensures in

@@ -1,4 +1,4 @@
-use Rattle.std.proofs.Common.{◌+◌, ◌≤◌, ◌∙◌, ℕ, List, Some, ap, subst, sym}
+use Rattle.std.proofs.Common.{◌+◌, ◌≤◌, ◌∙◌, ℕ, List, ap, subst, sym}
 use Rattle.std.specs.Prelude.{unwrap_or}
 use Rattle.std.specs.FinMap.{FinMap, get}
 use Rattle.std.specs.Ordering.{nat_cmp}
@@ -9,18 +9,17 @@ use Rattle.heap_rule.specs.declared.size.Counters.{Counters}
 use Rattle.heap_rule.specs.declared.size.HeapSize.{HeapSize}
 use Rattle.heap_rule.specs.Paths.{rank}
 use Rattle.heap_table.specs.Known.{KeepsKnown}
-use Rattle.heap_intern.specs.Answers.{HeaderPlan, words_of_copy}
+use Rattle.heap_intern.specs.Answers.{IsFixed, words_of_copy}
 use Rattle.heap_intern.specs.Keys.{units_of_key}
 use Rattle.heap_intern.specs.SlotLoads.{loads_at}
 use Rattle.heap_intern.specs.Taking.{without_given}
-use Rattle.heap_intern.specs.Visits.{IsMade, IsPlace}
+use Rattle.heap_intern.specs.Visits.{IsPlace}
 use Rattle.heap_intern.specs.Seats.{id_in}
-use Rattle.heap_intern.specs.Wanted.{wanted_plan}
-use Rattle.heap_intern.proofs.Giving.{given_known, header_given, place_kept, settled_after, settled_known}
+use Rattle.heap_intern.proofs.Giving.{flat_fixed, given_known, place_kept, settled_after, settled_known}
 use Rattle.heap_intern.proofs.Going.{forms_trans}
 use Rattle.heap_intern.proofs.Hashes.{hashes_kept}
 use Rattle.heap_intern.proofs.Wanting.{one_wanted}
-use Rattle.heap_intern.proofs.table.given.settle.Goals as goal
+use Rattle.heap_intern.proofs.table.given.place_given.Goals as goal
 
 pub place-requires-clause-wanted : goal.place-requires-clause-wanted
 place-requires-clause-wanted g c = (units_of_key c.args.key.now, c.wanted.ensures.wanted c.make_given.new.reader.agent.seat.me.0)
@@ -39,24 +38,24 @@ place-requires-clause-place g c us h = let v : View = c.args.reader.now.agent.se
     subst (λ (ws : List ℕ). IsPlace x ws c.args.slot c.args.at) (one_wanted x c.wanted.result ks us (c.wanted.ensures.wanted x) h)
     (place_kept v x ks c.args.slot c.args.at c.args.reader.now.belongs.5 (given_known v x (words_of_copy ks) c.args.given c.make_given.ensures.goes.known) c.make_given.ensures.goes.sizes c.requires.place)
 
-pub place-requires-clause-header : goal.place-requires-clause-header
-place-requires-clause-header g c us h = let x : View = c.make_given.new.reader.agent.seat.me.0 in let ks : List ℕ = units_of_key c.args.key.now in
-    subst (λ (ws : List ℕ). IsMade x (wanted_plan c.wanted.result ws) ws (Some c.args.given.id)) (one_wanted x c.wanted.result ks us (c.wanted.ensures.wanted x) h)
-    (subst (λ (p : HeaderPlan). IsMade x p ks (Some c.args.given.id)) (sym (c.wanted.ensures.plan ks)) (header_given x ks c.args.given.start c.args.given.id c.make_given.ensures.flat))
+pub place-requires-clause-fixed : goal.place-requires-clause-fixed
+place-requires-clause-fixed g c us h = let x : View = c.make_given.new.reader.agent.seat.me.0 in let ks : List ℕ = units_of_key c.args.key.now in
+    subst (λ (ws : List ℕ). IsFixed x ws c.args.given.id) (one_wanted x c.wanted.result ks us (c.wanted.ensures.wanted x) h)
+    (flat_fixed x (is_wide ks) c.args.given.start ks c.args.given.id c.make_given.ensures.flat)
 
 pub returns-clause-forms : goal.returns-clause-forms
 returns-clause-forms g c = let v : View = c.args.reader.now.agent.seat.me.0 in let x : View = c.make_given.new.reader.agent.seat.me.0 in
     forms_trans v x c.place.new.reader.agent.seat.me.0 c.make_given.ensures.forms c.place.ensures.forms
 
-pub returns-clause-settles : goal.returns-clause-settles
-returns-clause-settles g c = let v : View = c.args.reader.now.agent.seat.me.0 in let x : View = c.make_given.new.reader.agent.seat.me.0 in let w : View = c.place.new.reader.agent.seat.me.0 in
+pub returns-clause-places : goal.returns-clause-places
+returns-clause-places g c = let v : View = c.args.reader.now.agent.seat.me.0 in let x : View = c.make_given.new.reader.agent.seat.me.0 in let w : View = c.place.new.reader.agent.seat.me.0 in
     let ks : List ℕ = units_of_key c.args.key.now in
-    settled_after (without_given v (words_of_copy ks) c.args.given) x w ks (id_in c.place.result) c.make_given.ensures.goes (c.place.ensures.settles ks (c.wanted.ensures.wanted x))
+    settled_after (without_given v (words_of_copy ks) c.args.given) x w ks (id_in c.place.result) c.make_given.ensures.goes (c.place.ensures.places ks (c.wanted.ensures.wanted x))
 
 pub returns-clause-flat : goal.returns-clause-flat
 returns-clause-flat g c = let x : View = c.make_given.new.reader.agent.seat.me.0 in let w : View = c.place.new.reader.agent.seat.me.0 in
     let ks : List ℕ = units_of_key c.args.key.now in let f = c.make_given.ensures.flat in
-    let k : KeepsKnown x w = (settled_known x w ks (id_in c.place.result) (c.place.ensures.settles ks (c.wanted.ensures.wanted x))).0 in
+    let k : KeepsKnown x w = (settled_known x w ks (id_in c.place.result) (c.place.ensures.places ks (c.wanted.ensures.wanted x))).0 in
     (k.flats c.args.given.id (is_wide ks) c.args.given.start f.0, k.units c.args.given.id ks f.1)
 
 pub returns-clause-nothing : goal.returns-clause-nothing

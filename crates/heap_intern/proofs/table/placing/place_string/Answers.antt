@@ -1,4 +1,4 @@
-use Rattle.std.proofs.Common.{◌≡◌, ◌+◌, ◌≤◌, ◌∙◌, ℕ, List, Some, ap, subst, sym}
+use Rattle.std.proofs.Common.{◌≡◌, ◌+◌, ◌≤◌, ◌∙◌, ℕ, List, ap, subst, sym}
 use Rattle.std.specs.Prelude.{unwrap_or}
 use Rattle.std.specs.FinMap.{FinMap, get}
 use Rattle.std.specs.Ordering.{nat_cmp}
@@ -9,19 +9,19 @@ use Rattle.heap_rule.specs.declared.size.Counters.{Counters}
 use Rattle.heap_rule.specs.declared.size.HeapSize.{HeapSize}
 use Rattle.heap_rule.specs.Paths.{rank}
 use Rattle.heap_table.specs.Known.{KeepsKnown}
-use Rattle.heap_intern.specs.Answers.{HeaderPlan}
+use Rattle.heap_intern.specs.Answers.{HeaderPlan, IsFixed}
 use Rattle.heap_intern.specs.Headers.{header_plan}
 use Rattle.heap_intern.specs.SlotLoads.{loads_at}
 use Rattle.heap_intern.specs.Taking.{IsKeyAnswer, without_given}
-use Rattle.heap_intern.specs.Visits.{IsMade, IsPlace}
+use Rattle.heap_intern.specs.Visits.{IsPlace}
 use Rattle.heap_intern.specs.Seats.{id_in}
-use Rattle.heap_intern.proofs.Giving.{given_known, place_kept, settled_after, settled_known}
+use Rattle.heap_intern.proofs.Giving.{flat_fixed, given_known, place_kept, settled_after, settled_known}
 use Rattle.heap_intern.proofs.Going.{forms_trans}
 use Rattle.heap_intern.proofs.Hashes.{hashes_kept}
 use Rattle.heap_intern.proofs.Opened.{opening_place, opening_taken}
-use Rattle.heap_intern.proofs.Searches.{opening_wanted, planned_header}
+use Rattle.heap_intern.proofs.Searches.{opening_wanted}
 use Rattle.heap_intern.proofs.Visiting.{only_units}
-use Rattle.heap_intern.proofs.table.placing.settle_string.Goals as goal
+use Rattle.heap_intern.proofs.table.placing.place_string.Goals as goal
 
 pub place-requires-clause-wanted : goal.place-requires-clause-wanted
 place-requires-clause-wanted g c = let v : View = c.args.reader.now.agent.seat.me.0 in let x : View = c.make_string.new.reader.agent.seat.me.0 in let o = c.requires.opening in let m = c.make_string.ensures in
@@ -42,11 +42,11 @@ place-requires-clause-place g c us h = let v : View = c.args.reader.now.agent.se
     only_units x.units c.args.opening.sought.id us o.0 (λ (xs : List ℕ). IsPlace x xs p.slot p.rank) (k.units c.args.opening.sought.id o.0 o.1.units) h.1
     (place_kept v x o.0 p.slot p.rank c.args.reader.now.belongs.5 k m.goes.sizes (opening_place v o.0 p o.1.opening))
 
-pub place-requires-clause-header : goal.place-requires-clause-header
-place-requires-clause-header g c us h = let v : View = c.args.reader.now.agent.seat.me.0 in let x : View = c.make_string.new.reader.agent.seat.me.0 in let o = c.requires.opening in let m = c.make_string.ensures in
-    let s = c.args.opening.sought in let k : KeepsKnown v x = given_known v x c.args.opening.words c.args.given m.goes.known in
-    only_units x.units s.id us o.0 (λ (xs : List ℕ). IsMade x (header_plan s xs) xs (Some c.args.given.id)) (k.units s.id o.0 o.1.units) h.1
-    (planned_header x (header_plan s o.0) o.0 c.args.given.start c.args.given.id (m.flat o.0 o.1))
+pub place-requires-clause-fixed : goal.place-requires-clause-fixed
+place-requires-clause-fixed g c us h = let v : View = c.args.reader.now.agent.seat.me.0 in let x : View = c.make_string.new.reader.agent.seat.me.0 in let o = c.requires.opening in let m = c.make_string.ensures in
+    let s = c.args.opening.sought in let k : KeepsKnown v x = given_known v x c.args.opening.words c.args.given m.goes.known in let plan : HeaderPlan = header_plan s o.0 in
+    only_units x.units s.id us o.0 (λ (xs : List ℕ). IsFixed x xs c.args.given.id) (k.units s.id o.0 o.1.units) h.1
+    (flat_fixed x plan.wide (unwrap_or plan.start c.args.given.start) o.0 c.args.given.id (m.flat o.0 o.1))
 
 pub returns-clause-forms : goal.returns-clause-forms
 returns-clause-forms g c = let v : View = c.args.reader.now.agent.seat.me.0 in let x : View = c.make_string.new.reader.agent.seat.me.0 in
@@ -56,8 +56,8 @@ pub returns-clause-interns : goal.returns-clause-interns
 returns-clause-interns g c us h = let v : View = c.args.reader.now.agent.seat.me.0 in let x : View = c.make_string.new.reader.agent.seat.me.0 in let w : View = c.place.new.reader.agent.seat.me.0 in
     let m = c.make_string.ensures in let o = c.args.opening in let gave = c.args.given in let plan : HeaderPlan = header_plan o.sought us in
     let want = opening_wanted v x us o (given_known v x o.words gave m.goes.known) m.forms h in
-    let settles = settled_after (without_given v o.words gave) x w us (id_in c.place.result) m.goes (c.place.ensures.settles us want) in
-    let k : KeepsKnown x w = (settled_known x w us (id_in c.place.result) (c.place.ensures.settles us want)).0 in let f = m.flat us h in
+    let settles = settled_after (without_given v o.words gave) x w us (id_in c.place.result) m.goes (c.place.ensures.places us want) in
+    let k : KeepsKnown x w = (settled_known x w us (id_in c.place.result) (c.place.ensures.places us want)).0 in let f = m.flat us h in
     opening_taken v w us plan gave (id_in c.place.result) o.opening c.args.reader.now.belongs.5 h.opening
     (subst (λ (n : ℕ). IsKeyAnswer (without_given v n gave) w us (id_in c.place.result)) h.words settles)
     (k.flats gave.id plan.wide (unwrap_or plan.start gave.start) f.0, k.units gave.id us f.1)
