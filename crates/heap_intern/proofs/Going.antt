@@ -149,9 +149,6 @@ module _ (v : View) where
   slot_used k zero entry = refl
   slot_used k (suc x) entry = refl
 
-  pub used_slot : (w : View) (k x : ℕ) (entry : Option (List ℕ)) → w ≡ learned_all (loaded_slot v k entry x) → w.used ≡ v.used
-  used_slot w k x entry e = ap (λ (u : View). u.used) e ∙ slot_used k x entry
-
   pub goes_slot : (w : View) (k x : ℕ) (entry : Option (List ℕ)) (calls : Calls) → calls_entered v k entry ≡ v.mine ++ calls → KeepsKnown v
       w → w ≡ learned_all (loaded_slot v k entry x) → AddsCalls v w calls × (w.used ≡ v.used)
   goes_slot w k x entry calls m h e = subst (λ (u : View). AddsCalls v u calls × (u.used ≡ v.used)) (sym e) (slot_by k x entry calls m (subst (KeepsKnown v) e h), slot_used k x entry)

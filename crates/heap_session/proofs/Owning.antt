@@ -12,13 +12,14 @@ use Rattle.heap_rule.specs.Births.{part}
 use Rattle.heap_rule.specs.Maps.{HasKey}
 use Rattle.heap_rule.specs.Paths.{Calls}
 use Rattle.heap_read.specs.Reads.{OnlyLoads}
+use Rattle.heap_read.proofs.Loaded.{reads_trans}
 use Rattle.heap_read.specs.declared.string.JsStr.{JsStr}
 use Rattle.heap_text.specs.declared.faults.JoinFault.{JoinFault}
 use Rattle.heap_text.specs.declared.faults.TextFull.{TextFull}
 use Rattle.heap_text.specs.Joins.{IsCut, IsJoined}
-use Rattle.heap_text.specs.Texts.{IsSpared, KeepsOwn}
+use Rattle.heap_text.specs.Texts.{IsSpared, KeepsOwn, UsesExactly}
 use Rattle.heap_intern.specs.Goes.{AddsCalls}
-use Rattle.heap_session.specs.Owning.{ClaimsNoId}
+use Rattle.heap_session.specs.Owning.{ClaimsNoId, IsKeptOrMade}
 
 pub own_self : (v : View) → KeepsOwn v v
 own_self v = record { ids = λ i n h. h; words = λ c x h. h }
@@ -90,3 +91,11 @@ module _ (v w : View) (z : HeapSize) (s : JsStr) (from to : ℕ) (us : List ℕ)
   cut_spares = dite (ℕ_discrete from 0)
       (λ e. dite (ℕ_discrete to (length us)) (λ g. let q = j.whole e g in let bad : Err f ≡ Ok q.0 = q.1 in absurd (cc)) (λ ne. by_part (inr (omega arith))))
       (λ ne. by_part (inl (omega arith)))
+
+-- loads before a string that is kept or made
+pub made_after : (v u w : View) (us : List ℕ) → OnlyLoads v u → IsKeptOrMade u w us → IsKeptOrMade v w us
+made_after v u w us r m = ⊎_elim (λ (l : OnlyLoads u w). inl (reads_trans v u w r l))
+    (λ (t : UsesExactly u w 1 (words_over (is_wide us) (length us))). inr (
+      t.0 ∙ ap (λ (n : Counters). n.ids + 1) r.used,
+      t.1 ∙ ap (λ (n : Counters). n.words + words_over (is_wide us) (length us)) r.used,
+    )) m

@@ -1,10 +1,10 @@
 // New strings of units and of parts, and those of one unit.
-ghost use Rattle.std.specs.Prelude.{◌≡◌, ◌+◌, ◌≤◌, length, slice_range, IfOk, OnErr};
+ghost use Rattle.std.specs.Prelude.{◌≡◌, ◌+◌, ◌≤◌, length, slice_range, IfOk, OnErr, OnOk};
 ghost use Rattle.js_store.specs.Faults.{fault_of, Uses};
 ghost use Rattle.js_store.specs.Rows.{cut_ids, cut_words, flat_words};
 ghost use Rattle.js_store.specs.State.{NamesUnits, IsKnown, IsSettled, text};
 ghost use Rattle.heap_text.specs.Texts.{KeepsOwn};
-ghost use Rattle.heap_session.specs.Owning.{ClaimsNoId};
+ghost use Rattle.heap_session.specs.Owning.{ClaimsNoId, IsKeptOrMade};
 ghost use Rattle.heap_session.specs.Sessions.{state_in, session_view};
 
 use crate::faults::text_fault;
@@ -21,6 +21,7 @@ impl<H: HeapRef> Session<H> {
             (λ r. NamesUnits (state_in self.new) r.id units.now × IsSettled (state_in self.new) r.id) }
         ensures uses { Uses (state_in self.old) (state_in self.new) (fault_of result)
             1 (flat_words units.now) }
+        ensures made { OnOk result (IsKeptOrMade (session_view self.old) (session_view self.new) units.now) }
         ensures own { KeepsOwn (session_view self.old) (session_view self.new) }
         ensures spared { OnErr result (ClaimsNoId (session_view self.old) (session_view self.new)) }
     {
@@ -38,6 +39,7 @@ impl<H: HeapRef> Session<H> {
             (λ r. NamesUnits (state_in self.new) r.id units.now × IsSettled (state_in self.new) r.id) }
         ensures uses { Uses (state_in self.old) (state_in self.new) (fault_of result)
             1 (flat_words units.now) }
+        ensures made { OnOk result (IsKeptOrMade (session_view self.old) (session_view self.new) units.now) }
         ensures own { KeepsOwn (session_view self.old) (session_view self.new) }
         ensures spared { OnErr result (ClaimsNoId (session_view self.old) (session_view self.new)) }
     {

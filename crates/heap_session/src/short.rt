@@ -1,5 +1,5 @@
 // Short strings, which a session keeps for a while after it made them.
-ghost use Rattle.std.specs.Prelude.{◌≡◌, ◌≤◌, ◌↔◌, ℕ, List, length, IsTrue, None, IfOk, IfSome, OnErr};
+ghost use Rattle.std.specs.Prelude.{◌≡◌, ◌≤◌, ◌↔◌, ℕ, List, length, IsTrue, None, IfOk, IfSome, OnErr, OnOk};
 ghost use Rattle.js_store.specs.Faults.{fault_of, Uses};
 ghost use Rattle.js_store.specs.Rows.{flat_words};
 ghost use Rattle.js_store.specs.State.{NamesUnits, IsSettled};
@@ -9,7 +9,7 @@ ghost use Rattle.heap_table.specs.Agents.{view_of};
 ghost use Rattle.heap_read.specs.Reads.{OnlyLoads};
 ghost use Rattle.heap_read.specs.Windows.{IsWindow};
 ghost use Rattle.heap_text.specs.Texts.{KeepsOwn};
-ghost use Rattle.heap_session.specs.Owning.{ClaimsNoId};
+ghost use Rattle.heap_session.specs.Owning.{ClaimsNoId, IsKeptOrMade};
 ghost use Rattle.heap_session.specs.Sessions.{state_in, session_view};
 
 use crate::recent::Mark;
@@ -30,6 +30,7 @@ impl<H: HeapRef> Session<H> {
             (λ r. NamesUnits (state_in self.new) r.id units.now × IsSettled (state_in self.new) r.id) }
         ensures uses { Uses (state_in self.old) (state_in self.new) (fault_of result)
             1 (flat_words units.now) }
+        ensures made { OnOk result (IsKeptOrMade (session_view self.old) (session_view self.new) units.now) }
         ensures own { KeepsOwn (session_view self.old) (session_view self.new) }
         ensures spared { OnErr result (ClaimsNoId (session_view self.old) (session_view self.new)) }
     {

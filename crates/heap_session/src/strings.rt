@@ -20,7 +20,7 @@ impl<H: HeapRef> Strings for Session<H> {
     ghost use Rattle.heap_text.specs.Settling.{IsSettling};
     ghost use Rattle.heap_text.specs.Texts.{KeepsOwn};
     ghost use Rattle.heap_session.specs.Interning.{InternsList, SettlesAndInterns};
-    ghost use Rattle.heap_session.specs.Owning.{ClaimsNoId};
+    ghost use Rattle.heap_session.specs.Owning.{ClaimsNoId, IsKeptOrMade};
     ghost use Rattle.heap_session.specs.Sessions.{SessionFrame, session_view, state_in};
     ghost use Rattle.heap_table.specs.Agents.{view_of};
     ghost use Rattle.heap_session.specs.Sessions.{table_of};
@@ -32,14 +32,16 @@ impl<H: HeapRef> Strings for Session<H> {
 
     ghost state = { λ s. state_in s };
 
-    /// As of every store. What the agent owned before it owns still; a refused call claimed no id,
-    /// and the words that it claimed are the agent's own.
+    /// As of every store. A string that the session keeps is found by loads alone; else one id and the content
+    /// words of the units are used. What the agent owned before it owns still; a refused call claimed no id, and
+    /// the words that it claimed are the agent's own.
     fn from_units(&mut self, units: &[u16]) -> Result<JsStr, StoreFault>
         requires { length units.now ≤ (state_in self.old).limit }
         ensures ok { IfOk result
             (λ r. NamesUnits (state_in self.new) r.id units.now × IsSettled (state_in self.new) r.id) }
         ensures uses { Uses (state_in self.old) (state_in self.new) (fault_of result)
             1 (flat_words units.now) }
+        ensures made { OnOk result (IsKeptOrMade (session_view self.old) (session_view self.new) units.now) }
         ensures own { KeepsOwn (session_view self.old) (session_view self.new) }
         ensures spared { OnErr result (ClaimsNoId (session_view self.old) (session_view self.new)) }
     {

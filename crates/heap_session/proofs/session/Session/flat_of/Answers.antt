@@ -1,4 +1,4 @@
-use Rattle.std.proofs.Common.{◌≡◌, ◌∙◌, ℕ, List, None, Some, length, ap, arith}
+use Rattle.std.proofs.Common.{◌≡◌, ◌∙◌, inr, ℕ, List, None, Some, length, ap, arith}
 use Rattle.js_header.specs.declared.form.Form.TheVariants.{Flat}
 use Rattle.js_units.specs.Lanes.{words_over}
 use Rattle.js_store.specs.Rows.{flat_words}
@@ -35,6 +35,9 @@ returns-in-Ok-clause-uses g c = let s = c.args.self.now in let v : View = s.text
     (ap (λ x. table_of (g.H.HeapRef.reached x)) c.make_flat.ensures.kept.heap) (history_continues v w c.make_flat.ensures.continues) tt
     (step_used v w l t 1 (words_over (texts.is_wide us) (length us)) 1 (flat_words us) (omega arith) (let e = flat_is us in omega arith)
     s.text.reader.belongs.5 c.make_flat.ensures.continues c.in-Ok.ensures.used)
+
+pub returns-in-Ok-clause-made : goal.returns-in-Ok-clause-made
+returns-in-Ok-clause-made g c = inr c.in-Ok.ensures.used
 
 pub returns-in-Err-clause-uses : goal.returns-in-Err-clause-uses
 returns-in-Err-clause-uses g c = let s = c.args.self.now in let v : View = s.text.reader.agent.seat.me.0 in
