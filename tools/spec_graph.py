@@ -28,8 +28,9 @@ class Item:
 
     def __init__(self, crate, path, line, name, kind):
         self.crate, self.path, self.line, self.name, self.kind = crate, path, line, name, kind
-        self.text, self.comment, self.signature = [], "", ""
-        self.uses, self.tools = set(), set()
+        self.text, self.comment = [], ""
+        # the definitions and the toolchain's names that it names, and which constructors of which types
+        self.uses, self.tools, self.made = set(), set(), set()
 
     def key(self):
         return (self.path, self.line)
@@ -37,6 +38,19 @@ class Item:
     def size(self):
         """How many lines it has. Comments count nowhere, and blank lines neither."""
         return sum(not re.match(r" *(//|--|$)", line) for _, line in self.text)
+
+    def type(self):
+        """The type of a definition, or what a record or a relation is about; nothing of what the code defines."""
+        if self.kind not in ("definition", "record", "data"):
+            return ""
+        lines, indent = [self.text[0][1]], indent_of(self)
+        for _, line in self.text[1:]:
+            if len(line) - len(line.lstrip()) <= indent or lines[-1].endswith(" where"):
+                break
+            lines.append(line)
+        head = HEAD.match(lines[0])
+        whole = " ".join([lines[0][head.end():] if head else lines[0].partition(":")[2], *lines[1:]])
+        return re.sub(r"\s+", " ", whole).strip().removesuffix(" where").removeprefix(": ")
 
     def __repr__(self):
         return f"{self.path}:{self.line} {self.name}"
@@ -121,7 +135,6 @@ def read_spec(crate, path):
             kinds = [it for it in head.group(2).split() if it in ("record", "data")]
             item = Item(crate, path, number + 1, name, kinds[0] if kinds else "definition")
             item.comment = comment_above(source.lines, number, "--")
-            item.signature = line[head.end():].strip().lstrip(":").strip()
             item.text.append((number + 1, line))
             source.items.append(item)
             source.names[name] = item
@@ -154,14 +167,12 @@ def owner_of(source, line, current):
             return item
     if current is None or not source.items:
         plain = Item(source.crate, source.path, source.lines.index(line) + 1, name, "definition")
-        plain.signature = line.partition(":")[2].strip()
         source.items.append(plain)
         source.names[name] = plain
         return plain
     if re.match(rf"\s*{IDENT} : ", line):
         plain = Item(source.crate, source.path, source.lines.index(line) + 1, name, "definition")
         plain.comment = comment_above(source.lines, source.lines.index(line), "--")
-        plain.signature = line.partition(":")[2].strip()
         source.items.append(plain)
         source.names[name] = plain
         return plain
@@ -285,16 +296,19 @@ class Graph:
                 self.add(item, name, "", names, source)
 
     def add(self, item, first, second, names, source):
-        found = source and (source.names.get(first) or source.constructors.get(first))
+        found, name = source and (source.names.get(first) or source.constructors.get(first)), first
         if not found and first in names:
             path, name = names[first]
-            found = self.target(path, name or second or None, item.crate)
+            name = name or second or None
+            found = self.target(path, name, item.crate)
             if isinstance(found, Source):
                 found = None
         if isinstance(found, str):
             item.tools.add(found)
         elif found and found is not item:
             item.uses.add(found)
+        if isinstance(found, Item) and found.kind in ("data", "enum") and name not in (None, found.name):
+            item.made.add((name, found))
 
     def impl_of(self, trait, owner, crate):
         """The ghost members of an impl that a text names by its trait and its type, as an item."""
