@@ -140,6 +140,10 @@ class Pages:
                 found += [f"### {number + 1}. {title}", "", f"{about} {len(items)} definitions of {lines_in(items):,} lines.", "", entries(groups), ""]
         return "\n".join(found).strip()
 
+    def language(self):
+        """How many definitions the chapters on the language have."""
+        return sum(len(group) for number in LANGUAGE for group in self.order.chapter(number))
+
     def contents(self):
         """A table of the chapters."""
         found = ["| Chapter | Definitions | Lines | Files |", "|---|---|---|---|"]

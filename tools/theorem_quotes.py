@@ -1,5 +1,5 @@
-"""What is wrong with docs/THEOREM.md, which is written by hand: it stays short, each definition or clause that it quotes is in the sources word
-for word, each name to which it links is there, and what a quoted definition uses is quoted or linked too.
+"""What is wrong with docs/THEOREM.md, which is written by hand: it stays short, each definition, clause or equation that it quotes is in the
+sources word for word, each name to which it links is there, and what a quoted definition names is quoted or linked too.
 
 A quote is a block of the language `rattle`, with a link to its file above it. A blank line parts pieces that follow one another elsewhere in the
 file, and each piece may be indented there.
@@ -8,6 +8,7 @@ file, and each piece may be indented there.
 import collections
 import re
 
+import equations
 import spec_graph
 
 ROOT = spec_graph.ROOT
@@ -43,6 +44,8 @@ class Page:
     def faults(self):
         """All that is wrong."""
         yield from self.length()
+        yield from self.counts()
+        yield from self.equations()
         yield from self.quotes()
         yield from self.links()
         yield from self.ways_down()
@@ -51,6 +54,23 @@ class Page:
         words = sum(any(letter.isalnum() for letter in it) for it in self.text.split())
         if words > MOST_WORDS:
             yield f"it has {words} words, more than {MOST_WORDS}"
+
+    def counts(self):
+        """Each number of definitions is that of all, or of those of the language."""
+        right = {f"{it:,}" for it in (len(self.pages.behind), self.pages.language())}
+        for number in re.findall(r"([\d,]+) definitions", self.text):
+            if number not in right:
+                yield f"it has {number} definitions, where there are {' and '.join(sorted(right))}"
+
+    def equations(self):
+        """Each row under the heading of the equations is one of them."""
+        def cells(line):
+            return [it.strip() for it in re.split(r"(?<!\\)\|", line)[1:-1]]
+        proved = [cells(line)[1:] for line in equations.table().splitlines()]
+        section = self.text.partition("equations\n\n")[2].partition("\n## ")[0]
+        for line in re.findall(r"(?m)^\|.*\|$", section):
+            if cells(line) not in proved:
+                yield f"no equation is {line}"
 
     def quotes(self):
         """Each quote is in its file. Notes the definitions that are quoted."""
