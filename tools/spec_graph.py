@@ -69,6 +69,14 @@ class Source:
     def imports(self):
         return imports_in(self.lines, top_alone=self.path.endswith(".rt"))
 
+    @functools.lru_cache(maxsize=None)
+    def type_crates(self):
+        """The crate from which the code of a file has each type that a `use` names."""
+        found = {}
+        for root, rest in re.findall(r"(?m)^(?:pub )?use (\w+)(::[^;]*);", "\n".join(self.lines)):
+            found.update(dict.fromkeys(re.findall(r"\b[A-Z]\w*", rest), self.crate if root in ("crate", "self", "super") else root))
+        return found
+
 
 def whole_uses(text):
     """A text in which each `use` is on one line, with as many lines as before."""
@@ -276,6 +284,11 @@ class Graph:
         own = [it for it in self.types[name] if it.crate == crate]
         return own[0] if own else (self.types[name][0] if len(self.types[name]) == 1 else None)
 
+    def type_in(self, name, source):
+        """A type of the code as a file of it names it: none where a `use` has it from a crate of the toolchain."""
+        root = source.type_crates().get(name, source.crate)
+        return self.type_named(name, root) if os.path.isdir(f"{ROOT}/crates/{root}") else None
+
     # ---- what a text names
 
     def add_named(self, item, text, names, source, bound=frozenset()):
@@ -405,7 +418,7 @@ class Graph:
             names = dict(source.imports(), **imports_in(model))
             text = "\n".join(re.findall(r"ghost Value = \{(.*?)\};", "\n".join(model), re.S))
             self.add_named(item, text, names, source)
-            self.add_types(item, text)
+            self.add_types(item, text, source)
             return
         text = "\n".join(strip_code(line) for _, line in item.text)
         names = dict(source.imports(), **imports_in([line for _, line in item.text]))
@@ -414,12 +427,12 @@ class Graph:
             self.add_named(item, part, names, None, binders(part) | field_names(text))
         # (the names of variants are no types)
         inner = re.sub(r"(?m)^    [A-Z]\w*", "", text) if item.kind == "enum" else text[text.find("{") + 1:]
-        self.add_types(item, text[:text.find("{")] + (inner if item.kind == "enum" else without_braces(inner)))
+        self.add_types(item, text[:text.find("{")] + (inner if item.kind == "enum" else without_braces(inner)), source)
 
-    def add_types(self, item, text):
+    def add_types(self, item, text, source):
         text = re.sub(r"ghost use.*|ghost \w+ *[:=]|type \w+", "", text)
         for name in set(re.findall(r"(?<![:.\w])[A-Z]\w*", text)):
-            found = self.type_named(name, item.crate)
+            found = self.type_in(name, source)
             if found and found is not item and found.kind != "const":
                 item.uses.add(found)
 
@@ -442,7 +455,7 @@ class Graph:
         text = "\n".join(strip_code(line) for _, line in item.text)
         for part in ghost_parts(text):
             self.add_named(item, part, names, None, binders(part))
-        self.add_types(item, without_braces(text) + " " + around.split("\n")[0])
+        self.add_types(item, without_braces(text) + " " + around.split("\n")[0], source)
         return item
 
     def contracts(self, path, wanted=lambda head, around: True):
