@@ -29,7 +29,8 @@ class Item:
     def __init__(self, crate, path, line, name, kind):
         self.crate, self.path, self.line, self.name, self.kind = crate, path, line, name, kind
         self.text, self.comment = [], ""
-        # the definitions and the toolchain's names that it names, and which constructors of which types
+        # the definitions that it names; the toolchain's names, each as it is called here and as the toolchain has it; and the constructors, each
+        # with its type
         self.uses, self.tools, self.made = set(), set(), set()
 
     def key(self):
@@ -309,19 +310,19 @@ class Graph:
                 self.add(item, name, "", names, source)
 
     def add(self, item, first, second, names, source):
-        found, name = source and (source.names.get(first) or source.constructors.get(first)), first
+        found, shown = source and (source.names.get(first) or source.constructors.get(first)), first
         if not found and first in names:
             path, name = names[first]
-            name = name or second or None
-            found = self.target(path, name, item.crate)
+            shown = first if name else second
+            found = self.target(path, name or second or None, item.crate)
             if isinstance(found, Source):
                 found = None
         if isinstance(found, str):
-            item.tools.add(found)
+            item.tools.add((shown, found))
         elif found and found is not item:
             item.uses.add(found)
-        if isinstance(found, Item) and found.kind in ("data", "enum") and name not in (None, found.name):
-            item.made.add((name, found))
+        if isinstance(found, Item) and found.kind in ("data", "enum") and shown and shown != found.name:
+            item.made.add((shown, found))
 
     def impl_of(self, trait, owner, crate):
         """The ghost members of an impl that a text names by its trait and its type, as an item."""

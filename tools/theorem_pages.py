@@ -234,7 +234,7 @@ class Pages:
         """The names of the toolchain that the headline's definitions use, by their modules."""
         modules = collections.defaultdict(set)
         for item in self.behind + [self.headline]:
-            for name in item.tools:
+            for _, name in item.tools:
                 module, _, last = name.rpartition(".")
                 modules[module.replace("Rattle.", "").replace(".specs", "", 1)].add(last)
         return "\n".join(f"- `{module}`: " + " ".join(f"`{it}`" for it in sorted(names)) for module, names in sorted(modules.items()))
@@ -246,10 +246,9 @@ class Pages:
         for item in self.behind:
             found[item.name].add(link(item))
         for item in self.behind + [self.headline]:
-            for name in item.tools:
-                module, _, last = name.rpartition(".")
-                if ".TheVariants" not in module:
-                    found[last].add(f"the toolchain's, of its crate `{module.split('.')[1]}`")
+            for shown, name in item.tools:
+                if shown and ".TheVariants" not in name:
+                    found[shown].add(f"the toolchain's, of its crate `{name.split('.')[1]}`")
         for item in self.behind + [self.headline]:
             for name, owner in item.made:
                 # (a variant that is named for the type that it has says nothing else)
