@@ -28,8 +28,10 @@ class Item:
 
     def __init__(self, crate, path, line, name, kind):
         self.crate, self.path, self.line, self.name, self.kind = crate, path, line, name, kind
-        self.text, self.comment, self.signature = [], "", ""
-        self.uses, self.tools = set(), set()
+        self.text, self.comment = [], ""
+        # the definitions that it names; the toolchain's names, each as it is called here and as the toolchain has it; and the constructors, each
+        # with its type
+        self.uses, self.tools, self.made = set(), set(), set()
 
     def key(self):
         return (self.path, self.line)
@@ -37,6 +39,19 @@ class Item:
     def size(self):
         """How many lines it has. Comments count nowhere, and blank lines neither."""
         return sum(not re.match(r" *(//|--|$)", line) for _, line in self.text)
+
+    def type(self):
+        """The type of a definition, or what a record or a relation is about; nothing of what the code defines."""
+        if self.kind not in ("definition", "record", "data"):
+            return ""
+        lines, indent = [self.text[0][1]], indent_of(self)
+        for _, line in self.text[1:]:
+            if len(line) - len(line.lstrip()) <= indent or lines[-1].endswith(" where"):
+                break
+            lines.append(line)
+        head = HEAD.match(lines[0])
+        whole = " ".join([lines[0][head.end():] if head else lines[0].partition(":")[2], *lines[1:]])
+        return re.sub(r"\s+", " ", whole).strip().removesuffix(" where").removeprefix(": ")
 
     def __repr__(self):
         return f"{self.path}:{self.line} {self.name}"
@@ -54,6 +69,14 @@ class Source:
     @functools.lru_cache(maxsize=None)
     def imports(self):
         return imports_in(self.lines, top_alone=self.path.endswith(".rt"))
+
+    @functools.lru_cache(maxsize=None)
+    def type_crates(self):
+        """The crate from which the code of a file has each type that a `use` names."""
+        found = {}
+        for root, rest in re.findall(r"(?m)^(?:pub )?use (\w+)(::[^;]*);", "\n".join(self.lines)):
+            found.update(dict.fromkeys(re.findall(r"\b[A-Z]\w*", rest), self.crate if root in ("crate", "self", "super") else root))
+        return found
 
 
 def whole_uses(text):
@@ -121,7 +144,6 @@ def read_spec(crate, path):
             kinds = [it for it in head.group(2).split() if it in ("record", "data")]
             item = Item(crate, path, number + 1, name, kinds[0] if kinds else "definition")
             item.comment = comment_above(source.lines, number, "--")
-            item.signature = line[head.end():].strip().lstrip(":").strip()
             item.text.append((number + 1, line))
             source.items.append(item)
             source.names[name] = item
@@ -154,14 +176,12 @@ def owner_of(source, line, current):
             return item
     if current is None or not source.items:
         plain = Item(source.crate, source.path, source.lines.index(line) + 1, name, "definition")
-        plain.signature = line.partition(":")[2].strip()
         source.items.append(plain)
         source.names[name] = plain
         return plain
     if re.match(rf"\s*{IDENT} : ", line):
         plain = Item(source.crate, source.path, source.lines.index(line) + 1, name, "definition")
         plain.comment = comment_above(source.lines, source.lines.index(line), "--")
-        plain.signature = line.partition(":")[2].strip()
         source.items.append(plain)
         source.names[name] = plain
         return plain
@@ -265,6 +285,11 @@ class Graph:
         own = [it for it in self.types[name] if it.crate == crate]
         return own[0] if own else (self.types[name][0] if len(self.types[name]) == 1 else None)
 
+    def type_in(self, name, source):
+        """A type of the code as a file of it names it: none where a `use` has it from a crate of the toolchain."""
+        root = source.type_crates().get(name, source.crate)
+        return self.type_named(name, root) if os.path.isdir(f"{ROOT}/crates/{root}") else None
+
     # ---- what a text names
 
     def add_named(self, item, text, names, source, bound=frozenset()):
@@ -285,16 +310,19 @@ class Graph:
                 self.add(item, name, "", names, source)
 
     def add(self, item, first, second, names, source):
-        found = source and (source.names.get(first) or source.constructors.get(first))
+        found, shown = source and (source.names.get(first) or source.constructors.get(first)), first
         if not found and first in names:
             path, name = names[first]
+            shown = first if name else second
             found = self.target(path, name or second or None, item.crate)
             if isinstance(found, Source):
                 found = None
         if isinstance(found, str):
-            item.tools.add(found)
+            item.tools.add((shown, found))
         elif found and found is not item:
             item.uses.add(found)
+        if isinstance(found, Item) and found.kind in ("data", "enum") and shown and shown != found.name:
+            item.made.add((shown, found))
 
     def impl_of(self, trait, owner, crate):
         """The ghost members of an impl that a text names by its trait and its type, as an item."""
@@ -391,7 +419,7 @@ class Graph:
             names = dict(source.imports(), **imports_in(model))
             text = "\n".join(re.findall(r"ghost Value = \{(.*?)\};", "\n".join(model), re.S))
             self.add_named(item, text, names, source)
-            self.add_types(item, text)
+            self.add_types(item, text, source)
             return
         text = "\n".join(strip_code(line) for _, line in item.text)
         names = dict(source.imports(), **imports_in([line for _, line in item.text]))
@@ -400,12 +428,12 @@ class Graph:
             self.add_named(item, part, names, None, binders(part) | field_names(text))
         # (the names of variants are no types)
         inner = re.sub(r"(?m)^    [A-Z]\w*", "", text) if item.kind == "enum" else text[text.find("{") + 1:]
-        self.add_types(item, text[:text.find("{")] + (inner if item.kind == "enum" else without_braces(inner)))
+        self.add_types(item, text[:text.find("{")] + (inner if item.kind == "enum" else without_braces(inner)), source)
 
-    def add_types(self, item, text):
+    def add_types(self, item, text, source):
         text = re.sub(r"ghost use.*|ghost \w+ *[:=]|type \w+", "", text)
         for name in set(re.findall(r"(?<![:.\w])[A-Z]\w*", text)):
-            found = self.type_named(name, item.crate)
+            found = self.type_in(name, source)
             if found and found is not item and found.kind != "const":
                 item.uses.add(found)
 
@@ -428,7 +456,7 @@ class Graph:
         text = "\n".join(strip_code(line) for _, line in item.text)
         for part in ghost_parts(text):
             self.add_named(item, part, names, None, binders(part))
-        self.add_types(item, without_braces(text) + " " + around.split("\n")[0])
+        self.add_types(item, without_braces(text) + " " + around.split("\n")[0], source)
         return item
 
     def contracts(self, path, wanted=lambda head, around: True):
