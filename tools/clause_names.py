@@ -6,7 +6,7 @@ of a function is each public one with a contract, `checked` each that has an unc
 is each file of the crate.
 `CRATE/specs/FILE.antt: NAME, ..` names definitions, or a law in CRATE/proofs.
 
-In a row of a table or a paragraph that begins with crates, `FUNCTION: CLAUSE, ..` and `specs: NAME, ..` are of one of them.
+In a paragraph or an item of a list that begins with crates, `FUNCTION: CLAUSE, ..` and `specs: NAME, ..` are of one of them.
 """
 
 import collections
@@ -19,8 +19,8 @@ REFERENCE = re.compile(r"`(\w+/(?:src|specs|proofs)[\w/]*(?:\.rt|\.antt)?): ([^`
 FUNCTION = re.compile(r'\s*(pub )?(?:pub\(crate\) )?(?:const )?(?:unsafe )?(?:extern "C" )?fn (\w+)')
 CLAUSE = re.compile(r"\s*ensures\*? (?:(\w+) )?\{")
 DEFINITION = r"(?m)^\s*(?:abbrev |unfoldable |pub |record |data |let |lemma |theorem |private )*%s(?=[ :(]|$)"
-# `**`a`, `b`**: ..` or `| `a`, `b` | ..`: the crates that a paragraph, or a row, begins with.
-CRATES = re.compile(r"(?:\*\*|\| )((?:`\w+`(?:, )?)+)(?:\*\*| \|)")
+# `**`a`, `b`**: ..`: the crates that a paragraph, or an item of a list, begins with.
+CRATES = re.compile(r"(?:- )?\*\*((?:`\w+`(?:, )?)+)\*\*")
 SHORT = re.compile(r"`(\w+): (\w+(?:, \w+)*)`")
 
 Contract = collections.namedtuple("Contract", "name is_public clauses")
@@ -105,7 +105,7 @@ def is_function(root, crate, name, clauses):
 
 
 def short_references(text):
-    """The references that say no crate: each with the crates of its row or paragraph, bullets below it included."""
+    """The references that say no crate: each with the crates of its paragraph or item, items below that included."""
     crates = []
     for line in text.splitlines():
         begins = CRATES.match(line)
