@@ -5,9 +5,12 @@ and `; ` begins the next function of that file. Without a clause it says that th
 of a function is each public one with a contract, `checked` each that has an unchecked form beside it, and CRATE/src alone
 is each file of the crate.
 `CRATE/specs/FILE.antt: NAME, ..` names definitions, or a law in CRATE/proofs.
+
+In a paragraph or an item of a list that begins with crates, `FUNCTION: CLAUSE, ..` and `specs: NAME, ..` are of one of them.
 """
 
 import collections
+import functools
 import glob
 import os
 import re
@@ -16,6 +19,9 @@ REFERENCE = re.compile(r"`(\w+/(?:src|specs|proofs)[\w/]*(?:\.rt|\.antt)?): ([^`
 FUNCTION = re.compile(r'\s*(pub )?(?:pub\(crate\) )?(?:const )?(?:unsafe )?(?:extern "C" )?fn (\w+)')
 CLAUSE = re.compile(r"\s*ensures\*? (?:(\w+) )?\{")
 DEFINITION = r"(?m)^\s*(?:abbrev |unfoldable |pub |record |data |let |lemma |theorem |private )*%s(?=[ :(]|$)"
+# `**`a`, `b`**: ..`: the crates that a paragraph, or an item of a list, begins with.
+CRATES = re.compile(r"(?:- )?\*\*((?:`\w+`(?:, )?)+)\*\*")
+SHORT = re.compile(r"`(\w+): (\w+(?:, \w+)*)`")
 
 Contract = collections.namedtuple("Contract", "name is_public clauses")
 
@@ -36,6 +42,17 @@ def contracts(text):
     return [it for it in found if it.clauses]
 
 
+@functools.lru_cache(maxsize=None)
+def contracts_below(whole):
+    """The contracts of a file, or of all files of a folder; none where there is no such file."""
+    files = sorted(glob.glob(f"{whole}/**/*.rt", recursive=True)) if os.path.isdir(whole) else [whole]
+    found = []
+    for file in filter(os.path.isfile, files):
+        with open(file, encoding="utf-8") as it:
+            found += contracts(it.read())
+    return found
+
+
 def named(all_contracts, name):
     """The contracts that a reference means: of several functions with one name the public ones, if there are any."""
     names = {it.name for it in all_contracts}
@@ -46,14 +63,9 @@ def named(all_contracts, name):
 
 def faults_of_code(root, path, names):
     """What is wrong with a reference to functions."""
-    whole = os.path.join(root, "crates", path)
-    files = sorted(glob.glob(f"{whole}/**/*.rt", recursive=True)) if os.path.isdir(whole) else [whole]
-    if not files or not all(map(os.path.isfile, files)):
-        return [f"{path} is not there"]
-    all_contracts = []
-    for file in files:
-        with open(file, encoding="utf-8") as it:
-            all_contracts += contracts(it.read())
+    all_contracts = contracts_below(os.path.join(root, "crates", path))
+    if not all_contracts:
+        return [f"{path} is not there, or has no contract"]
     faults = []
     for function, *clauses in (part.split(", ") for part in names.split("; ")):
         meant = named(all_contracts, function)
@@ -74,6 +86,48 @@ def faults_of_definitions(root, path, names):
     return [f"{path} defines no {name}" for name in names.split(", ") if not re.search(DEFINITION % re.escape(name), text)]
 
 
+@functools.lru_cache(maxsize=None)
+def specs_of(root, crate):
+    """The text of all definitions of a crate."""
+    texts = []
+    for file in sorted(glob.glob(f"{root}/crates/{crate}/specs/**/*.antt", recursive=True)):
+        with open(file, encoding="utf-8") as it:
+            texts.append(it.read())
+    return "\n".join(texts)
+
+
+def is_function(root, crate, name, clauses):
+    """Whether some function of a crate with this name has these clauses; of `pub` and `checked` whether some one has each."""
+    meant = named(contracts_below(os.path.join(root, "crates", crate, "src")), name)
+    if name in ("pub", "checked"):
+        return bool(meant) and all(any(clause in it.clauses for it in meant) for clause in clauses)
+    return any(set(clauses) <= it.clauses for it in meant)
+
+
+def short_references(text):
+    """The references that say no crate: each with the crates of its paragraph or item, items below that included."""
+    crates = []
+    for line in text.splitlines():
+        begins = CRATES.match(line)
+        if begins:
+            crates = re.findall(r"\w+", begins.group(1))
+        elif line.strip() and not line.startswith("- "):
+            crates = []
+        for name, rest in SHORT.findall(line) if crates else ():
+            yield crates, name, rest.split(", ")
+
+
+def faults_of_short(root, text):
+    """What is wrong with the references that say no crate."""
+    for crates, name, rest in short_references(text):
+        if name == "specs":
+            for it in rest:
+                if not any(re.search(DEFINITION % re.escape(it), specs_of(root, crate)) for crate in crates):
+                    yield f"no specs/ of {', '.join(crates)} defines {it}"
+        elif not any(is_function(root, crate, name, rest) for crate in crates):
+            yield f"{', '.join(crates)}: no function {name} has the clauses {', '.join(rest)}"
+
+
 def references(text):
     """The references of a document: places with the names there."""
     return REFERENCE.findall(text)
@@ -84,5 +138,4 @@ def faults(root, text):
     found = []
     for path, names in references(text):
         found += (faults_of_definitions if path.endswith(".antt") else faults_of_code)(root, path, names)
-    return found
-
+    return found + list(faults_of_short(root, text))
