@@ -1,12 +1,12 @@
 """What tools/jsstr says of itself, of the program and of its arguments, at once and without a build."""
 
+import os
 import shutil
 import textwrap
 
 import arguments
 import built
 import checkout
-import quick_run
 import stated_times
 
 # Each call of the tool beside its own help, with what it does.
@@ -71,14 +71,14 @@ def listed(rows, at):
 
 
 def help_text():
-    limits = f"The quick run has {quick_run.SECONDS} seconds and {quick_run.MOST_OUTPUT} of output, all of which comes at its end; the built program has no such limits."
+    quick = f"The quick run compiles the program with checks at run time, in which loops take some 50 times as long, and keeps it in {os.path.join('out', 'quick')} for the next one; rm -r removes it."
     blocks = [
         textwrap.wrap(ABOUT, 100),
         ["Calls:", *listed(CALLS, 8)],
         ["The program's arguments:", *(f"  {it}" for it in SYNTAX)],
         ["Options of the program:", *listed(options(), 20), *textwrap.wrap(MEMORY, 100)],
         ["Statuses:", *listed(STATUSES, 8)],
-        textwrap.wrap(limits, 100),
+        textwrap.wrap(quick, 100),
         ["docs/USAGE.md says more, docs/LANGUAGE.md what a script is."],
     ]
     return "\n\n".join("\n".join(block) for block in blocks)

@@ -13,7 +13,7 @@ BEGIN = rf"(?:^|[;{{}}]){GAP}"
 NAMED = rf"{BEGIN}(?!(?:let|const|print|if|else|for|case|return)\b){NAME}\s*"
 FOR, IF_OR_FOR = r"(?<![.\w$])for\s*\(", r"(?<![.\w$])(?:if|for)\s*\("
 HEADER = rf"{FOR}\s*let\s+{NAME}\s*=\s*0\s*;\s*{NAME}\s*"
-DECLARED = r"\b(?:let|const)\s+"
+DECLARED = r"\b(?:let|const|var)\s+"
 NO_FUNCTIONS = "no functions: write the statements out; a prelude holds what scripts share"
 NO_STATEMENT = "a call alone is no statement: const x = .., or print(..)"
 NO_NUMBERS = "no string is read as a number: charCodeAt(i) - 48 is a digit's value"
@@ -81,8 +81,8 @@ UNEXPECTED = [
     ("", r"!=(?!=)", "no !=: a !== b"),
     ("", r"-=", "no -=: a = a - b"),
     ("", r"\.\.\.", "no ..., which spreads or collects"),
-    (r"\?", r"\.", "no ?.: a === undefined ? undefined : a.b"),
-    (r"\?", r"\?", "no ??: a === undefined ? b : a"),
+    (r"\?", r"\.", "no ?.: a === undefined || a === null ? undefined : a.b"),
+    (r"\?", r"\?", "no ??: a === undefined || a === null ? b : a"),
     (rf"{HEADER}<\s*", r"[0-9]", "a bound is at most 1000000; a for inside another goes further"),
     (HEADER, r"<=|>|[=!]==", "a for goes on while its name is less than a number: i < 10"),
     (rf"{FOR}\s*let\s+{NAME}\s*=\s*", "", "a for counts from 0"),
@@ -98,6 +98,7 @@ UNEXPECTED = [
     (NAMED, rf"\[|\.\s*{NAME}\s*=", NO_CHANGE),
     (NAMED, r"\(", "no functions: print is the one call that is a statement"),
     (NAMED, r"\.", NO_STATEMENT),
+    (rf"{OPEN}{NAME}\s*", r"\(", NO_FUNCTIONS),
     (BEGIN, r"['\"]use strict", "'use strict' comes first, and once"),
     (BEGIN, r"['\"0-9(!\[+\-]", "an expression alone is no statement: const x = .., or print(..)"),
     (DECLARED, r"[{\[]", "a declaration names one binding: const first = a[0];"),

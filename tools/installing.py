@@ -15,7 +15,7 @@ TOOLS = os.path.join(checkout.ROOT, "tools")
 SHARE = os.path.join("share", "jsstr")
 LIST = os.path.join(SHARE, "installed")
 # The parts of jsstr-where, which it looks for in PREFIX/share/jsstr.
-PARTS = ("checking.py", "hints.py", "methods.py", "reading.py", "running.py", "where.py")
+PARTS = ("arguments.py", "checking.py", "explaining.py", "faults.py", "hints.py", "inputs.py", "methods.py", "naming.py", "reading.py", "running.py", "trial.py", "where.py")
 # The player of schedules, where `rt run` has built it from its sources as they are.
 PLAYER = os.path.join(checkout.crate("jssched"), "out", "jssched")
 
