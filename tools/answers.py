@@ -70,6 +70,18 @@ def listed(rows, at):
         yield from (" " * at + it for it in lines)
 
 
+def program_help():
+    """The page of options that the installed command answers with."""
+    blocks = [
+        ["Usage:", *(f"  {it}" for it in SYNTAX)],
+        textwrap.wrap(ABOUT.partition(". ")[0] + ".", 100),
+        ["Options:", *listed({**options(), "--help, --version": "this page; the version, and what the program was built from"}, 20), *textwrap.wrap(MEMORY, 100)],
+        ["Statuses:", *listed({it: said for it, said in STATUSES.items() if len(it) == 1}, 8)],
+        ["man jsstr says more, man jsstr-language what a script is, and jsstr-where --check FILE whether a file is one."],
+    ]
+    return "\n\n".join("\n".join(block) for block in blocks) + "\n"
+
+
 def help_text():
     quick = f"The quick run compiles the program with checks at run time, in which loops take some 50 times as long, and keeps it in {os.path.join('out', 'quick')} for the next one; rm -r removes it."
     blocks = [

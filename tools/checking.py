@@ -2,11 +2,11 @@
 
 import collections
 import os
-import sys
 
 import explaining
 import faults
 import reading
+import running
 
 # The most bytes of a file, and the program's statuses: of a file that throws, can't be read, is no script, has a name that the system refuses.
 MOST_BYTES, THROWS, UNREADABLE, NO_SCRIPT, NO_ARGUMENTS = 1048576, 1, 3, 4, 8
@@ -99,7 +99,7 @@ def findings(prelude, paths, read=contents):
 
 
 def status_of(found):
-    """The status that the program would end with, as far as a check can tell."""
+    """The status that the program would end with, as far as a check can know."""
     statuses = {it.status for it in found}
     return next((it for it in (NO_ARGUMENTS, UNREADABLE, NO_SCRIPT, THROWS) if it in statuses), 0)
 
@@ -109,6 +109,5 @@ def check(prelude, paths):
     found = []
     for it in findings(prelude, paths):
         found.append(it)
-        sys.stderr.buffer.write(f"{it.said}\n".encode("utf-8", "surrogateescape"))
-        sys.stderr.flush()
+        running.write(f"{it.said}\n".encode("utf-8", "surrogateescape"))
     return status_of(found)

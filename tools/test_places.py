@@ -129,7 +129,7 @@ ALL = [
 
 
 def all_faults(_house):
-    """All faults of a file are told, each once, and nothing of a script that has none."""
+    """All faults of a file are shown, each once, and nothing of a script that has none."""
     for script, wanted in ALL:
         said = faults.report("a.js", script.encode())
         found = [(int(it[1]), int(it[2]), it[3]) for it in re.finditer(r"(?m)^a\.js:(\d+):(\d+): (.*)$", said)]

@@ -58,7 +58,7 @@ def refused_arguments(_house):
 
 
 def quick_run(house):
-    """What is refused is told at once; else the program is compiled, and kept."""
+    """What is refused is answered at once; else the program is compiled, and kept."""
     house.forget()
     house.write("c.js", "print('a');\nprint(1 ?? 1);\nprint([1]);\n")
     wanted = "c.js:2:10: refused: unexpected (no ??: a === undefined || a === null ? b : a)\n    print(1 ?? 1);\n             ^\nc.js:3:7: refused: unexpected (no array literals: 'a,b'.split(','))\n"

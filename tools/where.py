@@ -54,7 +54,7 @@ def placed(name, text, at, said):
 
 
 def told(words, advice):
-    """How a fault is told behind its place."""
+    """How a fault is shown behind its place."""
     head = words if words == "unsupported" else f"refused: {words}"
     return f"{head} ({advice})" if advice else head
 
