@@ -1,7 +1,7 @@
 """All faults of a file. The first is the one that the program reports; each further one is what is found once those before it are mended.
 
 A fault is mended in a copy of the text whose characters keep their places: by what the language has in place of what was written, or else by
-leaving out the statement. So what is told of a further fault is a guess, if a good one.
+leaving out the statement. So a further fault is a guess, if a good one.
 """
 
 import collections
@@ -12,7 +12,7 @@ import naming
 import reading
 import where
 
-# How many faults are told of a file, and how many characters are read to find them.
+# How many faults are shown of a file, and how many characters are read to find them.
 MOST, MOST_READ = 40, 3000000
 
 ROUGH = re.compile(r"""(?P<gap>\s+|//[^\n]*|/\*(?:(?!\*/).)*(?:\*/)?)|'(?:\\.|[^'\\\n])*'?|"(?:\\.|[^"\\\n])*"?|`(?:\\.|[^`\\])*`?|[\w$]+|=>|===?|!==?|[&|?]{2}=?|\+\+|--|[-+*/%]=|.""", re.DOTALL)
@@ -197,7 +197,7 @@ def mended(words, text, at):
 
 
 def is_repeated(told, text, at, advice):
-    """Whether a fault has the cause of one that is told: a function that is called, or what ends one."""
+    """Whether a fault has the cause of one that is shown: a function that is called, or what ends one."""
     is_call = re.match(r"return\b|\(|[\w$]+\s*\(", text[at:]) and advice == hints.NO_FUNCTIONS
     return bool(is_call and re.search(r"\bfunction\b|=>", text))
 

@@ -16,7 +16,7 @@ NAMES = ("jsstr", "gen-prelude", *(f"gen-{number:02}" for number in range(32)))
 
 
 class Inputs:
-    """The prelude and the scripts of a call by their names, and the copies that stand in for some of them; a block removes the copies."""
+    """The prelude and the scripts of a call by their names, and the copies that replace some of them; a block removes the copies."""
 
     def __init__(self, args):
         """(Arguments that the program refuses name nothing.)"""
