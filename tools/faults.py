@@ -88,12 +88,14 @@ def without_statement(text, at):
     tokens = rough(text)
     number = next((number for number, it in enumerate(tokens) if it[2] > at), len(tokens) - 1)
     first = front_of(tokens, number)
-    is_whole = tokens[first][0] in ("class", "switch", "import", "export")
+    is_block = is_whole = tokens[first][0] in ("class", "switch", "import", "export")
     is_open, last = 0, first
     for last in range(first, len(tokens)):
         spelling = tokens[last][0]
-        if spelling == "{" and not is_open and last > number - 1 and not is_whole and not any(it[0] in ("=", "=>") for it in tokens[first:last]):
-            return blank(text, tokens[first][1], max(tokens[last][1], tokens[number][2] if last > number else tokens[last][1]))
+        # (a brace behind = or => belongs to an expression)
+        is_whole = is_whole or not is_open and spelling in ("=", "=>")
+        if spelling == "{" and not is_open and last >= number and not is_whole:
+            return blank(text, tokens[first][1], tokens[last][1])
         if spelling == "}" and not is_open:
             return blank(text, tokens[first][1], tokens[last][1]) if last > first else blank(text, tokens[last][1], tokens[last][2])
         is_open += (spelling in OPENING) - (spelling in CLOSING)
@@ -101,7 +103,7 @@ def without_statement(text, at):
             continue
         follows = tokens[last + 1] if last + 1 < len(tokens) else ("", 0, 0, True)
         ends_line = follows[3] and ENDS.fullmatch(spelling[-2:] if spelling in ("++", "--") else spelling[-1:]) and BEGINS.match(follows[0])
-        if follows[0] != "else" and (spelling == ";" or (is_whole and spelling == "}") or ends_line):
+        if follows[0] != "else" and (spelling == ";" or (is_block and spelling == "}") or ends_line):
             break
     return blank(text, tokens[first][1], max(tokens[last][2], at + 1))
 
@@ -164,7 +166,7 @@ CHANGES = [
     Change("unexpected", r"\?", r"\.\s*(?=[\[(])", instead(""), False),
     Change("unexpected", r"\?", r"\.", instead("."), False),
     Change("unexpected", "", r"[=!]=(?!=)", instead("<")),
-    Change("unexpected", "", r"(?:\|\||&&)=|-=", instead("+=")),
+    Change("unexpected", "", r"(?:\|\||&&|\?\?)=|-=", instead("+=")),
     Change("unexpected", rf"{FRONT}[A-Za-z_$][\w$]*\s*", r"\+\+|--", instead("=1")),
     Change("unexpected", OPERAND, r"--", instead("")),
     Change("unexpected", "", r"--|\.\.\.", instead("-")),
@@ -210,12 +212,14 @@ def all_of(text, first=None, has_print=True, outer=frozenset()):
         fault = reading.refusal(now, has_print, outer)
         read += len(text)
         words, at = first if first and not told else (fault.words, fault.at) if fault else (None, 0)
-        if words is None or at in told:
+        if words is None:
             break
-        told[at] = words
-        now, lost = mended(words, now, at)
+        # (what is at fault where a fault was mended is left out)
+        new, lost = mended(words, now, at) if at not in told else (without_statement(now, at), "")
+        told.setdefault(at, (words, hints.hint(words, now, at)))
         known.update(re.findall(r"[A-Za-z_$][\w$]*", lost))
-    found = [(words, at, hints.hint(words, text, at)) for at, words in sorted(told.items())]
+        now = None if new == now else new
+    found = [(words, at, advice) for at, (words, advice) in sorted(told.items())]
     own = next(iter(told), None)
     return [it for it in found if it[1] == own or not is_repeated(found, text, it[1], it[2])], known, now
 

@@ -38,6 +38,25 @@ ADVISED = [
     ("print(a ?? b);", "? b", "no ??"),
     ("print(a?.b);", ".b", "no ?."),
     ("print(...a);", "...", "spreads"),
+    ("print(a ?? b);", "? b", "a === undefined || a === null ? b : a"),
+    ("print(a?.b);", ".b", "a === undefined || a === null ? undefined : a.b"),
+    ("function f(a) { return /a/; }", "/a/", "no regular expressions"),
+    ("print(a => /a/);", "/a/", "no regular expressions"),
+    ("print(JSON.stringify(o, null, 2));", ", null", "one argument"),
+    ("print('a' in o);", "in o", "no in: o[key]"),
+    ("print(escape('a'));", "escape", "encodeURIComponent"),
+    ("print(isNaN(1));", "isNaN", "n !== n"),
+    ("print(isFinite(1));", "isFinite", "Infinity"),
+    ("print(f(1));", "(1)", "no functions"),
+    ("a ||= 1;", "||= 1", "a = a || b"),
+    ("a ??= 1;", "??= 1", "no ??="),
+    ("print((1, 2));", ", 2", "no comma between"),
+    ("const f = (a, b) => a;", ", b", "no functions"),
+    ("loop: for (let i = 0; i < 3; i++) { }", ": for", "no labels"),
+    ("print(Symbol('x'));", "('x')", "Symbol.for"),
+    ("print('a'.contains('b'));", "contains", "includes is near"),
+    ("print('a'.trimLeft());", "trimLeft", "trimStart is near"),
+    ("print('a'.normalize());", "normalize", "no such method"),
     ("let a, b;", ", b", "one binding"),
     ("let {a} = b;", "{a}", "one binding"),
     ("const x;", ";", "has a value"),
@@ -104,7 +123,9 @@ def advice(_house):
         at = len(script.encode()[:offset].decode())
         said = hints.hint(words, script, at)
         check(f"the hint for {script!r}", script[at:].startswith(rest) and wanted in said, f"{words} {script[at:]!r} {said!r}")
-    for script, at, wanted in (("print('a'.slice('1'));", 10, "read as a number"), ("print('a' < 1);", 10, "compared"), ("print(a.b);", 8, "members"), ("print(1 === a);", 8, "aren't compared")):
+    for script, at, wanted in (("print('a'.slice('1'));", 10, "read as a number"), ("print('a' < 1);", 10, "compared"), ("print(a.b);", 8, "members"), ("print(1 === a);", 8, "aren't compared"),
+                               ("print('5' - 1);", 10, hints.NO_NUMBERS), ("print(a - b);", 8, "Of two numbers"), ("print(9007199254740991 - b);", 23, "a difference"), ("print(-a);", 6, hints.NO_NUMBERS),
+                               ("print(a.slice(1));", 8, hints.OF_ARRAYS), ("print(a.toString);", 8, "inherits"), ("print(a.at(b));", 8, "Of a string")):
         check(f"the hint for what is unsupported in {script!r}", wanted in hints.hint("unsupported", script, at))
 
 
@@ -122,6 +143,8 @@ ALL = [
     ("print('a\nb');\n", [(1, 9, "is a line end")]),
     ("print('a'.replace(/[,;]/g, ''), a?.b, a?.[0]);\n", [(1, 19, "no regular"), (1, 33, "the name a"), (1, 35, "no ?."), (1, 39, "the name a"), (1, 41, "no ?.")]),
     ("switch (1) { case 1: print(1); break; default: print(2); }\nprint(2);;\n", [(1, 1, "no switch"), (2, 10, "")]),
+    ("let i = 0\nwhile (i < 5) {\n  print(i)\n  i++\n}\n", [(2, 1, "no while"), (4, 3, "ends with ;"), (4, 4, "i += 1"), (5, 1, "ends with ;")]),
+    ("for (let i = 0; i < a.length; i++) {\n  a[i] = 1;\n}\nconst a = 'a';\n", [(1, 21, "a bound is a number"), (2, 4, "don't change")]),
     ("{ print(x); let x = x; }\nconst c = 1;\nc += 1;\n", [(1, 9, "before its declaration"), (1, 21, "before its declaration"), (3, 1, "is a const")]),
     ("for (let i = 0; i < 3; i++) { print(i); }\nprint(i);\n", [(2, 7, "the name i")]),
     ("try { print(1); } catch (e) { print(e); }\nprint(x.y.z, { y: 1, 'z': 2 }.z);\n", [(1, 1, "no try"), (1, 19, "no try"), (2, 7, "the name x")]),
