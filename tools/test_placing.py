@@ -198,6 +198,7 @@ def whole_page(house):
     check("the demos and the examples", data["samples"]["report"] == "apple\n" and "cons" in data["samples"] and len(data["hints"]) > 50, str(data["samples"].keys()))
     check("and what it was built from", (data["built"]["kit"], data["built"]["sha256 of the engine"]) == ("rattle-kit-0", hashlib.sha256(engine.encode()).hexdigest()), str(data["built"]))
     check("nothing is left to be filled in, and nothing is fetched", not re.search(r"@[A-Z]+[^@\n]*@|src=|https?:(?!//www\.w3\.org/2000/svg)", text.replace(engine, "")))
+    check("it says how far it is, and rt's own lines are in a log", " 1 of 1  jsstr_web" in err and house.has("out/build/jsstr_web.log") and all(it.startswith("tools/jsstr: ") for it in err.splitlines()), err)
     status, _, err = house.call("--page", "out/none/a.html")
     check("a file in no folder is refused", (status, err.count("\n")) == (125, 1), err)
     house.write("crates/jsstr_web/src/lib.rt", "// broken\n")
