@@ -4,6 +4,7 @@ import glob
 import os
 import re
 
+import explaining
 import faults
 import hints
 import reading
@@ -160,6 +161,17 @@ def all_faults(_house):
         check(f"the faults of {script!r}", is_well, said)
     for path in sorted(glob.glob(f"{REPOSITORY}/demo/*.js")):
         check(f"the faults of {path}", not faults.report("a.js", read(path).encode()))
+
+
+def unreadable(_house):
+    """Why a file can't be read, for each cause."""
+    for fault, wanted in ((FileNotFoundError, "no such file"), (IsADirectoryError, "a folder"), (PermissionError, "permissions"), (OSError(5, "an odd fault"), "an odd fault")):
+        def refuse(*_, fault=fault):
+            raise fault
+        explaining.open = refuse
+        check(f"why a file can't be read: {wanted}", wanted in explaining.why_unreadable("a.js"), explaining.why_unreadable("a.js"))
+    del explaining.open
+    check("one that can be read has no cause", explaining.why_unreadable(__file__) == "")
 
 
 def bad_files(house):

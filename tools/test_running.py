@@ -6,11 +6,12 @@ import re
 import shutil
 import subprocess
 import threading
+import time
 
 import arguments
 import case_files
 import stated_times
-from test_house import REPOSITORY, check, given_by_bash, read
+from test_house import REPOSITORY, check, given_by_bash, is_gone, read, shell
 
 REFUSED = f"{arguments.REFUSAL}\n"
 
@@ -40,7 +41,7 @@ def own_answers(house):
     check("--version names the version, the commit and the kit", (status, err) == (0, "") and told[0] == f"jsstr {read(REPOSITORY, 'VERSION').strip()}"
           and told[1] == f"commit: {house.git('rev-parse', 'HEAD')} (clean)" and "none is built" in told[2] and told[3] == "kit: rattle-kit-0 logic 0123", out + err)
     for words, near in ((["--jbos", "3", "a b.js"], "--jobs"), (["a b.js", "-x"], "./-x"), (["--ids=0", "a b.js"], "536870911"), (["--summary"], "no script"),
-                        (["--jobs", "1", "--jobs", "1", "a b.js"], "twice"), (["a b.js", "--help"], "comes first"), (["--summary=1", "a b.js"], "no value")):
+                        (["--jobs", "1", "--jobs", "1", "a b.js"], "twice"), (["a b.js", "--help"], "comes first"), (["--summary=1", "a b.js"], "no value"), (["--jobs", "0", "a b.js"], "'--jobs 0'"), (["--jobs=0", "a b.js"], "'--jobs=0'")):
         status, out, err = house.call(*words)
         told = err.splitlines(True)
         check(f"{words} are refused as by the program, with why", (status, out, told[1:]) == (2, "", [REFUSED]) and near in told[0], err)
@@ -126,6 +127,9 @@ def kept_runs(house):
     with open("/dev/full", "w", encoding="ascii") as full:
         status, _, err = house.call("a b.js", stdout=full)
     check("a write that fails has the program's status, and a line", status == 7 and "status 7" in err.splitlines()[-1], err)
+    for way in (">&-", "2>&-", "<&-"):
+        said = shell(house, f"tools/jsstr 'a b.js' {way}; echo $?")
+        check(f"a stream that is closed by {way}", said == {">&-": "7\n", "2>&-": "1\n0\n", "<&-": "1\n0\n"}[way], said)
     name = os.fsdecode(b"a\xff.js")
     house.write(name, "print(3);\n")
     _, _, err = house.call(name, SAYS=": unsupported at 0", errors="surrogateescape")
@@ -196,6 +200,16 @@ def built_run(house):
         check("large pages are asked for where the C library has them", told[1:] in ([wanted], [given]), str(told))
     status, out, err = house.call("--where", "a b.js", SAYS="a b.js: unsupported at 5")
     check("its places are explained as well", (status, out) == (3, "built a b.js\n") and err.startswith("a b.js:1:6: unsupported") and err.endswith("    print(1);\n         ^\n"), err)
+    ran = house.start("--where", "x", LONG="60")
+    children = f"/proc/{ran.pid}/task/{ran.pid}/children"
+    for _ in range(100):
+        time.sleep(0.1)
+        child = read(children).strip()
+        if child and "sleep" in read(f"/proc/{child}/cmdline"):
+            break
+    ran.kill()
+    ran.communicate()
+    check("what is killed leaves nothing at work", child and is_gone(child), child)
     check("the record is what --version says", f"proved and built, of commit {house.git('rev-parse', 'HEAD')} (clean)" in house.call("--version")[1])
 
 
