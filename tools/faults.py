@@ -198,21 +198,22 @@ def mended(words, text, at):
     return new, "".join(one for one, other in zip(text, new) if one != other or one.isspace())
 
 
-def is_repeated(told, text, at, advice):
+def is_repeated(text, at, advice):
     """Whether a fault has the cause of one that is shown: a function that is called, or what ends one."""
     is_call = re.match(r"return\b|\(|[\w$]+\s*\(", text[at:]) and advice == hints.NO_FUNCTIONS
     return bool(is_call and re.search(r"\bfunction\b|=>", text))
 
 
 def all_of(text, first=None, has_print=True, outer=frozenset()):
-    """Each fault of a text as (words, place, advice), in the order of their places, and the names that a mended part may have declared.
-    `first` is the program's own, where it is known."""
-    told, known, now, read = {}, set(), text, 0
+    """Each fault of a text as (words, place, advice), in the order of their places; the names that a mended part may have declared; and the text
+    with all of them mended, or nothing. `first` is the program's own, where it is known."""
+    told, known, now, read, is_whole = {}, set(), text, 0, False
     while now is not None and len(told) < MOST and read < MOST_READ:
         fault = reading.refusal(now, has_print, outer)
         read += len(text)
         words, at = first if first and not told else (fault.words, fault.at) if fault else (None, 0)
         if words is None:
+            is_whole = True
             break
         # (what is at fault where a fault was mended is left out)
         new, lost = mended(words, now, at) if at not in told else (without_statement(now, at), "")
@@ -221,7 +222,7 @@ def all_of(text, first=None, has_print=True, outer=frozenset()):
         now = None if new == now else new
     found = [(words, at, advice) for at, (words, advice) in sorted(told.items())]
     own = next(iter(told), None)
-    return [it for it in found if it[1] == own or not is_repeated(found, text, it[1], it[2])], known, now
+    return [it for it in found if it[1] == own or not is_repeated(text, it[1], it[2])], known, now if is_whole else None
 
 
 def report(name, data, first=None, has_print=True, outer=None):
@@ -234,7 +235,7 @@ def report(name, data, first=None, has_print=True, outer=None):
         return where.explained(name, fault.start, "not utf-8", data)
     found, known, rest = all_of(text, first, has_print, outer)
     lines = [(where.shown_at(words, text, at), where.told(words, advice)) for words, at, advice in found]
-    if rest is not None and reading.refusal(rest, has_print, outer) is None:
+    if rest is not None:
         known.update(re.findall(r"\b(?:let|const|var|function)\s+([A-Za-z_$][\w$]*)", text))
         lines += [(it.at, it.why) for it in naming.faults(rest, outer, known if found else frozenset()) if text.startswith(it.name, it.at)]
     return "\n".join(line_of(name, text, at, said, not number) for number, (at, said) in enumerate(sorted(lines)))

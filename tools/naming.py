@@ -54,7 +54,7 @@ def uses(found, top):
                 here, loop = Scope(here, loop), None
         elif token.spelling == "}":
             here = here.around if braces.pop() else here
-        elif token.spelling == "for" and behind == "(":
+        elif token.spelling == "for" and behind == "(" and before != ".":
             # for ( let NAME = 0 ; NAME < BOUND ; NAME ++ )
             loop, number = found[number + 3].spelling, number + 13
         elif before in ("let", "const") and token.kind == "word":

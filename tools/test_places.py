@@ -148,6 +148,7 @@ ALL = [
     ("for (let i = 0; i < a.length; i++) {\n  a[i] = 1;\n}\nconst a = 'a';\n", [(1, 21, "a bound is a number"), (2, 4, "don't change")]),
     ("{ print(x); let x = x; }\nconst c = 1;\nc += 1;\n", [(1, 9, "before its declaration"), (1, 21, "before its declaration"), (3, 1, "is a const")]),
     ("for (let i = 0; i < 3; i++) { print(i); }\nprint(i);\n", [(2, 7, "the name i")]),
+    ("if (Symbol.for('a') === Symbol.for('b')) { print({ for: 1 }); }\n", []),
     ("try { print(1); } catch (e) { print(e); }\nprint(x.y.z, { y: 1, 'z': 2 }.z);\n", [(1, 1, "no try"), (1, 19, "no try"), (2, 7, "the name x")]),
 ]
 
