@@ -84,8 +84,9 @@ def tell_silent(name, status, args):
         write(f"{name}: {said}\n".encode("utf-8", "surrogateescape"))
 
 
-def run(program, args, has_places, name="jsstr", env=None):
-    """Runs the program with these arguments, and answers its status. With places, its lines are explained."""
+def run(program, args, has_places, name=None, env=None):
+    """Runs the program with these arguments, and answers its status. With places, its lines are explained. Under `name` it is said what a status means
+    without a line."""
     began = time.monotonic()
     with inputs.Inputs(args) as given:
         if has_places:
@@ -94,7 +95,8 @@ def run(program, args, has_places, name="jsstr", env=None):
         _, said, status = ended(["jsstr", *given.arguments()], **how)
         if has_places:
             write(explaining.Explainer(given, program, time.monotonic() - began).explained(given.renamed(said)))
-        tell_silent(name, status, args)
+        if name:
+            tell_silent(name, status, args)
     return status
 
 

@@ -74,6 +74,9 @@ def installed_command(house, to):
     for number, part in ((7, "status 7"), (8, "status 8")):
         status, _, err = call("x", env={**os.environ, "ENDS": str(number)})
         check(f"status {number} gets a line", status == number and err.count("\n") == 1 and part in err, err)
+    env = {**os.environ, "ENDS": "7", "SAYS": "a b.js: unsupported at 5", "PATH": f"{to}/bin:{os.environ['PATH']}"}
+    ran = subprocess.run(["jsstr-where", "jsstr", "a b.js"], cwd=house.root, env=env, capture_output=True, text=True)
+    check("jsstr-where explains its lines once", ran.returncode == 7 and ran.stderr.count("status 7") == 1 and ran.stderr.startswith("a b.js:1:6: unsupported"), ran.stderr)
     with open("/dev/full", "w", encoding="ascii") as full:
         ran = subprocess.run([f"{to}/bin/jsstr", "--help"], stdout=full, stderr=subprocess.PIPE, check=False)
     check("a help that can't be written ends with another status", (ran.returncode, ran.stderr) == (125, b""), str(ran))
