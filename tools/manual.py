@@ -58,7 +58,7 @@ def body(text):
         elif block.startswith("|"):
             yield from table(lines)
         elif block.startswith("- "):
-            yield from (part for it in lines for part in (r".IP \(bu 2", inline(it.removeprefix("- "))))
+            yield from (part for it in lines for part in (r".IP \(bu 2", inline(it[2:] if it.startswith("- ") else it)))
         else:
             yield from (".PP", inline(" ".join(lines)))
 
