@@ -12,14 +12,14 @@ import stated_times
 # Each call of the tool beside its own help, with what it does.
 CALLS = {
     "tools/jsstr ARGUMENT..": "runs the built program with these arguments; where none is built, the quick run",
-    "tools/jsstr --where ARGUMENT..": "the same, with the line and column (in characters) of each fault in place of its byte offset, the source line, and what to write instead; "
-    "so also without --where where standard error is a terminal",
-    "tools/jsstr --check [--prelude FILE] FILE..": "says of each file whether it is a script, with the same lines, and runs nothing; a second, without a build; "
-    "ends with 0, with 4 where one is none, and with 3 where one can't be read",
+    "tools/jsstr --where ARGUMENT..": "the same, with the line and column (in characters) of each fault in place of its byte offset, the source line, and what to write instead, "
+    "and the statement in which a script threw; so also without --where where standard error is a terminal",
+    "tools/jsstr --check [--prelude FILE] FILE..": "shows all faults of each file, with the same lines, and names that no declaration has, and runs nothing; a second, without a build; "
+    "ends with 0, with 4 where one is no script, 3 where one can't be read, 8 where its name isn't UTF-8, and 1 where a name has no declaration",
     "tools/jsstr --unproved ARGUMENT..": f"the quick run, also where a program is built; {stated_times.stated('quick run')}",
     "tools/jsstr --build": f"proves and builds the program; from nothing {stated_times.stated('--build')}",
     "tools/jsstr --test": f"runs all tests, and all cases but twelve long ones, and proves nothing; {stated_times.stated('--test')}",
-    "tools/jsstr --install PREFIX": "puts the built program, jsstr-where, their man pages and completions for shells below PREFIX, as in PREFIX/bin",
+    "tools/jsstr --install PREFIX": "puts the command jsstr, the built program beneath it, jsstr-where, man pages and completions for shells below PREFIX, as in PREFIX/bin",
     "tools/jsstr --library PREFIX": f"proves and builds the heap for C, and puts it into PREFIX/include and PREFIX/lib; from nothing {stated_times.stated('--library')}",
     "tools/jsstr --page FILE": "proves the engine of a page, compiles it for a browser, and writes the page with all that it needs into one file; from nothing it takes about as long as --build",
     "tools/jsstr --uninstall PREFIX": "removes what --install and --library put there",
