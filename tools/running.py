@@ -108,8 +108,9 @@ def run_slow(program, given, has_places, name):
             out, said, status = ended([program, *given.arguments(options)], stdout=subprocess.PIPE, stderr=subprocess.PIPE)
             if b": heap full: " not in said:
                 break
-    said = given.renamed(said)
-    write(explaining.Explainer(given, program, time.monotonic() - began).explained(said) if has_places else said)
-    status = status if written(out) else explaining.WRITE_FAILED
+    status, said = status if written(out) else explaining.WRITE_FAILED, given.renamed(said)
+    # (where a write failed the program writes nothing more)
+    if status != explaining.WRITE_FAILED:
+        write(explaining.Explainer(given, program, time.monotonic() - began).explained(said) if has_places else said)
     tell_silent(name, status, given.args)
     return status
