@@ -1,25 +1,25 @@
 """What tools/jsstr says of itself, of the program and of its arguments, at once and without a build."""
 
+import os
 import shutil
 import textwrap
 
 import arguments
 import built
 import checkout
-import quick_run
 import stated_times
 
 # Each call of the tool beside its own help, with what it does.
 CALLS = {
     "tools/jsstr ARGUMENT..": "runs the built program with these arguments; where none is built, the quick run",
-    "tools/jsstr --where ARGUMENT..": "the same, with the line and column (in characters) of each fault in place of its byte offset, the source line, and what to write instead; "
-    "so also without --where where standard error is a terminal",
-    "tools/jsstr --check [--prelude FILE] FILE..": "says of each file whether it is a script, with the same lines, and runs nothing; a second, without a build; "
-    "ends with 0, with 4 where one is none, and with 3 where one can't be read",
+    "tools/jsstr --where ARGUMENT..": "the same, with the line and column (in characters) of each fault in place of its byte offset, the source line, and what to write instead, "
+    "and the statement in which a script threw; so also without --where where standard error is a terminal",
+    "tools/jsstr --check [--prelude FILE] FILE..": "shows all faults of each file, with the same lines, and names that no declaration has, and runs nothing; a second, without a build; "
+    "ends with 0, with 4 where one is no script, 3 where one can't be read, 8 where its name isn't UTF-8, and 1 where a name has no declaration",
     "tools/jsstr --unproved ARGUMENT..": f"the quick run, also where a program is built; {stated_times.stated('quick run')}",
     "tools/jsstr --build": f"proves and builds the program; from nothing {stated_times.stated('--build')}",
     "tools/jsstr --test": f"runs all tests, and all cases but twelve long ones, and proves nothing; {stated_times.stated('--test')}",
-    "tools/jsstr --install PREFIX": "puts the built program, jsstr-where, their man pages and completions for shells below PREFIX, as in PREFIX/bin",
+    "tools/jsstr --install PREFIX": "puts the command jsstr, the built program beneath it, jsstr-where, man pages and completions for shells below PREFIX, as in PREFIX/bin",
     "tools/jsstr --library PREFIX": f"proves and builds the heap for C, and puts it into PREFIX/include and PREFIX/lib; from nothing {stated_times.stated('--library')}",
     "tools/jsstr --page FILE": "proves the engine of a page, compiles it for a browser, and writes the page with all that it needs into one file; from nothing it takes about as long as --build",
     "tools/jsstr --uninstall PREFIX": "removes what --install and --library put there",
@@ -70,15 +70,27 @@ def listed(rows, at):
         yield from (" " * at + it for it in lines)
 
 
+def program_help():
+    """The page of options that the installed command answers with."""
+    blocks = [
+        ["Usage:", *(f"  {it}" for it in SYNTAX)],
+        textwrap.wrap(ABOUT.partition(". ")[0] + ".", 100),
+        ["Options:", *listed({**options(), "--help, --version": "this page; the version, and what the program was built from"}, 20), *textwrap.wrap(MEMORY, 100)],
+        ["Statuses:", *listed({it: said for it, said in STATUSES.items() if len(it) == 1}, 8)],
+        ["man jsstr says more, man jsstr-language what a script is, and jsstr-where --check FILE whether a file is one."],
+    ]
+    return "\n\n".join("\n".join(block) for block in blocks) + "\n"
+
+
 def help_text():
-    limits = f"The quick run has {quick_run.SECONDS} seconds and {quick_run.MOST_OUTPUT} of output, all of which comes at its end; the built program has no such limits."
+    quick = f"The quick run compiles the program with checks at run time, in which loops take some 50 times as long, and keeps it in {os.path.join('out', 'quick')} for the next one; rm -r removes it."
     blocks = [
         textwrap.wrap(ABOUT, 100),
         ["Calls:", *listed(CALLS, 8)],
         ["The program's arguments:", *(f"  {it}" for it in SYNTAX)],
         ["Options of the program:", *listed(options(), 20), *textwrap.wrap(MEMORY, 100)],
         ["Statuses:", *listed(STATUSES, 8)],
-        textwrap.wrap(limits, 100),
+        textwrap.wrap(quick, 100),
         ["docs/USAGE.md says more, docs/LANGUAGE.md what a script is."],
     ]
     return "\n\n".join("\n".join(block) for block in blocks)

@@ -11,7 +11,7 @@ OPTIONS = {
     it.name: it
     for it in (
         Option("--prelude", "FILE", None, None, None, "a script that is run first; each script goes on from what it left"),
-        Option("--jobs", "N", 1, 64, 4, "how many groups of scripts may run at one time"),
+        Option("--jobs", "N", 1, 64, 4, "how many scripts may run at one time"),
         Option("--ids", "N", 1, MOST_SIZE, 262144, "how many strings the heap has room for"),
         Option("--heap-words", "N", 1, MOST_SIZE, 4194304, "how many words of 8 bytes it has for code units"),
         Option("--slots", "N", 1, MOST_SIZE, 65536, "how many different strings can be interned"),
@@ -21,6 +21,8 @@ OPTIONS = {
     )
 }
 SIZES = ("--ids", "--heap-words", "--slots")
+# A heap that most scripts have room on.
+SMALL = {"--ids": 16384, "--heap-words": 65536, "--slots": 4099}
 # What the program answers, and its status, where its arguments aren't valid.
 REFUSAL, REFUSED = "jsstr: the words are refused", 2
 
@@ -54,12 +56,13 @@ def why_unknown(argument, others):
     return "there is no such option"
 
 
-def check_value(option, value):
+def check_value(option, value, argument):
+    """Refuses a value, naming the argument as it was given."""
     if option.value in (None, "FILE"):
         return
     number = int(value) if re.fullmatch(r"[+-]?[0-9]+", value) else None
     if number is None or not option.least <= number <= option.most or (option.value == "L" and number not in (option.least, option.most)):
-        raise Fault(f"{option.name}={value}", f"its value is a number, {range_of(option)}")
+        raise Fault(argument, f"its value is a number, {range_of(option)}")
 
 
 def read(arguments, others=()):
@@ -83,7 +86,7 @@ def read(arguments, others=()):
                 value = next(rest, None)
             if option.value and (value is None or (not equals and not is_file(value))):
                 raise Fault(argument, f"this option needs a value, {option.value}, behind it")
-            check_value(option, value)
+            check_value(option, value, argument if equals else f"{argument} {value}")
             given[name] = value
     return given, files
 
@@ -113,18 +116,13 @@ def fault_of(arguments, others=()):
     return ""
 
 
-def with_files(arguments, change):
-    """Valid arguments, with each name of a file changed."""
-    changed, rest = [], iter(arguments)
-    for argument in rest:
-        name, equals, value = argument.partition("=")
-        option = OPTIONS.get(name)
-        if argument == "--":
-            changed += [argument, *map(change, rest)]
-        elif is_file(argument):
-            changed.append(change(argument))
-        elif option.value == "FILE":
-            changed += [f"{name}={change(value)}"] if equals else [name, change(next(rest))]
-        else:
-            changed += [argument] if equals or not option.value else [argument, next(rest)]
-    return changed
+def spelled(given, files):
+    """Arguments that give these options and files."""
+    return [*(f"{name}={value}" if OPTIONS[name].value else name for name, value in given.items()), *(["--", *files] if files else [])]
+
+
+def with_small_heap(given):
+    """The options with a heap that is made in a moment, or nothing where the heap that they give isn't larger."""
+    sizes = {it: min(SMALL[it], int(given.get(it, OPTIONS[it].default))) for it in SIZES}
+    is_larger = any(int(given.get(it, OPTIONS[it].default)) > SMALL[it] for it in SIZES)
+    return {**given, **sizes} if is_larger else None

@@ -52,10 +52,29 @@ def build_in(work, logs):
     os.replace(f"{built.RECORD}.new", built.RECORD)
 
 
-def closed():
-    """The folders that --build writes to and can't."""
-    folders = [it.folder for it in built.crates()]
+def closed(crates):
+    """The folders that a build of these crates writes to and can't."""
+    folders = [it.folder for it in crates]
     return [it for it in (ROOT, OUT, *folders, *(f"{it}/out" for it in folders)) if os.path.isdir(it) and not os.access(it, os.W_OK)]
+
+
+def worked(what, crates, work_in):
+    """Does work in a workplace, and ends the tool where it fails."""
+    for it in closed(crates):
+        checkout.stop(f"{it} can't be written, and {what} writes to out/ and crates/*/out: make it writable, or clone the repository to another place")
+    running.end_in_order()
+    try:
+        with workplace() as (work, logs):
+            return work_in(work, logs)
+    except proving.Failed as fault:
+        with open(fault.log, "rb") as log:
+            running.write(b"".join(log.read().splitlines(True)[-20:]))
+        return checkout.stop(f"{fault}, so nothing is built; {fault.log} has the whole of what rt said")
+    except OSError as error:
+        return checkout.stop(f"nothing is built: {error.filename}: {error.strerror}")
+    except KeyboardInterrupt:
+        tell(f"interrupted, so nothing is built; the next {what} goes on from what was proved")
+        return sys.exit(128 + signal.SIGINT)
 
 
 def build():
@@ -63,21 +82,7 @@ def build():
     if built.record().get("sources") == built.sources():
         tell(f"the program is built from these sources already: {built.PROGRAM}")
         return 0
-    for it in closed():
-        checkout.stop(f"{it} can't be written, and --build writes to out/ and crates/*/out: make it writable, or clone the repository to another place")
-    running.end_in_order()
     began = time.monotonic()
-    try:
-        with workplace() as (work, logs):
-            build_in(work, logs)
-    except proving.Failed as fault:
-        with open(fault.log, "rb") as log:
-            sys.stderr.buffer.write(b"".join(log.read().splitlines(True)[-20:]))
-        checkout.stop(f"{fault}, so nothing is built; {fault.log} has the whole of what rt said")
-    except OSError as error:
-        checkout.stop(f"nothing is built: {error.filename}: {error.strerror}")
-    except KeyboardInterrupt:
-        tell("interrupted, so nothing is built; the next --build goes on from what was proved")
-        return 128 + signal.SIGINT
+    worked("--build", built.crates(), build_in)
     tell(f"proved and built in {time.monotonic() - began:.0f} s: {built.PROGRAM}")
     return 0

@@ -50,7 +50,7 @@ def is_newer(program, below):
 def built():
     """The built program, the one of --build or a newer one of a gate, and whether it was built from the sources as they are."""
     said = record()
-    if said.get("sources") == sources():
+    if said and said["sources"] == sources():
         return PROGRAM, True
     made = os.path.getmtime(OTHER) if os.path.isfile(OTHER) and os.access(OTHER, os.X_OK) else 0
     if made > (os.path.getmtime(PROGRAM) if said else 0):

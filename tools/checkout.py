@@ -16,7 +16,9 @@ CANNOT = 125
 
 def tell(text):
     """One line of the tool that was called."""
-    print(f"tools/{os.path.basename(sys.argv[0])}: {text}", file=sys.stderr, flush=True)
+    if sys.stderr:
+        with contextlib.suppress(OSError):
+            print(f"tools/{os.path.basename(sys.argv[0])}: {text}", file=sys.stderr, flush=True)
 
 
 def stop(text):

@@ -9,7 +9,7 @@ import os
 import sys
 
 sys.dont_write_bytecode = True
-import counts
+import parsed
 
 
 class Draws:
@@ -64,17 +64,21 @@ def fnv(data):
     return found
 
 
+def put(folder, number):
+    os.makedirs(folder, exist_ok=True)
+    for name, text in texts(number):
+        with open(os.path.join(folder, name), "w", encoding="ascii") as file:
+            file.write(text)
+
+
 def main(words):
-    if words[:1] == ["--put"] and len(words) == 3:
-        [number] = counts.numbers(__doc__, words[2:], [0])
-        os.makedirs(words[1], exist_ok=True)
-        for name, text in texts(number):
-            with open(os.path.join(words[1], name), "w", encoding="ascii") as file:
-                file.write(text)
+    parser, given = parsed.read(__doc__, words, parsed.argument("numbers", nargs="+", type=parsed.number), parsed.argument("--put"))
+    if given.put is not None and len(given.numbers) != 1:
+        parser.error("--put takes a folder and one number")
+    if given.put is not None:
+        put(given.put, given.numbers[0])
         return
-    if not words:
-        counts.usage(__doc__, words)
-    for number in counts.numbers(__doc__, words, [0] * len(words)):
+    for number in given.numbers:
         print(number, fnv("".join(f"{name}\n{text}" for name, text in texts(number)).encode("ascii")))
 
 

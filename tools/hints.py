@@ -13,7 +13,7 @@ BEGIN = rf"(?:^|[;{{}}]){GAP}"
 NAMED = rf"{BEGIN}(?!(?:let|const|print|if|else|for|case|return)\b){NAME}\s*"
 FOR, IF_OR_FOR = r"(?<![.\w$])for\s*\(", r"(?<![.\w$])(?:if|for)\s*\("
 HEADER = rf"{FOR}\s*let\s+{NAME}\s*=\s*0\s*;\s*{NAME}\s*"
-DECLARED = r"\b(?:let|const)\s+"
+DECLARED = r"\b(?:let|const|var)\s+"
 NO_FUNCTIONS = "no functions: write the statements out; a prelude holds what scripts share"
 NO_STATEMENT = "a call alone is no statement: const x = .., or print(..)"
 NO_NUMBERS = "no string is read as a number: charCodeAt(i) - 48 is a digit's value"
@@ -22,9 +22,18 @@ MEMBER = r"[=(,:?]\s*\{(?:[^{}]*,)?\s*"
 NO_REGEXP = "no regular expressions: indexOf, startsWith, split, replaceAll"
 ARRAYS = "arrays have .length, an index and join: a for goes over one"
 
+# Methods of other languages, of other editions, or with another letter, and those that are there.
+NEAR_NAMES = {
+    "contains": "includes", "has": "includes", "trimLeft": "trimStart", "trimRight": "trimEnd", "padLeft": "padStart", "padRight": "padEnd", "startWith": "startsWith",
+    "endWith": "endsWith", "startswith": "startsWith", "endswith": "endsWith", "indexof": "indexOf", "lastIndexof": "lastIndexOf", "subString": "substring", "substringOf": "substring",
+    "charcodeAt": "charCodeAt", "charCodeat": "charCodeAt", "charat": "charAt", "codepointAt": "codePointAt", "replaceall": "replaceAll", "concatenate": "concat", "append": "concat",
+    "strip": "trim", "repeated": "repeat", "times": "repeat", "explode": "split", "implode": "join",
+}
+
 BAD_CHARACTER = [
     ("", r"`", "no template literals: 'a' + b"),
     ("", r"#!", "no first line for a shell"),
+    (r"\b(?:return|typeof|case|in|of)\s*", r"/", NO_REGEXP),
     ("", r"[*%]|/(?=\s*[\w(])(?<=[\w)\]]\s/)", "no * / %: numbers are added and subtracted"),
     (r"[\w)\]]\s*", r"/", "no * / %: numbers are added and subtracted"),
     ("", r"/", NO_REGEXP),
@@ -45,6 +54,10 @@ NOT_IN_PROFILE = [
     ("", r"(?:try|catch|finally|throw)\b", "no try and no throw: an error ends the script"),
     ("", r"(?:switch|case)\b", "no switch: if { .. } else if { .. }"),
     ("", r"var\b", "no var: let or const"),
+    ("", r"in\b", "no in: o[key] is undefined where o has no such key"),
+    ("", r"isNaN\b", "no isNaN: n !== n holds for NaN alone"),
+    ("", r"isFinite\b", "no isFinite: compare with Infinity and -Infinity"),
+    ("", r"(?:un)?escape\b", "no escape and no unescape: encodeURIComponent and decodeURIComponent"),
     ("", r"(?:typeof|instanceof|new|delete|void|this|super|debugger|with)\b", "this identifier is left out of the language"),
     ("", r"(?:import|export)\b", "no modules: --prelude FILE runs a script before the others"),
     (rf"{HEADER}<\s*", "", "a bound is a number: use one that is large enough, and test if (i < n) { .. } in the body"),
@@ -62,6 +75,7 @@ NOT_IN_PROFILE = [
     (r"\.\s*", r"(?:length|description)\b", "this is no call: a.length"),
     (r"\.\s*", r"toString\b", "String(value), or '' + value"),
     (r"\.\s*", r"(?:map|forEach|filter|reduce|push|pop|shift|sort|reverse|find\w*|some|every|fill|entries|keys|values)\b", ARRAYS),
+    *((r"\.\s*", rf"{other}\b", f"there is no such method; {name} is near") for other, name in NEAR_NAMES.items()),
     (r"\.\s*", "", "there is no such method"),
     ("", r"Math\b", "no Math: numbers are added, subtracted and compared"),
     ("", r"(?:Number|parseInt|parseFloat|BigInt)\b", NO_NUMBERS),
@@ -76,13 +90,19 @@ NOT_IN_PROFILE = [
 ]
 
 UNEXPECTED = [
+    (r"\bJSON\s*\.\s*stringify\s*\([^;]*", r",", "JSON.stringify has one argument: no replacer and no indent"),
+    (r"\bSymbol\s*", r"\(", "Symbol.for('key') makes a symbol"),
+    ("", r"(?:\|\||&&)=", "no ||= and no &&=: a = a || b"),
+    ("", r"\?\?=", "no ??=: an if that tests a === undefined || a === null"),
+    (rf"{BEGIN}{NAME}\s*", r":", "no labels: a flag that an if tests leaves a loop"),
+    (rf"{OPEN}\((?:[^()]|\([^()]*\))*", r",[^()]*\)\s*=>", NO_FUNCTIONS),
     ("", r"=>", NO_FUNCTIONS),
     ("", r"==(?!=)", "no ==: a === b"),
     ("", r"!=(?!=)", "no !=: a !== b"),
     ("", r"-=", "no -=: a = a - b"),
     ("", r"\.\.\.", "no ..., which spreads or collects"),
-    (r"\?", r"\.", "no ?.: a === undefined ? undefined : a.b"),
-    (r"\?", r"\?", "no ??: a === undefined ? b : a"),
+    (r"\?", r"\.", "no ?.: a === undefined || a === null ? undefined : a.b"),
+    (r"\?", r"\?", "no ??: a === undefined || a === null ? b : a"),
     (rf"{HEADER}<\s*", r"[0-9]", "a bound is at most 1000000; a for inside another goes further"),
     (HEADER, r"<=|>|[=!]==", "a for goes on while its name is less than a number: i < 10"),
     (rf"{FOR}\s*let\s+{NAME}\s*=\s*", "", "a for counts from 0"),
@@ -98,6 +118,7 @@ UNEXPECTED = [
     (NAMED, rf"\[|\.\s*{NAME}\s*=", NO_CHANGE),
     (NAMED, r"\(", "no functions: print is the one call that is a statement"),
     (NAMED, r"\.", NO_STATEMENT),
+    (rf"{OPEN}{NAME}\s*", r"\(", NO_FUNCTIONS),
     (BEGIN, r"['\"]use strict", "'use strict' comes first, and once"),
     (BEGIN, r"['\"0-9(!\[+\-]", "an expression alone is no statement: const x = .., or print(..)"),
     (DECLARED, r"[{\[]", "a declaration names one binding: const first = a[0];"),
@@ -106,6 +127,7 @@ UNEXPECTED = [
     (OPEN, r"\[", "no array literals: 'a,b'.split(',')"),
     (rf"[{{,]\s*(?:{NAME}|'[^']*'|\"[^\"]*\")\s*", r"[,}]", "a member has a value: { key: key }"),
     (r",\s*", r"[)\]}]", "no comma behind the last"),
+    (r"(?:[=(\[,:?+\-<>|&!]|\breturn)\s*\((?:[^()]|\([^()]*\))*", r",", "no comma between two expressions: one is enough"),
     (rf"(?:{OPEN}|\()", r"\+", f"no unary +, and {NO_NUMBERS}"),
     (r"[\w$)\]'\"]\s*", r"\}", "each statement ends with ;"),
     (r"[^=!<>]", r"=(?!=)", "an assignment is a statement of its own"),
@@ -134,18 +156,29 @@ LITERALS = [
     ("too deep", "", "at most 200 are open at one place"),
 ]
 
+INHERITED = r"(?:constructor|hasOwnProperty|isPrototypeOf|propertyIsEnumerable|toLocaleString|toString|valueOf|__\w+__)\b"
+OF_ARRAYS = "left out on an array: join it first"
 UNSUPPORTED = [
-    (r"(?:at|concat|includes|indexOf|lastIndexOf|slice)\b", f"left out on an array: join it first; and {NO_NUMBERS}"),
-    (r"Object\b", "Object.keys takes an object"),
-    (r"String\b", NO_NUMBERS),
-    (r"[=!]==", "two arrays, and two objects, aren't compared: join them, or compare their members"),
-    (r"[<>]", "a string is compared with a string alone"),
-    (r"\+", "a sum is at most 9007199254740991 away from 0"),
-    (r"-", f"{NO_NUMBERS}; and a difference is at most 9007199254740991 away from 0"),
-    (r"\[", "an index is a number where there is no object, and what every object inherits is left out"),
-    (r"\{", "an object nests at most 200 deep, and holds at most 65536 members"),
-    (r"\w+\s*\(", NO_NUMBERS),
-    (r"\w", "only objects have members, and what every object inherits is left out"),
+    ("", r"(?:at|slice)\s*\(\s*['\"]", NO_NUMBERS),
+    ("", r"(?:at|slice)\s*\((?!\s*-?[0-9)])", f"{OF_ARRAYS}. Of a string: {NO_NUMBERS}"),
+    ("", r"(?:includes|indexOf|lastIndexOf)\s*\([^(),]*,", f"{OF_ARRAYS}. Of a string: {NO_NUMBERS}"),
+    ("", r"(?:at|concat|includes|indexOf|lastIndexOf|slice)\b", OF_ARRAYS),
+    ("", r"Object\b", "Object.keys takes an object"),
+    ("", r"String\b", NO_NUMBERS),
+    ("", r"[=!]==", "two arrays, and two objects, aren't compared: join them, or compare their members"),
+    ("", r"[<>]", "a string is compared with a string alone"),
+    ("", r"\+", "a sum is at most 9007199254740991 away from 0"),
+    (r"['\"]\s*", r"-", NO_NUMBERS),
+    ("", r"-\s*['\"]", NO_NUMBERS),
+    (r"[0-9]{16}\s*", r"-", "a difference is at most 9007199254740991 away from 0"),
+    ("", r"-\s*[0-9]{16}", "a difference is at most 9007199254740991 away from 0"),
+    (rf"(?:[=(\[,:?+\-<>|&!]|\breturn)\s*", r"-", NO_NUMBERS),
+    ("", r"-", f"{NO_NUMBERS}. Of two numbers: a difference is at most 9007199254740991 away from 0"),
+    ("", r"\[", "an index is a number where there is no object, and what every object inherits is left out"),
+    ("", r"\{", "an object nests at most 200 deep, and holds at most 65536 members"),
+    ("", r"\w+\s*\(", NO_NUMBERS),
+    ("", INHERITED, "what every object inherits is left out"),
+    ("", r"\w", "only objects have members"),
 ]
 
 HINTS = [
@@ -153,7 +186,7 @@ HINTS = [
     *(Hint("not in profile", *it) for it in NOT_IN_PROFILE),
     *(Hint("unexpected", *it) for it in UNEXPECTED),
     *(Hint(words, "", after, advice) for words, after, advice in LITERALS),
-    *(Hint("unsupported", "", *it) for it in UNSUPPORTED),
+    *(Hint("unsupported", *it) for it in UNSUPPORTED),
 ]
 # A hint is sought in so many characters before the place.
 NEAR = 400

@@ -7,6 +7,7 @@ it.
 import contextlib
 import os
 
+import answers
 import built
 import checkout
 import pages
@@ -14,8 +15,8 @@ import pages
 TOOLS = os.path.join(checkout.ROOT, "tools")
 SHARE = os.path.join("share", "jsstr")
 LIST = os.path.join(SHARE, "installed")
-# The parts of jsstr-where, which it looks for in PREFIX/share/jsstr.
-PARTS = ("checking.py", "hints.py", "methods.py", "reading.py", "running.py", "where.py")
+# The parts of the wrapper and of jsstr-where, which they look for in PREFIX/share/jsstr.
+PARTS = ("arguments.py", "checking.py", "explaining.py", "faults.py", "hints.py", "inputs.py", "methods.py", "naming.py", "reading.py", "running.py", "trial.py", "where.py")
 # The player of schedules, where `rt run` has built it from its sources as they are.
 PLAYER = os.path.join(checkout.crate("jssched"), "out", "jssched")
 
@@ -29,16 +30,20 @@ def has_player():
     return os.access(PLAYER, os.X_OK) and built.is_newer(PLAYER, built.crates("jssched"))
 
 
-def program_files(record):
-    """Each file of the program by its path below the prefix: its bytes, and whether it is run."""
+def program_files(record, others=()):
+    """Each file of the program by its path below the prefix: its bytes, and whether it is run. `others` are the man pages beside its own."""
     version = checkout.version()
+    others = (*others, *(["jssched.1"] if has_player() else []))
     files = {
-        "bin/jsstr": (read(built.PROGRAM), True),
+        "bin/jsstr": (read(TOOLS, "jsstr-installed"), True),
         "bin/jsstr-where": (read(TOOLS, "jsstr-where"), True),
+        "libexec/jsstr/jsstr": (read(built.PROGRAM), True),
+        f"{SHARE}/help": (answers.program_help().encode(), False),
         f"{SHARE}/jsstr.proved": (checkout.spelled(record).encode(), False),
         f"{SHARE}/VERSION": (f"{version}\n".encode(), False),
         **{f"{SHARE}/{it}": (read(TOOLS, it), False) for it in PARTS},
-        "share/man/man1/jsstr.1": (pages.jsstr_page(version).encode(), False),
+        "share/man/man1/jsstr.1": (pages.jsstr_page(version, others).encode(), False),
+        "share/man/man7/jsstr-language.7": (pages.language_page(version).encode(), False),
         "share/man/man1/jsstr-where.1": (pages.where_page(version).encode(), False),
         "share/bash-completion/completions/jsstr": (pages.bash().encode(), False),
         "share/zsh/site-functions/_jsstr": (pages.zsh().encode(), False),
@@ -97,10 +102,10 @@ def headers():
     return {it: read(checkout.ROOT, "include", it) for it in ("jsstr.h", "jsstr.hpp")}
 
 
-def library_files(archive, record):
+def library_files(archive, record, others=()):
     """Each file of the library, in the same form."""
     version, said = checkout.version(), headers()
-    page = pages.library_page(version, *(it.decode() for it in said.values()))
+    page = pages.library_page(version, *(it.decode() for it in said.values()), others)
     return {
         **{f"include/{it}": (data, False) for it, data in said.items()},
         "lib/libjsstr.a": (archive, False),
@@ -155,10 +160,16 @@ def put(prefix, files):
             os.remove(path)
 
 
+def pages_there(prefix, *names):
+    """Those of these man pages that were put below the prefix before."""
+    there = {os.path.basename(it) for it in listed(prefix)}
+    return [it for it in names if it in there]
+
+
 def checked(prefix):
     """The whole path of a prefix, which holds bin/ and is none."""
-    if not prefix or prefix.startswith("--"):
-        checkout.stop("name the folder below which bin/, share/ and the others are, as in tools/jsstr --install ~/.local")
+    if not prefix or prefix.startswith("-"):
+        checkout.stop("name the folder below which bin/, share/ and the others are, as in tools/jsstr --install ~/.local; one that begins with - as ./-x")
     path = os.path.abspath(prefix)
     if os.path.basename(path) == "bin":
         checkout.stop(f"name the folder above bin: tools/jsstr --install {os.path.dirname(path)} puts the program into {path}")
@@ -173,7 +184,7 @@ def install(prefix):
         checkout.stop("there is no program of --build to install: run tools/jsstr --build first")
     if record["sources"] != built.sources():
         checkout.tell("the sources have changed since the program was built; it is installed as it is, and tools/jsstr --build builds it anew")
-    files = program_files(record)
+    files = program_files(record, pages_there(prefix, "jsstr.3"))
     put(prefix, files)
     checkout.tell(f"installed {', '.join(os.path.join(prefix, it) for it in files if it.startswith('bin/'))}, with man pages and completions below {os.path.join(prefix, 'share')}")
     return 0

@@ -42,18 +42,18 @@ def archive():
         return installing.read(room, "libjsstr.a")
 
 
-def files():
-    """Each file of the library, by its path below a prefix, once it is proved and built."""
+def files(others=()):
+    """Each file of the library, by its path below a prefix, once it is proved and built. `others` are the man pages beside its own."""
     prove()
     whole = archive()
     sums = {"sha256": built.sum_of_bytes(whole), **{f"sha256 of {it}": built.sum_of_bytes(data) for it, data in installing.headers().items()}}
-    return installing.library_files(whole, {**checkout.identity(), **sums})
+    return installing.library_files(whole, {**checkout.identity(), **sums}, others)
 
 
 def install(prefix):
     """Proves the library, puts it below the prefix, and answers the prefix's whole path."""
     prefix = installing.checked(prefix)
-    put = files()
+    put = files(installing.pages_there(prefix, "jsstr.1"))
     installing.put(prefix, put)
     checkout.tell(f"installed below {prefix}: {', '.join(put)}")
     return prefix

@@ -1,15 +1,20 @@
-"""Man pages, and completions for shells, made from the tables of the options and from include/jsstr.h."""
+"""Man pages, and completions for shells, made from the tables of the options, from include/jsstr.h and from docs/LANGUAGE.md."""
 
+import os
 import re
 
 import answers
 import arguments
+import checkout
+import manual
+from manual import roff
 
 WHERE_CALLS = {
     "jsstr-where COMMAND ARG..": "Runs a command, such as jsstr a.js, explains its standard error, and ends with its status.",
     "jsstr-where": "Reads lines of the program from standard input, and writes them explained: jsstr a.js 2>&1 >a.out | jsstr-where",
-    "jsstr-where --check [--prelude FILE] FILE..": "Says of each file whether it is a script, and runs nothing. Ends with 0, with 4 where one is none, and with 3 where one can't be read.",
+    "jsstr-where --check [--prelude FILE] FILE..": "Says of each file whether it is a script, and runs nothing. Ends with 0, with 4 where one is none, with 3 where one can't be read, and with 1 where a name has no declaration.",
 }
+LANGUAGE_NOTES = "USAGE is docs/USAGE.md of the repository, and demo/ is there too; neither is installed. jsstr(1) has what USAGE says of a call."
 SCHED_STATUSES = {
     "0": "all steps were played",
     "1": "a step is not enabled: LINE: not enabled",
@@ -19,12 +24,6 @@ SCHED_STATUSES = {
     "6": "out of memory",
     "7": "a write failed",
 }
-
-
-def roff(text):
-    """Text with what roff would read as a request or an escape written out."""
-    plain = text.replace("\\", r"\e").replace("-", r"\-")
-    return re.sub(r"(?m)^(?=[.'])", r"\\&", plain)
 
 
 def rows(table):
@@ -41,39 +40,55 @@ def synopsis(lines):
     return "\n.br\n".join(f".B {roff(it)}" for it in lines)
 
 
-def jsstr_page(version):
+def see_also(*names):
+    """The section on other pages, such as jsstr.3."""
+    return "SEE ALSO", ",\n".join(f".BR {roff(name)} ({section})" for name, _, section in (it.rpartition(".") for it in names))
+
+
+def jsstr_page(version, others):
+    """The page of the program; `others` are the pages that are there beside it, such as jssched.1."""
     about = (
         "Each FILE is a script in a small part of strict JavaScript, which sees nothing of the others. Scripts run side by side over one heap of strings. "
         "Their lines come on standard output in the order of the files, and on standard error one line for each file that doesn't run to its end."
     )
     ends = (
         "FILE: uncaught KIND; FILE: unsupported at OFFSET; FILE: cannot be read; FILE: larger than 1048576 bytes; FILE:OFFSET: refused: WORDS; "
-        "FILE: heap full: ids, words or slots; FILE: out of memory. OFFSET is a byte offset from 0. jsstr-where(1) gives the line and column."
+        "FILE: heap full: ids, words or slots; FILE: out of memory. OFFSET is a byte offset from 0. Where standard error is a terminal, the line and column are given in its place, "
+        "with what to write or to try instead; jsstr-where(1) does so elsewhere."
     )
     full = "Give the heap more of what the line names, by --ids, --heap-words or --slots: twice as much, until the line is gone."
+    program = "The command is a small wrapper, which needs Python 3.8, of the program PREFIX/libexec/jsstr/jsstr, which needs nothing; that one has no --help and no --version."
     statuses = {number: said for number, said in answers.STATUSES.items() if len(number) == 1}
     return page("jsstr", 1, version, "runs scripts over one heap of strings", [
         ("SYNOPSIS", synopsis(answers.SYNTAX)),
         ("DESCRIPTION", roff(about)),
-        ("OPTIONS", rows(answers.options()) + f".PP\n{roff(answers.MEMORY)} There are no short options, and no \\-\\-help: tools/jsstr \\-\\-help of a checkout says the same."),
+        ("OPTIONS", rows(answers.options()) + rows({"--help": "these options", "--version": "the version, and what the program was built from"}) + f".PP\n{roff(answers.MEMORY)} There are no short options but \\-h."),
         ("EXIT STATUS", rows(statuses)),
         ("DIAGNOSTICS", f"{roff(ends)}\n.PP\n{roff(full)}"),
-        ("ENVIRONMENT", "None is read. With GLIBC_TUNABLES=glibc.malloc.hugetlb=1 the C library asks for large pages, in which a large heap is made faster."),
-        ("EXAMPLES", ".nf\njsstr a.js\njsstr \\-\\-prelude shared.js \\-\\-jobs 8 a.js b.js\njsstr\\-where jsstr a.js\n.fi"),
-        ("SEE ALSO", ".BR jsstr\\-where (1),\n.BR jssched (1),\n.BR jsstr (3)"),
+        ("FILES", roff(program)),
+        ("ENVIRONMENT", "With GLIBC_TUNABLES=glibc.malloc.hugetlb=1 the C library makes a large heap faster, in large pages; the wrapper sets it where nothing else is set."),
+        ("EXAMPLES", ".nf\njsstr a.js\njsstr \\-\\-prelude shared.js \\-\\-jobs 8 a.js b.js\njsstr /dev/stdin <a.js\njsstr\\-where jsstr a.js\n.fi"),
+        see_also("jsstr-where.1", "jsstr-language.7", *others),
     ])
+
+
+def language_page(version):
+    """The page of the language: docs/LANGUAGE.md."""
+    with open(os.path.join(checkout.ROOT, "docs", "LANGUAGE.md"), encoding="utf-8") as text:
+        return manual.page("jsstr-language", 7, version, "the language of the scripts that jsstr runs", text.read(), LANGUAGE_NOTES)
 
 
 def where_page(version):
     about = (
         "For each line with a byte offset it writes FILE:LINE:COLUMN, the source line with a mark below the place, and what to write in place of what the language leaves out. "
+        "For a script that threw it runs jsstr once more, and says which statement did. "
         "Lines and columns count from 1, columns in characters. A line ends at a line feed, a carriage return, both, U+2028 or U+2029. All other lines are written as they are."
     )
     return page("jsstr-where", 1, version, "explains the places that jsstr reports", [
         ("SYNOPSIS", synopsis(WHERE_CALLS)),
         ("DESCRIPTION", f"{roff(about)}\n{rows(WHERE_CALLS)}"),
         ("EXIT STATUS", "That of the command, or as told above; 125 where the tool itself can't go on."),
-        ("SEE ALSO", ".BR jsstr (1)"),
+        see_also("jsstr.1", "jsstr-language.7"),
     ])
 
 
@@ -86,7 +101,7 @@ def sched_page(version):
         ("SYNOPSIS", synopsis(["jssched FILE"])),
         ("DESCRIPTION", roff(about)),
         ("EXIT STATUS", rows(SCHED_STATUSES)),
-        ("SEE ALSO", ".BR jsstr (1)"),
+        see_also("jsstr.1"),
     ])
 
 
@@ -113,7 +128,7 @@ def said_first(wrapper):
         yield f".PP\n.nf\n{roff(it)}\n.fi" if it.startswith("    ") else f".PP\n{roff(it)}"
 
 
-def library_page(version, header, wrapper):
+def library_page(version, header, wrapper, others=()):
     """The page of the library: what include/jsstr.h says, without the guards of C and C++, and the head of include/jsstr.hpp."""
     plain = re.sub(r"(?m)^#(?:ifndef|if|endif|ifdef|include).*\n(?:extern \"C\" \{\n|\}\n)?", "", header)
     plain = re.sub(r"(?m)^#define JSSTR_H\n", "", plain)
@@ -121,7 +136,7 @@ def library_page(version, header, wrapper):
         ("SYNOPSIS", ".nf\n#include <jsstr.h>\ncc $(pkg\\-config \\-\\-cflags jsstr) a.c $(pkg\\-config \\-\\-libs jsstr)\n.fi"),
         ("DESCRIPTION", "\n".join(described(plain))),
         ("C++", "\n".join(said_first(wrapper))),
-        ("SEE ALSO", ".BR jsstr (1)"),
+        *([see_also(*others)] if others else []),
     ])
 
 
@@ -132,7 +147,7 @@ def quoted(text):
 
 
 def bash():
-    names = " ".join(arguments.OPTIONS)
+    names = " ".join([*arguments.OPTIONS, "--help", "--version"])
     valued = "|".join(it.name for it in arguments.OPTIONS.values() if it.value and it.value != "FILE")
     return (
         "# Completes the arguments of jsstr.\n"
@@ -154,9 +169,9 @@ def bash():
 def zsh():
     what = {"FILE": "FILE:_files", "L": "L:(32 64)", "N": "N:"}
     lines = [f"  '{it.name}{'=' if it.value else ''}[{quoted(it.about)}]{':' + what[it.value] if it.value else ''}' \\" for it in arguments.OPTIONS.values()]
-    return "#compdef jsstr\n_arguments \\\n" + "\n".join(lines) + "\n  '*:FILE:_files'\n"
+    return "#compdef jsstr\n_arguments \\\n" + "\n".join(lines) + "\n  '(- *)--help[the options]' \\\n  '(- *)--version[the version]' \\\n  '*:FILE:_files'\n"
 
 
 def fish():
     how = {"FILE": " -r", "L": " -x -a '32 64'", "N": " -x", None: ""}
-    return "".join(f"complete -c jsstr -l {it.name[2:]}{how[it.value]} -d '{quoted(it.about)}'\n" for it in arguments.OPTIONS.values())
+    return "".join(f"complete -c jsstr -l {it.name[2:]}{how[it.value]} -d '{quoted(it.about)}'\n" for it in arguments.OPTIONS.values()) + "complete -c jsstr -l help -d 'the options'\ncomplete -c jsstr -l version -d 'the version'\n"

@@ -11,15 +11,16 @@ import json
 import os
 import re
 import subprocess
-import sys
 import tempfile
 
+import building
 import built
 import checkout
 import hints
+import proving
 import stated_times
 
-CRATE, PAGE, DEMO = checkout.crate("jsstr_web"), os.path.join(checkout.ROOT, "tools", "page"), os.path.join(checkout.ROOT, "demo")
+PAGE, DEMO = os.path.join(checkout.ROOT, "tools", "page"), os.path.join(checkout.ROOT, "demo")
 EXPORT, MODULE = "jsstr_web_run", "module.bc"
 LAYOUT = "e-m:e-p:64:64-p10:8:8-p20:8:8-i64:64-i128:128-n32:64-S128-ni:1:10:20"
 TARGET = "wasm64-unknown-unknown"
@@ -59,14 +60,18 @@ def links(kit, at, kept):
 
 def proved_module(kit, room):
     """Proves the crate with those below it, and answers the path of its module."""
-    kept, library = os.path.join(room, MODULE), os.path.join(CRATE, "out", "libjsstr_web.a")
+    kept = os.path.join(room, MODULE)
     links(kit, os.path.join(room, "kit"), kept)
-    # (a library that is there isn't compiled again)
-    if os.path.exists(library):
-        os.remove(library)
-    checkout.tell(f"proving crates/jsstr_web and the crates below it; from nothing that takes about as long as --build, {stated_times.stated('--build')}")
-    if subprocess.call([os.path.join(room, "kit", "bin", "rt"), "lib", "--jobs", "1"], cwd=CRATE, stdout=sys.stderr) or not os.path.exists(kept):
-        checkout.stop("crates/jsstr_web isn't proved, as rt says above, so no page is made")
+
+    def prove(work, logs):
+        build = proving.Build(checkout.ROOT, "jsstr_web", work, logs, checkout.tell)
+        checkout.tell(f"proving {len(build.crates)} crates, at most {build.processors} at a time, with logs in {logs}; from nothing that takes about as long as --build, {stated_times.stated('--build')}")
+        build.copy()
+        build.prove([os.path.join(room, "kit", "bin", "rt"), "lib"])
+
+    building.worked("--page", built.crates("jsstr_web"), prove)
+    if not os.path.exists(kept):
+        checkout.stop(f"the module of crates/jsstr_web wasn't kept, so no page is made; {os.path.join(checkout.OUT, 'build', 'jsstr_web.log')} has what rt said")
     return kept
 
 

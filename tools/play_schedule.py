@@ -12,6 +12,9 @@ import re
 import sys
 import typing
 
+sys.dont_write_bytecode = True
+import parsed
+
 MAX = 536870888
 MOST_BYTES, MOST_WORDS, MOST_AGENTS = 1 << 20, 16384, 64
 FIELD = (1 << 29) - 1
@@ -619,6 +622,9 @@ def outcome_of(text):
 
 
 def main():
+    if sys.argv[1:] in (["--help"], ["-h"]):
+        print(parsed.folded(__doc__))
+        return 0
     status, out, err = outcome(sys.argv[1:])
     for file, text in ((1, out), (2, err)):
         rest = os.fsencode(text)

@@ -156,6 +156,8 @@ class Build:
         weigh(self.crates)
         self.processors, self.memory = len(os.sched_getaffinity(0)), 0.85 * available()
         self.running, self.proved, self.began, self.told = [], set(), time.monotonic(), time.monotonic()
+        # What proves the last crate, if it isn't `rt run`.
+        self.last = None
 
     def copy(self):
         """Copies the sources, so that a file which is edited meanwhile changes nothing, and returns their sum."""
@@ -178,6 +180,17 @@ class Build:
                 end(check.process)
             self.give_back(is_well)
         return program
+
+    def prove(self, command):
+        """Proves the copied sources, the last crate by this command."""
+        self.last, is_well = command, False
+        try:
+            self.prove_all([])
+            is_well = True
+        finally:
+            for check in self.running:
+                end(check.process)
+            self.give_back(is_well)
 
     def source(self, name):
         return os.path.join(self.work, "sources", name)
@@ -230,10 +243,11 @@ class Build:
         copied(os.path.join(crate.folder, "out/incremental"), os.path.join(self.place(crate.name), "out/incremental"), by=link_proofs)
         with open(os.path.join(root, "crates.txt"), "w", encoding="utf-8") as text:
             text.writelines(self.lines[name][0] for name in (*crate.below, crate.name))
-        words = ["rt", "run", "--jobs", str(jobs), "--", *arguments] if is_top else ["rt", "lib", "--jobs", str(jobs)]
+        last = [*self.last, "--jobs", str(jobs)] if self.last else ["rt", "run", "--jobs", str(jobs), "--", *arguments]
+        words = last if is_top else ["rt", "lib", "--jobs", str(jobs)]
         with open(self.log(crate.name), "wb") as log, open(os.path.join(self.work, "printed"), "wb") as printed:
             how = {"cwd": self.place(crate.name), "stdin": subprocess.DEVNULL, "stderr": log, "start_new_session": True}
-            self.running.append(Check(crate, jobs, subprocess.Popen(words, stdout=printed if is_top else log, **how)))
+            self.running.append(Check(crate, jobs, subprocess.Popen(words, stdout=printed if is_top and not self.last else log, **how)))
 
     def look(self):
         """Notes the checks that have ended."""

@@ -158,6 +158,15 @@ def tokens(text):
         at = end
 
 
+def end_of_last(text):
+    """Where the last token of a text ends; where the text ends, if it has a fault of its tokens or none at all."""
+    try:
+        found = tokens(text)
+    except Refused:
+        return len(text)
+    return found[-1].at + len(found[-1].spelling) if found else len(text)
+
+
 def is_name(token):
     return token.kind == "word" and token.spelling not in NO_NAMES
 
@@ -402,28 +411,34 @@ def check_names(found, outer):
 
 # ---- The whole
 
+def refusal(text, has_print=True, outer=frozenset()):
+    """None where the text is a script, else its fault."""
+    try:
+        found = tokens(text)
+        check_grammar(found, len(text), has_print)
+        check_names(found, outer)
+    except Refused as refused:
+        return refused
+    return None
+
+
 def fault_of(data, has_print=True, outer=frozenset()):
     """None where the bytes are a script, else what is reported of them and the offset."""
     try:
         text = data.decode("utf-8")
     except UnicodeDecodeError as fault:
         return "not utf-8", fault.start
-    try:
-        found = tokens(text)
-        check_grammar(found, len(text), has_print)
-        check_names(found, outer)
-    except Refused as refused:
-        return refused.words, len(text[:refused.at].encode("utf-8"))
-    return None
+    refused = refusal(text, has_print, outer)
+    return (refused.words, len(text[:refused.at].encode("utf-8"))) if refused else None
 
 
 def declared_at_top(data):
-    """The names that a script declares at its top."""
-    found, open_ones, names = tokens(data.decode("utf-8")), 0, set()
+    """The names that a script declares at its top, each with whether it is a const."""
+    found, open_ones, names = tokens(data.decode("utf-8")), 0, {}
     for before, token in zip(found, found[1:]):
         open_ones += {"{": 1, "(": 1, "}": -1, ")": -1}.get(before.spelling, 0)
         if before.spelling in ("let", "const") and token.kind == "word" and open_ones == 0:
-            names.add(token.spelling)
+            names[token.spelling] = before.spelling == "const"
     return names
 
 

@@ -9,12 +9,14 @@ import shutil
 import subprocess
 import tarfile
 
+import arguments
 import pages
 from test_house import REPOSITORY, check, read
 
-PROGRAM = ["bin/jsstr", "bin/jsstr-where", "share/bash-completion/completions/jsstr", "share/fish/vendor_completions.d/jsstr.fish"]
-PROGRAM += [f"share/jsstr/{it}" for it in ("VERSION", "checking.py", "hints.py", "installed", "jsstr.proved", "methods.py", "reading.py", "running.py", "where.py")]
-PROGRAM += ["share/man/man1/jsstr-where.1", "share/man/man1/jsstr.1", "share/zsh/site-functions/_jsstr"]
+PROGRAM = ["bin/jsstr", "bin/jsstr-where", "libexec/jsstr/jsstr", "share/jsstr/help", "share/man/man7/jsstr-language.7", "share/bash-completion/completions/jsstr", "share/fish/vendor_completions.d/jsstr.fish"]
+PARTS = ["arguments", "checking", "explaining", "faults", "hints", "inputs", "methods", "naming", "reading", "running", "trial", "where"]
+PROGRAM += [f"share/jsstr/{it}" for it in ("VERSION", "installed", "jsstr.proved", *(f"{it}.py" for it in PARTS))]
+PROGRAM = sorted([*PROGRAM, "share/man/man1/jsstr-where.1", "share/man/man1/jsstr.1", "share/zsh/site-functions/_jsstr"])
 HEADERS = ["include/jsstr.h", "include/jsstr.hpp"]
 LIBRARY = [*HEADERS, "lib/cmake/jsstr/jsstrConfig.cmake", "lib/cmake/jsstr/jsstrConfigVersion.cmake", "lib/libjsstr.a", "lib/pkgconfig/jsstr.pc", "share/jsstr/library.proved", "share/man/man3/jsstr.3"]
 
@@ -39,8 +41,8 @@ def installs(house):
     said = said_in(f"{to}/share/jsstr/jsstr.proved")
     wanted = (read(REPOSITORY, "VERSION").strip(), house.git("rev-parse", "HEAD"), "clean", "rattle-kit-0", "0123")
     check("the record names what the program was built from", tuple(said[it] for it in ("version", "commit", "tree", "kit", "logic")) == wanted, str(said))
-    check("and the program's sum", said["sha256"] == sum_of(f"{to}/bin/jsstr") and said["date"].endswith("Z"), str(said))
-    check("the program runs", subprocess.run([f"{to}/bin/jsstr", "x"], capture_output=True, text=True).stdout == "built x\n")
+    check("and the program's sum", said["sha256"] == sum_of(f"{to}/libexec/jsstr/jsstr") and said["date"].endswith("Z"), str(said))
+    installed_command(house, to)
     ran = subprocess.run([f"{to}/bin/jsstr-where", "--check", "a b.js"], cwd=house.root, capture_output=True, text=True)
     check("and jsstr-where without the checkout's parts", (ran.returncode, ran.stderr) == (0, ""), ran.stderr)
     ran = subprocess.run([f"{to}/bin/jsstr-where", "--version"], capture_output=True, text=True)
@@ -53,8 +55,35 @@ def installs(house):
     check("where nothing is installed a line says so", (status, err.count("\n")) == (125, 1), err)
 
 
+def installed_command(house, to):
+    """The installed command answers for itself, and else runs the program and ends with its status."""
+    def call(*words, **how):
+        ran = subprocess.run([f"{to}/bin/jsstr", *words], cwd=house.root, capture_output=True, text=True, **how)
+        return ran.returncode, ran.stdout, ran.stderr
+
+    check("the installed command runs the program", call("x") == (3, "built x\n", ""), str(call("x")))
+    status, out, err = call("--help")
+    check("it answers --help", (status, err) == (0, "") and all(it in out for it in (*arguments.OPTIONS, "jsstr-where", "man jsstr")) and "tools/" not in out, out + err)
+    check("and -h", call("-h") == (status, out, err))
+    status, out, err = call("--version")
+    check("and --version, with what the program was built from", (status, err) == (0, "") and out.startswith(f"jsstr {read(REPOSITORY, 'VERSION')}") and f"commit: {house.git('rev-parse', 'HEAD')}\n" in out, out + err)
+    status, out, err = call("--help", "x")
+    check("which are the program's to refuse beside others", (status, out) == (3, "built --help x\n") and err == "jsstr: '--help': there is no such option\n", out + err)
+    status, out, err = call("--jobs", "0", "x")
+    check("it says which argument is refused, as it was written", (status, err) == (3, "jsstr: '--jobs 0': its value is a number, 1 to 64\n"), err)
+    for number, part in ((7, "status 7"), (8, "status 8")):
+        status, _, err = call("x", env={**os.environ, "ENDS": str(number)})
+        check(f"status {number} gets a line", status == number and err.count("\n") == 1 and part in err, err)
+    env = {**os.environ, "ENDS": "7", "SAYS": "a b.js: unsupported at 5", "PATH": f"{to}/bin:{os.environ['PATH']}"}
+    ran = subprocess.run(["jsstr-where", "jsstr", "a b.js"], cwd=house.root, env=env, capture_output=True, text=True)
+    check("jsstr-where explains its lines once", ran.returncode == 7 and ran.stderr.count("status 7") == 1 and ran.stderr.startswith("a b.js:1:6: unsupported"), ran.stderr)
+    with open("/dev/full", "w", encoding="ascii") as full:
+        ran = subprocess.run([f"{to}/bin/jsstr", "--help"], stdout=full, stderr=subprocess.PIPE, check=False)
+    check("a help that can't be written ends with another status", (ran.returncode, ran.stderr) == (125, b""), str(ran))
+
+
 def refused_prefixes(house):
-    for prefix, part in (("out/x/bin", "the folder above bin"), ("a b.js", "no folder"), ("--help", "name the folder"), ("", "name the folder")):
+    for prefix, part in (("out/x/bin", "the folder above bin"), ("a b.js", "no folder"), ("-x", "./-x"), ("", "name the folder")):
         status, _, err = house.call("--install", prefix)
         check(f"the prefix {prefix!r} is refused", (status, err.count("\n")) == (125, 1) and part in err and not house.has("out/x"), err)
     os.makedirs(house.path_of("out/odd/bin/jsstr"))
@@ -83,7 +112,7 @@ def player(house):
 def another_program(house):
     with open(house.path_of("out/jsstr"), "a", encoding="utf-8") as text:
         text.write("# another\n")
-    check("a program that isn't the recorded one doesn't count as built", house.call("--install", "out/to")[0] == 125 and house.call("a b.js")[0] == 4)
+    check("a program that isn't the recorded one doesn't count as built", house.call("--install", "out/to")[0] == 125 and house.call("a b.js")[0] == 0)
 
 
 def make_kit(house):
@@ -172,6 +201,7 @@ def whole_page(house):
     check("the demos and the examples", data["samples"]["report"] == "apple\n" and "cons" in data["samples"] and len(data["hints"]) > 50, str(data["samples"].keys()))
     check("and what it was built from", (data["built"]["kit"], data["built"]["sha256 of the engine"]) == ("rattle-kit-0", hashlib.sha256(engine.encode()).hexdigest()), str(data["built"]))
     check("nothing is left to be filled in, and nothing is fetched", not re.search(r"@[A-Z]+[^@\n]*@|src=|https?:(?!//www\.w3\.org/2000/svg)", text.replace(engine, "")))
+    check("it says how far it is, and rt's own lines are in a log", " 1 of 1  jsstr_web" in err and house.has("out/build/jsstr_web.log") and all(it.startswith("tools/jsstr: ") for it in err.splitlines()), err)
     status, _, err = house.call("--page", "out/none/a.html")
     check("a file in no folder is refused", (status, err.count("\n")) == (125, 1), err)
     house.write("crates/jsstr_web/src/lib.rt", "// broken\n")
@@ -219,12 +249,16 @@ def releases(house):
 
 
 def man_pages(_house):
-    made = {"jsstr.1": pages.jsstr_page("1"), "jsstr-where.1": pages.where_page("1"), "jssched.1": pages.sched_page("1"), "jsstr.3": pages.library_page("1", *(read(REPOSITORY, it) for it in HEADERS))}
+    made = {"jsstr.1": pages.jsstr_page("1", []), "jsstr-where.1": pages.where_page("1"), "jssched.1": pages.sched_page("1"), "jsstr-language.7": pages.language_page("1"),
+            "jsstr.3": pages.library_page("1", *(read(REPOSITORY, it) for it in HEADERS))}
     for name, text in made.items():
-        check(f"{name} begins as a page does", text.startswith(".TH ") and "\n.SH NAME\n" in text and "\n.SH SYNOPSIS\n" in text)
+        check(f"{name} begins as a page does", text.startswith(".TH ") and "\n.SH NAME\n" in text and ("\n.SH SYNOPSIS\n" in text or name.endswith(".7")))
         if shutil.which("groff"):
             ran = subprocess.run(["groff", "-man", "-ww", "-z", "-Tutf8"], input=text, capture_output=True, text=True)
             check(f"{name} has no fault", ran.returncode == 0 and not ran.stderr, ran.stderr)
+    check("a page names others where they are there", ".BR jsstr (3)" not in made["jsstr.1"] and ".BR jsstr (3)" in pages.jsstr_page("1", ["jsstr.3"]) and "SEE ALSO" not in made["jsstr.3"])
+    language = re.sub(r"\\f.|\\(?=-)", "", made["jsstr-language.7"])
+    check("the page of the language has all of it", all(it in language for it in ("OPERATORS", "a === b, a !== b", "replaceAll(w, t)", "Number: left out")) and "](" not in language, language[:200])
     calls = re.findall(r"\b(jsstr_\w+)\(", read(REPOSITORY, "include/jsstr.h"))
     check("the library's page has each call", calls and all(it in made["jsstr.3"] for it in calls))
     check("and what C++ has", "jsstr::agent::make" in made["jsstr.3"] and "JSSTR_THROW" in made["jsstr.3"])

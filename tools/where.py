@@ -8,11 +8,11 @@ import re
 import unicodedata
 
 import hints
+import reading
 
 LINE_END = re.compile("\r\n|[\n\r\u2028\u2029]")
-REPORTED = re.compile(r"(.*)(?::(\d+): refused: (.+)|: unsupported at (\d+))")
-# How much of a long line is shown before the place and from it on.
-BEFORE, FROM = 60, 40
+# How much of a long line is shown before the place and from it on, and the mark where it is cut.
+BEFORE, FROM, CUT = 60, 40, "…"
 
 
 def split_at(data, offset):
@@ -41,18 +41,35 @@ def width(character):
 
 def marked(line, column):
     """The line, or a part of a long one, and below it a mark at the column."""
-    first = max(0, column - 1 - BEFORE)
-    part = "".join(map(shown, line[first:column - 1 + FROM]))
-    return f"    {part}\n    {' ' * sum(map(width, part[:column - 1 - first]))}^"
+    first, last = max(0, column - 1 - BEFORE), column - 1 + FROM
+    before, rest = "".join(map(shown, line[first:column - 1])), "".join(map(shown, line[column - 1:last]))
+    before = (CUT if first else "") + before
+    return f"    {before}{rest}{CUT if last < len(line) else ''}\n    {' ' * sum(map(width, before))}^"
+
+
+def placed(name, text, at, said):
+    """A line that names a place of a text and says something of it, and the source line with a mark at the place."""
+    line, column, source = place_of(text, at)
+    return f"{name}:{line}:{column}: {said}\n{marked(source, column)}"
+
+
+def told(words, advice):
+    """How a fault is shown behind its place."""
+    head = words if words == "unsupported" else f"refused: {words}"
+    return f"{head} ({advice})" if advice else head
+
+
+def shown_at(words, text, at):
+    """Where a fault is shown: behind the last token, where the file ends too early."""
+    if words == "unexpected" and at == len(text):
+        return reading.end_of_last(text)
+    return at
 
 
 def explained(name, offset, words, data):
     """What is said of a fault at an offset of a file."""
     text, at = split_at(data, offset)
-    line, column, source = place_of(text, at)
-    advice = hints.hint(words, text, at)
-    head = f"{name}:{line}:{column}: {words if words == 'unsupported' else f'refused: {words}'}"
-    return f"{head} ({advice})\n{marked(source, column)}" if advice else f"{head}\n{marked(source, column)}"
+    return placed(name, text, shown_at(words, text, at), told(words, hints.hint(words, text, at)))
 
 
 def contents(name):
@@ -64,19 +81,3 @@ def contents(name):
     except (OSError, ValueError):
         pass
     return None
-
-
-def with_places(line, find=contents):
-    """A line of the program, as explained where it reports a place in a file that can be read, else as it is."""
-    found = REPORTED.fullmatch(line)
-    data = find(found[1]) if found else None
-    offset = int(found[2] or found[4]) if found else 0
-    if data is None or offset > len(data):
-        return line
-    return explained(found[1], offset, found[3] or "unsupported", data)
-
-
-def all_with_places(said, find=contents):
-    """The same of all that the program wrote on standard error, as bytes."""
-    lines = said.decode("utf-8", "surrogateescape").split("\n")
-    return "\n".join(with_places(it, find) for it in lines).encode("utf-8", "surrogateescape")

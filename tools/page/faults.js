@@ -23,8 +23,8 @@ function saidOf(told) {
     case 0: return "Done.";
     case 1: return `Uncaught ${told.kind}.`;
     case 2: return "Unsupported: this value or operation is left out of the language.";
-    case 3: case 4: return `The heap is full: it has ${counted(told.end)} ${part}, ${counted(told.at)} are claimed, and ${counted(told.want)} more ${told.want == 1 ? "was" : "were"} wanted.`;
-    case 5: return `The heap is full: all ${counted(told.end)} ${part} are used.`;
+    case 3: case 4: return `The heap is full: it has ${counted(told.end)} ${part}, ${counted(told.at)} are claimed, and ${counted(told.want)} more ${told.want == 1 ? "was" : "were"} wanted. Give it more ${told.status == 3 ? "ids" : "words"}, in the field above.`;
+    case 5: return `The heap is full: all ${counted(told.end)} ${part} are used. Give it more slots, in the field above.`;
     case 6: return "Out of memory: this browser gives no memory for a heap of this size.";
     case 7: return `Refused: ${told.refusal}. Nothing ran.`;
     case 8: return "Refused: the script has more than 1,048,576 bytes. Nothing ran.";
@@ -33,9 +33,13 @@ function saidOf(told) {
   return `Status ${told.status}.`;
 }
 
-/** The box under the editor: how the run ended, and where the fault stands, if it has a place. */
-function endBox(told, bytes, hints) {
+/** The box under the editor: how the run ended, and where the fault is, if it has a place, or else the statement in which the run ended, if it is known. */
+function endBox(told, bytes, hints, statement) {
   const said = `<b>${escaped(saidOf(told))}</b>`;
+  if (told.status != 2 && told.status != 7 && told.status && statement) {
+    const {line, column} = placeOf(bytes, new TextEncoder().encode(new TextDecoder("utf-8", {ignoreBOM: true}).decode(bytes).slice(0, statement[0])).length);
+    return {html: `${said} In the statement at line ${line}, column ${column}, found by running fewer of them.`, place: {index: statement[0], end: statement[1]}};
+  }
   if (told.status != 2 && told.status != 7) return {html: said};
   const place = placeOf(bytes, told.at), text = new TextDecoder("utf-8", {ignoreBOM: true}).decode(bytes);
   // (a long line is shown around the place alone)
