@@ -178,7 +178,7 @@ def rewritten(script):
 
 
 def outcomes(runs):
-    """Of each run, which is a script, the prelude before it or None, and whether to tell what it interns: its outcome. Both have to be scripts."""
+    """The outcome of each run, which is a script, the prelude before it or None, and whether to list what it interns. Both have to be scripts."""
     sys.setrecursionlimit(100000)
     preludes, scripts = {}, []
     for script, prelude, interns in runs:

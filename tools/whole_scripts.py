@@ -19,7 +19,7 @@ import reading
 
 # How many scripts a call of the program has, and how many groups one process of node; which groups are on a heap of exactly what they need.
 IN_GROUP, IN_BATCH, EXACT = 64, 16, 20
-MOST_JOBS, PRELUDE = 16, "prelude.js"
+MOST_JOBS, PRELUDE, TRIES = 16, "prelude.js", 4
 # A batch that takes longer is given up.
 SECONDS = 1800
 
@@ -31,12 +31,12 @@ Compared = collections.namedtuple("Compared", "counts unlike seconds")
 
 
 class Group:
-    """Scripts of one call, with what they give once node has told it."""
+    """Scripts of one call behind a prelude or none, with what they give once node was asked."""
 
-    def __init__(self, seed, first, count):
+    def __init__(self, seed, first, count, prelude, known):
         self.name, rng = f"seed {seed}, scripts {first} to {first + count - 1}", random.Random(f"{seed} {first}")
         self.jobs, self.has_summary, self.is_exact = rng.randint(1, MOST_JOBS), rng.random() < 0.5, first // IN_GROUP % EXACT == EXACT - 1
-        self.prelude, known = made_scripts.prelude(f"{seed} {first} prelude") if rng.random() < 0.5 else (None, {})
+        self.prelude = prelude
         outer = reading.declared_at_top(self.prelude) if self.prelude else frozenset()
         self.texts, self.outcome, self.outcomes = [], None, []
         for number in range(first, first + count):
@@ -144,13 +144,27 @@ def batches(seed, first, count):
     return [(seed, max(first, at), min(end, at + size) - max(first, at)) for at in range(first // size * size, end, size)]
 
 
+def preludes(seed, firsts):
+    """The prelude of every second group, with its names: the first of a few that runs to its end, now and then one that needn't."""
+    made = {}
+    for first in firsts:
+        rng = random.Random(f"{seed} {first} prelude")
+        if rng.random() < 0.5:
+            made[first] = [made_scripts.prelude(f"{seed} {first} prelude {turn}") for turn in range(1 if rng.random() < 0.1 else TRIES)]
+    outcomes = iter(node_answers.outcomes([(data, None, False) for tries in made.values() for data, _ in tries]))
+    chosen = {first: [it for it, outcome in zip(tries, outcomes) if not outcome.ending] for first, tries in made.items()}
+    return {first: (chosen[first] or tries)[0] for first, tries in made.items()}
+
+
 def groups_of(seed, first, count):
     end = first + count
-    return [Group(seed, max(first, at), min(end, at + IN_GROUP) - max(first, at)) for at in range(first // IN_GROUP * IN_GROUP, end, IN_GROUP)]
+    firsts = [max(first, at) for at in range(first // IN_GROUP * IN_GROUP, end, IN_GROUP)]
+    behind = preludes(seed, firsts)
+    return [Group(seed, at, min(end, at - at % IN_GROUP + IN_GROUP) - at, *behind.get(at, (None, {}))) for at in firsts]
 
 
 def compare_batch(given):
-    """Makes a batch, has node tell what its scripts give, and compares the program with that."""
+    """Makes a batch, asks node what its scripts give, and compares the program with that."""
     program, *numbers = given
     began, counts, unlike = processor_time(), collections.Counter(), []
     groups = groups_of(*numbers)
@@ -166,7 +180,7 @@ def compare_batch(given):
 
 
 def compare(program, seed, first, count, at_once, tell):
-    """Compares the scripts of a seed from one number on, and answers how many differences there are; `tell` is for what is said on the way."""
+    """Compares the scripts of a seed from one number on, and answers how many differences there are; `tell` is for lines on the way."""
     began, told, unlike, seconds = time.monotonic(), collections.Counter(), 0, 0.0
     work = [(program, *it) for it in batches(seed, first, count)]
     with multiprocessing.Pool(at_once) as pool:
