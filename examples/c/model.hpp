@@ -139,20 +139,19 @@ struct Agent {
     if (no_ids) keep_ids(std::min(blocks.ids, heap->size.ids - heap->ids));
   }
 
-  // A new string, with an id above a number, of so many words, of what is reserved or else of the heap; before that, what is reserved is
-  // renewed as for a string of at most `most` words.
+  // A new string of so many words, with an id above a number. What is reserved is renewed before, as for a string of at most `most` words; the
+  // string takes what there is of it, and the rest of the heap. A refusal leaves what is reserved, and loses words that were claimed.
   Answer born(String made, uint32_t count, uint32_t most, int64_t above = -1) {
     renew(most);
-    jsstr_id id;
-    if (!ids.empty() && int64_t(ids.front()) > above && count <= words) {
-      id = ids.front();
-      ids.pop_front();
-      words -= count;
-    } else {
-      if (!heap->claims(count)) return heap->no_words(count);
-      if (heap->ids == heap->size.ids) return heap->no_ids();
-      id = heap->ids++;
-    }
+    bool has_words = count <= words, has_id = !ids.empty() && int64_t(ids.front()) > above;
+#ifdef ALL_OR_NOTHING
+    if (!has_words || !has_id) has_words = has_id = false;
+#endif
+    if (!has_words && !heap->claims(count)) return heap->no_words(count);
+    if (!has_id && heap->ids == heap->size.ids) return heap->no_ids();
+    jsstr_id id = has_id ? ids.front() : heap->ids++;
+    if (has_id) ids.pop_front();
+    if (has_words) words -= count;
     heap->strings[id] = std::move(made);
     return answers(id);
   }
