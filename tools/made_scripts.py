@@ -20,6 +20,7 @@ KINDS = ["text", "number", "truth", "list", "symbol"]
 ANY = KINDS * 3 + ["object"] * 2
 KEYS = ["a", "b", "k", "length", "class", "description", "at", "$", "let", "toString", "valueOf"]
 SPELLED_KEYS = ["'a'", "'b c'", "''", "'\\u{1F600}'", "'01'", "'-1'", "0", "1", "2", "10", "4294967294", "4294967295", "'4294967294'", "'1'", "'toString'"]
+SHORTEST = {"text": TEXTS, "number": NUMBERS, "truth": ["true", "false"], "list": ["'a,b,c'.split(',')"], "object": ["{}", "{ a: 1, b: 'x' }", "{ b: 'y', 2: 1, 0: 'z' }"]}
 # What is put into a text to damage it.
 PIECES = reading.MARKS + ["let", "const", "if", "else", "for", "print", "String", "Symbol", "JSON", "Object", "encodeURI", "decodeURIComponent", "var", "length", "keys", "__proto__", "a: 1", "{ a: 1 }", "at", "i", "a", "'", "\"", "\\", "0", "1.5", "'b'", "1000001",
                           "\n", "/*", "//", "#", "\u00e9", "'use strict'", "undefined", "eval"]
@@ -28,8 +29,8 @@ PIECES = reading.MARKS + ["let", "const", "if", "else", "for", "print", "String"
 class Maker:
     """Makes a script: the names that are there, innermost scope first, each with the kind of its value and whether it can be assigned."""
 
-    def __init__(self, rng):
-        self.rng, self.scopes, self.turns, self.fuel = rng, [{}], 1, 24
+    def __init__(self, rng, known=(), is_prelude=False):
+        self.rng, self.scopes, self.turns, self.fuel, self.is_prelude = rng, [dict(known)], 1, 24, is_prelude
 
     def one_of(self, *ways):
         return self.rng.choice(ways)()
@@ -41,15 +42,13 @@ class Maker:
 
     def value(self, kind, room):
         """An expression, mostly of this kind."""
-        if self.rng.random() < 0.012:
+        if self.rng.random() < (0.001 if self.is_prelude else 0.012):
             return self.rng.choice(ODD)
         name = self.known(kind)
         if name and self.rng.random() < 0.5:
             return name
         if room <= 0 or self.rng.random() < 0.35:
-            return {"text": lambda: self.rng.choice(TEXTS), "number": lambda: self.rng.choice(NUMBERS), "truth": lambda: self.rng.choice(["true", "false"]),
-                    "list": lambda: "'a,b,c'.split(',')", "object": lambda: self.rng.choice(["{}", "{ a: 1, b: 'x' }", "{ b: 'y', 2: 1, 0: 'z' }"]),
-                    "symbol": lambda: f"Symbol.for({self.rng.choice(TEXTS)})"}[kind]()
+            return f"Symbol.for({self.rng.choice(TEXTS)})" if kind == "symbol" else self.rng.choice(SHORTEST[kind])
         if self.rng.random() < 0.08:
             return f"({self.value(self.rng.choice(KINDS), room - 2)} ? {self.value(kind, room - 2)} : {self.value(kind, room - 2)})"
         return getattr(self, kind)(room - 1)
@@ -157,7 +156,7 @@ class Maker:
         return f"{name} += {self.rng.choice(TEXTS + NUMBERS + ['i', 'true'])};" if name else self.printed()
 
     def printed(self):
-        return f"print({', '.join(self.value(self.rng.choice(KINDS[:4]), 2) for _ in range(self.rng.randrange(1, 3)))});"
+        return self.declared("const") if self.is_prelude else f"print({', '.join(self.value(self.rng.choice(KINDS[:4]), 2) for _ in range(self.rng.randrange(1, 3)))});"
 
     def chosen(self, room):
         made = f"if ({self.value(self.rng.choice(['truth', 'truth', 'text', 'number']), 2)}) {self.block(room)}"
@@ -181,24 +180,49 @@ class Maker:
         return self.rng.choice(ways)()
 
 
+# What may lie between two tokens, by whether a line end may and whether nothing may.
+GAPS = {(fresh, close): [" "] * 6 + ["\t", "/* */", "\u00a0", "  "] + ["\n", "\r\n", "// '\n", "/*\n*/", "\u2028"] * fresh + [""] * (8 * close) for fresh in (False, True) for close in (False, True)}
+
+
+def is_close(before, token):
+    """Whether nothing has to lie between two tokens."""
+    if before.kind in ("word", "number") and token.kind in ("word", "number") or before.kind == token.kind == "mark" or before.kind == "number":
+        return False
+    return not (token.spelling[0] in ".0123456789" and before.spelling in (".", "?"))
+
+
 def relaid(text, rng):
     """The same tokens with other blanks and comments between them."""
-    made, before = "", None
+    made, before = [], None
     for token in reading.tokens(text):
-        close = before and (before.kind, token.kind) not in [(a, b) for a in ("word", "number") for b in ("word", "number")]
-        close = close and not (before.kind == token.kind == "mark" or (token.spelling[0] in ".0123456789" and before.spelling in (".", "?")) or before.kind == "number")
-        gaps = [" "] * 6 + ["\t", "/* */", "\u00a0", "  "] + ([] if token.spelling == "++" else ["\n", "\r\n", "// '\n", "/*\n*/", "\u2028"]) + ([""] * 8 if close else [])
-        made += rng.choice(gaps) + token.spelling if before else token.spelling
+        if before:
+            made.append(rng.choice(GAPS[token.spelling != "++", is_close(before, token)]))
+        made.append(token.spelling)
         before = token
-    return made + rng.choice(["", "\n", " // end"])
+    return "".join(made) + rng.choice(["", "\n", " // end"])
 
 
-def script(seed):
-    """A script: mostly one that is valid, now and then with a name declared twice or a loop's name assigned."""
-    rng = random.Random(seed)
-    maker = Maker(rng)
-    made = "'use strict'; " * (rng.random() < 0.2) + " ".join(maker.statements(3) for _ in range(rng.randrange(1, 4)))
+def spelled(made, rng):
+    """The script with blanks, comments and line ends, or as it was made."""
     return (relaid(made, rng) if rng.random() < 0.3 else re.sub("([;{}]) ", r"\1\n", made) if rng.random() < 0.5 else made).encode("utf-8")
+
+
+def script(seed, known=()):
+    """A script, behind a prelude that has known names: mostly one that is valid, now and then with a name declared twice or a loop's name
+    assigned."""
+    rng = random.Random(seed)
+    maker = Maker(rng, known)
+    return spelled("'use strict'; " * (rng.random() < 0.2) + " ".join(maker.statements(3) for _ in range(rng.randrange(1, 4))), rng)
+
+
+def prelude(seed):
+    """A prelude, which is valid, and its names."""
+    rng = random.Random(seed)
+    while True:
+        maker = Maker(rng, is_prelude=True)
+        made = spelled("'use strict'; " * (rng.random() < 0.2) + maker.statements(1), rng)
+        if not reading.fault_of(made, has_print=False):
+            return made, maker.scopes[0]
 
 
 def damage(data, seed):

@@ -8,6 +8,7 @@ The rules on names are asked of the list of tokens, by matching braces. docs/LAN
 """
 
 import collections
+import functools
 import re
 
 import methods
@@ -80,10 +81,8 @@ Token = collections.namedtuple("Token", "kind spelling at fresh")
 
 LINE_ENDS = "\n\r\u2028\u2029"
 BLANKS = "\t\n\v\f\r \u00a0\u1680\u2000-\u200a\u2028\u2029\u202f\u205f\u3000\ufeff"
-GAP = re.compile(rf"(?:[{BLANKS}]|//[^{LINE_ENDS}]*|/\*(?:(?!\*/)[\s\S])*\*/)*")
-WORD = re.compile(r"[A-Za-z_$][A-Za-z0-9_$]*")
+WORD = "[A-Za-z_$][A-Za-z0-9_$]*"
 MARKS = sorted("=== !== <= >= && || += ++ -- { } ( ) [ ] . ; , < > + - ! ? : =".split(), key=len, reverse=True)
-MARK = re.compile("|".join(re.escape(mark) for mark in MARKS))
 DIGITS = re.compile("[0-9]+")
 HEX_TWO, HEX_FOUR, HEX_BRACES = (re.compile(it) for it in (r"[0-9A-Fa-f]{2}", r"[0-9A-Fa-f]{4}", r"\{([0-9A-Fa-f]+)\}"))
 
@@ -135,27 +134,41 @@ def end_of_text(text, at):
     raise Refused("unclosed string", at)
 
 
+# What lies between tokens, and the tokens that no rule of the faults has a say in, which are most of them.
+PLAIN = re.compile(rf"""([{BLANKS}]+|//[^{LINE_ENDS}]*|/\*(?:(?!\*/)[\s\S])*\*/)|({WORD})|((?:0|[1-9][0-9]{{0,14}})(?![0-9A-Za-z_$\\.]))
+|('[^'\\\n\r]*'|"[^"\\\n\r]*")|((?!\.[0-9])(?:{"|".join(map(re.escape, MARKS))}))""".replace("\n|", "|"))
+PLAIN_KINDS = (None, None, "word", "number", "text", "mark")
+
+
+def end_of_token(text, at):
+    """The kind and the end of a token that isn't plain."""
+    if text.startswith("/*", at):
+        raise Refused("open comment", at)
+    if re.match(r"\.?[0-9]", text[at:at + 2]):
+        return "number", end_of_number(text, at)
+    if text[at] in "'\"":
+        return "text", end_of_text(text, at)
+    raise Refused("bad character", at)
+
+
+@functools.lru_cache(maxsize=8)
 def tokens(text):
     """The tokens of a text, or the first fault from the left."""
-    found, at = [], 0
-    while True:
-        gap = GAP.match(text, at)
-        at, fresh = gap.end(), any(it in gap[0] for it in LINE_ENDS)
-        if at == len(text):
-            return found
-        word, mark = WORD.match(text, at), MARK.match(text, at)
-        if text.startswith("/*", at):
-            raise Refused("open comment", at)
-        if re.match(r"\.?[0-9]", text[at:at + 2]):
-            kind, end = "number", end_of_number(text, at)
-        elif text[at] in "'\"":
-            kind, end = "text", end_of_text(text, at)
-        elif word or mark:
-            kind, end = ("word", word.end()) if word else ("mark", mark.end())
-        else:
-            raise Refused("bad character", at)
-        found.append(Token(kind, text[at:end], at, fresh))
-        at = end
+    found, at, fresh = [], 0, False
+    while at < len(text):
+        for plain in PLAIN.finditer(text, at):
+            begin, end = plain.span()
+            if begin != at:
+                break
+            kind, at = PLAIN_KINDS[plain.lastindex], end
+            if kind:
+                found.append(Token(kind, plain[0], begin, fresh))
+            fresh = not kind and (fresh or any(it in plain[0] for it in LINE_ENDS))
+        if at < len(text):
+            kind, end = end_of_token(text, at)
+            found.append(Token(kind, text[at:end], at, fresh))
+            at, fresh = end, False
+    return found
 
 
 def end_of_last(text):
@@ -171,8 +184,20 @@ def is_name(token):
     return token.kind == "word" and token.spelling not in NO_NAMES
 
 
+KINDS_OF = {}
+
+
 def kinds(token):
     """The names of the grammar for a token: its own spelling in quotes, and its kinds."""
+    key = token.spelling, token.fresh
+    if token.kind not in ("word", "mark"):
+        return kinds_of(token)
+    if key not in KINDS_OF:
+        KINDS_OF[key] = kinds_of(token)
+    return KINDS_OF[key]
+
+
+def kinds_of(token):
     if token.kind == "text":
         return ("Text", "UseStrict") if token.spelling[1:-1] == "use strict" else ("Text",)
     if token.kind == "number":
@@ -244,74 +269,82 @@ def weigh(rules):
                 part.may_be_nothing = any(it.may_be_nothing for it in below)
 
 
+class Row:
+    """Parts that are owed one behind another, all with the same number of others open around them."""
+
+    def __init__(self, parts):
+        self.parts, self.need = parts, max([it.need for it in parts], default=0)
+        self.may_be_nothing, self.behind = all(it.may_be_nothing for it in parts), {}
+
+
 class Reader:
-    """All ways to go on behind some tokens. A way is the number of a stack: a part that is owed, how many are open around it, and the rest."""
+    """All ways to go on behind some tokens. A way is a stack: nothing, or the row that is owed first, how many are open around it, and the rest."""
 
     def __init__(self, most, has_print=True):
         text = GRAMMAR if has_print else re.sub(r"\n.*'print'.*", "", GRAMMAR)
-        self.rules, self.most = read_grammar(text), most
+        self.rules, self.most, self.rows, self.spelled = read_grammar(text), most, {}, {}
         weigh(self.rules)
-        # The stack 0 owes nothing. A way that can't end within the limit has the number None.
-        self.stacks, self.numbers, self.steps, self.spelled = [None], {}, {}, {}
-        self.start = frozenset([self.owe(self.rules["Script"], 0, 0)])
+        self.start = self.row((self.rules["Script"],)), 0, ()
 
-    def owe(self, part, open_ones, rest):
-        """The stack that owes a part before the rest."""
-        if rest is None or open_ones + part.need > self.most:
-            return None
-        # Without a limit what is open makes no difference.
-        key = (part, open_ones if self.most < ENDLESS else 0, rest)
-        if key not in self.numbers:
-            self.numbers[key] = len(self.stacks)
-            self.stacks.append(key)
-        return self.numbers[key]
-
-    def owe_row(self, parts, open_ones, rest):
-        for part in reversed(parts):
-            rest = self.owe(part, open_ones, rest)
-        return rest
+    def row(self, parts):
+        if parts not in self.rows:
+            self.rows[parts] = Row(parts)
+        return self.rows[parts]
 
     def word(self, spelling):
         """The part that is this very identifier."""
         part = self.spelled[spelling] = self.spelled.get(spelling) or Part("one", f"'{spelling}'")
         return part
 
-    def behind(self, stack, token, are):
-        """The stacks that are left once a stack has accepted a token."""
-        left, asked = set(), [stack]
-        while asked:
-            stack = asked.pop()
-            if not stack:
-                continue
-            part, depth, rest = self.stacks[stack]
-            if part.form == "one":
-                if part.below in are:
-                    left.add(rest)
-            elif part.form == "row" and any(it.below == "Same" for it in part.below):
-                if is_name(token):
-                    same = [self.word(token.spelling) if it.below == "Same" else it for it in part.below[1:]]
-                    left.add(self.owe_row(same, depth, rest))
-            elif part.form == "row":
-                asked.append(self.owe_row(part.below, depth, rest))
-            elif part.form == "many":
-                asked += [rest, self.owe(part.below[0], depth, stack)]
-            elif part.form == "rule":
-                asked.append(self.owe(self.rules[part.below], depth, rest))
-            else:
-                asked += [self.owe(it, depth + (part.form == "open"), rest) for it in part.below]
-        return left - {None}
+    def left(self, parts, token, are):
+        """What is owed once parts have accepted a token, in each way: first what is open no deeper than they are, then what is open in it."""
+        for number, part in enumerate(parts):
+            for outer, *inner in self.left_of(part, token, are):
+                yield (outer + tuple(parts[number + 1:]), *inner)
+            if not part.may_be_nothing:
+                return
+
+    def left_of(self, part, token, are):
+        """The same of one part."""
+        below = part.below
+        if part.form == "one":
+            return [((),)] if below in are else []
+        if part.form == "rule":
+            return self.left_of(self.rules[below], token, are)
+        if part.form == "either":
+            return [way for it in below for way in self.left_of(it, token, are)]
+        if part.form == "many":
+            return [(outer + (part,), *inner) for outer, *inner in self.left_of(below[0], token, are)]
+        if part.form == "open":
+            return [((), *way) for way in self.left(below, token, are)]
+        if any(it.below == "Same" for it in below):
+            return [(tuple(self.word(token.spelling) if it.below == "Same" else it for it in below[1:]),)] if is_name(token) else []
+        return self.left(below, token, are)
 
     def step(self, ways, token):
         """The ways to go on behind one more token: none where the tokens up to it begin no script."""
-        are = kinds(token)
-        key = (ways, are)
-        if key not in self.steps:
-            self.steps[key] = frozenset().union(*(self.behind(stack, token, are) for stack in ways))
-        return self.steps[key]
+        are, found = kinds(token), []
+        for stack in ways:
+            while stack:
+                row, depth, rest = stack
+                if are not in row.behind:
+                    row.behind[are] = [[self.row(it) for it in way] for way in self.left(row.parts, token, are)]
+                for way in row.behind[are]:
+                    found.append(self.owing(way, depth, rest))
+                stack = rest if row.may_be_nothing else ()
+        return found if len(found) == 1 and found[0] is not None else [it for it in dict.fromkeys(found) if it is not None]
+
+    def owing(self, way, depth, rest):
+        """The stack that owes a way's rows before the rest; None where what they need is too deep."""
+        for row in way:
+            if depth + row.need > self.most:
+                return None
+            rest, depth = (row, depth, rest) if row.parts else rest, depth + 1
+        return rest
 
     def first_wrong(self, found):
         """How many tokens begin a script, and whether all of them are one."""
-        ways = self.start
+        ways = [self.start]
         for number, token in enumerate(found):
             ways = self.step(ways, token)
             if not ways:
@@ -319,9 +352,9 @@ class Reader:
         return len(found), any(self.may_end(stack) for stack in ways)
 
     def may_end(self, stack):
-        while stack and self.stacks[stack][0].may_be_nothing:
-            stack = self.stacks[stack][2]
-        return stack == 0
+        while stack and stack[0].may_be_nothing:
+            stack = stack[2]
+        return not stack
 
 
 READERS = {}
