@@ -40,10 +40,13 @@ FORWARD = "let s = 'abcdefghij'.repeat(1000000); s += 'x';"
 BACKWARD = "let s = 'x'; s += 'abcdefghij'.repeat(1000000);"
 TWO_BYTES = "let s = 'abcdefgh\\u20acj'.repeat(1000000); s += 'x';"
 ARMS = "if (i < 0) { n = n + 1; } else if (i < 1) { n = n + 2; } else if (i < 2) { n = n + 3; } else { n = n + 4; }"
+CHOICES = ARMS[: -len("n = n + 4; }")] + "n = n + (i === 7 ? 5 : i > 9 ? 6 : 4); }"
 COMPARED = "if (a < b) { n += 1; } if (a === b) { n += 9; }"
 PERIODIC = "let s = 'a'.repeat(100000); let w = 'a'.repeat(1000) + 'b'; print(s.indexOf(w), (s + 'b').indexOf(w));"
+LONG = "let s = 'ab'.repeat(2000000) + 'c'; let w = 'ab'.repeat(500000) + 'c'; print(s.indexOf(w), w.indexOf(s), s.includes('b' + w));"
 COMMAS = "let s = 'abcd,efgh,'.repeat(100000);"
 KEYS = "for (let k = 0; k < 4; k++) { for (let i = 0; i < 200000; i++) { if (Symbol.for('key-number-' + i) === Symbol.for('k')) { n += 1; } } } print(n);"
+ROW_KEYS = "for (let k = 0; k < 2; k++) { for (let i = 0; i < 200000; i++) { if (Symbol.for('row ' + i + ', column 7') === Symbol.for('k')) { n += 1; } } } print(n);"
 PADS = "const s = String(i).padStart(8, '0').padEnd(24, '-'); n += s.slice(4, 20).length + s.slice(-3).indexOf('-');"
 JSON = "let s = 'ab\"c\\n'.repeat(200000); print(JSON.stringify(s).length);"
 TO_URI = "let s = 'ab '.repeat(333333) + 'c'; print(encodeURIComponent(s).length);"
@@ -51,29 +54,32 @@ FROM_URI = "let s = 'ab%20'.repeat(333333) + 'c'; print(decodeURIComponent(s).le
 
 # The name of a row, its script, and how many times as long as node without its compiler it should take at most.
 ROWS = [
-    ("an empty loop of 1,000,000 turns", "for (let i = 0; i < 1000000; i++) { } print('done');", 0.35),
-    ("1,000,000 turns of n = n + i", times(1000000, "n = n + i;"), 0.55),
-    ("1,000,000 units looked at by s[i] === 'x'", times(1000000, "if (s[i] === 'x') { n = n + 1; }", "let s = 'abcdefghix'.repeat(100000);"), 1.0),
-    ("300,000 turns of three nested blocks", times(300000, "let a = i; { let b = a; { let c = b; n = n + c; } }"), 0.7),
-    ("500,000 turns of four arms", times(500000, ARMS), 1.0),
-    ("a rope of 500,000 appends", "let s = ''; for (let i = 0; i < 500000; i++) { s += 'a'; } print(s.length, s.at(-1));", 0.5),
-    ("indexOf of one unit, ten times in 10,000,000", searches(FORWARD, "indexOf('x')"), 0.6),
-    ("indexOf of two units, ten times in 10,000,000", searches(FORWARD, "indexOf('jx')"), 0.8),
-    ("lastIndexOf of one unit, ten times in 10,000,000", searches(BACKWARD, "lastIndexOf('x')"), 0.7),
-    ("indexOf of one unit, ten times in 10,000,000 of two bytes", searches(TWO_BYTES, "indexOf('x')"), 0.7),
+    ("an empty loop of 1,000,000 turns", "for (let i = 0; i < 1000000; i++) { } print('done');", 0.2),
+    ("1,000,000 turns of n = n + i", times(1000000, "n = n + i;"), 0.4),
+    ("1,000,000 units looked at by s[i] === 'x'", times(1000000, "if (s[i] === 'x') { n = n + 1; }", "let s = 'abcdefghix'.repeat(100000);"), 0.8),
+    ("300,000 turns of three nested blocks", times(300000, "let a = i; { let b = a; { let c = b; n = n + c; } }"), 0.5),
+    ("500,000 turns of four arms", times(500000, ARMS), 0.5),
+    ("500,000 turns of four arms with a ?:", times(500000, CHOICES), 0.8),
+    ("a rope of 500,000 appends", "let s = ''; for (let i = 0; i < 500000; i++) { s += 'a'; } print(s.length, s.at(-1));", 0.6),
+    ("indexOf of one unit, ten times in 10,000,000", searches(FORWARD, "indexOf('x')"), 0.5),
+    ("indexOf of two units, ten times in 10,000,000", searches(FORWARD, "indexOf('jx')"), 0.4),
+    ("lastIndexOf of one unit, ten times in 10,000,000", searches(BACKWARD, "lastIndexOf('x')"), 0.5),
+    ("indexOf of one unit, ten times in 10,000,000 of two bytes", searches(TWO_BYTES, "indexOf('x')"), 0.5),
     ("a periodic needle of 1,001 units in 100,000", PERIODIC, 0.2),
-    ("replaceAll of 200,000 commas", COMMAS + " print(s.replaceAll(',', '; ').length, s.replaceAll(',', '[$&]').length);", 0.33),
-    ("split and join of 200,000 parts", COMMAS + " print(s.split(',').join('; ').length, s.split(',').length);", 0.6),
-    ("200,000 numbered keys, four times each", "let n = 0; " + KEYS, 0.7),
+    ("a needle of 1,000,001 units in 4,000,001", LONG, 0.3),
+    ("replaceAll of 200,000 commas", COMMAS + " print(s.replaceAll(',', '; ').length, s.replaceAll(',', '[$&]').length);", 0.25),
+    ("split and join of 200,000 parts", COMMAS + " print(s.split(',').join('; ').length, s.split(',').length);", 0.5),
+    ("200,000 numbered keys, four times each", "let n = 0; " + KEYS, 0.5),
+    ("200,000 keys of rows, twice each", "let n = 0; " + ROW_KEYS, 0.5),
     ("200,000 pads and slices", times(200000, PADS), 0.9),
-    ("200,000 trims", times(200000, "n += ('   \\t' + i + ' \\n  ').trim().length;"), 0.8),
-    ("two strings of 4,000,000 units compared, ten times", times(10, COMPARED, "let a = 'abcdefgh'.repeat(500000); let b = 'abcdefgh'.repeat(499999) + 'abcdefgx';"), 0.7),
-    ("JSON.stringify of 1,000,000 units", JSON, 0.7),
+    ("200,000 trims", times(200000, "n += ('   \\t' + i + ' \\n  ').trim().length;"), 0.9),
+    ("two strings of 4,000,000 units compared, ten times", times(10, COMPARED, "let a = 'abcdefgh'.repeat(500000); let b = 'abcdefgh'.repeat(499999) + 'abcdefgx';"), 0.5),
+    ("JSON.stringify of 1,000,000 units", JSON, 0.35),
     ("100,000 printed lines", "for (let i = 0; i < 100000; i++) { print('line', i, 'of a hundred thousand'); }", 0.06),
-    ("encodeURIComponent of 1,000,000 units", TO_URI, 0.4),
-    ("decodeURIComponent to 1,000,000 units", FROM_URI, 0.4),
-    ("500,000 reads of o.gamma", times(500000, "n = n + o.gamma;", "let o = { alpha: 1, beta: 2, gamma: 3 };"), 0.8),
-    ("500,000 reads of o.a.b.c", times(500000, "n = n + o.a.b.c;", "let o = { a: { b: { c: 3, d: 4 }, e: 5 }, f: 6 };"), 0.7),
+    ("encodeURIComponent of 1,000,000 units", TO_URI, 0.35),
+    ("decodeURIComponent to 1,000,000 units", FROM_URI, 0.35),
+    ("500,000 reads of o.gamma", times(500000, "n = n + o.gamma;", "let o = { alpha: 1, beta: 2, gamma: 3 };"), 0.6),
+    ("500,000 reads of o.a.b.c", times(500000, "n = n + o.a.b.c;", "let o = { a: { b: { c: 3, d: 4 }, e: 5 }, f: 6 };"), 0.5),
     ("an object literal of 1,000 members, made 100 times", times(100, f"const o = {{ {MEMBERS} }}; n = n + o.m7;"), 1.0),
 ]
 

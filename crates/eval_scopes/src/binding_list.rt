@@ -186,6 +186,7 @@ impl<T: Drop> BindingList<T> {
     }
 
     /// Another value for one binding.
+    #[inline(always)]
     pub fn set(&mut self, index: usize, value: T)
         requires { index < length self.old }
         ensures { bounds_of self.new ≡ put (bounds_of self.old) index value }
@@ -210,6 +211,7 @@ fn position_in<T>(bound: &[Binding<T>], start: usize, end: usize, name: &Name) -
     None
 }
 
+#[inline(always)]
 fn set_value<T: Drop>(bound: &mut Vec<Binding<T>>, index: usize, value: T)
     requires { index < length bound.old.items }
     ensures { bounds_of bound.new.items ≡ put (bounds_of bound.old.items) index value }

@@ -125,6 +125,7 @@ impl<'a, T: Drop> Scope<'a, T> {
     }
 
     /// Another value for the binding at a place, whether it is constant or not.
+    #[inline(always)]
     pub fn set(&mut self, place: Place, value: T)
         requires { IsPlaceIn self.old place }
         ensures { bindings_of self.new ≡ put_at self.old place value }

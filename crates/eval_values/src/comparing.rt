@@ -136,7 +136,8 @@ fn is_number_too<S: Strings>(
     }
 }
 
-fn is_equal(order: Option<Ordering>) -> bool
+/// Whether two values of this order are equal.
+pub fn is_equal(order: Option<Ordering>) -> bool
     ensures { result ≡ Comparing.is_equal order }
 {
     match order {
@@ -281,8 +282,8 @@ fn settle_both<S: Strings>(store: &mut S, a: S::Ref, b: S::Ref) -> Result<(), St
     store.settle(b)
 }
 
-// The order of two numbers, none where one is NaN.
-fn order_of(a: Num, b: Num) -> Option<Ordering>
+/// The order of two numbers, none where one is NaN.
+pub fn order_of(a: Num, b: Num) -> Option<Ordering>
     requires left { IsLawful a }
     requires right { IsLawful b }
     ensures { result ≡ number_order a b }

@@ -18,7 +18,7 @@ pub use arguments::{
     first_is_missing, first_number, first_text, second_is_missing, second_number, second_or_none,
     second_text,
 };
-pub use comparing::{compare, is_same};
+pub use comparing::{compare, is_equal, is_same, order_of};
 pub use conversions::{joined_by_commas, number_of, texts, to_text, truth};
 pub use lists::push;
 pub use operators::{apply_unary, plus, subtract, to_primitive};

@@ -93,9 +93,9 @@ fn holds_behind<S: Strings>(
     holds_on(alloc, store, link.at, link.op, left, right)
 }
 
-// The value of a side. A literal, and what has steps, is evaluated here; anything else as any expression.
+/// The value of a side. A literal, and what has steps, is evaluated here; anything else as any expression.
 #[inline(always)]
-fn side<S: Strings>(
+pub fn side<S: Strings>(
     alloc: Global,
     store: &mut S,
     context: &Context<S::Ref>,

@@ -42,6 +42,7 @@ pub fn keep_room<R: Copy>(context: &Context<R>, mut list: Vec<Value<R>>) {
 }
 
 /// The value of a name, where it is in the scope.
+#[inline(always)]
 pub fn look_up<'a, S: Strings>(
     _store: &S,
     context: &'a Context<S::Ref>,
@@ -95,6 +96,7 @@ pub fn value_at<'a, S: Strings>(
 }
 
 /// Another value for a name that has one and is no constant.
+#[inline(always)]
 pub fn assign<S: Strings>(
     store: &S,
     context: &mut Context<S::Ref>,
@@ -118,6 +120,7 @@ pub fn assign<S: Strings>(
 }
 
 /// The same for a name of which the place is known.
+#[inline(always)]
 pub fn assign_at<S: Strings>(
     _store: &S,
     context: &mut Context<S::Ref>,
@@ -144,6 +147,7 @@ pub fn assign_at<S: Strings>(
 }
 
 /// A declaration of the innermost block, or of the top, is evaluated.
+#[inline(always)]
 pub fn declare<S: Strings>(
     _store: &S,
     context: &mut Context<S::Ref>,
@@ -164,6 +168,7 @@ pub fn declare<S: Strings>(
 }
 
 /// A block is entered, none of its names evaluated; unchanged on refusal.
+#[inline(always)]
 pub fn enter<'a, S: Strings>(
     alloc: Global,
     _store: &S,
@@ -184,6 +189,7 @@ pub fn enter<'a, S: Strings>(
 }
 
 /// A turn of a `for` is entered, with its name bound; unchanged on refusal.
+#[inline(always)]
 pub fn enter_turn<S: Strings>(
     alloc: Global,
     _store: &S,
@@ -207,6 +213,7 @@ pub fn enter_turn<S: Strings>(
 }
 
 /// The innermost block is left.
+#[inline(always)]
 pub fn leave<S: Strings>(_store: &S, context: &mut Context<S::Ref>)
     requires { ContextFine (S.state _store.now) S.number context.old }
     ensures context { ContextFine (S.state _store.now) S.number context.new }

@@ -18,7 +18,7 @@ use crate::context::{Context, empty_list, keep_room, look_up, read};
 use crate::literals::read_literal;
 use crate::object::{bounded, intern_key, put};
 use crate::operators::{apply, is_decided, is_true};
-use crate::short::{at_hand, needs_both, of_link};
+use crate::short::{at_hand, needs_both, of_link, test_at_hand};
 use eval_builtins::call_builtin;
 use eval_members::{
     call, look_up_property, present, read_description, read_index, read_length, read_property,
@@ -66,6 +66,7 @@ pub fn expr<S: Strings>(
 
 // A minus, or a `!`. Each form that holds others has a function of its own, since each call pays for its locals.
 #[cycle(expr)]
+#[inline(never)]
 fn unary<S: Strings>(
     alloc: Global,
     store: &mut S,
@@ -88,6 +89,7 @@ fn unary<S: Strings>(
 
 // A first operand and the links behind it.
 #[cycle(expr)]
+#[inline(never)]
 fn chain<S: Strings>(
     alloc: Global,
     store: &mut S,
@@ -193,6 +195,7 @@ fn behind<S: Strings>(
 
 // The one of two expressions that a test chooses.
 #[cycle(expr)]
+#[inline(never)]
 fn conditional<S: Strings>(
     alloc: Global,
     store: &mut S,
@@ -209,11 +212,33 @@ fn conditional<S: Strings>(
         (expr_out (tree.conditional (expr_tree test.now) (expr_tree yes.now) (expr_tree no.now))
         (scope_of (S.state store.old) S.number context.now)) }
 {
-    let value = expr(alloc, store, context, test)?;
+    let value = test_value(alloc, store, context, test)?;
     if is_true(store, context, &value) {
         expr(alloc, store, context, yes)
     } else {
         expr(alloc, store, context, no)
+    }
+}
+
+// The value of a test. Where it is an operator on two numbers at hand, only a boolean is made.
+#[cycle(expr)]
+#[inline(always)]
+fn test_value<S: Strings>(
+    alloc: Global,
+    store: &mut S,
+    context: &Context<S::Ref>,
+    test: &Expr,
+) -> Result<Value<S::Ref>, Stop>
+    requires { ContextFine (S.state store.old) S.number context.now }
+    ensures grows { Grows (S.state store.old) (S.state store.new) }
+    ensures context { ContextFine (S.state store.new) S.number context.now }
+    ensures fine { IfOk result (λ v. IsFine (S.state store.new) S.number v) }
+    ensures did { GivesValue S.number (S.state store.old) (S.state store.new) result
+        (expr_out (expr_tree test.now) (scope_of (S.state store.old) S.number context.now)) }
+{
+    match test_at_hand(store, context, test) {
+        Some(held) => Ok(Value::Bool(held)),
+        None => expr(alloc, store, context, test),
     }
 }
 
@@ -246,6 +271,7 @@ pub fn post<S: Strings>(
 
 // A call of a built-in function.
 #[cycle(expr)]
+#[inline(never)]
 fn builtin<S: Strings>(
     alloc: Global,
     store: &mut S,
@@ -270,6 +296,7 @@ fn builtin<S: Strings>(
 
 // An object literal.
 #[cycle(expr)]
+#[inline(never)]
 fn object_literal<S: Strings>(
     alloc: Global,
     store: &mut S,

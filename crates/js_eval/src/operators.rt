@@ -14,7 +14,7 @@ ghost use Rattle.js_eval.specs.Seen.{ContextFine};
 
 use crate::context::Context;
 use eval_tree::Op;
-use eval_values::{Stop, Value, compare, is_same, plus, subtract, truth};
+use eval_values::{Stop, Value, compare, is_equal, is_same, order_of, plus, subtract, truth};
 use js_number::Num;
 use js_store::Strings;
 use std::alloc::Global;
@@ -133,6 +133,7 @@ fn apply_to_any<S: Strings>(
 }
 
 // The short way of a sum, a difference or a `<` of two numbers, where there is a value.
+#[inline(always)]
 fn of_numbers<S: Strings>(
     store: &S,
     op: Op,
@@ -168,6 +169,7 @@ fn of_numbers<S: Strings>(
     }
 }
 
+#[inline(always)]
 pub fn of_both<S: Strings>(_store: &S, op: Op, m: Num, n: Num) -> Option<Value<S::Ref>>
     requires left { IsLawful m }
     requires right { IsLawful n }
@@ -189,8 +191,28 @@ pub fn of_both<S: Strings>(_store: &S, op: Op, m: Num, n: Num) -> Option<Value<S
             Some(less) => Some(Value::Bool(less)),
             None => None,
         },
-        Op::Or | Op::And | Op::Same | Op::NotSame | Op::Greater | Op::LessEq | Op::GreaterEq =>
-            None,
+        Op::Same => {
+            let order = order_of(m, n);
+            Some(Value::Bool(is_equal(order)))
+        }
+        Op::NotSame => {
+            let order = order_of(m, n);
+            let same = is_equal(order);
+            Some(Value::Bool(!same))
+        }
+        Op::Greater => {
+            let order = order_of(m, n);
+            Some(Value::Bool(is_greater(order)))
+        }
+        Op::LessEq => {
+            let order = order_of(m, n);
+            Some(Value::Bool(is_at_most(order)))
+        }
+        Op::GreaterEq => {
+            let order = order_of(m, n);
+            Some(Value::Bool(is_at_least(order)))
+        }
+        Op::Or | Op::And => None,
     }
 }
 

@@ -20,7 +20,7 @@ ghost use Rattle.js_eval.specs.Expression.{expr_out};
 ghost use Rattle.js_number.specs.declared.Num.TheVariants.{Int};
 ghost use Rattle.js_eval.specs.Evaluates.{Evaluates};
 
-use crate::compared::{holds_of_two, two_sides};
+use crate::compared::{holds_of_two, side, two_sides};
 use crate::context::{
     Context, assign, assign_at, declare, enter, enter_turn, keep_room, leave, value_at,
 };
@@ -475,7 +475,7 @@ fn sum_with<S: Strings>(
         (sum_of_both at n (expr_tree value.now) (scope_of (S.state store.old) S.number context.now)) }
 {
     let left = value_at(store, context, place);
-    let right = expr(alloc, store, context, value)?;
+    let right = side(alloc, store, context, value)?;
     apply(alloc, store, at, Op::Plus, left, right)
 }
 

@@ -86,7 +86,7 @@ pub fn of_link<S: Strings>(
         (tree.link link.now.at link.now.op (expr_tree link.now.right) tree.no_links))
         (scope_of (S.state store.now) S.number context.now))) }
 {
-    if !is_of_numbers(link.op) {
+    if !needs_both(link.op) {
         return None;
     }
     let n = number_at_hand(store, context, &link.right)?;
@@ -108,17 +108,6 @@ pub fn needs_both(op: Op) -> bool
         | Op::GreaterEq
         | Op::Plus
         | Op::Minus => true,
-    }
-}
-
-// Whether an operator has a short way. Its left side alone doesn't decide it.
-fn is_of_numbers(op: Op) -> bool
-    ensures { result ≡ true → (v : Val) → decides op v ≡ false }
-{
-    match op {
-        Op::Plus | Op::Minus | Op::Less => true,
-        Op::Or | Op::And | Op::Same | Op::NotSame | Op::Greater | Op::LessEq | Op::GreaterEq =>
-            false,
     }
 }
 

@@ -471,7 +471,7 @@ conditional-returns-in_err-value-clause-did g t c =
     let p = err_from_is_err_and c.from_residual.result c.from_residual.ensures.1 in
     let i = c.in_err-value.ensures.did in
     rw (p.1, p.2)
-    (condition_stops g.S.Strings.number (state c.args.store.now) (state c.expr.new.store) c.in_err-value.field-0.0
+    (condition_stops g.S.Strings.number (state c.args.store.now) (state c.test_value.new.store) c.in_err-value.field-0.0
     (expr_tree c.args.test.now) (expr_tree c.args.yes.now) (expr_tree c.args.no.now)
     (scope_of (state c.args.store.now) g.S.Strings.number c.args.context.now) i)
 
@@ -479,9 +479,9 @@ pub conditional-returns-then-is_true-clause-did : goal.conditional-returns-then-
 conditional-returns-then-is_true-clause-did g t c =
     let state = g.S.Strings.state in
     let i = c.in_ok-value.ensures.did in
-    let k = c.expr-then-is_true.ensures.did in
-    (condition_holds g.S.Strings.number (state c.args.store.now) (state c.expr.new.store) (state c.is_true.new.store)
-    (state c.expr-then-is_true.new.store) c.in_ok-value.value c.expr-then-is_true.result (expr_tree c.args.test.now)
+    let k = c.expr.ensures.did in
+    (condition_holds g.S.Strings.number (state c.args.store.now) (state c.test_value.new.store) (state c.is_true.new.store)
+    (state c.expr.new.store) c.in_ok-value.value c.expr.result (expr_tree c.args.test.now)
     (expr_tree c.args.yes.now) (expr_tree c.args.no.now) c.args.context.now c.in_ok-value.ensures.grows c.is_true.ensures.uses.step
     c.is_true.ensures.uses.history c.requires i (sym c.is_true.ensures.value ∙ c.if-is_true.true) k)
 
@@ -490,7 +490,7 @@ conditional-returns-clause-did g t c =
     let state = g.S.Strings.state in
     let i = c.in_ok-value.ensures.did in
     let k = c.expr-else-is_true.ensures.did in
-    (condition_fails g.S.Strings.number (state c.args.store.now) (state c.expr.new.store) (state c.is_true.new.store)
+    (condition_fails g.S.Strings.number (state c.args.store.now) (state c.test_value.new.store) (state c.is_true.new.store)
     (state c.expr-else-is_true.new.store) c.in_ok-value.value c.expr-else-is_true.result (expr_tree c.args.test.now)
     (expr_tree c.args.yes.now) (expr_tree c.args.no.now) c.args.context.now c.in_ok-value.ensures.grows c.is_true.ensures.uses.step
     c.is_true.ensures.uses.history c.requires i (sym c.is_true.ensures.value ∙ c.if-is_true.false) k)

@@ -79,7 +79,10 @@ abbrev pub decreases-unary : goal.decreases-unary
 decreases-unary g l = 8 * goal.size-unary g l + 1
 
 abbrev pub decreases-conditional : goal.decreases-conditional
-decreases-conditional g l = 8 * max (size-Expr l.test.now) (max (size-Expr l.yes.now) (size-Expr l.no.now)) + 1
+decreases-conditional g l = 8 * max (size-Expr l.test.now) (max (size-Expr l.yes.now) (size-Expr l.no.now)) + 2
+
+abbrev pub decreases-test_value : goal.decreases-test_value
+decreases-test_value g l = 8 * size-Expr l.test.now + 1
 
 abbrev pub decreases-exprs : goal.decreases-exprs
 decreases-exprs g l = 8 * goal.size-exprs g l + 1

@@ -9,5 +9,5 @@ returns-clause-did g c =
     let number = g.S.Strings.number in
     let l = c.args.link.now in
     short_does number s (scope_of s number c.args.context.now) (expr_tree c.args.first.now) (expr_tree l.right) l.at l.op c.in_ok-m.m
-    c.in_ok-n.n c.of_both.result c.in_ok-m.ensures.did c.in_ok-n.ensures.did (c.is_of_numbers.ensures c.if-not-is_of_numbers.false)
+    c.in_ok-n.n c.of_both.result c.in_ok-m.ensures.did c.in_ok-n.ensures.did (c.needs_both.ensures c.if-not-needs_both.false)
     c.of_both.ensures.did c.of_both.ensures.fine
