@@ -1,5 +1,5 @@
 -- A pad from its filling: its length, what it gives and what it uses.
-use Rattle.std.proofs.Common.{◌≡◌, ℕ, ◌+◌, ◌-◌, ◌*◌, ◌%◌, ◌≤◌, List, [], ◌∷◌, ◌++◌, length, arith, refl, ap, sym, subst, ◌∙◌}
+use Rattle.std.proofs.Common.{◌≡◌, ℕ, ◌+◌, ◌-◌, ◌*◌, ◌%◌, ◌<◌, ◌≤◌, List, [], ◌∷◌, ◌++◌, length, arith, refl, ap, sym, subst, ◌∙◌}
 use Rattle.std.specs.Prelude.{Option, Some, None}
 use Rattle.std.specs.List.{repeat}
 use Rattle.std.proofs.lemmas.List.{length-take}
@@ -8,7 +8,7 @@ use Rattle.js_store.specs.Faults.{Uses}
 use Rattle.js_store.specs.Rows.{wide_words}
 use Rattle.js_store.specs.declared.faults.StoreFault.{StoreFault}
 use Rattle.js_store.proofs.Laws.{has_text, text_still, known_still}
-use Rattle.js_methods.specs.Building.{CutsFiller, filling, pad_start_of, pad_end_of, pad_used_ids, pad_used_words}
+use Rattle.js_methods.specs.Building.{CutsFiller, ReadsBoth, filling, pad_start_of, pad_end_of, pad_used_ids, pad_used_words}
 use Rattle.js_methods.proofs.Copies.{length-copies}
 use Rattle.js_methods.proofs.Fill.{length-filling}
 use Rattle.js_methods.proofs.Uses.{uses_after}
@@ -26,6 +26,17 @@ padded_is n most padded (x ∷ xs) full empty = omega (arith, full (omega arith)
 filled_by : (n : ℕ) (f : List ℕ) → 1 ≤ length (filling f n) → 1 ≤ length f
 filled_by n [] h = absurd (omega (arith, none_filled n [] refl))
 filled_by n (x ∷ xs) h = omega arith
+
+-- where both strings are read, some units are missing, and all are few
+module _ (most n room : ℕ) (f : List ℕ) (is : room ≡ length (filling f (most - n))) (reads : ReadsBoth most n (length f)) where
+  missing_units : room ≡ most - n
+  missing_units = is ∙ length-filling (most - n) f reads.2
+
+  pub some_missing : room ≡ 0 → ⊥
+  some_missing none = omega (arith, missing_units, none, reads.1)
+
+  pub few_units : (most ≤ 32) × (most < room + 13)
+  few_units = (reads.0, omega (arith, missing_units, reads.1, reads.3))
 
 module _ {F : Type 0} (a b : State F) (s t most room : ℕ) (known : IsKnown a s) (filler_known : IsKnown a t) (first : Uses a
     b None 0 0) (is : room ≡ length (filling (text a t) (most - length (text a s)))) (some : 1 ≤ room) where

@@ -26,6 +26,11 @@ pad_end_of u most filler = u ++ filling filler (most - length u)
 abbrev pub CutsFiller : ℕ → ℕ → Type 0
 CutsFiller n m = (1 ≤ m) × (1 ≤ n % m)
 
+-- Few units are put together at once, and then the string is read too: at most 32 are asked for, some are
+-- missing, the filler has some, and the string is too short for a rope.
+abbrev pub ReadsBoth : ℕ → ℕ → ℕ → Type 0
+ReadsBoth most n m = (most ≤ 32) × (n < most) × (1 ≤ m) × (n < 13)
+
 -- what a pad uses at most, where its filler has m units: it settles the filler, and else only a string that
 -- is too short for a rope
 abbrev pub pad_used_ids : ℕ

@@ -1,6 +1,6 @@
 // Methods that build another string: of several, of one so many times, with a filler, with units replaced, or of
 // units that numbers give.
-ghost use Rattle.std.specs.Prelude.{◌≡◌, ◌≤◌, ◌+◌, ◌++◌, ◌∷◌, ℕ, List, false, All, map, length, IfOk, OnOk, IsTrue, ◌*◌, ◌-◌, ◌%◌, take, None, ◌/◌, ◌<◌, ◌^◌, MatchOption, true};
+ghost use Rattle.std.specs.Prelude.{◌≡◌, ◌↔◌, ◌≤◌, ◌+◌, ◌++◌, ◌∷◌, ℕ, List, false, All, map, length, IfOk, OnOk, IsTrue, ◌*◌, ◌-◌, ◌%◌, take, None, ◌/◌, ◌<◌, ◌^◌, MatchOption, true};
 ghost use Rattle.js_units.specs.Text;
 ghost use Rattle.js_units.specs.Text.{well};
 ghost use Rattle.js_store.specs.State.{NamesUnits, IsKnown, IsSettled, text};
@@ -11,7 +11,7 @@ ghost use Rattle.js_texts.specs.Texts.{full_fault_of};
 ghost use Rattle.js_number.specs.Places.{IsLawful};
 ghost use Rattle.js_number.specs.Arith.{modulo};
 ghost use Rattle.js_methods.specs.Waiting.{IsLeadOrNone, well_after};
-ghost use Rattle.js_methods.specs.Building.{is_code_point, code_units, code_units_of, ThrowsBadPoint, PointsAnswer, CutsFiller, filling, pad_start_of, pad_end_of, pad_used_ids, pad_used_words, is_count, copies, repeat_of, ThrowsCount, repeat_used_ids, repeat_used_words};
+ghost use Rattle.js_methods.specs.Building.{is_code_point, code_units, code_units_of, ThrowsBadPoint, PointsAnswer, CutsFiller, ReadsBoth, filling, pad_start_of, pad_end_of, pad_used_ids, pad_used_words, is_count, copies, repeat_of, ThrowsCount, repeat_used_ids, repeat_used_words};
 ghost use Rattle.std.specs.List.{repeat as repeated};
 
 use js_number::Num;
@@ -82,6 +82,9 @@ pub fn pad_end<S: Strings>(
     ensures filler_settled { CutsFiller (max - length (text (S.state store.old) (S.number s)))
         (length (text (S.state store.old) (S.number filler)))
         → OnOk result (IsSettled (S.state store.new) (S.number filler)) }
+    ensures settled { ReadsBoth max (length (text (S.state store.old) (S.number s)))
+        (length (text (S.state store.old) (S.number filler)))
+        → OnOk result (IsSettled (S.state store.new) (S.number s)) }
     ensures throws { ThrowsLong result (S.state store.old).limit
         (length (pad_end_of (text (S.state store.old) (S.number s)) max
         (text (S.state store.old) (S.number filler)))) }
@@ -117,6 +120,9 @@ pub fn pad_start<S: Strings>(
     ensures filler_settled { CutsFiller (max - length (text (S.state store.old) (S.number s)))
         (length (text (S.state store.old) (S.number filler)))
         → OnOk result (IsSettled (S.state store.new) (S.number filler)) }
+    ensures settled { ReadsBoth max (length (text (S.state store.old) (S.number s)))
+        (length (text (S.state store.old) (S.number filler)))
+        → OnOk result (IsSettled (S.state store.new) (S.number s)) }
     ensures throws { ThrowsLong result (S.state store.old).limit
         (length (pad_start_of (text (S.state store.old) (S.number s)) max
         (text (S.state store.old) (S.number filler)))) }
@@ -136,7 +142,7 @@ pub fn pad_start<S: Strings>(
 
 // Whether so many units with the filler are few, and without it too few for a rope.
 fn is_at_once(max: u64, room: u32) -> bool
-    ensures { IsTrue result → max ≤ 32 }
+    ensures { IsTrue result ↔ ((max ≤ 32) × (max < room + 13)) }
 {
     max <= AT_ONCE as u64 && max < u64::from(room) + SHORTEST_ROPE
 }
@@ -197,7 +203,8 @@ fn end_at_once<S: Strings>(
         (λ r. NamesUnits (S.state store.new) (S.number r)
         (pad_end_of (text (S.state store.old) (S.number s)) max
         (text (S.state store.old) (S.number filler)))) }
-    ensures settled { OnOk result (IsSettled (S.state store.new) (S.number filler)) }
+    ensures settled { OnOk result (IsSettled (S.state store.new) (S.number s)) }
+    ensures filler_settled { OnOk result (IsSettled (S.state store.new) (S.number filler)) }
     ensures uses { Uses (S.state store.old) (S.state store.new) (fault_of result)
         pad_used_ids (pad_used_words (length (text (S.state store.old) (S.number filler)))) }
 {
@@ -225,7 +232,8 @@ fn start_at_once<S: Strings>(
         (λ r. NamesUnits (S.state store.new) (S.number r)
         (pad_start_of (text (S.state store.old) (S.number s)) max
         (text (S.state store.old) (S.number filler)))) }
-    ensures settled { OnOk result (IsSettled (S.state store.new) (S.number filler)) }
+    ensures settled { OnOk result (IsSettled (S.state store.new) (S.number s)) }
+    ensures filler_settled { OnOk result (IsSettled (S.state store.new) (S.number filler)) }
     ensures uses { Uses (S.state store.old) (S.state store.new) (fault_of result)
         pad_used_ids (pad_used_words (length (text (S.state store.old) (S.number filler)))) }
 {

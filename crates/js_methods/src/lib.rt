@@ -7,8 +7,9 @@
 //! its contract says so; every other fault is one that the store answered. What it uses of the
 //! store is at most its row, on a full store with what was requested besides.
 //!
-//! A method at a place reads its string where there is such a place, and a pad reads its filler
-//! where the last copy is cut. [`building::concat`] and [`building::repeat`] read nothing.
+//! A method at a place reads its string where there is such a place. A pad reads its filler where the
+//! last copy is cut, and both of its strings where few units are put together at once (`ReadsBoth`).
+//! [`concat`] and [`repeat`] read nothing.
 #![tactic(auto)]
 
 pub mod building;
@@ -18,4 +19,12 @@ pub mod searching;
 pub mod testing;
 pub mod trimming;
 
+pub use building::{
+    concat, from_char_code, from_code_point, pad_end, pad_start, repeat, to_well_formed,
+};
+pub use cutting::{slice, substr, substring};
 pub use js_texts::{Cause, MethodFault};
+pub use places::{at, char_at, char_code_at, code_point_at};
+pub use searching::{ends_with, includes, index_of, last_index_of, starts_with};
+pub use testing::is_well_formed;
+pub use trimming::{trim, trim_end, trim_start};

@@ -1,6 +1,7 @@
-use Rattle.std.proofs.Common.{◌≤◌, arith, rules}
+use Rattle.std.proofs.Common.{◌≡◌, ◌≤◌, ◌∙◌, true, false, sym, arith, length, rules}
 use Rattle.std.specs.Prelude.{Some, None}
-use Rattle.js_methods.proofs.Padded.{filler_units, filler_cut, start_value, pad_use}
+use Rattle.js_store.specs.State.{text}
+use Rattle.js_methods.proofs.Padded.{few_units, filler_units, filler_cut, start_value, pad_use}
 use Rattle.js_methods.proofs.building.pad_start.Goals as goal
 
 pub start_at_once-requires-clause-units : goal.start_at_once-requires-clause-units
@@ -51,3 +52,10 @@ returns-clause-filler_settled g c =
     (c.in_ok-fill.ensures.settled (filler_cut (g.S.Strings.state c.args.store.now) (g.S.Strings.state c.missing.new.store) (number c.args.s)
     (number c.args.filler) c.args.max c.in_ok-room.room c.requires.known c.requires.filler_known c.in_ok-room.ensures.uses
     c.in_ok-room.ensures.value some cuts))
+
+-- few units are put together at once
+pub returns-clause-settled : goal.returns-clause-settled
+returns-clause-settled g c = λ reads.
+    let few = few_units c.args.max (length (text (g.S.Strings.state c.args.store.now) (g.S.Strings.number c.args.s))) c.in_ok-room.room
+    (text (g.S.Strings.state c.args.store.now) (g.S.Strings.number c.args.filler)) c.in_ok-room.ensures.value reads in
+    absurd (let both : true ≡ false = sym (c.is_at_once.ensures.1 few) ∙ c.if-is_at_once.false in cc)
