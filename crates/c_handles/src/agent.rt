@@ -43,14 +43,17 @@ impl JsAgent {
         self.live = 1;
     }
 
-    /// The agent, lent. `live` is 1 from then on, as it is of a handle whose agent was put there.
+    /// The agent, lent. `live` is 1 from then on, as it is of a handle whose agent was put there; that one
+    /// is only read, so threads whose handles share a line of the cache don't wait for each other.
     pub fn held(&mut self) -> &mut Held
         requires { IsReady self.old.at.value }
         ensures* writes_back { sem 𝓛 (LendsAgent self.entry result) }
         ensures value { self.old.at.value ≡ Some result.now }
         ensures held { IsHeld result.now }
     {
-        self.live = 1;
+        if self.live != 1 {
+            self.live = 1;
+        }
         self.at.held()
     }
 

@@ -9,9 +9,11 @@ pub enum End {
     Done,
     /// An error was thrown.
     Threw(Kind),
-    /// The operator, method or index at this byte offset would need what the profile leaves out:
-    /// the number of a string or an array, a method of arrays besides `join`, an element by what
-    /// is no number, or a number past 2^53 - 1.
+    /// What stands at this byte offset (an operator, a method's or a property's word, an index, or the
+    /// brace of an object literal) would need what the profile leaves out: the meaning has this end
+    /// there (`meaning` of `specs/Script.antt`). Among it are the number of a string or an array, a
+    /// comparison of objects or arrays, a method of arrays besides `join`, a name that objects inherit,
+    /// a key or an element by what is no number, and a number past 2^53 - 1.
     Unsupported { at: u32 },
     /// The store was full.
     Full(FullReport),

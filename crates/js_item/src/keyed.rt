@@ -12,9 +12,8 @@ use js_store::Strings;
 use js_units::NoMemory;
 
 impl<R: Copy> Object<R> {
-    /// The place of the member whose key has the units of `key`, if there is one. It compares
-    /// numbers alone, and where the store reports these and there is such a member, as many in a large
-    /// object as in a small one.
+    /// The place of the member whose key has the units of `key`, if there is one. No contract says how
+    /// long that takes: the code compares numbers alone, by an index where there are many members.
     pub fn find<S: Strings<Ref = R>>(&self, store: &mut S, key: R) -> Option<u32>
         requires few { width self.now < 4294967296 }
         requires keys { KeysFine (strings_of (S.state store.old)) S.number self.now }
