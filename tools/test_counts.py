@@ -26,7 +26,7 @@ def refused_numbers(_house):
 
 
 # What says nothing of itself yet, or isn't run by its own.
-WITHOUT_HELP = {"check-repository", "theorem", "jsstr-installed"}
+WITHOUT_HELP = {"theorem", "jsstr-installed"}
 
 
 def answered_help(house):

@@ -9,7 +9,7 @@ pub enum End {
     Done,
     /// An error was thrown.
     Threw(Kind),
-    /// What stands at this byte offset (an operator, a method's or a property's word, an index, or the
+    /// What is at this byte offset (an operator, a method's or a property's word, an index, or the
     /// brace of an object literal) would need what the profile leaves out: the meaning has this end
     /// there (`meaning` of `specs/Script.antt`). Among it are the number of a string or an array, a
     /// comparison of objects or arrays, a method of arrays besides `join`, a name that objects inherit,
