@@ -11,8 +11,8 @@ ghost use Rattle.js_eval.specs.Expression.{expr_out, link_out, decides, operated
 ghost use Rattle.js_eval.specs.Seen.{ContextFine, scope_of};
 ghost use Rattle.js_eval.specs.Flows.{told};
 
-use crate::context::Context;
-use crate::expr::{expr, post};
+use crate::context::{Context, read};
+use crate::expr::{chain, expr, post};
 use crate::literals::read_literal;
 use crate::operators::apply;
 use crate::short::{at_hand, needs_both};
@@ -93,7 +93,8 @@ fn holds_behind<S: Strings>(
     holds_on(alloc, store, link.at, link.op, left, right)
 }
 
-/// The value of a side. A literal, and what has steps, is evaluated here; anything else as any expression.
+/// The value of a side of a comparison or an assignment. A literal, a name, and what has steps or operators, is
+/// evaluated here; anything else as any expression.
 #[inline(always)]
 pub fn side<S: Strings>(
     alloc: Global,
@@ -110,7 +111,9 @@ pub fn side<S: Strings>(
 {
     match e {
         Expr::Literal { number } => Ok(read_literal(store, context, *number)),
+        Expr::Variable { name } => read(store, context, name),
         Expr::Post { of, steps } => side_with_steps(alloc, store, context, steps, of),
+        Expr::Chain { first, rest } => chain(alloc, store, context, rest, first),
         _ => expr(alloc, store, context, e),
     }
 }

@@ -87,10 +87,10 @@ fn unary<S: Strings>(
     apply_unary(store, at, minus, &value)
 }
 
-// A first operand and the links behind it.
+/// A first operand and the links behind it.
 #[cycle(expr)]
 #[inline(never)]
-fn chain<S: Strings>(
+pub fn chain<S: Strings>(
     alloc: Global,
     store: &mut S,
     context: &Context<S::Ref>,

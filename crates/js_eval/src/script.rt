@@ -363,7 +363,7 @@ fn initial<S: Strings>(
         (init_out (init_tree init.now) (scope_of (S.state store.old) S.number context.now)) }
 {
     match init {
-        Some(e) => expr(alloc, store, context, e),
+        Some(e) => side(alloc, store, context, e),
         None => Ok(Value::Undefined),
     }
 }
@@ -384,7 +384,7 @@ fn evaluate_const<'a, S: Strings>(
         (stmt_flow (Tree.const_line at name.now (expr_tree init.now))
         (scope_of (S.state store.old) S.number context.old)) }
 {
-    let value = expr(alloc, store, context, init)?;
+    let value = side(alloc, store, context, init)?;
     declare(store, context, name, true, value)
 }
 
@@ -404,7 +404,7 @@ fn evaluate_assign<'a, S: Strings>(
         (stmt_flow (Tree.assign at name.now (expr_tree value.now))
         (scope_of (S.state store.old) S.number context.old)) }
 {
-    let value = expr(alloc, store, context, value)?;
+    let value = side(alloc, store, context, value)?;
     assign(store, context, name, value)
 }
 

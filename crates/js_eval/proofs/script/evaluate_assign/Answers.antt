@@ -15,7 +15,7 @@ returns-in_err-value-clause-went g c = λ at x.
     let s = scope_of a number c.args.context.now in
     let e = c.in_err-value.ensures in
     let p = err_from_is_err_and c.from_residual.result c.from_residual.ensures.1 in
-    rw (p.1, p.2) (then_halts number a (state c.expr.new.store) x c.args.context.now c.in_err-value.field-0.0
+    rw (p.1, p.2) (then_halts number a (state c.side.new.store) x c.args.context.now c.in_err-value.field-0.0
     (expr_out (expr_tree c.args.value.now) s) (λ v. assigned (meant s.bindings c.args.name.now) c.args.name.now v s.bindings) e.grows c.requires e.did)
 
 pub returns-clause-went : goal.returns-clause-went
@@ -23,7 +23,7 @@ returns-clause-went g c = λ at x.
     let state = g.S.Strings.state in
     let number = g.S.Strings.number in
     let a = state c.args.store.now in
-    let b = state c.expr.new.store in
+    let b = state c.side.new.store in
     let s = scope_of a number c.args.context.now in
     let e = c.in_ok-value.ensures in
     then_went number a b b x c.args.context.now c.in_ok-value.value c.assign.result (context_bindings b number c.assign.new.context)
