@@ -199,9 +199,9 @@ def mended(words, text, at):
 
 
 def is_repeated(text, at, advice):
-    """Whether a fault has the cause of one that is shown: a function that is called, or what ends one."""
+    """Whether a fault has the cause of one that is shown: a function that is called, or what ends one; what follows a `try`."""
     is_call = re.match(r"return\b|\(|[\w$]+\s*\(", text[at:]) and advice == hints.NO_FUNCTIONS
-    return bool(is_call and re.search(r"\bfunction\b|=>", text))
+    return bool(is_call and re.search(r"\bfunction\b|=>", text) or re.match(r"(?:catch|finally)\b", text[at:]) and re.search(r"\btry\b", text[:at]))
 
 
 def all_of(text, first=None, has_print=True, outer=frozenset()):

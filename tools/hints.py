@@ -85,6 +85,8 @@ NOT_IN_PROFILE = [
     (BEGIN, r"print\b", "a prelude prints nothing"),
     (r"[\w$)\]'\"]\s*\n\s*", "", "each statement ends with ;"),
     (rf"{OPEN}", r"print\b", "print is a statement, and has no value"),
+    (BEGIN, r"JSON\s*\.\s*(?!stringify\b)", "of JSON there is stringify alone"),
+    (BEGIN, r"Object\s*\.\s*(?!keys\b)", "of Object there is keys alone"),
     (BEGIN, r"(?:String|Symbol|JSON|Object|(?:en|de)codeURI\w*)\b", NO_STATEMENT),
     ("", r"(?!(?:String|Symbol|JSON|Object)\b)[A-Z]\w*\b", "this global is left out of the language"),
 ]
@@ -119,6 +121,7 @@ UNEXPECTED = [
     (NAMED, r"\(", "no functions: print is the one call that is a statement"),
     (NAMED, r"\.", NO_STATEMENT),
     (rf"{OPEN}{NAME}\s*", r"\(", NO_FUNCTIONS),
+    (BEGIN, r"\[[^\[\]=;]*\]\s*=", "an assignment names one binding: a = b[0];"),
     (BEGIN, r"['\"]use strict", "'use strict' comes first, and once"),
     (BEGIN, r"['\"0-9(!\[+\-]", "an expression alone is no statement: const x = .., or print(..)"),
     (DECLARED, r"[{\[]", "a declaration names one binding: const first = a[0];"),

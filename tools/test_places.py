@@ -49,6 +49,9 @@ ADVISED = [
     ("print(isNaN(1));", "isNaN", "n !== n"),
     ("print(isFinite(1));", "isFinite", "Infinity"),
     ("print(f(1));", "(1)", "no functions"),
+    ("[a, b] = [b, a];", "[a, b] =", "one binding"),
+    ("JSON.parse('1');", "JSON", "stringify alone"),
+    ("Object.assign(a, b);", "Object", "keys alone"),
     ("a ||= 1;", "||= 1", "a = a || b"),
     ("a ??= 1;", "??= 1", "no ??="),
     ("print((1, 2));", ", 2", "no comma between"),
@@ -149,7 +152,7 @@ ALL = [
     ("{ print(x); let x = x; }\nconst c = 1;\nc += 1;\n", [(1, 9, "before its declaration"), (1, 21, "before its declaration"), (3, 1, "is a const")]),
     ("for (let i = 0; i < 3; i++) { print(i); }\nprint(i);\n", [(2, 7, "the name i")]),
     ("if (Symbol.for('a') === Symbol.for('b')) { print({ for: 1 }); }\n", []),
-    ("try { print(1); } catch (e) { print(e); }\nprint(x.y.z, { y: 1, 'z': 2 }.z);\n", [(1, 1, "no try"), (1, 19, "no try"), (2, 7, "the name x")]),
+    ("try { print(1); } catch (e) { print(e); }\nprint(x.y.z, { y: 1, 'z': 2 }.z);\n", [(1, 1, "no try"), (2, 7, "the name x")]),
 ]
 
 
