@@ -5,8 +5,7 @@ import subprocess
 
 from test_house import REPOSITORY, check
 
-# Tools that have numbers as their arguments; one that reads them by itself says all of itself where it refuses one.
-TOOLS, BY_ITSELF = ("generate.py", "search-words", "stress-jobs", "uri-texts"), ("compare-with-node",)
+TOOLS = ("compare-with-node", "generate.py", "search-words", "stress-jobs", "uri-texts")
 
 
 def called(tool, *args):
@@ -15,13 +14,12 @@ def called(tool, *args):
 
 def refused_numbers(_house):
     """An argument that is no number gets what the tool says of itself or how to ask for that, and no traceback."""
-    for tool in (*TOOLS, *BY_ITSELF):
+    for tool in TOOLS:
         asked = called(tool, "--help")
         check(f"{tool} --help", (asked.returncode, asked.stderr) == (0, "") and f"tools/{tool}" in asked.stdout, asked.stdout + asked.stderr)
         for args in (["--nope"], ["1x"], ["-1"], ["1", "2", "3", "x"]):
             ran = called(tool, *args)
-            is_said = ran.stderr == asked.stdout if tool in BY_ITSELF else "--help" in ran.stderr and ran.stderr.count("\n") == 2
-            check(f"{tool} {args}", (ran.returncode, ran.stdout) == (2, "") and is_said, ran.stdout + ran.stderr)
+            check(f"{tool} {args}", (ran.returncode, ran.stdout) == (2, "") and "--help" in ran.stderr and ran.stderr.count("\n") == 2, ran.stdout + ran.stderr)
     check("generate.py without a number", called("generate.py").returncode == 2 and called("generate.py", "--put", "out").returncode == 2)
 
 
@@ -37,7 +35,7 @@ def answered_help(house):
         for word in ("--help", "-h"):
             status, out, err = house.call(word, tool=tool)
             check(f"{tool} {word}", (status, err) == (0, "") and tool in out, out + err)
-        wide = [it for it in out.splitlines() if len(it) > 120 and tool not in BY_ITSELF]
+        wide = [it for it in out.splitlines() if len(it) > 120]
         check(f"{tool} --help isn't wide", not wide, "\n".join(wide))
     check("nothing was written", house.git("status", "--porcelain", "--ignored") == before, house.git("status", "--porcelain", "--ignored"))
 

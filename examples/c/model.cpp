@@ -51,7 +51,7 @@ jsstr_builder text;
 uint64_t state, numbers, calls, seen[12], seed;
 const char *playing = "";
 long left = LONG_MAX, asked;
-bool is_inside;
+bool is_inside, is_refused_memory;
 
 uint32_t chance(uint32_t below) {
   state = state * 6364136223846793005u + 1442695040888963407u;
@@ -61,7 +61,7 @@ uint32_t chance(uint32_t below) {
 bool one_in(uint32_t n) { return chance(n) == 0; }
 
 [[noreturn]] void differs(const char *what, const Answer *got = nullptr, const Answer *want = nullptr) {
-  std::printf("call %" PRIu64 " of seed %" PRIu64 ", %s: %s\n", calls, seed, playing, what);
+  std::printf("call %" PRIu64 " of seed %" PRIu64 ", %s%s: %s\n", calls, seed, playing, is_refused_memory ? " with malloc refused" : "", what);
   for (const Answer *it : {got, want})
     if (it) {
       std::printf("  %s %s", it == got ? "answered" : "the model", jsstr_status_name(it->status()));
@@ -94,16 +94,31 @@ const Answer REFUSED = {JSSTR_BAD_ARGUMENT};
 
 Agent &agent(int i) { return world.agents[i]; }
 
+// How full an agent's heap is, what it has reserved, and its share, of the model.
+Answer room_of(const Agent &a) {
+  return a.heap ? Answer{JSSTR_DONE, a.heap->ids, a.heap->words, a.heap->size.ids, a.heap->size.words, a.heap->size.slots, a.seen_slots()} : REFUSED;
+}
+Answer reserved_by(const Agent &a) { return a.heap ? Answer{JSSTR_DONE, uint32_t(a.ids.size()), a.words} : REFUSED; }
+Answer share_of(const Agent &a) { return a.heap ? value(a.share) : REFUSED; }
+
 // What an agent sees of its heap and of itself is what the model has.
 bool is_seen(int i) {
-  Agent &a = agent(i);
-  if (!a.heap) return answer(jsstr_room_of(&handles[i])) == REFUSED && answer(jsstr_reserved(&handles[i])) == REFUSED && !handles[i].at && !handles[i].live;
-  const Heap &heap = *a.heap;
-  return answer(jsstr_room_of(&handles[i])) == Answer{JSSTR_DONE, heap.ids, heap.words, heap.size.ids, heap.size.words, heap.size.slots, a.seen_slots()}
-    && answer(jsstr_reserved(&handles[i])) == Answer{JSSTR_DONE, uint32_t(a.ids.size()), a.words} && jsstr_share(&handles[i]).value == a.share;
+  const Agent &a = agent(i);
+  return answer(jsstr_room_of(&handles[i])) == room_of(a) && answer(jsstr_reserved(&handles[i])) == reserved_by(a) && answer(jsstr_share(&handles[i])) == share_of(a)
+    && !handles[i].at == !a.heap && !handles[i].live == !a.heap;
 }
 
 bool all_are_seen(std::initializer_list<int> who) { return std::all_of(who.begin(), who.end(), is_seen) && jsstr_built_length(&text) == world.built.size(); }
+
+// Ends where an agent sees something else than the model has.
+void check_seen(std::initializer_list<int> who) {
+  for (int i : who) {
+    Answer room = answer(jsstr_room_of(&handles[i])), reserved = answer(jsstr_reserved(&handles[i])), right[] = {room_of(agent(i)), reserved_by(agent(i))};
+    if (!(room == right[0])) differs("another jsstr_room_of follows", &room, &right[0]);
+    if (!(reserved == right[1])) differs("another jsstr_reserved follows", &reserved, &right[1]);
+  }
+  if (!all_are_seen(who)) differs("another share, handle or text follows");
+}
 
 // The answer of the library, with malloc refused after some allocations or not.
 template <class Call> Answer answered(Call call, bool is_denied) {
@@ -112,6 +127,7 @@ template <class Call> Answer answered(Call call, bool is_denied) {
   is_inside = true;
   Answer got = call();
   is_inside = false;
+  is_refused_memory = left == 0 && is_denied;
   left = LONG_MAX;
   calls++;
   seen[got.status() < 12 ? got.status() : 0]++;
@@ -123,7 +139,7 @@ template <class Left> void refused(const World &before, std::initializer_list<in
   world = before.copy();
   if (all_are_seen(who)) return;
   leaves();
-  if (!all_are_seen(who)) differs("it has changed something without memory");
+  check_seen(who);
 }
 
 // Plays a call in the library and in the model, for some agents.
@@ -138,15 +154,15 @@ template <class Call, class Model, class Left> void play(const char *name, Memor
     return refused(before, who, leaves);
   }
   Answer want = wanted();
-  if (is_denied && asked && !(got == want && all_are_seen(who))) {
-    // without memory for its list, nothing was renewed
+  for (uint32_t granted = 0; is_denied && asked && granted < 4 && !(got == want && all_are_seen(who)); granted++) {
+    // (without memory for their list no more ids were renewed)
     world = before.copy();
-    for (Agent &it : world.agents) it.blocks = {0, 0};
+    renewals = granted;
     want = wanted();
-    for (int i = 0; i < AGENTS; i++) agent(i).blocks = before.agents[i].blocks;
+    renewals = UINT32_MAX;
   }
   if (!(got == want)) differs("another answer", &got, &want);
-  if (!all_are_seen(who)) differs("another state than the model's");
+  check_seen(who);
 }
 
 template <class Call, class Model> void play(const char *name, Memory memory, std::initializer_list<int> who, Call call, Model wanted) {
@@ -767,7 +783,7 @@ void play_worlds(uint64_t count) {
       until = calls + 200 + chance(3000);
     }
     CALLS[chance(sizeof CALLS / sizeof *CALLS)]();
-    if (one_in(50) && !all_are_seen({0, 1, 2, 3, 4, 5})) differs("another agent's state than the model's");
+    if (one_in(50)) check_seen({0, 1, 2, 3, 4, 5});
   }
   end();
   jsstr_drop_builder(&text);
