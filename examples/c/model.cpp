@@ -84,8 +84,6 @@ Answer answer(jsstr_bytes b) { return {b.status, b.at, b.size}; }
 Answer answer(jsstr_words w) { return {w.status, w.wide, w.lane, w.length, w.count}; }
 Answer answer(jsstr_counts u) { return {u.status, u.ids, u.words}; }
 Answer answer(jsstr_room r) { return {r.status, r.ids, r.words, r.all_ids, r.all_words, r.slots, r.seen_slots}; }
-Answer value(uint32_t n) { return {JSSTR_DONE, n}; }
-Answer value(jsstr_use u) { return {JSSTR_DONE, u.ids, u.words}; }
 const Answer REFUSED = {JSSTR_BAD_ARGUMENT};
 
 // A call in one of its forms: what the unchecked one gives that has no status is made an answer by `made`.
@@ -381,13 +379,6 @@ void unit_at() {
   play("unit_at", NOTHING, {i}, [&] { return EITHER(u, unit_at, value, &handles[i], s, place); }, [&] { return once_settled(i, s, ok, [&] { return value(units_of(i, s)[place]); }); });
 }
 
-// An answer of jsstr_to_utf8 or jsstr_to_latin1 to a string that spells these bytes, where all its units have some.
-Answer encoded(const Bytes &bytes, size_t unmapped, size_t room, Bytes &written) {
-  if (unmapped != SIZE_MAX) return {JSSTR_UNMAPPED, uint32_t(unmapped)};
-  if (room >= bytes.size()) written = bytes;
-  return {uint32_t(room < bytes.size() ? JSSTR_NO_ROOM : JSSTR_DONE), 0, uint32_t(bytes.size())};
-}
-
 void encode() {
   int i = some_agent();
   jsstr_id s = some_id(i);
@@ -404,16 +395,6 @@ void encode() {
     return is_utf8 ? EITHER(u, to_utf8, answer, &handles[i], s, unpaired, bytes_out, room) : EITHER(u, to_latin1, answer, &handles[i], s, bytes_out, room);
   }, [&] { return once_settled(i, s, ok, [&] { return encoded(right, unmapped, room, written); }); });
   wrote(bytes_out, written);
-}
-
-Answer array_index(const Text &units) {
-  uint64_t number = 0;
-  for (char16_t it : units) {
-    if (it < '0' || it > '9' || units.size() > 10) return {JSSTR_NONE};
-    number = number * 10 + (it - '0');
-  }
-  bool is = !units.empty() && (units[0] != '0' || units.size() == 1) && number < UINT32_MAX;
-  return is ? value(uint32_t(number)) : Answer{JSSTR_NONE};
 }
 
 void number_of() {
@@ -452,8 +433,6 @@ void window() {
   for (uint32_t k = got.numbers[4]; k < 609; k++) CHECK(words_out[k] == 0x5A5A);
 }
 
-Answer order(const Text &a, const Text &b) { return value(uint32_t(a < b ? -1 : a == b ? 0 : 1)); }
-
 void compare() {
   int i = some_agent();
   jsstr_id a = some_id(i), b = one_in(9) ? a : some_id(i);
@@ -482,8 +461,6 @@ void compare_given() {
     return once_settled(i, s, ok, [&] { return orders ? order(units_of(i, s), g.units) : value(units_of(i, s) == g.units); });
   });
 }
-
-Answer place(size_t at) { return at == Text::npos ? Answer{JSSTR_NONE} : value(uint32_t(at)); }
 
 void search() {
   int i = some_agent(), kind = int(chance(3));

@@ -300,5 +300,31 @@ struct Utf8 {
   }
 };
 
+// ---- The answers that units alone give
+
+inline Answer value(uint32_t n) { return {JSSTR_DONE, n}; }
+inline Answer value(jsstr_use u) { return {JSSTR_DONE, u.ids, u.words}; }
+
+// An answer of jsstr_to_utf8 or jsstr_to_latin1 to a string that spells these bytes, where all its units have some.
+inline Answer encoded(const Bytes &bytes, size_t unmapped, size_t room, Bytes &written) {
+  if (unmapped != SIZE_MAX) return {JSSTR_UNMAPPED, uint32_t(unmapped)};
+  if (room >= bytes.size()) written = bytes;
+  return {uint32_t(room < bytes.size() ? JSSTR_NO_ROOM : JSSTR_DONE), 0, uint32_t(bytes.size())};
+}
+
+inline Answer array_index(const Text &units) {
+  uint64_t number = 0;
+  for (char16_t it : units) {
+    if (it < '0' || it > '9' || units.size() > 10) return {JSSTR_NONE};
+    number = number * 10 + (it - '0');
+  }
+  bool is = !units.empty() && (units[0] != '0' || units.size() == 1) && number < UINT32_MAX;
+  return is ? value(uint32_t(number)) : Answer{JSSTR_NONE};
+}
+
+inline Answer order(const Text &a, const Text &b) { return value(uint32_t(a < b ? -1 : a == b ? 0 : 1)); }
+
+inline Answer place(size_t at) { return at == Text::npos ? Answer{JSSTR_NONE} : value(uint32_t(at)); }
+
 } // namespace model
 #endif
