@@ -6,12 +6,14 @@ Usage: bench/c_heap.py PREFIX [--only TEXT] [--rounds N] [--before PREFIX] [--ta
 
 PREFIX is where tools/jsstr-library has put the library. Prints for each row the medians of five rounds, in which the
 columns alternate, and in parentheses the ratio of the unchecked form to each; then which aims are met. --only measures
-the rows whose names contain TEXT. --before adds another library, in its unchecked form. --table prints the ratios alone,
-as docs/MEASURES.md has them. CXX names the compiler, else c++.
+the rows whose names contain TEXT. Rows "together" count only the time in which all of their threads run, 200 ms of it
+where the machine has that, and print nan where it hardly ever does: by claims for each string, by blocks of 64 ids and 256
+words, and by these with the handles beside each other. --before adds another library, in its unchecked form. --table
+prints the ratios alone, as docs/MEASURES.md has them. CXX names the compiler, else c++.
 
 A peer is found by pkg-config (tbb, mozjs-*, javascriptcoregtk-*), V8 by node with its headers; in Debian these are
 libtbb-dev, libmozjs-102-dev, libjavascriptcoregtk-4.1-dev, and nodejs with libnode-dev. It belongs to no gate: run it on
-a machine that does nothing else, for about three minutes.
+a machine that does nothing else, for about five minutes.
 """
 
 import argparse
@@ -28,8 +30,8 @@ HERE = os.path.join(os.path.dirname(os.path.abspath(__file__)), "c_heap")
 CXX = shlex.split(os.environ.get("CXX", "c++"))
 FLAGS = ["-O2", "-Wall", "-Wextra", "-pthread"]
 # Calls that a library may have, and the macro with which their rows are compiled.
-LATER = {"jsstr_reserve_unchecked": "HAS_RESERVE", "jsstr_intern_many_unchecked": "HAS_INTERN_MANY"}
-OURS = ["checked", "unchecked", "reserved", "64 a call"]
+LATER = {"jsstr_reserve_unchecked": "HAS_RESERVE", "jsstr_renew": "HAS_RENEW", "jsstr_intern_many_unchecked": "HAS_INTERN_MANY"}
+OURS = ["checked", "unchecked", "reserved", "64 a call", "64/256", "beside"]
 ENGINES, TABLES = ["before", "C++", "V8", "SpiderMonkey", "JSC"], ["before", "C++", "mutex", "64 shards", "TBB"]
 # The rows of one thread, in ns a call or what they say. Those with more follow.
 ONE = [
@@ -38,7 +40,8 @@ ONE = [
     "intern cold", "hit, new string", "hit, interned before", "hit, itself", "hit by units, 256 keys", "hit by units, 100,000 keys",
     "hit by units, 200,000 random", "hit by units, 200,000 numbered", "intern at 95 % load, us", "intern refused, us",
 ]
-THREADED = ["make 5-12", "join 10-24", "slice 3", "slice 20", "intern cold", "hit, new string", "hit by units, 256 keys", "hit by units, 100,000 keys", "read 9"]
+TOGETHER = ["together: make 5-12", "together: join 10-24", "together: slice 20"]
+THREADED = [*TOGETHER, "intern cold", "hit, new string", "hit by units, 256 keys", "hit by units, 100,000 keys", "read 9"]
 
 
 def threads(row, count):
@@ -56,9 +59,10 @@ BESIDE_ENGINES = [
     ("equal 9", "V8", 1.5), ("equal 10^6, a unit", "V8", 2.0), ("flatten, a unit", "SpiderMonkey", 1.0), ("hit, itself", "SpiderMonkey", 1.3),
     ("hit by units, 256 keys", "SpiderMonkey", 1.0), ("hit by units, 100,000 keys", "SpiderMonkey", 1.0),
 ]
-# Rows of four threads that are to be faster than these tables; rows of which four threads are to do this many times as many a second as one.
+# Rows of four threads that are to be faster than these tables; by blocks of 64 ids and 256 words, handles apart or beside each other, four
+# threads are to make this many times as many strings a second as one.
 FASTER, TABLES_BEATEN = ["intern cold", "hit, new string", "hit by units, 256 keys"], ["TBB", "64 shards"]
-SCALING, TIMES_AS_MANY = ["make 5-12", "join 10-24", "slice 3", "slice 20"], 2.5
+TIMES_AS_MANY = 2.5
 MOST_MICROSECONDS, MOST_OF_NUMBERED = 20, 1.5
 
 
@@ -238,9 +242,9 @@ def aims(medians):
     for row, peer, most in BESIDE_ENGINES:
         yield f"{row}, to {peer}", ratio((row, "unchecked"), (row, peer)), most, "at most"
     yield f"{NUMBERED}, to random", ratio((NUMBERED, "unchecked"), (RANDOM, "unchecked")), MOST_OF_NUMBERED, "at most"
-    for row in SCALING:
-        column = "reserved" if (row, "reserved") in medians else "unchecked"
-        yield f"{row}, {column}: 4 threads to one", ratio((threads(row, 4), column), (row, column)), 1 / TIMES_AS_MANY, "at most"
+    for row in TOGETHER:
+        for column in ("64/256", "beside"):
+            yield f"{row}, {column}: 4 threads to one", ratio((threads(row, 4), column), (row, column)), 1 / TIMES_AS_MANY, "at most"
     for row in (threads(it, 4) for it in FASTER):
         for peer in TABLES_BEATEN:
             yield f"{row}, to {peer}", ratio((row, "unchecked"), (row, peer)), 1.0, "below"

@@ -1,5 +1,5 @@
 // The rows of the heap, by the calls that test their condition, and by those that don't. bench/c_heap.py compiles and
-// asks it. HAS_RESERVE and HAS_INTERN_MANY are defined where jsstr.h has these calls.
+// asks it. HAS_RESERVE, HAS_RENEW and HAS_INTERN_MANY are defined where jsstr.h has these calls.
 #include "jsstr.h"
 #include "rows.h"
 
@@ -38,23 +38,26 @@ constexpr Calls UNCHECKED = {"unchecked", jsstr_from_units_unchecked, jsstr_from
 
 using Ids = std::vector<jsstr_id>;
 
-// Each call writes its handle: each thread's is on cache lines of its own.
-struct alignas(64) Handle { jsstr_agent agent{}; };
+// A handle on a line of the cache of its own, and one beside those of other threads.
+struct alignas(64) Apart { jsstr_agent agent{}; };
+struct Beside { jsstr_agent agent{}; };
 
-class Heap {
+template <class Handle> class HeapOf {
 public:
-  Heap(uint32_t ids, uint32_t words, uint32_t slots = 1, uint32_t threads = 1) : handles(threads) {
+  HeapOf(uint32_t ids, uint32_t words, uint32_t slots = 1, uint32_t threads = 1) : handles(threads) {
     want(jsstr_make({ids, words, slots}, threads, JSSTR_MAX_LENGTH, agent(0)) == JSSTR_DONE);
     for (uint32_t t = 1; t < threads; t++) want(jsstr_split(agent(0), 1, agent(t)) == JSSTR_DONE);
   }
-  Heap(const Heap &) = delete;
-  Heap &operator=(const Heap &) = delete;
-  ~Heap() { for (Handle &it : handles) jsstr_free(&it.agent); }
+  HeapOf(const HeapOf &) = delete;
+  HeapOf &operator=(const HeapOf &) = delete;
+  ~HeapOf() { for (Handle &it : handles) jsstr_free(&it.agent); }
   jsstr_agent *agent(uint32_t t = 0) { return &handles[t].agent; }
 
 private:
   std::vector<Handle> handles;
 };
+
+using Heap = HeapOf<Apart>;
 
 // Whether a call was done, whose status comes alone or with more.
 [[maybe_unused]] bool is_done(uint32_t status) { return status == JSSTR_DONE; }
@@ -97,12 +100,12 @@ void by_blocks(jsstr_agent *agent, uint32_t i) {
 
 // ---- Making, joining and cutting
 
-template <const Calls &call, Claim claim> double make(uint32_t threads) {
-  Heap heap(IDS, WORDS, 1, threads);
-  return timed_threads(threads, STRINGS, [&](uint32_t t, uint32_t i) {
-    const Text &text = pool()[(i + t * 101) % POOL];
-    claim(heap.agent(t), i);
-    use(id_of(call.from(heap.agent(t), units_of(text), text.size())));
+template <const Calls &call, Claim claim> double make() {
+  Heap heap(IDS, WORDS);
+  return timed(STRINGS, [&](uint32_t i) {
+    const Text &text = pool()[i % POOL];
+    claim(heap.agent(), i);
+    use(id_of(call.from(heap.agent(), units_of(text), text.size())));
   });
 }
 
@@ -114,15 +117,15 @@ template <class One> double over_own(uint32_t threads, uint32_t count, const std
   return timed_threads(threads, count, [&](uint32_t t, uint32_t i) { one(heap.agent(t), made[t], i); });
 }
 
-template <const Calls &call, Claim claim> double join(uint32_t threads) {
-  return over_own(threads, STRINGS, pool(), [](jsstr_agent *agent, const Ids &made, uint32_t i) {
+template <const Calls &call, Claim claim> double join() {
+  return over_own(1, STRINGS, pool(), [](jsstr_agent *agent, const Ids &made, uint32_t i) {
     claim(agent, i);
     use(id_of(call.concat(agent, made[i % POOL], made[(i + 1) % POOL])));
   });
 }
 
-template <const Calls &call, Claim claim> double cut(uint32_t threads, uint32_t length) {
-  return over_own(threads, STRINGS, forties(), [length](jsstr_agent *agent, const Ids &made, uint32_t i) {
+template <const Calls &call, Claim claim> double cut(uint32_t length) {
+  return over_own(1, STRINGS, forties(), [length](jsstr_agent *agent, const Ids &made, uint32_t i) {
     uint32_t from = 1 + i % (39 - length);
     claim(agent, i);
     use(id_of(call.slice(agent, made[i % POOL], from, from + length)));
@@ -342,15 +345,51 @@ template <const Calls &call> double refused() {
   return most / 1000;
 }
 
+// ---- Making, joining and cutting, by threads together: strings that claim one by one, and those of blocks
+
+#ifdef HAS_RENEW
+struct Blocks { uint32_t ids, words; };
+constexpr Blocks NONE = {0, 0}, BLOCKS = {64, 256};
+
+template <class Handle, const Blocks &blocks, class One> double together(uint32_t threads, const std::vector<Text> &texts, One one) {
+  return timed_together(threads, [&](Together &it) {
+    HeapOf<Handle> heap(threads * (PART + POOL + blocks.ids), threads * (2 * PART + 5 * POOL + blocks.words) / 100 * 102, 1, threads);
+    std::vector<Ids> made;
+    for (uint32_t t = 0; t < threads; t++) {
+      want(jsstr_renew(heap.agent(t), blocks.ids, blocks.words) == JSSTR_DONE);
+      made.push_back(all_made(heap.agent(t), texts));
+    }
+    it.run(PART, [&](uint32_t t, uint32_t i) { use(id_of(one(heap.agent(t), made[t], i))); });
+  });
+}
+
+template <class Handle, const Blocks &blocks> void add_together(Rows &rows, const char *column) {
+  auto add = [&](const char *name, uint32_t threads, const std::vector<Text> &texts, auto one) {
+    rows.add(name, threads, column, [threads, &texts, one] { return together<Handle, blocks>(threads, texts, one); });
+  };
+  for (uint32_t threads : THREADS) {
+    add("together: make 5-12", threads, pool(), [](jsstr_agent *agent, const Ids &, uint32_t i) {
+      const Text &text = pool()[i % POOL];
+      return jsstr_from_units_unchecked(agent, units_of(text), text.size());
+    });
+    add("together: join 10-24", threads, pool(), [](jsstr_agent *agent, const Ids &made, uint32_t i) {
+      return jsstr_concat_unchecked(agent, made[i % POOL], made[(i + 1) % POOL]);
+    });
+    add("together: slice 20", threads, forties(), [](jsstr_agent *agent, const Ids &made, uint32_t i) {
+      uint32_t from = 1 + i % 19;
+      return jsstr_slice_unchecked(agent, made[i % POOL], from, from + 20);
+    });
+  }
+}
+#endif
+
 // ---- The rows
 
 template <const Calls &call, Claim claim> void add_making(Rows &rows, const char *column) {
-  for (uint32_t threads : THREADS) {
-    rows.add("make 5-12", threads, column, [threads] { return make<call, claim>(threads); });
-    rows.add("join 10-24", threads, column, [threads] { return join<call, claim>(threads); });
-    rows.add("slice 3", threads, column, [threads] { return cut<call, claim>(threads, 3); });
-    rows.add("slice 20", threads, column, [threads] { return cut<call, claim>(threads, 20); });
-  }
+  rows.add("make 5-12", column, make<call, claim>);
+  rows.add("join 10-24", column, join<call, claim>);
+  rows.add("slice 3", column, [] { return cut<call, claim>(3); });
+  rows.add("slice 20", column, [] { return cut<call, claim>(20); });
 }
 
 template <const Calls &call> void add_all(Rows &rows) {
@@ -390,6 +429,11 @@ int main() {
   add_all<UNCHECKED>(rows);
 #ifdef HAS_RESERVE
   add_making<UNCHECKED, by_blocks>(rows, "reserved");
+#endif
+#ifdef HAS_RENEW
+  add_together<Apart, NONE>(rows, "unchecked");
+  add_together<Apart, BLOCKS>(rows, "64/256");
+  add_together<Beside, BLOCKS>(rows, "beside");
 #endif
 #ifdef HAS_INTERN_MANY
   rows.add("hit by units, 100,000 keys", "64 a call", hit_many);

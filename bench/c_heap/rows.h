@@ -22,6 +22,8 @@ constexpr uint32_t STRINGS = 200000, POOL = 4096, KEYS = 100000, HOT = 256, LONG
 // Numbered keys, and the slots of the table that they are in.
 constexpr uint32_t NUMBERED = 200000, NUMBERED_SLOTS = 524288;
 constexpr uint32_t THREADS[] = {1, 2, 4};
+// The calls of one thread in a round of threads together; a multiple of 64.
+constexpr uint32_t PART = 320000;
 
 // What a peer's row makes lives on, as all strings of the heap do; or the last POOL strings do, and earlier ones are
 // let go.
@@ -146,6 +148,81 @@ template <class One> double timed_threads(uint32_t threads, uint32_t count, One 
   work(0);
   for (std::thread &it : running) it.join();
   return nanoseconds_since(begin) / (part * threads);
+}
+
+// Calls of several threads, counted only over the time in which all of them ran: each notes the time after every NOTED
+// calls, and while two notes are GAP or more apart it was on no processor. So other work on the machine counts little.
+class Together {
+public:
+  explicit Together(uint32_t threads) : notes(threads) {}
+
+  size_t threads() const { return notes.size(); }
+  bool is_long() const { return time >= LEAST; }
+  double each() const { return time / calls; }
+
+  // Thread t calls one(t, i) for each i below count. All begin at once.
+  template <class One> void run(uint32_t count, One one) {
+    std::atomic<size_t> ready{0};
+    auto work = [&](uint32_t t) {
+      std::vector<double> &mine = notes[t];
+      mine.assign(count / NOTED + 1, 0);
+      for (ready++; ready < threads();) {}
+      for (uint32_t i = 0; i < count; i++) {
+        if (i % NOTED == 0) mine[i / NOTED] = now();
+        one(t, i);
+      }
+      mine[count / NOTED] = now();
+    };
+    std::vector<std::thread> running;
+    for (uint32_t t = 1; t < threads(); t++) running.emplace_back(work, t);
+    work(0);
+    for (std::thread &it : running) it.join();
+    count_windows();
+  }
+
+private:
+  // In ns: what is counted of a row at least, the gap that a thread off its processor leaves, and the least window.
+  static constexpr double LEAST = 200e6, GAP = 200e3, WINDOW = 50e3;
+  static constexpr uint32_t NOTED = 64;
+  struct Span { double from, to; };
+
+  static double now() { return std::chrono::duration<double, std::nano>(Clock::now().time_since_epoch()).count(); }
+
+  // When some thread didn't run, by their beginnings.
+  std::vector<Span> pauses() const {
+    std::vector<Span> all;
+    for (const std::vector<double> &it : notes) {
+      all.push_back({0, it.front()});
+      for (size_t k = 1; k < it.size(); k++) if (it[k] - it[k - 1] >= GAP) all.push_back({it[k - 1], it[k]});
+      all.push_back({it.back(), 1e300});
+    }
+    std::sort(all.begin(), all.end(), [](const Span &a, const Span &b) { return a.from < b.from; });
+    return all;
+  }
+
+  // The windows between the pauses, with the calls that ended in them.
+  void count_windows() {
+    double end = 0;
+    for (const Span &pause : pauses()) {
+      if (pause.from - end >= WINDOW) {
+        time += pause.from - end;
+        for (const std::vector<double> &it : notes)
+          for (size_t k = 1; k < it.size(); k++) if (it[k] > end && it[k] <= pause.from) calls += NOTED;
+      }
+      end = std::max(end, pause.to);
+    }
+  }
+
+  std::vector<std::vector<double>> notes;
+  double time = 0, calls = 0;
+};
+
+// ns a call of several threads together, over as many rounds as that takes; no number where a machine hardly ever runs
+// them all at once.
+template <class Round> double timed_together(uint32_t threads, Round round) {
+  Together together(threads);
+  for (int rounds = 0; rounds < 100 && !together.is_long(); rounds++) round(together);
+  return together.each();
 }
 
 // The rows of a program. Each has a name, a column, and what measures it once.

@@ -104,9 +104,17 @@ template <class Table> void add_table(Rows &rows, const char *column, uint32_t m
 
 // ---- Texts
 
-template <class One> double made_by(uint32_t threads, uint32_t kept, One one) {
-  std::vector<std::vector<Text>> made(threads, std::vector<Text>(kept / threads));
-  return timed_threads(threads, STRINGS, [&](uint32_t t, uint32_t i) { made[t][i % (kept / threads)] = one(i); });
+template <class One> double made_by(uint32_t kept, One one) {
+  std::vector<Text> made(kept);
+  return timed(STRINGS, [&](uint32_t i) { made[i % kept] = one(i); });
+}
+
+// The same of threads together. What is made lives until the round ends.
+template <class One> double made_together(uint32_t threads, One one) {
+  return timed_together(threads, [&](Together &it) {
+    std::vector<std::vector<Text>> made(threads, std::vector<Text>(PART));
+    it.run(PART, [&](uint32_t t, uint32_t i) { made[t][i] = one(i); });
+  });
 }
 
 double read_short(uint32_t threads) {
@@ -123,7 +131,7 @@ Text cut(uint32_t i, uint32_t length) { return forties()[i % POOL].substr(1 + i 
 double from_latin1(uint32_t kept) {
   std::vector<std::string> bytes;
   for (const Text &it : pool()) bytes.emplace_back(it.begin(), it.end());
-  return made_by(1, kept, [&](uint32_t i) { return Text(bytes[i % POOL].begin(), bytes[i % POOL].end()); });
+  return made_by(kept, [&](uint32_t i) { return Text(bytes[i % POOL].begin(), bytes[i % POOL].end()); });
 }
 
 double make_long() {
@@ -168,17 +176,23 @@ double search() {
 }
 
 void add_texts(Rows &rows, const char *column) {
+  auto made = [](uint32_t i) { return pool()[i % POOL]; };
+  auto joined = [](uint32_t i) { return pool()[i % POOL] + pool()[(i + 1) % POOL]; };
+  auto cut_20 = [](uint32_t i) { return cut(i, 20); };
+  for (uint32_t kept : KEPT) {
+    auto add = [&](const char *name, Text (*one)(uint32_t)) {
+      rows.add(kept_name(name, kept), column, [kept, one] { return made_by(kept, one); });
+    };
+    add("make 5-12", made);
+    add("join 10-24", joined);
+    add("join 100+100", [](uint32_t i) { return hundreds()[i % 64] + hundreds()[(i + 1) % 64]; });
+    add("slice 3", [](uint32_t i) { return cut(i, 3); });
+    add("slice 20", cut_20);
+  }
   for (uint32_t threads : THREADS) {
-    for (uint32_t kept : KEPT) {
-      auto add = [&](const char *name, Text (*one)(uint32_t)) {
-        rows.add(kept_name(name, kept), threads, column, [threads, kept, one] { return made_by(threads, kept, one); });
-      };
-      add("make 5-12", [](uint32_t i) { return pool()[i % POOL]; });
-      add("join 10-24", [](uint32_t i) { return pool()[i % POOL] + pool()[(i + 1) % POOL]; });
-      add("join 100+100", [](uint32_t i) { return hundreds()[i % 64] + hundreds()[(i + 1) % 64]; });
-      add("slice 3", [](uint32_t i) { return cut(i, 3); });
-      add("slice 20", [](uint32_t i) { return cut(i, 20); });
-    }
+    rows.add("together: make 5-12", threads, column, [=] { return made_together(threads, made); });
+    rows.add("together: join 10-24", threads, column, [=] { return made_together(threads, joined); });
+    rows.add("together: slice 20", threads, column, [=] { return made_together(threads, cut_20); });
     rows.add("read 9", threads, column, [threads] { return read_short(threads); });
   }
   for (uint32_t kept : KEPT) rows.add(kept_name("from Latin-1 5-12", kept), column, [kept] { return from_latin1(kept); });
