@@ -18,7 +18,8 @@
    - A pointer to a handle, units, bytes, ends or ids is valid, aligned and not null, even where there are none.
      Two handles of one call are distinct, and what a call writes overlaps nothing else that it receives.
 
-   Each call writes its handle, reads too: keep handles of different threads in different cache lines.
+   A call writes the handle of an agent only where that gets or loses one (tested, not proved), so handles of different
+   threads may lie in one cache line; what a thread writes itself shouldn't lie beside another one's handle.
 
    KNOWN. An agent knows the strings that its calls answered, what the agent that it was split off from
    knew by then, and what those knew that it joined. A string goes from one running thread to another by
@@ -162,7 +163,8 @@ jsstr_answer jsstr_reserve(jsstr_agent *agent, uint32_t ids, uint32_t words);
    the two, and nothing where the block of what is missing is 0. For jsstr_concat and jsstr_slice a copy needs a word
    for 4 units. Where the heap has not that many words no id is claimed either, and the call goes on as if nothing were
    renewed; where it has fewer ids, these are claimed. What is interned renews nothing where its string is in the table,
-   or no slot is free; settling never does. At a join `agent` keeps its blocks. Answers DONE. */
+   or no slot is free; settling never does. At a join `agent` keeps its blocks. Answers DONE. Where several threads make
+   strings, jsstr_renew(&agent, 64, 256) for each agent, once it is split off, keeps them out of each other's way. */
 uint32_t jsstr_renew(jsstr_agent *agent, uint32_t ids, uint32_t words);
 
 /* How many ids and words are reserved, and left. */

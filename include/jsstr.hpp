@@ -173,7 +173,8 @@ template <class T> using answer = result<T>;
 #endif
 
 /// An agent of a heap, by which one thread at a time makes, reads and interns strings. It can be moved, also
-/// to another thread, and is never copied. Its handle has a cache line of its own, since each call writes there.
+/// to another thread, and is never copied. Its handle has a cache line of its own: each call reads it, and nothing that
+/// another thread writes lies beside it.
 ///
 /// A string may be given to the agent that made it, to agents that were split off from that one later, and to
 /// the one into which it was joined; else the call answers bad_argument.

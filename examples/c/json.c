@@ -29,7 +29,7 @@ typedef struct value {
   spelling key_text, text;
 } value;
 
-/* Each call writes the agent: what is beside it keeps those of two threads in different cache lines. */
+/* Each call reads the agent: what is beside it keeps that in other cache lines than what the threads write. */
 typedef struct reader {
   jsstr_agent agent;
   char apart[128];

@@ -8,7 +8,7 @@
 #define THREADS 4
 #define NAMES 2000
 
-/* Each call writes the agent: what is behind a worker keeps the next one's in another cache line. */
+/* Each call reads the agent: what is behind a worker keeps what it writes out of the next one's cache line. */
 typedef struct worker {
   jsstr_agent agent;
   uint32_t seed;

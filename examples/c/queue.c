@@ -69,7 +69,7 @@ static void build_answer(jsstr_builder *text, jsstr_agent *agent, const jsstr_id
   }
 }
 
-/* Each call writes the handle, and a worker has a cache line of its own. */
+/* Each call on a text writes its handle, and a worker has a cache line of its own. */
 typedef struct worker { jsstr_agent agent; jsstr_builder text; char line[64]; } worker;
 
 static void answer(worker *w, job *j) {

@@ -21,7 +21,7 @@ using Text = std::u16string;
 // For each key its slot plus one, once somebody has put it there. What hands it over is a release and an acquire.
 using Board = std::vector<std::atomic<uint32_t>>;
 
-// Each call writes the agent, so a worker begins a cache line.
+// What a worker writes beside its agent lies in no other worker's cache line.
 struct alignas(64) Worker {
   jsstr_agent agent{};
   jsstr_builder built{};

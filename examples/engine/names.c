@@ -16,7 +16,7 @@ typedef struct names_heap {
 	_Atomic(char *) bytes[];
 } names_heap;
 
-/* A seat. Each call of the heap writes the agent, so a seat begins a cache line. */
+/* A seat. Each call of the heap reads the agent, so a seat begins a cache line, beside nothing that others write. */
 struct js_StringNode {
 	jsstr_agent agent;
 	names_heap *heap;
