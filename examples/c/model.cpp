@@ -326,7 +326,8 @@ template <class Then> Answer once_settled(int i, jsstr_id s, bool ok, Then then)
   return settled.is_done() ? then() : Answer{settled.status()};
 }
 
-constexpr size_t ROOM = 4000;
+// The longest string that is read at once; longer ropes are made and not read whole.
+constexpr size_t ROOM = 1 << 20;
 uint16_t units_out[ROOM + 8];
 uint8_t bytes_out[3 * ROOM + 8];
 uint64_t words_out[ROOM];
@@ -345,6 +346,7 @@ void read() {
   int i = some_agent();
   jsstr_id s = some_id(i);
   uint32_t length = uint32_t(length_of(i, s)), from = chance(length + 1), count = chance(length - from + 1) + (one_in(30) ? length : 0);
+  if (count > ROOM) return;
   bool ok = agent(i).knows(s) && from + count <= length, u = ok && is_settled(i, s) && one_in(3);
   Text part;
   blank(units_out, count + 8);
@@ -358,6 +360,7 @@ void read_all() {
   int i = some_agent();
   jsstr_id s = some_id(i);
   size_t length = length_of(i, s), room = one_in(2) ? length : chance(uint32_t(length) + 9);
+  if (room > ROOM) return;
   bool ok = agent(i).knows(s), u = is_settled(i, s) && one_in(3);
   Text all;
   blank(units_out, room + 8);
@@ -389,6 +392,7 @@ void encode() {
   size_t wide = std::find_if(units.begin(), units.end(), [](char16_t it) { return it > 255; }) - units.begin();
   const Bytes right = is_utf8 ? utf8.bytes : Bytes(units.begin(), units.end());
   size_t room = one_in(2) ? right.size() : chance(uint32_t(right.size()) + 9), unmapped = is_utf8 ? unpaired == JSSTR_REFUSE ? utf8.unpaired : SIZE_MAX : wide < units.size() ? wide : SIZE_MAX;
+  if (room > 3 * ROOM) return;
   Bytes written;
   blank(bytes_out, room + 8);
   play(is_utf8 ? "to_utf8" : "to_latin1", NOTHING, {i}, [&] {
