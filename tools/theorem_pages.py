@@ -25,7 +25,7 @@ HEADING = re.compile(r"(?m)^(#+ .*?)(?: @@(\S+))?$")
 PLACE = re.compile(r"\]\(@@([^)\s]+)\)")
 # The names that have several senses behind the headline. No other one may have.
 KNOWN = frozenset(
-    "End Nothing Refused Row Text Word chain conditional const_line decimal ended entry first_of let_line nothing parts post unary".split())
+    "At End Nothing Refused Text Word chain conditional const_line entry let_line nothing parts post unary whole".split())
 
 
 def place(item):

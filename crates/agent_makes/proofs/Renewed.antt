@@ -23,9 +23,12 @@ use Rattle.heap_reserve.specs.declared.faults.ReserveFault.TheVariants.{Memory, 
 use Rattle.heap_reserve.specs.declared.reserve.Reserve.{Reserve}
 use Rattle.heap_reserve.specs.Claims.{IsClaimAnswer}
 use Rattle.heap_reserve.specs.Making.{IsCutBy, IsFlatTaken, IsJoinedBy, IsMade, words_holding}
-use Rattle.heap_reserve.specs.Reserves.{IsClaimed, kept_ids, words_kept}
-use Rattle.heap_reserve.proofs.After.{cut_after, joined_after}
-use Rattle.heap_reserve.proofs.Kept.{taken_after}
+use Rattle.std.specs.FinMap.{FinMap}
+use Rattle.std.specs.Ordering.{nat_cmp}
+use Rattle.heap_text.specs.declared.faults.JoinFault.TheVariants as join
+use Rattle.heap_reserve.specs.Reserves.{IsClaimed, IsGrown, IsTakingRefused, kept_ids, words_kept}
+use Rattle.heap_reserve.proofs.After.{cut_after, flat_after, flat_taken_after, joined_after, part_taken_after, rope_taken_after}
+use Rattle.heap_reserve.proofs.Kept.{refused_after}
 use Rattle.heap_agents.specs.declared.held.Held.{Held}
 use Rattle.heap_agents.specs.Held.{IsHeld, LeavesStrings, MarksMade, MarksNothing, SpendsReserve, StaysMarked, held_size, limit_by, view_by}
 use Rattle.agent_makes.specs.Preparing.{IsPrepared, Prepares}
@@ -122,39 +125,42 @@ pub prepared_reads : (x y : Held) → LeavesStrings x y → MarksNothing x y →
 prepared_reads x y l m = record { spends = spends_leaves x y l; marked = m }
 
 module _ (v u w : View) (z : HeapSize) (r s : Reserve) (read : OnlyLoads v u) where
+  grown_after : (n : ℕ) → IsGrown u r s n → IsGrown v r s n
+  grown_after n g = ⊎_elim (λ c. inl c)
+      (λ c. inr (c.0, c.1, c.2, λ k low high own. c.3 k low high (subst (λ (m : FinMap nat_cmp ℕ). HasKey m k) (sym read.own_words) own))) g
+
   claimed_after : (ids words : ℕ) → IsClaimed u w r s ids words → IsClaimed v w r s ids words
   claimed_after ids words c = record {
     used = (c.used.0 ∙ (λ i. (read.used i).ids + ids), c.used.1 ∙ (λ i. (read.used i).words + words));
     added = c.added;
-    run = c.run;
+    run = grown_after words c.run;
   }
 
   claim_after : (ids words : ℕ) (t : Result (Unit {0}) ReserveFault) → IsClaimAnswer u w z r s ids words t → IsClaimAnswer v w z r s ids words t
   claim_after ids words (Ok a) h = claimed_after ids words h
   claim_after ids words (Err (Full (full.Words f))) h = (h.0, h.1, claimed_after 0 0 h.2)
   claim_after ids words (Err (Full (full.Ids f))) h = (h.0, h.1, (h.2.0, h.2.1, claimed_after h.2.0 words h.2.2))
-  claim_after ids words (Err Memory) h = (h.0, h.1, claimed_after h.0 words h.2)
-
-  flat_taken_after : (t : JsStr) (us : List ℕ) → IsFlatTaken u w r s t us → IsFlatTaken v w r s t us
-  flat_taken_after t us h = record { units = h.units; form = h.form; taken = taken_after v u w r s t.id (words_holding us) read h.taken }
+  claim_after ids words (Err Memory) h = ⊎_elim (λ c. inl (claimed_after 0 0 c)) (λ c. inr (c.0, c.1, c.2, claimed_after c.0 words c.3)) h
 
   pub made_by_after : (us : List ℕ) (a : Result JsStr TextFull) → IsMade u w r s z us a → IsMade v w r s z us a
   made_by_after us a h = record {
-    taken = λ e. let t = h.taken e in (t.0, t.1, flat_taken_after t.0 us t.2);
+    taken = λ e. flat_after v u w r s read z us a (h.taken e);
     claimed = λ e. let t = h.claimed e in (t.0, own_trans v u w (own_reads v u read) t.1, copied_after v u w z read us a t.2);
   }
 
   pub joined_by_after : (most : ℕ) (a b : JsStr) (us vs : List ℕ) (o : Result JsStr JoinFault) → IsJoinedBy u w z r s most a b us vs o → IsJoinedBy v w z r s most a b us vs o
   joined_by_after most a b us vs o h = record {
-    short = λ e. let t = h.short e in (t.0, t.1, flat_taken_after t.0 (us ++ vs) t.2);
-    long = λ e. let t = h.long e in (t.0, t.1, record { units = t.2.units; rope = t.2.rope; taken = taken_after v u w r s t.0.id 0 read t.2.taken });
+    short = λ e. ⊎_elim
+        (λ (c : (t : JsStr) × (o ≡ Ok t) × IsFlatTaken u w r s t (us ++ vs)). inl (c.0, c.1, flat_taken_after v u w r s read c.0 (us ++ vs) c.2))
+        (λ (c : (f : TextFull) × (o ≡ Err (join.Full f)) × IsTakingRefused u w z r s (words_holding (us ++ vs)) f). inr (c.0, c.1, refused_after v u w z r s (words_holding (us ++ vs)) c.0 read c.2)) (h.short e);
+    long = λ e. let t = h.long e in (t.0, t.1, rope_taken_after v u w r s read a b t.0 (us ++ vs) t.2);
     claimed = λ e f. let t = h.claimed e f in (t.0, own_trans v u w (own_reads v u read) t.1, joined_after v u w z read most a b us vs o t.2);
   }
 
   pub cut_by_after : (p : JsStr) (from to : ℕ) (us : List ℕ) (o : Result JsStr TextFull) → IsCutBy u w z r s p from to us o → IsCutBy v w z r s p from to us o
   cut_by_after p from to us o h = record {
-    short = λ e. let t = h.short e in (t.0, t.1, flat_taken_after t.0 (part from (to - from) us) t.2);
-    long = λ e. let t = h.long e in (t.0, t.1, record { units = t.2.units; part = t.2.part; taken = taken_after v u w r s t.0.id 0 read t.2.taken });
+    short = λ e. flat_after v u w r s read z (part from (to - from) us) o (h.short e);
+    long = λ e. let t = h.long e in (t.0, t.1, part_taken_after v u w r s read p from t.0 (part from (to - from) us) t.2);
     claimed = λ e f. let t = h.claimed e f in (t.0, own_trans v u w (own_reads v u read) t.1, cut_after v u w z read p from to us o t.2);
   }
 

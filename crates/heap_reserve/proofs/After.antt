@@ -16,8 +16,10 @@ use Rattle.heap_text.proofs.Cutting.{part_after}
 use Rattle.heap_text.proofs.Linking.{copied_after}
 use Rattle.heap_text.proofs.Pieces.{spared_after, uses_after}
 use Rattle.heap_reserve.specs.declared.reserve.Reserve.{Reserve}
-use Rattle.heap_reserve.specs.Trying.{MakesFlat, MakesPart, MakesRope}
-use Rattle.heap_reserve.proofs.Kept.{taken_after}
+use Rattle.heap_reserve.specs.Making.{IsFlatAnswer, IsFlatTaken, IsPartTaken, IsRopeTaken, words_holding}
+use Rattle.heap_reserve.specs.Reserves.{IsTakingRefused}
+use Rattle.heap_reserve.specs.Trying.{MakesPart, MakesRope}
+use Rattle.heap_reserve.proofs.Kept.{refused_after, taken_after}
 
 module _ (v u w : View) (z : HeapSize) (read : OnlyLoads v u) where
   pub joined_after : (most : ℕ) (a b : JsStr) (us vs : List ℕ) (answer : Result JsStr JoinFault) → IsJoined u w z most a b us vs answer → IsJoined v w z most a b us vs answer
@@ -42,20 +44,28 @@ module _ (v u w : View) (z : HeapSize) (read : OnlyLoads v u) where
 
 -- what was made with the reserve
 module _ (v u w : View) (r s : Reserve) (read : OnlyLoads v u) where
-  pub flat_after : (us : List ℕ) (o : Option JsStr) → MakesFlat u w r s us o → MakesFlat v w r s us o
-  flat_after us o h = record {
-    made = λ e. let t = h.made e in (t.0, t.1, record { units = t.2.units; form = t.2.form; taken = taken_after v u w r s t.0.id (words_over (is_wide us) (length us)) read t.2.taken });
-    left = λ none. let t = h.left none in (t.0, t.1, reads_trans v u w read t.2);
-  }
+  pub flat_taken_after : (t : JsStr) (us : List ℕ) → IsFlatTaken u w r s t us → IsFlatTaken v w r s t us
+  flat_taken_after t us h = record { units = h.units; form = h.form; taken = taken_after v u w r s t.id (words_holding us) read h.taken }
 
-  pub rope_after : (a b : JsStr) (us : List ℕ) (o : Option JsStr) → MakesRope u w r s a b us o → MakesRope v w r s a b us o
+  pub flat_after : (z : HeapSize) (us : List ℕ) (a : Result JsStr TextFull) → IsFlatAnswer u w r s z us a → IsFlatAnswer v w r s z us a
+  flat_after z us a h = ⊎_elim
+      (λ (c : (t : JsStr) × (a ≡ Ok t) × IsFlatTaken u w r s t us). inl (c.0, c.1, flat_taken_after c.0 us c.2))
+      (λ (c : (f : TextFull) × (a ≡ Err f) × IsTakingRefused u w z r s (words_holding us) f). inr (c.0, c.1, refused_after v u w z r s (words_holding us) c.0 read c.2)) h
+
+  pub rope_taken_after : (a b t : JsStr) (us : List ℕ) → IsRopeTaken u w r s a b t us → IsRopeTaken v w r s a b t us
+  rope_taken_after a b t us h = record { units = h.units; rope = h.rope; taken = taken_after v u w r s t.id 0 read h.taken }
+
+  pub part_taken_after : (p : JsStr) (from : ℕ) (t : JsStr) (us : List ℕ) → IsPartTaken u w r s p from t us → IsPartTaken v w r s p from t us
+  part_taken_after p from t us h = record { units = h.units; part = h.part; taken = taken_after v u w r s t.id 0 read h.taken }
+
+  pub rope_after : (a b : JsStr) (us : List ℕ) (o : Option (Result JsStr TextFull)) → MakesRope u w r s a b us o → MakesRope v w r s a b us o
   rope_after a b us o h = record {
-    made = λ e f. let t = h.made e f in (t.0, t.1, record { units = t.2.units; rope = t.2.rope; taken = taken_after v u w r s t.0.id 0 read t.2.taken });
+    made = λ e f. let t = h.made e f in (t.0, t.1, rope_taken_after a b t.0 us t.2);
     left = λ none. let t = h.left none in (t.0, t.1, reads_trans v u w read t.2);
   }
 
-  pub cut_made_after : (p : JsStr) (from : ℕ) (us : List ℕ) (o : Option JsStr) → MakesPart u w r s p from us o → MakesPart v w r s p from us o
+  pub cut_made_after : (p : JsStr) (from : ℕ) (us : List ℕ) (o : Option (Result JsStr TextFull)) → MakesPart u w r s p from us o → MakesPart v w r s p from us o
   cut_made_after p from us o h = record {
-    made = λ e. let t = h.made e in (t.0, t.1, record { units = t.2.units; part = t.2.part; taken = taken_after v u w r s t.0.id 0 read t.2.taken });
+    made = λ e. let t = h.made e in (t.0, t.1, part_taken_after p from t.0 us t.2);
     left = λ none. let t = h.left none in (t.0, t.1, reads_trans v u w read t.2);
   }

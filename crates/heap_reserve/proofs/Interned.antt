@@ -59,12 +59,13 @@ given_own v w n p start first k = record {
       (λ q l e. let same = first (omega (arith, l)) in ⊎_elim (λ (low : c < start). omega (arith, low, e, same)) (λ (high : start + n ≤ c). omega (arith, high, e, same, l)) side) h);
 }
 
-pub taken_from : (v w : View) (r s : Reserve) (us : List ℕ) (p : Given) (i n m : ℕ) (answer : Result ℕ TableFull) → IsOffered r n p
+pub taken_from : (v w : View) (r s : Reserve) (us : List ℕ) (p : Given) (i n m : ℕ) (answer : Result ℕ TableFull) → HasEnough r n → IsOffered r n p
     → IsKeyAnswer (without_given v n p) w us answer → UsesNothing v w → m ≡ n
     → kept_ids r ≡ i ∷ kept_ids s → (s.start ≡ r.start + m) × (s.end ≡ r.end) → IsTakenFrom v w r s p.id n
-taken_from v w r s us p i n m answer o h nothing e ids run = let is : i ≡ p.id = sym (ap (λ (l : List ℕ). get_or l 0 0) ids) ∙ sym o.id in record {
-  ids = subst (λ (j : ℕ). kept_ids r ≡ j ∷ kept_ids s) is ids;
-  words = subst (λ (q : ℕ). (s.start ≡ r.start + q) × (s.end ≡ r.end)) e run;
-  used = same_used v w nothing;
-  own = given_own v w n p r.start o.first (settled_own (without_given v n p) w us answer h);
-}
+taken_from v w r s us p i n m answer enough o h nothing e ids run = let is : i ≡ p.id = sym (ap (λ (l : List ℕ). get_or l 0 0) ids) ∙ sym o.id in
+    let some = enough.0 in let fits = enough.1 in let at = run.0 in record {
+      had_id = λ l. (subst (λ (j : ℕ). kept_ids r ≡ j ∷ kept_ids s) is ids, nothing.0);
+      new_id = λ none. absurd (omega (arith, some, none));
+      had_words = λ l. (omega (arith, at, e), run.1, nothing.1, given_own v w n p r.start o.first (settled_own (without_given v n p) w us answer h));
+      new_words = λ more. absurd (omega (arith, fits, more));
+    }

@@ -1,4 +1,5 @@
 pub mod Kept
+pub mod Gathered
 pub mod After
 pub mod Tried
 pub mod Interned

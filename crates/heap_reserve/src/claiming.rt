@@ -16,6 +16,7 @@ use crate::reserve::Reserve;
 use heap_read::{HeapRef, Reader};
 use heap_table::CounterFull;
 use heap_text::{Text, TextFull};
+use std::alloc::AllocError;
 
 // The most ids that one exchange of the counter claims. Memory for their list is reserved before, so the
 // piece bounds what is reserved for ids that the heap does not have.
@@ -23,9 +24,10 @@ const PIECE: u32 = 1024;
 
 impl Reserve {
     /// Claims so many content words in one piece, and then so many ids in pieces; 0 claims none.
-    /// Where there are not that many words nothing is claimed. Where ids or memory for their list end
-    /// before, the words and the ids that were claimed are kept. If the new words do not begin where
-    /// the run ends, the rest of that run is given up: its words stay the agent's own, in no string.
+    /// Where there are not that many words, or no memory for the list of the first piece of ids, nothing is
+    /// claimed. Where ids or memory for the list of later ones end, the words and the ids before are kept. If
+    /// the new words do not begin where the run ends, the rest of that run is given up: its words stay the
+    /// agent's own, in no string.
     pub fn claim<H: HeapRef>(
         &mut self,
         text: &mut Text<H>,
@@ -41,10 +43,25 @@ impl Reserve {
         ensures answer { IsClaimAnswer (view_of text.old.reader.agent) (view_of text.new.reader.agent)
             (size_of (H.reached text.old.reader.heap)) self.old self.new ids words result }
     {
+        let Ok(piece) = self.make_room(ids) else {
+            return Err(ReserveFault::Memory);
+        };
         if let Err(full) = self.claim_words(&mut text.reader, words) {
             return Err(ReserveFault::Full(TextFull::Words(full)));
         }
-        self.claim_ids(&mut text.reader, ids)
+        self.claim_ids(&mut text.reader, ids, piece)
+    }
+
+    // Room in the list for the next piece of so many ids; the answer is how many these are.
+    fn make_room(&mut self, ids: u32) -> Result<u32, AllocError>
+        ensures ids { kept_ids self.new ≡ kept_ids self.old }
+        ensures words { (self.new.start ≡ self.old.start) × (self.new.end ≡ self.old.end) }
+        ensures piece { IfOk result (λ n. (n ≤ ids) × (0 < ids → 0 < n)
+            × (deque_len self.new.ids + n ≤ deque_capacity self.new.ids)) }
+    {
+        let piece = ids.min(PIECE);
+        self.ids.reserve(piece as usize)?;
+        Ok(piece)
     }
 
     // Content words, which become its run or the end of it.
@@ -58,6 +75,7 @@ impl Reserve {
         ensures own { KeepsOwn (view_in reader.old) (view_in reader.new) }
         ensures forms { HoldsForms (view_in reader.old) (view_in reader.new) }
         ensures reserve { IsReserve (view_in reader.new) self.new }
+        ensures ids { self.new.ids ≡ self.old.ids }
         ensures ok { OnOk result
             (IsClaimed (view_in reader.old) (view_in reader.new) self.old self.new 0 words) }
         ensures refused { IfErr result
@@ -82,13 +100,16 @@ impl Reserve {
         if start == self.end { self.start } else { start }
     }
 
-    // Ids, in pieces.
+    // Ids, in pieces, of which the first one has room.
     fn claim_ids<H: HeapRef>(
         &mut self,
         reader: &mut Reader<H>,
         ids: u32,
+        first: u32,
     ) -> Result<(), ReserveFault>
         requires reserve { IsReserve (view_in reader.old) self.old }
+        requires first { (first ≤ ids) × (0 < ids → 0 < first) }
+        requires room { deque_len self.old.ids + first ≤ deque_capacity self.old.ids }
         ensures continues { MovesView Continues reader.old reader.new }
         ensures own { KeepsOwn (view_in reader.old) (view_in reader.new) }
         ensures forms { HoldsForms (view_in reader.old) (view_in reader.new) }
@@ -99,14 +120,21 @@ impl Reserve {
             (λ f. IsIdRefused (view_in reader.old) (view_in reader.new)
             (size_of (H.reached reader.old.heap)) self.old self.new ids 0 f) }
     {
-        let mut done = 0;
+        if ids == 0 {
+            return Ok(());
+        }
+        let mut done = self.claim_piece(reader, first)?;
         'pieces: while done < ids {
-            done += self.claim_piece(reader, ids - done)?;
+            let Ok(piece) = self.make_room(ids - done) else {
+                return Err(ReserveFault::Memory);
+            };
+            done += self.claim_piece(reader, piece)?;
         }
         Ok(())
     }
 
-    // At least one id and at most `most`, and how many: a piece, which one exchange of the counter claims.
+    // At least one id and at most `most`, and how many: a piece, which one exchange of the counter claims. The
+    // list has room for it.
     fn claim_piece<H: HeapRef>(
         &mut self,
         reader: &mut Reader<H>,
@@ -114,6 +142,7 @@ impl Reserve {
     ) -> Result<u32, ReserveFault>
         requires reserve { IsReserve (view_in reader.old) self.old }
         requires some { 1 ≤ most }
+        requires room { deque_len self.old.ids + most ≤ deque_capacity self.old.ids }
         ensures continues { MovesView Continues reader.old reader.new }
         ensures own { KeepsOwn (view_in reader.old) (view_in reader.new) }
         ensures forms { HoldsForms (view_in reader.old) (view_in reader.new) }
@@ -124,11 +153,7 @@ impl Reserve {
             (λ f. IsIdRefused (view_in reader.old) (view_in reader.new)
             (size_of (H.reached reader.old.heap)) self.old self.new 1 0 f) }
     {
-        let piece = most.min(PIECE);
-        if self.ids.reserve(piece as usize).is_err() {
-            return Err(ReserveFault::Memory);
-        }
-        match reader.agent.claim_ids(reader.heap.heap(), piece) {
+        match reader.agent.claim_ids(reader.heap.heap(), most) {
             Ok((first, count)) => {
                 self.keep_all(first, count);
                 Ok(count)

@@ -1,5 +1,7 @@
 // Joining two strings with what is kept.
-ghost use Rattle.std.specs.Prelude.{◌≤◌, ◌<◌, ◌+◌, ◌++◌, ◌↔◌, ℕ, IfOk, IsTrue, List};
+ghost use Rattle.std.specs.Prelude.{◌≡◌, ◌≤◌, ◌<◌, ◌+◌, ◌++◌, ◌↔◌, ℕ, IfOk, IsTrue, List, Result, Some};
+ghost use Rattle.heap_read.specs.declared.string.JsStr as string;
+ghost use Rattle.heap_text.specs.declared.faults.TextFull as full;
 ghost use Rattle.heap_rule.specs.Layout.{MAX};
 ghost use Rattle.heap_rule.specs.Maps.{Has, HasKey};
 ghost use Rattle.heap_table.specs.Agents.{size_of, view_of};
@@ -7,18 +9,18 @@ ghost use Rattle.heap_read.specs.Readers.{MovesView, view_in};
 ghost use Rattle.heap_read.specs.Reads.{Continues};
 ghost use Rattle.heap_text.specs.Joins.{AreJoinable, MIN_CONS};
 ghost use Rattle.heap_text.specs.Keeping.{KeepsText};
-ghost use Rattle.heap_reserve.specs.Making.{IsJoinedBy};
-ghost use Rattle.heap_reserve.specs.Trying.{MakesFlat, MakesRope, TriesJoin};
+ghost use Rattle.heap_reserve.specs.Making.{IsFlatAnswer, IsJoinedBy};
+ghost use Rattle.heap_reserve.specs.Trying.{MakesRope, TriesJoin, join_answer};
 ghost use Rattle.heap_reserve.specs.Reserves.{IsReserve};
 
 use crate::reserve::Reserve;
 use heap_read::{HeapRef, JsStr, Reader, UnitSource};
-use heap_text::{JoinFault, MIN_CONS, Text, both_pieces, link_to};
+use heap_text::{JoinFault, MIN_CONS, Text, TextFull, both_pieces, link_to};
 
 impl Reserve {
-    /// The units of one string followed by those of another, as `Text::concat` joins them. A new string
-    /// takes what it needs from the reserve and uses nothing, where the reserve has that: for a copy an id
-    /// and the content words, for a rope an id that is greater than those of both strings.
+    /// The units of one string followed by those of another, as `Text::concat` joins them. A copy takes an id
+    /// and content words from the reserve, where it has these, and claims what it has not. A rope takes an id
+    /// that is greater than those of both strings, if the first one is.
     pub fn concat<H: HeapRef>(
         &mut self,
         text: &mut Text<H>,
@@ -41,13 +43,18 @@ impl Reserve {
             (size_of (H.reached text.old.reader.heap)) self.old self.new text.old.limit a b us vs result }
     {
         match self.try_concat(text, a, b) {
-            Some(s) => Ok(s),
+            Some(made) => as_joined(made),
             None => text.concat(a, b),
         }
     }
 
-    // A new string of two, where the reserve has what that needs.
-    fn try_concat<H: HeapRef>(&mut self, text: &mut Text<H>, a: JsStr, b: JsStr) -> Option<JsStr>
+    // A new string of two, where the reserve has something for it.
+    fn try_concat<H: HeapRef>(
+        &mut self,
+        text: &mut Text<H>,
+        a: JsStr,
+        b: JsStr,
+    ) -> Option<Result<JsStr, TextFull>>
         requires reserve { IsReserve (view_of text.old.reader.agent) self.old }
         requires known { HasKey (view_of text.old.reader.agent).units a.id
             × HasKey (view_of text.old.reader.agent).units b.id }
@@ -57,9 +64,9 @@ impl Reserve {
         ensures tried { (us vs : List ℕ) → Has (view_of text.old.reader.agent).units a.id us
             → Has (view_of text.old.reader.agent).units b.id vs
             → TriesJoin (view_of text.old.reader.agent) (view_of text.new.reader.agent) self.old self.new
-            text.old.limit a b us vs result }
+            (size_of (H.reached text.old.reader.heap)) text.old.limit a b us vs result }
     {
-        if self.ids_left() == 0 {
+        if !self.has_some() {
             return None;
         }
         let left = text.reader.len(a);
@@ -70,14 +77,14 @@ impl Reserve {
         self.join(&mut text.reader, a, b, left + right)
     }
 
-    // Two strings that are not empty, joined, where the reserve has what that needs.
+    // Two strings that are not empty, joined, where the reserve has something for it.
     fn join<H: HeapRef>(
         &mut self,
         reader: &mut Reader<H>,
         a: JsStr,
         b: JsStr,
         n: u32,
-    ) -> Option<JsStr>
+    ) -> Option<Result<JsStr, TextFull>>
         requires reserve { IsReserve (view_in reader.old) self.old }
         requires known { AreJoinable (view_in reader.old) a b n }
         requires most { n ≤ MAX }
@@ -85,13 +92,15 @@ impl Reserve {
         ensures reserve { IsReserve (view_in reader.new) self.new }
         ensures short { n < MIN_CONS → (us vs : List ℕ) → Has (view_in reader.old).units a.id us
             → Has (view_in reader.old).units b.id vs
-            → MakesFlat (view_in reader.old) (view_in reader.new) self.old self.new (us ++ vs) result }
+            → (t : Result string.JsStr full.TextFull) × (result ≡ Some t)
+            × IsFlatAnswer (view_in reader.old) (view_in reader.new) self.old self.new
+            (size_of (H.reached reader.old.heap)) (us ++ vs) t }
         ensures long { MIN_CONS ≤ n → (us vs : List ℕ) → Has (view_in reader.old).units a.id us
             → Has (view_in reader.old).units b.id vs
             → MakesRope (view_in reader.old) (view_in reader.new) self.old self.new a b (us ++ vs) result }
     {
         if n < MIN_CONS {
-            return self.copy_both(reader, a, b, n);
+            return Some(self.copy_both(reader, a, b, n));
         }
         self.link(reader, a, b, n)
     }
@@ -103,7 +112,7 @@ impl Reserve {
         a: JsStr,
         b: JsStr,
         n: u32,
-    ) -> Option<JsStr>
+    ) -> Result<JsStr, TextFull>
         requires reserve { IsReserve (view_in reader.old) self.old }
         requires known { AreJoinable (view_in reader.old) a b n }
         requires short { n < MIN_CONS }
@@ -111,20 +120,21 @@ impl Reserve {
         ensures reserve { IsReserve (view_in reader.new) self.new }
         ensures made { (us vs : List ℕ) → Has (view_in reader.old).units a.id us
             → Has (view_in reader.old).units b.id vs
-            → MakesFlat (view_in reader.old) (view_in reader.new) self.old self.new (us ++ vs) result }
+            → IsFlatAnswer (view_in reader.old) (view_in reader.new) self.old self.new
+            (size_of (H.reached reader.old.heap)) (us ++ vs) result }
     {
         let (front, back) = both_pieces(reader, a, b, n);
         self.copy(reader, &UnitSource::Pieces(front, back), n)
     }
 
-    // A Cons of two strings.
+    // A Cons of two strings, where the first id serves it.
     fn link<H: HeapRef>(
         &mut self,
         reader: &mut Reader<H>,
         a: JsStr,
         b: JsStr,
         n: u32,
-    ) -> Option<JsStr>
+    ) -> Option<Result<JsStr, TextFull>>
         requires reserve { IsReserve (view_in reader.old) self.old }
         requires known { AreJoinable (view_in reader.old) a b n }
         requires long { (MIN_CONS ≤ n) × (n ≤ MAX) }
@@ -139,7 +149,7 @@ impl Reserve {
         }
         let id = self.take_id();
         link_to(reader, a, b, n, id);
-        Some(JsStr { id })
+        Some(Ok(JsStr { id }))
     }
 }
 
@@ -149,4 +159,14 @@ fn is_joinable(left: u32, right: u32, limit: u32) -> bool
     ensures { IsTrue result ↔ ((0 < left) × (0 < right) × (left + right ≤ limit)) }
 {
     0 < left && 0 < right && left + right <= limit
+}
+
+// The answer of joining, where the string was made so.
+fn as_joined(made: Result<JsStr, TextFull>) -> Result<JsStr, JoinFault>
+    ensures { result ≡ join_answer made }
+{
+    match made {
+        Ok(s) => Ok(s),
+        Err(full) => Err(JoinFault::Full(full)),
+    }
 }

@@ -10,8 +10,7 @@ ghost use Rattle.heap_read.specs.Reads.{Continues};
 ghost use Rattle.heap_read.specs.Sources.{ShowsSource, listed_in};
 ghost use Rattle.heap_bytes.specs.Spellings.{IsReadable, spelling_units};
 ghost use Rattle.heap_text.specs.Keeping.{KeepsText};
-ghost use Rattle.heap_reserve.specs.Making.{IsMade};
-ghost use Rattle.heap_reserve.specs.Trying.{MakesFlat};
+ghost use Rattle.heap_reserve.specs.Making.{IsFlatAnswer, IsMade};
 ghost use Rattle.heap_reserve.specs.Reserves.{IsReserve};
 
 use crate::reserve::Reserve;
@@ -21,8 +20,8 @@ use heap_text::{Text, TextFull, bear_flat};
 use js_units::words_for;
 
 impl Reserve {
-    /// A new string with these units, as `Text::make_flat` makes one. Where the reserve has an id and the
-    /// content words that hold the units, the string takes them and uses nothing.
+    /// A new string with these units, as `Text::make_flat` makes one. It takes an id from the reserve, and the
+    /// content words that hold the units, where the reserve has these, and claims what it has not.
     pub fn make_flat<H: HeapRef>(
         &mut self,
         text: &mut Text<H>,
@@ -40,11 +39,11 @@ impl Reserve {
         ensures made { IsMade (view_of text.old.reader.agent) (view_of text.new.reader.agent) self.old
             self.new (size_of (H.reached text.old.reader.heap)) units.now result }
     {
-        let source = UnitSource::Units(units);
-        match self.copy(&mut text.reader, &source, units.len() as u32) {
-            Some(s) => Ok(s),
-            None => text.make_flat(units),
+        if !self.has_some() {
+            return text.make_flat(units);
         }
+        let source = UnitSource::Units(units);
+        self.copy(&mut text.reader, &source, units.len() as u32)
     }
 
     /// A new string with the units that bytes spell, in the same way; as `Text::make_from` makes one.
@@ -67,64 +66,54 @@ impl Reserve {
         ensures made { IsMade (view_of text.old.reader.agent) (view_of text.new.reader.agent) self.old
             self.new (size_of (H.reached text.old.reader.heap)) (spelling_units source.now) result }
     {
-        match self.spell(&mut text.reader, source) {
-            Some(s) => Ok(s),
-            None => text.make_from(source),
+        if !self.has_some() {
+            return text.make_from(source);
         }
+        self.spell(&mut text.reader, source)
     }
 
-    // A flat string with the units that bytes spell, where the reserve has what it needs.
-    fn spell<H: HeapRef>(&mut self, reader: &mut Reader<H>, source: &Spelling) -> Option<JsStr>
+    // A flat string with the units that bytes spell, of what the reserve has, and claims for the rest.
+    fn spell<H: HeapRef>(
+        &mut self,
+        reader: &mut Reader<H>,
+        source: &Spelling,
+    ) -> Result<JsStr, TextFull>
         requires reserve { IsReserve (view_in reader.old) self.old }
         requires read { IsReadable source.now }
         requires short { length (spelling_units source.now) ≤ MAX }
         ensures continues { MovesView Continues reader.old reader.new }
         ensures reserve { IsReserve (view_in reader.new) self.new }
-        ensures made { MakesFlat (view_in reader.old) (view_in reader.new) self.old self.new
-            (spelling_units source.now) result }
+        ensures made { IsFlatAnswer (view_in reader.old) (view_in reader.new) self.old self.new
+            (size_of (H.reached reader.old.heap)) (spelling_units source.now) result }
     {
-        if self.ids_left() == 0 {
-            return None;
-        }
         let n = source.len();
         let wide = source.is_wide();
-        let words = words_for(n, wide);
-        if !self.has(words) {
-            return None;
-        }
-        let (id, start) = self.take(words);
-        spell_at(reader, source, n, wide, start);
-        bear_flat(reader, id, n, wide, start);
-        Some(JsStr { id })
+        let given = self.gather(reader, words_for(n, wide))?;
+        spell_at(reader, source, n, wide, given.start);
+        bear_flat(reader, given.id, n, wide, given.start);
+        Ok(JsStr { id: given.id })
     }
 
-    // A flat string with the `n` units of a source, where the reserve has what it needs.
+    // A flat string with the `n` units of a source, made in the same way.
     pub(crate) fn copy<H: HeapRef>(
         &mut self,
         reader: &mut Reader<H>,
         source: &UnitSource,
         n: u32,
-    ) -> Option<JsStr>
+    ) -> Result<JsStr, TextFull>
         requires reserve { IsReserve (view_in reader.old) self.old }
         requires shows { ShowsSource (view_in reader.old) source.now }
         requires count { length (listed_in reader.old source.now) ≡ n }
         requires short { n ≤ MAX }
         ensures continues { MovesView Continues reader.old reader.new }
         ensures reserve { IsReserve (view_in reader.new) self.new }
-        ensures made { MakesFlat (view_in reader.old) (view_in reader.new) self.old self.new
-            (listed_in reader.old source.now) result }
+        ensures made { IsFlatAnswer (view_in reader.old) (view_in reader.new) self.old self.new
+            (size_of (H.reached reader.old.heap)) (listed_in reader.old source.now) result }
     {
-        if self.ids_left() == 0 {
-            return None;
-        }
         let wide = reader.has_wide(source, n);
-        let words = words_for(n, wide);
-        if !self.has(words) {
-            return None;
-        }
-        let (id, start) = self.take(words);
-        reader.write_at(source, n, wide, start);
-        bear_flat(reader, id, n, wide, start);
-        Some(JsStr { id })
+        let given = self.gather(reader, words_for(n, wide))?;
+        reader.write_at(source, n, wide, given.start);
+        bear_flat(reader, given.id, n, wide, given.start);
+        Ok(JsStr { id: given.id })
     }
 }

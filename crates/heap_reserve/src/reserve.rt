@@ -1,7 +1,7 @@
 // What is kept in advance, and taking from it.
 ghost use Rattle.std.specs.Prelude.{◌≡◌, ◌↔◌, ◌+◌, ◌<◌, ◌≤◌, [], ◌∷◌, IsTrue, length};
 ghost use Rattle.heap_rule.specs.declared.view.View as view;
-ghost use Rattle.heap_reserve.specs.Reserves.{HasAbove, HasEnough, IsReserve, TakesOverReserve, kept_ids, words_kept};
+ghost use Rattle.heap_reserve.specs.Reserves.{HasAbove, HasEnough, HasSome, IsReserve, TakesOverReserve, kept_ids, words_kept};
 
 use std::alloc::Global;
 use std::collections::VecDeque;
@@ -76,6 +76,13 @@ impl Reserve {
             self.start = start;
             self.end = end;
         }
+    }
+
+    // Whether it has an id, or a content word.
+    pub(crate) fn has_some(&self) -> bool
+        ensures { IsTrue result ↔ HasSome self.now }
+    {
+        !self.ids.is_empty() || self.words_left() > 0
     }
 
     // Whether it has an id, and so many content words.

@@ -1,5 +1,7 @@
 // Cutting strings with what is kept.
-ghost use Rattle.std.specs.Prelude.{◌≡◌, ◌≤◌, ◌<◌, ◌+◌, ◌-◌, ◌↔◌, ℕ, IfOk, IsTrue, List, length};
+ghost use Rattle.std.specs.Prelude.{◌≡◌, ◌≤◌, ◌<◌, ◌+◌, ◌-◌, ◌↔◌, ℕ, IfOk, IsTrue, List, Result, Some, length};
+ghost use Rattle.heap_read.specs.declared.string.JsStr as string;
+ghost use Rattle.heap_text.specs.declared.faults.TextFull as full;
 ghost use Rattle.heap_rule.specs.Births.{part};
 ghost use Rattle.heap_rule.specs.Maps.{Has};
 ghost use Rattle.heap_rule.specs.Views.{IsSeenSettled};
@@ -8,8 +10,8 @@ ghost use Rattle.heap_read.specs.Readers.{MovesView, view_in};
 ghost use Rattle.heap_read.specs.Reads.{Continues};
 ghost use Rattle.heap_text.specs.Joins.{MIN_CONS};
 ghost use Rattle.heap_text.specs.Keeping.{KeepsText};
-ghost use Rattle.heap_reserve.specs.Making.{IsCutBy};
-ghost use Rattle.heap_reserve.specs.Trying.{MakesFlat, MakesPart, TriesCut};
+ghost use Rattle.heap_reserve.specs.Making.{IsCutBy, IsFlatAnswer};
+ghost use Rattle.heap_reserve.specs.Trying.{MakesPart, TriesCut};
 ghost use Rattle.heap_reserve.specs.Reserves.{IsReserve};
 
 use crate::reserve::Reserve;
@@ -17,9 +19,9 @@ use heap_read::{HeapRef, JsStr, Reader, UnitSource};
 use heap_text::{MIN_CONS, Text, TextFull, link_part_to, part_piece};
 
 impl Reserve {
-    /// The part of a settled string from unit `from` up to unit `to`, as `Text::slice` cuts it. A new string
-    /// takes what it needs from the reserve and uses nothing, where the reserve has that: for a copy an id
-    /// and the content words, for a slice an id that is greater than that of the string.
+    /// The part of a settled string from unit `from` up to unit `to`, as `Text::slice` cuts it. A copy takes an
+    /// id and content words from the reserve, where it has these, and claims what it has not. A slice takes an
+    /// id that is greater than that of the string, if the first one is.
     pub fn slice<H: HeapRef>(
         &mut self,
         text: &mut Text<H>,
@@ -43,19 +45,19 @@ impl Reserve {
             (size_of (H.reached text.old.reader.heap)) self.old self.new s from to us result }
     {
         match self.try_slice(text, s, from, to) {
-            Some(t) => Ok(t),
+            Some(made) => made,
             None => text.slice(s, from, to),
         }
     }
 
-    // A new string of a part, where the reserve has what that needs.
+    // A new string of a part, where the reserve has something for it.
     fn try_slice<H: HeapRef>(
         &mut self,
         text: &mut Text<H>,
         s: JsStr,
         from: u32,
         to: u32,
-    ) -> Option<JsStr>
+    ) -> Option<Result<JsStr, TextFull>>
         requires reserve { IsReserve (view_of text.old.reader.agent) self.old }
         requires settled { IsSeenSettled (view_of text.old.reader.agent) s.id }
         requires within { (us : List ℕ) × Has (view_of text.old.reader.agent).units s.id us × (from ≤ to)
@@ -65,9 +67,9 @@ impl Reserve {
         ensures reserve { IsReserve (view_of text.new.reader.agent) self.new }
         ensures tried { (us : List ℕ) → Has (view_of text.old.reader.agent).units s.id us
             → TriesCut (view_of text.old.reader.agent) (view_of text.new.reader.agent) self.old self.new
-            s from to us result }
+            (size_of (H.reached text.old.reader.heap)) s from to us result }
     {
-        if self.ids_left() == 0 {
+        if !self.has_some() {
             return None;
         }
         let n = text.reader.len(s);
@@ -77,14 +79,14 @@ impl Reserve {
         self.cut(&mut text.reader, s, from, to - from)
     }
 
-    // A part that is not the whole, where the reserve has what that needs.
+    // A part that is not the whole, where the reserve has something for it.
     fn cut<H: HeapRef>(
         &mut self,
         reader: &mut Reader<H>,
         s: JsStr,
         from: u32,
         n: u32,
-    ) -> Option<JsStr>
+    ) -> Option<Result<JsStr, TextFull>>
         requires reserve { IsReserve (view_in reader.old) self.old }
         requires settled { IsSeenSettled (view_in reader.old) s.id }
         requires within { (us : List ℕ) × Has (view_in reader.old).units s.id us
@@ -92,13 +94,15 @@ impl Reserve {
         ensures continues { MovesView Continues reader.old reader.new }
         ensures reserve { IsReserve (view_in reader.new) self.new }
         ensures short { n < MIN_CONS → (us : List ℕ) → Has (view_in reader.old).units s.id us
-            → MakesFlat (view_in reader.old) (view_in reader.new) self.old self.new (part from n us) result }
+            → (t : Result string.JsStr full.TextFull) × (result ≡ Some t)
+            × IsFlatAnswer (view_in reader.old) (view_in reader.new) self.old self.new
+            (size_of (H.reached reader.old.heap)) (part from n us) t }
         ensures long { MIN_CONS ≤ n → (us : List ℕ) → Has (view_in reader.old).units s.id us
             → MakesPart (view_in reader.old) (view_in reader.new) self.old self.new s from (part from n us)
             result }
     {
         if n < MIN_CONS {
-            return self.copy_part(reader, s, from, n);
+            return Some(self.copy_part(reader, s, from, n));
         }
         self.link_part(reader, s, from, n)
     }
@@ -110,7 +114,7 @@ impl Reserve {
         s: JsStr,
         from: u32,
         n: u32,
-    ) -> Option<JsStr>
+    ) -> Result<JsStr, TextFull>
         requires reserve { IsReserve (view_in reader.old) self.old }
         requires settled { IsSeenSettled (view_in reader.old) s.id }
         requires within { (us : List ℕ) × Has (view_in reader.old).units s.id us
@@ -118,20 +122,21 @@ impl Reserve {
         ensures continues { MovesView Continues reader.old reader.new }
         ensures reserve { IsReserve (view_in reader.new) self.new }
         ensures made { (us : List ℕ) → Has (view_in reader.old).units s.id us
-            → MakesFlat (view_in reader.old) (view_in reader.new) self.old self.new (part from n us) result }
+            → IsFlatAnswer (view_in reader.old) (view_in reader.new) self.old self.new
+            (size_of (H.reached reader.old.heap)) (part from n us) result }
     {
         let piece = part_piece(reader, s, from, n);
         self.copy(reader, &UnitSource::Piece(piece), n)
     }
 
-    // A Sliced of a part.
+    // A Sliced of a part, where the first id serves it.
     fn link_part<H: HeapRef>(
         &mut self,
         reader: &mut Reader<H>,
         s: JsStr,
         from: u32,
         n: u32,
-    ) -> Option<JsStr>
+    ) -> Option<Result<JsStr, TextFull>>
         requires reserve { IsReserve (view_in reader.old) self.old }
         requires settled { IsSeenSettled (view_in reader.old) s.id }
         requires within { (us : List ℕ) × Has (view_in reader.old).units s.id us
@@ -148,7 +153,7 @@ impl Reserve {
         }
         let id = self.take_id();
         link_part_to(reader, s, from, n, id);
-        Some(JsStr { id })
+        Some(Ok(JsStr { id }))
     }
 }
 

@@ -7,7 +7,7 @@ use Rattle.std.proofs.lemmas.List.{get_or_past}
 use Rattle.std.proofs.lemmas.Str.{IsCharBoundary-before_ascii}
 use Rattle.js_literal.specs.Place.{StandsAt}
 use Rattle.js_literal.specs.Literal.{is_digit}
-use Rattle.js_literal.specs.Number.{number_at, NumberOf, NumberFaultOf, BeginsNumber, begins_number, has_leading_zero, decimal, digits_of}
+use Rattle.js_literal.specs.Number.{number_at, NumberOf, NumberFaultOf, BeginsNumber, begins_number, has_leading_zero, spelled_number, digits_of}
 use Rattle.js_literal.specs.declared.fault.NumberFault.{NumberFault}
 use Rattle.js_literal.specs.declared.fault.NumberFault.TheVariants as faults
 use Rattle.js_literal.proofs.Pieces.{EndsIn}
@@ -37,10 +37,10 @@ digits_end (c ∷ s) = go (is_digit c) (digits_end s)
 
 abbrev chosen : List ℕ → Bool → Bool → Bool → Bool → Bool → Result (ℕ × List ℕ) (ℕ → NumberFault)
 chosen s a b c d e = cond a (Err faults.Fraction) (cond b (Err faults.OtherForm)
-    (cond c (Err faults.Fraction) (cond d (Err faults.OtherForm) (cond e (Err faults.TooLarge) (Ok (decimal 0 (digits_of s), after_digits s))))))
+    (cond c (Err faults.Fraction) (cond d (Err faults.OtherForm) (cond e (Err faults.TooLarge) (Ok (spelled_number 0 (digits_of s), after_digits s))))))
 
 pub number_rest : (s rest : List ℕ) (v : ℕ) → number_at s ≡ Ok (v, rest) → rest ≡ after_digits s
-number_rest s rest v h = go (begins_point s) (has_leading_zero s) (begins_point (after_digits s)) (begins_tail (after_digits s)) (nat_lt 9007199254740991 (decimal 0 (digits_of s))) h
+number_rest s rest v h = go (begins_point s) (has_leading_zero s) (begins_point (after_digits s)) (begins_tail (after_digits s)) (nat_lt 9007199254740991 (spelled_number 0 (digits_of s))) h
   where
     go : (a b c d e : Bool) → chosen s a b c d e ≡ Ok (v, rest) → rest ≡ after_digits s
     go true b c d e h = absurd cc
@@ -48,7 +48,7 @@ number_rest s rest v h = go (begins_point s) (has_leading_zero s) (begins_point 
     go false false true d e h = absurd cc
     go false false false true e h = absurd cc
     go false false false false true h = absurd cc
-    go false false false false false h = sym (ap rest_of (ok_same (decimal 0 (digits_of s), after_digits s) (v, rest) h))
+    go false false false false false h = sym (ap rest_of (ok_same (spelled_number 0 (digits_of s), after_digits s) (v, rest) h))
 
 pub number_end : (s rest : List ℕ) (v : ℕ) → number_at s ≡ Ok (v, rest) → EndsIn s rest
 number_end s rest v h = subst (EndsIn s) (sym (number_rest s rest v h)) (digits_end s)

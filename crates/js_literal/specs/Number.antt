@@ -20,8 +20,8 @@ after_run test [] = []
 after_run test (c ∷ cs) = if test c then after_run test cs else c ∷ cs
 
 -- the value of digits that follow a number with the value v
-abbrev pub decimal : ℕ → List ℕ → ℕ
-decimal v cs = fold (λ n c. 10 * n + (c - 48)) v cs
+abbrev pub spelled_number : ℕ → List ℕ → ℕ
+spelled_number v cs = fold (λ n c. 10 * n + (c - 48)) v cs
 
 -- a first digit 0 that a digit follows
 abbrev pub has_leading_zero : List ℕ → Bool
@@ -44,8 +44,8 @@ number_at s = if begins_with (λ c. c == 46) s then Err faults.Fraction else
     (if has_leading_zero s then Err faults.OtherForm else
     (if begins_with (λ c. c == 46) (after_run is_digit s) then Err faults.Fraction else
     (if begins_with (λ c. is_word_start c || c == 92) (after_run is_digit s) then Err faults.OtherForm else
-    (if nat_lt 9007199254740991 (decimal 0 (digits_of s)) then Err faults.TooLarge else
-    Ok (decimal 0 (digits_of s), after_run is_digit s)))))
+    (if nat_lt 9007199254740991 (spelled_number 0 (digits_of s)) then Err faults.TooLarge else
+    Ok (spelled_number 0 (digits_of s), after_run is_digit s)))))
 
 -- a number literal with this value is at byte at and ends before byte end
 pub record NumberOf (text : List ℕ) (at value end : ℕ) : Type 0 where

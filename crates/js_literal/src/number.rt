@@ -2,7 +2,7 @@
 ghost use Rattle.std.specs.Prelude.{◌≡◌, ◌<◌, ◌^◌, ◌∷◌, ◌+◌, ◌⊎◌, ℕ, List, min, length, IsUtf8, IfOk, IfErr, MatchResult, Ok, Err};
 ghost use Rattle.std.specs.Str.{chars};
 ghost use Rattle.js_literal.specs.Place.{StandsAt};
-ghost use Rattle.js_literal.specs.Number.{digits_of, decimal, number_at, NumberOf, NumberFaultOf, BeginsNumber};
+ghost use Rattle.js_literal.specs.Number.{digits_of, spelled_number, number_at, NumberOf, NumberFaultOf, BeginsNumber};
 ghost use Rattle.js_literal.specs.Number;
 ghost use Rattle.js_literal.specs.NumberReader;
 ghost use Rattle.js_literal.specs.NumberReader.{after_digits, number_kind};
@@ -57,7 +57,7 @@ fn begins_tail(text: &str) -> bool
 /// The value of the digits in front, 2^53 where it is larger, and what follows them.
 #[tactic(auto, using(crate::proofs::Decimals::digit_turn))]
 fn digits(text: &str) -> (u64, &str)
-    ensures value { result.0 ≡ min (decimal 0 (digits_of (chars text.now))) 9007199254740992 }
+    ensures value { result.0 ≡ min (spelled_number 0 (digits_of (chars text.now))) 9007199254740992 }
     ensures rest { chars result.1.now ≡ after_digits (chars text.now) }
 {
     let mut value: u64 = 0;

@@ -11,7 +11,8 @@ use Rattle.js_eval.specs.declared.ending.End.TheVariants.{Done, Threw, Unsupport
 use Rattle.js_eval.specs.Script.{Flow, meaning}
 use Rattle.run_program.specs.declared.job.Outcome.{Outcome}
 use Rattle.js_store.specs.Limits.{limit_units}
-use Rattle.run_program.specs.Files.{RunFile, AreFilesOf, AfterPrelude}
+use Rattle.run_program.specs.Jobs.{RunFile}
+use Rattle.run_program.specs.Files.{AreFilesOf, AfterPrelude}
 use Rattle.std.specs.Borrow.{Bor}
 use Rattle.std.specs.Option.{option_copied}
 use Rattle.eval_tree.specs.declared.tree.Script.{Script}
@@ -24,37 +25,38 @@ use Rattle.run_sources.specs.declared.stop.ScriptsFault.TheVariants as stop
 use Rattle.run_sources.specs.Answers.{RefusesFile, RefusesScript, source_for, sources_for}
 use Rattle.run_sources.specs.Program.{FileName, Program, in_order, program_from}
 use Rattle.run_sources.specs.Reading as reading
-use Rattle.run_sources.specs.Reading.{AreRead, IsQuiet, KeepsFiles, Read}
+use Rattle.run_sources.specs.Reading.{AreRead, IsLarge, IsQuiet, IsUnread, KeepsFiles, Read}
 use Rattle.run_sources.specs.Spelling as spelling
 use Rattle.run_sources.specs.Spelling.{AllSpell, Spell, SpellsPrelude}
 use Rattle.run_program.specs.declared.ran.Ran.{Ran}
 use Rattle.run_program.specs.declared.ran.Setup.{Setup}
+use Rattle.run_program.specs.Kept.{HeapKept}
 use Rattle.run_program.specs.Meant.{left_by, prelude_meant, scripts_meant}
 use Rattle.run_program.specs.Ran.{IsRan, tree_if}
-use Rattle.js_run.specs.Answer.{Becomes, HasNames, SamePrelude, stop_report}
-use Rattle.js_run.specs.Asked.{AreTexts, setup_of}
-use Rattle.js_run.specs.Cause.{HasCauseBy, HasCauseOf, names_in}
+use Rattle.js_run.specs.Answer.{Becomes, HasCauseOf, HasNames, SamePrelude, stop_report}
+use Rattle.js_run.specs.Asked.{AreTexts, names_of, setup_of}
+use Rattle.js_run.specs.Cause.{HasCause, WereRead, names_in}
 use Rattle.js_io.specs.Report.{IsEnd, Sinks}
-use Rattle.js_run.specs.Moment.{Ended, Moment}
-use Rattle.js_run.specs.Outcome.{CallOutcome as OutcomeOf}
+use Rattle.js_run.specs.Moment.{Call, Moment}
+use Rattle.js_run.specs.Outcome.{CallOutcome}
 use Rattle.js_run.proofs.Told.{counts_kept}
 use Rattle.js_run.specs.Verdict.{BadWords, NoMemory, NotRead, Refused, TooLarge, Verdict, WasRun, kept_of, report_of}
 
 -- ---- texts
 
-module _ (setup : Setup) (sources : Program Named) (ended : Ended) (old new : Sinks) where
+module _ (setup : Setup) (sources : Program Named) (code : ℕ) (left : Option HeapKept) (old new : Sinks) where
   -- the texts spell no program, or memory was wanting
-  pub script_stopped : (s : ScriptsFault) → RefusesScript sources s → ended.kept ≡ None → IsEnd (stop_report s) ended.code old new → Becomes (HasCauseOf setup sources) ended old new
+  pub script_stopped : (s : ScriptsFault) → RefusesScript sources s → left ≡ None → IsEnd (stop_report s) code old new → Becomes (HasCauseOf setup sources) code left old new
   script_stopped (stop.Refused name fault) why none end = record { verdict = Refused name.now fault; cause = why; ending = end; kept = none }
   script_stopped stop.NoMemory why none end = record { verdict = NoMemory; cause = tt; ending = end; kept = none }
   script_stopped (stop.NotRead name) why none end = absurd why
   script_stopped (stop.TooLarge name) why none end = absurd why
 
-  pub memory_stopped : ended.kept ≡ None → IsEnd (stop_report stop.NoMemory) ended.code old new → Becomes (HasCauseOf setup sources) ended old new
+  pub memory_stopped : left ≡ None → IsEnd (stop_report stop.NoMemory) code old new → Becomes (HasCauseOf setup sources) code left old new
   memory_stopped none end = record { verdict = NoMemory; cause = tt; ending = end; kept = none }
 
-  pub program_ran : (trees : Program Tree) (ran : Ran) → Spell sources trees → IsRan setup trees.prelude trees.scripts ran → ended.kept ≡ Some ran.kept
-      → IsEnd (report_of (WasRun (names_in sources) ran)) ended.code old new → Becomes (HasCauseOf setup sources) ended old new
+  pub program_ran : (trees : Program Tree) (ran : Ran) → Spell sources trees → IsRan setup trees.prelude trees.scripts ran → left ≡ Some ran.kept
+      → IsEnd (report_of (WasRun (names_in sources) ran)) code old new → Becomes (HasCauseOf setup sources) code left old new
   program_ran trees ran spell program kept end = record {
     verdict = WasRun (names_in sources) ran;
     cause = record { named = refl; trees = trees; spell = spell; program = program };
@@ -64,46 +66,64 @@ module _ (setup : Setup) (sources : Program Named) (ended : Ended) (old new : Si
 
 -- ---- files, and texts that were made
 
-module _ (request : Request) (before after : FilesState) (ended : Ended) (old new : Sinks) where
+module _ (words : List (List ℕ)) (request : Request) (lawful : request_of words ≡ Some request) (code : ℕ) (left : Option HeapKept) (old new : Moment) where
+  abbrev this : Call
+  this = record { words = words; code = code; kept = left; old = old; new = new }
+
+  abbrev Came : Type 0
+  Came = Becomes (HasCause this) code left old.sinks new.sinks
+
   -- a file wasn't read, or memory was wanting
   pub file_stopped : (prelude : Option FileName) (scripts : List FileName) (s : ScriptsFault) → request.asked ≡ files prelude scripts →
-      RefusesFile before after (in_order (record { prelude = prelude; scripts = scripts })) s
-      → ended.kept ≡ None → IsEnd (stop_report s) ended.code old new → Becomes (HasCauseBy (Some request) before after) ended old new
-  file_stopped prelude scripts (stop.NotRead name) asked why none end = record { verdict = NotRead name.now; cause = rw (asked) why; ending = end; kept = none }
-  file_stopped prelude scripts (stop.TooLarge name) asked why none end = record { verdict = TooLarge name.now; cause = rw (asked) why; ending = end; kept = none }
+      RefusesFile old.files new.files (in_order (record { prelude = prelude; scripts = scripts })) s
+      → left ≡ None → IsEnd (stop_report s) code old.sinks new.sinks → Came
+  file_stopped prelude scripts (stop.NotRead name) asked why none end = record {
+    verdict = NotRead name.now;
+    cause = (request, lawful, subst (λ (a : Asked). IsUnread old.files new.files (in_order (names_of a)) name.now) (sym asked) why);
+    ending = end;
+    kept = none;
+  }
+  file_stopped prelude scripts (stop.TooLarge name) asked why none end = record {
+    verdict = TooLarge name.now;
+    cause = (request, lawful, subst (λ (a : Asked). IsLarge old.files new.files (in_order (names_of a)) name.now) (sym asked) why);
+    ending = end;
+    kept = none;
+  }
   file_stopped prelude scripts stop.NoMemory asked why none end = record { verdict = NoMemory; cause = why; ending = end; kept = none }
   file_stopped prelude scripts (stop.Refused name fault) asked why none end = absurd why
 
   -- no file was read, and memory was wanting
-  pub memory_became : IsQuiet before after → ended.kept ≡ None → IsEnd (stop_report stop.NoMemory) ended.code old new → Becomes (HasCauseBy (Some request) before after) ended old new
+  pub memory_became : IsQuiet old.files new.files → left ≡ None → IsEnd (stop_report stop.NoMemory) code old.sinks new.sinks → Came
   memory_became quiet none end = record { verdict = NoMemory; cause = quiet; ending = end; kept = none }
 
-  of_texts : (sources : Program Named) → AreTexts request.asked before.held sources → IsQuiet before after → (v : Verdict) → HasCauseOf
-      (setup_of request) sources v → HasCauseBy (Some request) before after v
-  of_texts sources texts quiet BadWords why = absurd why
-  of_texts sources texts quiet (NotRead name) why = absurd why
-  of_texts sources texts quiet (TooLarge name) why = absurd why
-  of_texts sources texts quiet (Refused name fault) why = record { sources = sources; texts = texts; quiet = quiet; cause = why }
-  of_texts sources texts quiet NoMemory why = quiet
-  of_texts sources texts quiet (WasRun names ran) why = record { sources = sources; texts = texts; quiet = quiet; cause = why }
+  module _ (sources : Program Named) (texts : AreTexts request.asked old.files.held sources) (quiet : IsQuiet old.files new.files) where
+    were_read : WereRead this
+    were_read = record { request = request; lawful = lawful; sources = sources; texts = texts; quiet = quiet }
 
-  pub texts_became : (sources : Program Named) → AreTexts request.asked before.held sources → IsQuiet before after → Becomes (HasCauseOf (setup_of request) sources) ended old new
-      → Becomes (HasCauseBy (Some request) before after) ended old new
-  texts_became sources texts quiet b = record { verdict = b.verdict; cause = of_texts sources texts quiet b.verdict b.cause; ending = b.ending; kept = b.kept }
+    of_texts : (v : Verdict) → HasCauseOf (setup_of request) sources v → HasCause this v
+    of_texts BadWords why = absurd why
+    of_texts (NotRead name) why = absurd why
+    of_texts (TooLarge name) why = absurd why
+    of_texts (Refused name fault) why = (were_read, why)
+    of_texts NoMemory why = quiet
+    of_texts (WasRun names ran) why = record { read = were_read; named = why.named; trees = why.trees; spell = why.spell; program = why.program }
+
+    pub texts_became : Becomes (HasCauseOf (setup_of request) sources) code left old.sinks new.sinks → Came
+    texts_became b = record { verdict = b.verdict; cause = of_texts b.verdict b.cause; ending = b.ending; kept = b.kept }
 
   pub files_became : (prelude : Option FileName) (scripts : List FileName) (sources : Program Named) (setup : Setup) → request.asked ≡ files prelude scripts → setup ≡ setup_of request
-      → AreRead before.held (record { prelude = prelude; scripts = scripts }) sources → IsQuiet before after → Becomes (HasCauseOf setup sources) ended old new
-      → Becomes (HasCauseBy (Some request) before after) ended old new
+      → AreRead old.files.held (record { prelude = prelude; scripts = scripts }) sources → IsQuiet old.files new.files → Becomes (HasCauseOf setup sources) code left old.sinks new.sinks
+      → Came
   files_became prelude scripts sources setup asked is read quiet b =
-      texts_became sources (subst (λ (a : Asked). AreTexts a before.held sources) (sym asked) read) quiet
-      (subst (λ (s : Setup). Becomes (HasCauseOf s sources) ended old new) is b)
+      texts_became sources (subst (λ (a : Asked). AreTexts a old.files.held sources) (sym asked) read) quiet
+      (subst (λ (s : Setup). Becomes (HasCauseOf s sources) code left old.sinks new.sinks) is b)
 
-  pub made_became : (number : ℕ) (setup : Setup) → request.asked ≡ made_from number → setup ≡ setup_of request → IsQuiet before after
-      → Becomes (HasCauseOf setup (program_from (generated number))) ended old new → Becomes (HasCauseBy (Some request) before after) ended old new
+  pub made_became : (number : ℕ) (setup : Setup) → request.asked ≡ made_from number → setup ≡ setup_of request → IsQuiet old.files new.files
+      → Becomes (HasCauseOf setup (program_from (generated number))) code left old.sinks new.sinks → Came
   made_became number setup asked is quiet b =
       let sources : Program Named = program_from (generated number) in
-      texts_became sources (subst (λ (a : Asked). AreTexts a before.held sources) (sym asked) refl) quiet
-      (subst (λ (s : Setup). Becomes (HasCauseOf s sources) ended old new) is b)
+      texts_became sources (subst (λ (a : Asked). AreTexts a old.files.held sources) (sym asked) refl) quiet
+      (subst (λ (s : Setup). Becomes (HasCauseOf s sources) code left old.sinks new.sinks) is b)
 
 -- ---- how many texts there are
 
@@ -141,7 +161,7 @@ script_count : (tree : Option Tree) (outcome : Option Outcome) (os : List Outcom
 script_count None None os None scripts fs has some none are same = let long = length-map fs (λ (f : RunFile). f.mean) in omega (arith, same, ap length are, long)
 script_count None None os (Some m) scripts fs has some none are same = absurd (cc (none refl))
 script_count (Some t) (Some o) os (Some m) scripts [] has some none are same = absurd are
-script_count (Some t) (Some o) os (Some m) scripts (f ∷ fs) has some none are same = omega (arith, same, after_length f.end scripts fs are.1)
+script_count (Some t) (Some o) os (Some m) scripts (f ∷ fs) has some none are same = omega (arith, same, after_length f.outcome.end scripts fs are.1)
 script_count (Some t) (Some o) os None scripts fs has some none are same = absurd (cc (some t refl).1)
 script_count None (Some o) os flow scripts fs has some none are same = absurd (cc has)
 script_count (Some t) None os flow scripts fs has some none are same = absurd (cc has)
@@ -157,10 +177,9 @@ module _ (setup : Setup) where
 
   pub run_length : (prelude : Option Tree) (scripts : List Tree) (ran : Ran) → IsRan setup prelude scripts ran → length ran.scripts.items ≤ length scripts
   run_length prelude scripts ran p =
-      let many = length-map p.files (λ (f : RunFile). f.end) in
-      let as_many = length-map (option_to_list ran.prelude ++ ran.scripts.items) (λ (o : Outcome). o.end) in
+      let many = length-map p.files (λ (f : RunFile). f.outcome) in
       let meant = length-map scripts (λ (tree : Tree). meaning tree (left_by (prelude_meant (limit_units setup.limit) prelude)) (limit_units setup.limit)) in
-      let same : length p.files ≡ length (option_to_list ran.prelude ++ ran.scripts.items) = omega (arith, many, as_many, ap length p.ends) in
+      let same : length p.files ≡ length (option_to_list ran.prelude ++ ran.scripts.items) = omega (arith, many, ap length p.came) in
       let few = script_count prelude ran.prelude ran.scripts.items (prelude_meant (limit_units setup.limit) prelude)
       (scripts_meant (limit_units setup.limit) prelude scripts) p.files p.has_prelude (has_flow prelude) (no_flow prelude) p.are same in
       omega (arith, few, meant)
@@ -199,32 +218,27 @@ still f = record { held = λ name. refl; faults = omega arith; oversize = omega 
 pub still_quiet : (f : FilesState) → IsQuiet f f
 still_quiet f = record { calm = refl; not_large = refl; unblamed = refl }
 
-module _ (words : List (List ℕ)) (ended : Ended) where
-  outcome : (old new : Moment) (v : Verdict) → KeepsFiles old.files new.files → HasCauseBy (request_of words) old.files new.files v → IsEnd (report_of v) ended.code old.sinks new.sinks
-      → ended.kept ≡ kept_of v → OutcomeOf words ended old new
-  outcome old new v keeps why end kept =
-      let counts = counts_kept (report_of v) ended.code old.sinks new.sinks end in
-      record { verdict = v; cause = why; ending = end; kept = kept; keeps = record { files = keeps; out = counts.0; err = counts.1 } }
+module _ (words : List (List ℕ)) (code : ℕ) (left : Option HeapKept) where
+  abbrev call_of : Moment → Moment → Call
+  call_of old new = record { words = words; code = code; kept = left; old = old; new = new }
 
-  pub lawful_outcome : (request : Request) (old new : Moment) → request_of words ≡ Some request → KeepsFiles old.files new.files
-      → Becomes (HasCauseBy (Some request) old.files new.files) ended old.sinks new.sinks → OutcomeOf words ended old new
-  lawful_outcome request old new lawful keeps b =
-      outcome old new b.verdict keeps (subst (λ (r : Option Request). HasCauseBy r old.files new.files b.verdict) (sym lawful) b.cause) b.ending b.kept
+  pub outcome : (old new : Moment) → KeepsFiles old.files new.files → Becomes (HasCause (call_of old new)) code left old.sinks new.sinks → CallOutcome (call_of old new)
+  outcome old new keeps b =
+      let counts = counts_kept (report_of b.verdict) code old.sinks new.sinks b.ending in
+      record { verdict = b.verdict; cause = b.cause; ending = b.ending; kept = b.kept; keeps = record { files = keeps; out = counts.0; err = counts.1 } }
 
-  pub refused_outcome : (f : FilesState) (old new : Sinks) → request_of words ≡ None → ended.kept ≡ None → IsEnd (report_of BadWords) ended.code old new
-      → OutcomeOf words ended (record { files = f; sinks = old }) (record { files = f; sinks = new })
-  refused_outcome f old new unlawful none end =
-      outcome (record { files = f; sinks = old }) (record { files = f; sinks = new }) BadWords (still f)
-      (subst (λ (r : Option Request). HasCauseBy r f f BadWords) (sym unlawful) (still_quiet f)) end none
+  -- no file was read
+  module _ (f : FilesState) (old new : Sinks) (none : left ≡ None) where
+    abbrev still_call : Call
+    still_call = call_of (record { files = f; sinks = old }) (record { files = f; sinks = new })
 
-  memory_cause : (f : FilesState) (r : Option Request) → HasCauseBy r f f NoMemory
-  memory_cause f None = still_quiet f
-  memory_cause f (Some request) = still_quiet f
+    pub refused_outcome : request_of words ≡ None → IsEnd (report_of BadWords) code old new → CallOutcome still_call
+    refused_outcome unlawful end = outcome (record { files = f; sinks = old }) (record { files = f; sinks = new }) (still f)
+        (record { verdict = BadWords; cause = (unlawful, still_quiet f); ending = end; kept = none })
 
-  pub memory_outcome : (f : FilesState) (old new : Sinks) → ended.kept ≡ None → IsEnd (report_of NoMemory) ended.code old new
-      → OutcomeOf words ended (record { files = f; sinks = old }) (record { files = f; sinks = new })
-  memory_outcome f old new none end =
-      outcome (record { files = f; sinks = old }) (record { files = f; sinks = new }) NoMemory (still f) (memory_cause f (request_of words)) end none
+    pub memory_outcome : IsEnd (report_of NoMemory) code old new → CallOutcome still_call
+    memory_outcome end = outcome (record { files = f; sinks = old }) (record { files = f; sinks = new }) (still f)
+        (record { verdict = NoMemory; cause = still_quiet f; ending = end; kept = none })
 
 -- ---- a prelude that is lent
 

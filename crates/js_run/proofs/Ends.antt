@@ -9,11 +9,14 @@ use Rattle.js_eval.specs.declared.ending.End.TheVariants.{Done, Threw, Unsupport
 use Rattle.js_eval.specs.Evaluates.{script_end}
 use Rattle.js_eval.specs.Script.{Flow}
 use Rattle.run_program.specs.declared.job.Outcome.{Outcome}
-use Rattle.run_program.specs.Files.{RunFile, IsAsMeant, WasFileRun, means_of}
+use Rattle.heap_rule.specs.declared.size.HeapSize.{HeapSize}
+use Rattle.heap_session.specs.Sessions.{SessionFrame}
+use Rattle.run_program.specs.Jobs.{RunFile, WasFileRun, HasJobEnd, Whole}
+use Rattle.run_program.specs.Files.{IsAsMeant, means_of, outcomes_of}
 use Rattle.run_program.specs.Fits.{Fits, all_meant}
-use Rattle.run_program.specs.Tells.{EndTells}
+use Rattle.run_program.specs.Tells.{RanOut}
 use Rattle.run_program.proofs.First.{AreFirst, are_first}
-use Rattle.run_program.proofs.Tells.{lines_meant}
+use Rattle.run_program.proofs.Tells.{fits_meant, lines_meant}
 use Rattle.run_command.specs.Words.{Request}
 use Rattle.run_sources.specs.Program.{FileName, Program, in_order}
 use Rattle.run_program.specs.declared.ran.Ran.{Ran}
@@ -59,38 +62,41 @@ quiet (name ∷ names) (e ∷ es) is =
     ap (λ (x : End). end_line name x ++ end_lines names es) one.0 ∙ quiet names es one.1
 
 abbrev file_ends : List RunFile → List End
-file_ends files = map (λ f. f.end) files
+file_ends files = map (λ o. o.end) (outcomes_of files)
 
 -- ---- what files tell that were run
 
-module _ {F : Type 0} (z : StoreSizes) (s : State F) (means : List Flow) where
+module _ {F : Type 0} (s : State F) (means : List Flow) where
   abbrev Tells : RunFile → Type 0
-  Tells f = EndTells z s means f.mean f.part f.end
+  Tells f = WasFileRun s (RanOut s means) f
+
+  abbrev IsEndOf : RunFile → End → Type 0
+  IsEndOf f e = HasJobEnd s (RanOut s means f) f.mean f.outcome.lines e f.part
 
   -- where all ended Done, all ended as they are meant
   done_meant : (files : List RunFile) → Every Tells files → status_of (file_ends files) ≡ 0 → Every IsAsMeant files
   done_meant [] tells is = tt
   done_meant (f ∷ files) tells is =
-      let one = done_one f.end (status_of (file_ends files)) is in
-      let meant : Done ≡ script_end f.mean.out = subst (λ (e : End). EndTells z s means f.mean f.part e) one.0 tells.0 in
-      (one.0 ∙ meant, done_meant files tells.1 one.1)
+      let one = done_one f.outcome.end (status_of (file_ends files)) is in
+      let whole : Whole s f.mean f.outcome.lines Done f.part = subst (IsEndOf f) one.0 tells.0.ended in
+      (one.0 ∙ whole.end_is, done_meant files tells.1 one.1)
 
-  early_one : (e : End) (f : RunFile) (later other : ℕ) → EndTells z s means f.mean f.part e → status_or e later ≡ 1 → (later ≡ 1 → other ≡ 1) → status_or (script_end f.mean.out) other ≡ 1
-  early_one Done f later other tells is more = subst (λ (e : End). status_or e other ≡ 1) tells (more is)
-  early_one (Threw k) f later other tells is more = subst (λ (e : End). status_or e other ≡ 1) tells refl
-  early_one (Unsupported at) f later other tells is more = subst (λ (e : End). status_or e other ≡ 1) tells refl
-  early_one (Full report) f later other tells is more = absurd (omega (arith, is))
-  early_one Memory f later other tells is more = absurd (omega (arith, is))
+  early_one : (e : End) (f : RunFile) (later other : ℕ) → IsEndOf f e → status_or e later ≡ 1 → (later ≡ 1 → other ≡ 1) → status_or (script_end f.mean.out) other ≡ 1
+  early_one Done f later other ended is more = subst (λ (e : End). status_or e other ≡ 1) ended.end_is (more is)
+  early_one (Threw k) f later other ended is more = subst (λ (e : End). status_or e other ≡ 1) ended.end_is refl
+  early_one (Unsupported at) f later other ended is more = subst (λ (e : End). status_or e other ≡ 1) ended.end_is refl
+  early_one (Full report) f later other ended is more = absurd (omega (arith, is))
+  early_one Memory f later other ended is more = absurd (omega (arith, is))
 
   -- where the first file that didn't end Done has status 1, it is the first that isn't meant to end Done
   early_meant : (files : List RunFile) (rest : List Flow) → Every Tells files → status_of (file_ends files) ≡ 1 → status_of (ends_meant (means_of files ++ rest)) ≡ 1
   early_meant [] rest tells is = absurd (omega (arith, is))
   early_meant (f ∷ files) rest tells is =
-      early_one f.end f (status_of (file_ends files)) (status_of (ends_meant (means_of files ++ rest))) tells.0 is (early_meant files rest tells.1)
+      early_one f.outcome.end f (status_of (file_ends files)) (status_of (ends_meant (means_of files ++ rest))) tells.0.ended is (early_meant files rest tells.1)
 
-  full_one : (f : RunFile) (files : List RunFile) (e : End) → f.end ≡ e → Tells f → status_or e (status_of (file_ends files)) ≡ 5
-      → (status_of (file_ends files) ≡ 5 → FirstFull z s means files) → FirstFull z s means (f ∷ files)
-  full_one f files Done is tells five more =
+  full_one : (f : RunFile) (files : List RunFile) (e : End) → f.outcome.end ≡ e → IsEndOf f e → status_or e (status_of (file_ends files)) ≡ 5
+      → (status_of (file_ends files) ≡ 5 → FirstFull s means files) → FirstFull s means (f ∷ files)
+  full_one f files Done is ended five more =
       let r = more five in
       record {
         before = f ∷ r.before;
@@ -100,37 +106,29 @@ module _ {F : Type 0} (z : StoreSizes) (s : State F) (means : List Flow) where
         done = (is, r.done);
         report = r.report;
         full = r.full;
-        ran_out = r.ran_out;
+        broken = r.broken;
       }
-  full_one f files (Full report) is tells five more = record {
-    before = [];
-    file = f;
-    after = files;
-    split = refl;
-    done = tt;
-    report = report;
-    full = is;
-    ran_out = subst (λ (x : End). EndTells z s means f.mean f.part x) is tells;
-  }
-  full_one f files (Threw k) is tells five more = absurd (omega (arith, five))
-  full_one f files (Unsupported at) is tells five more = absurd (omega (arith, five))
-  full_one f files Memory is tells five more = absurd (omega (arith, five))
+  full_one f files (Full report) is ended five more =
+      record { before = []; file = f; after = files; split = refl; done = tt; report = report; full = is; broken = ended }
+  full_one f files (Threw k) is ended five more = absurd (omega (arith, five))
+  full_one f files (Unsupported at) is ended five more = absurd (omega (arith, five))
+  full_one f files Memory is ended five more = absurd (omega (arith, five))
 
   -- the first file that didn't end Done ended Full
-  first_full : (files : List RunFile) → Every Tells files → status_of (file_ends files) ≡ 5 → FirstFull z s means files
+  first_full : (files : List RunFile) → Every Tells files → status_of (file_ends files) ≡ 5 → FirstFull s means files
   first_full [] tells is = absurd (omega (arith, is))
-  first_full (f ∷ files) tells is = full_one f files f.end refl tells.0 is (first_full files tells.1)
+  first_full (f ∷ files) tells is = full_one f files f.outcome.end refl tells.0.ended is (first_full files tells.1)
 
   -- where all ended as they are meant, they printed what they are meant to
-  meant_lines : (files : List RunFile) → Every (WasFileRun s) files → Every IsAsMeant files → map (λ f. f.lines) files ≡ map (λ m. concat m.lines) (means_of files)
+  meant_lines : (files : List RunFile) → Every Tells files → Every IsAsMeant files → map (λ o. o.lines) (outcomes_of files) ≡ map (λ m. concat m.lines) (means_of files)
   meant_lines [] run all = refl
-  meant_lines (f ∷ files) run all = ap₂ (λ l ls. l ∷ ls) (lines_meant s f run.0 all.0) (meant_lines files run.1 all.1)
+  meant_lines (f ∷ files) run all = ap₂ (λ l ls. l ∷ ls) (lines_meant s (RanOut s means) f run.0 all.0) (meant_lines files run.1 all.1)
 
 meant_ends : (files : List RunFile) → Every IsAsMeant files → file_ends files ≡ ends_meant (means_of files)
 meant_ends [] all = refl
 meant_ends (f ∷ files) all = ap₂ (λ e es. e ∷ es) all.0 (meant_ends files all.1)
 
-without_memory : (files : List RunFile) → Every (λ f. IsAsMeant f ⊎ (f.end ≡ Memory)) files → Every (λ e. e ≡ Memory → ⊥) (file_ends files) → Every IsAsMeant files
+without_memory : (files : List RunFile) → Every (λ f. IsAsMeant f ⊎ (f.outcome.end ≡ Memory)) files → Every (λ e. e ≡ Memory → ⊥) (file_ends files) → Every IsAsMeant files
 without_memory [] all none = tt
 without_memory (f ∷ files) all none = (⊎_elim (λ is. is) (λ is. absurd (none.0 is)) all.0, without_memory files all.1 none.1)
 
@@ -166,21 +164,27 @@ scripts_lines (Some t) None os flow flows has some none is = absurd (cc has)
 -- ---- a program that was run
 
 module _ (request : Request) (trees : Program Tree) (ran : Ran) (p : IsRan (setup_of request) trees.prelude trees.scripts ran) where
+  abbrev kept : State SessionFrame
+  kept = state_kept (setup_of request) ran.kept
+
   flows : List Flow
   flows = all_flows request trees
 
   first : AreFirst (all_flows request trees) p.files
-  first = are_first (state_kept (setup_of request) ran.kept) (prelude_meant (limit_units request.limit) trees.prelude)
-      (scripts_meant (limit_units request.limit) trees.prelude trees.scripts) p.files p.run.each p.are
+  first = are_first kept (RanOut kept (all_flows request trees)) (prelude_meant (limit_units request.limit) trees.prelude)
+      (scripts_meant (limit_units request.limit) trees.prelude trees.scripts) p.files p.tells.run.each p.are
+
+  ends_are : file_ends p.files ≡ ends_of ran
+  ends_are = ap (map (λ o. o.end)) p.came
 
   status_same : status_of (ends_of ran) ≡ status_of (file_ends p.files)
-  status_same = ap status_of (sym p.ends)
+  status_same = ap status_of (sym ends_are)
 
   means_same : Every IsAsMeant p.files → all_flows request trees ≡ means_of p.files
   means_same all = first.split ∙ (ap (λ x. means_of p.files ++ x) (first.all all) ∙ append-nil (means_of p.files))
 
   ends_same : Every IsAsMeant p.files → ends_of ran ≡ ends_meant (all_flows request trees)
-  ends_same all = sym p.ends ∙ meant_ends p.files all ∙ ap ends_meant (sym (means_same all))
+  ends_same all = sym ends_are ∙ meant_ends p.files all ∙ ap ends_meant (sym (means_same all))
 
   has_flow : (tree : Option Tree) (t : Tree) → tree ≡ Some t → (m : Flow) × (prelude_meant (limit_units request.limit) tree ≡ Some m)
   has_flow None t is = absurd (cc is)
@@ -194,10 +198,10 @@ module _ (request : Request) (trees : Program Tree) (ran : Ran) (p : IsRan (setu
       (run_after (prelude_meant (limit_units request.limit) trees.prelude) (scripts_meant (limit_units request.limit) trees.prelude trees.scripts))
   lines_same all =
       let means : map (λ m. concat m.lines) (means_of p.files) ≡ map (λ m. concat m.lines) (all_flows request trees) = ap (map (λ m. concat m.lines)) (sym (means_same all)) in
-      let printed = meant_lines (setup_sizes (setup_of request)) (state_kept (setup_of request) ran.kept) (all_flows request trees) p.files p.run.each all in
+      let printed = meant_lines kept (all_flows request trees) p.files p.tells.run.each all in
       scripts_lines trees.prelude ran.prelude ran.scripts.items (prelude_meant (limit_units request.limit) trees.prelude)
       (scripts_meant (limit_units request.limit) trees.prelude trees.scripts) p.has_prelude
-      (has_flow trees.prelude) (no_flow trees.prelude) (sym p.lines ∙ printed ∙ means)
+      (has_flow trees.prelude) (no_flow trees.prelude) (ap (map (λ o. o.lines)) (sym p.came) ∙ printed ∙ means)
 
   out_same : Every IsAsMeant p.files → out_of ran ≡ out_meant request trees ran.interned
   out_same all = ap (λ l. l ++ count_line ran.interned) (lines_same all)
@@ -211,7 +215,7 @@ module _ (request : Request) (trees : Program Tree) (ran : Ran) (p : IsRan (setu
       ∙ ap (λ l. Printed (status_meant request trees) l (end_lines (in_order names) (ends_meant (all_flows request trees)))) (out_same all)
 
   pub all_done : status_of (ends_of ran) ≡ 0 → Every IsAsMeant p.files
-  all_done is = done_meant (setup_sizes (setup_of request)) (state_kept (setup_of request) ran.kept) (all_flows request trees) p.files p.tells.each (sym status_same ∙ is)
+  all_done is = done_meant kept (all_flows request trees) p.files p.tells.run.each (sym status_same ∙ is)
 
   pub done_status : status_of (ends_of ran) ≡ 0 → status_meant request trees ≡ 0
   done_status is = ap status_of (sym (ends_same (all_done is))) ∙ is
@@ -224,11 +228,17 @@ module _ (request : Request) (trees : Program Tree) (ran : Ran) (p : IsRan (setu
 
   pub early_status : status_of (ends_of ran) ≡ 1 → status_meant request trees ≡ 1
   early_status is = ap (λ ms. status_of (ends_meant ms)) first.split
-      ∙ early_meant (setup_sizes (setup_of request)) (state_kept (setup_of request) ran.kept) (all_flows request trees) p.files first.rest p.tells.each (sym status_same ∙ is)
+      ∙ early_meant kept (all_flows request trees) p.files first.rest p.tells.run.each (sym status_same ∙ is)
 
-  pub full_first : status_of (ends_of ran) ≡ 5 → FirstFull (setup_sizes (setup_of request)) (state_kept (setup_of request) ran.kept) (all_flows request trees) p.files
-  full_first is = first_full (setup_sizes (setup_of request)) (state_kept (setup_of request) ran.kept) (all_flows request trees) p.files p.tells.each (sym status_same ∙ is)
+  pub full_first : status_of (ends_of ran) ≡ 5 → FirstFull kept (all_flows request trees) p.files
+  full_first is = first_full kept (all_flows request trees) p.files p.tells.run.each (sym status_same ∙ is)
+
+  -- the heap has the sizes that are asked for
+  sizes_are : kept.sizes ≡ setup_sizes (setup_of request)
+  sizes_are = ap (λ (z : HeapSize). record { ids = z.ids; words = z.words; slots = z.slots }) (p.belongs.1 ∙ p.sizes)
 
   pub complete : (names : Program FileName) → Fits (setup_sizes (setup_of request)) (all_flows request trees) → Every (λ e. e ≡ Memory → ⊥) (ends_of ran)
       → report_of (WasRun names ran) ≡ Printed (status_meant request trees) (out_meant request trees ran.interned) (end_lines (in_order names) (ends_meant (all_flows request trees)))
-  complete names fits none = report_same names (without_memory p.files (p.tells.fits fits) (subst (Every (λ e. e ≡ Memory → ⊥)) (sym p.ends) none))
+  complete names fits none = report_same names (without_memory p.files
+      (fits_meant kept (all_flows request trees) p.files p.tells (subst (λ (z : StoreSizes). Fits z (all_flows request trees)) (sym sizes_are) fits))
+      (subst (Every (λ e. e ≡ Memory → ⊥)) (sym ends_are) none))

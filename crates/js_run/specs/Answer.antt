@@ -4,13 +4,20 @@ use Rattle.std.specs.Prelude.{◌≡◌, ◌≤◌, ◌++◌, ⊤, ℕ, codes, L
 use Rattle.js_eval.specs.declared.ending.End.{End}
 use Rattle.run_program.specs.declared.job.Outcome.{Outcome}
 use Rattle.run_program.specs.declared.ran.Ran.{Ran}
+use Rattle.run_program.specs.declared.ran.Setup.{Setup}
+use Rattle.run_program.specs.Kept.{HeapKept}
+use Rattle.run_program.specs.Ran.{IsRan}
+use Rattle.eval_tree.specs.Tree.{Tree}
+use Rattle.run_sources.specs.Spelling.{Spell, FirstRefused}
+use Rattle.run_sources.specs.Texts.{Named}
 use Rattle.run_sources.specs.declared.sources.SourceText.{SourceText}
 use Rattle.run_sources.specs.declared.sources.Sources.{Sources}
 use Rattle.run_sources.specs.declared.stop.ScriptsFault.{ScriptsFault}
 use Rattle.run_sources.specs.declared.stop.ScriptsFault.TheVariants as stop
-use Rattle.run_sources.specs.Program.{FileName}
-use Rattle.js_run.specs.Moment.{Ended}
-use Rattle.js_run.specs.Verdict.{Verdict, report_of, kept_of, refused_line, memory_line}
+use Rattle.run_sources.specs.Program.{FileName, Program}
+use Rattle.js_run.specs.Cause.{names_in}
+use Rattle.js_run.specs.Verdict.{Verdict, Refused, NoMemory, WasRun, report_of, kept_of, refused_line}
+use Rattle.js_run.specs.Verdict.{memory_line}
 use Rattle.js_io.specs.Report.{IsEnd, Sinks, Report, Refusal}
 
 -- the line of a file that can't be read
@@ -45,10 +52,26 @@ pub record HasNames (sources : Sources) (ran : Ran) : Type 0 where
   pub prelude : SamePrelude sources.prelude ran.prelude
   pub scripts : length ran.scripts.items ≤ length sources.scripts.items
 
--- a call came to a verdict of this kind, what was written is what is reported of it, and what is kept is what
--- is there
-pub record Becomes (Why : Verdict → Type 0) (ended : Ended) (old new : Sinks) : Type 0 where
+-- files of these names are what the sources spell, and were run so
+pub record AreRunSo (setup : Setup) (sources : Program Named) (names : Program FileName) (ran : Ran) : Type
+    0 where
+  pub named : names ≡ names_in sources
+  pub trees : Program Tree
+  pub spell : Spell sources trees
+  pub program : IsRan setup trees.prelude trees.scripts ran
+
+-- what may become of sources that are run so
+abbrev pub HasCauseOf : Setup → Program Named → Verdict → Type 0
+HasCauseOf setup sources (Refused name fault) = FirstRefused sources name fault
+HasCauseOf setup sources NoMemory = ⊤
+HasCauseOf setup sources (WasRun names ran) = AreRunSo setup sources names ran
+HasCauseOf setup sources _ = ⊥
+
+-- a call that ended so came to a verdict of this kind, what was written is what is reported of it, and what
+-- is kept is what is there
+pub record Becomes (Why : Verdict → Type 0) (code : ℕ) (left : Option HeapKept) (old new : Sinks) : Type 0
+    where
   pub verdict : Verdict
   pub cause : Why verdict
-  pub ending : IsEnd (report_of verdict) ended.code old new
-  pub kept : ended.kept ≡ kept_of verdict
+  pub ending : IsEnd (report_of verdict) code old new
+  pub kept : left ≡ kept_of verdict

@@ -7,17 +7,17 @@ use Rattle.eval_tree.specs.Tree.{Tree}
 use Rattle.js_eval.specs.declared.ending.End.{End}
 use Rattle.js_eval.specs.Evaluates.{script_end}
 use Rattle.js_eval.specs.Script.{Flow}
-use Rattle.run_program.specs.Fits.{after_prelude, all_meant}
+use Rattle.run_program.specs.Fits.{after_prelude}
 use Rattle.run_command.specs.Words.{Request}
 use Rattle.run_sources.specs.Program.{Program}
 use Rattle.js_run.specs.Verdict.{count_line, status_of}
 use Rattle.js_store.specs.Limits.{limit_units}
 use Rattle.run_program.specs.Meant.{prelude_meant, scripts_meant}
+use Rattle.run_program.specs.Ran.{flows_meant}
 
 -- what all files mean that are meant to be run, the prelude first
 abbrev pub all_flows : Request → Program Tree → List Flow
-all_flows request trees = all_meant (prelude_meant (limit_units request.limit) trees.prelude)
-    (scripts_meant (limit_units request.limit) trees.prelude trees.scripts)
+all_flows request trees = flows_meant (limit_units request.limit) trees.prelude trees.scripts
 
 -- what the scripts mean that are meant to be run: none where the prelude isn't meant to end Done
 abbrev pub run_after : Option Flow → List Flow → List Flow

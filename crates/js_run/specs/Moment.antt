@@ -1,5 +1,5 @@
--- The files and both sinks at one moment, and how a call ended.
-use Rattle.std.specs.Prelude.{ℕ, Option}
+-- The files and both sinks at one moment, and a call between two moments.
+use Rattle.std.specs.Prelude.{ℕ, List, Option}
 use Rattle.js_io.specs.FilesState.{FilesState}
 use Rattle.js_io.specs.SinkState.{SinkState}
 use Rattle.js_io.specs.Report.{Sinks, sinks}
@@ -15,11 +15,15 @@ pub record Moment : Type 0 where
 abbrev pub moment : FilesState → SinkState → SinkState → Moment
 moment files out err = record { files = files; sinks = sinks out err }
 
--- what the call answered
-pub record Ended : Type 0 where
+-- a call: the words of the command line, the status and what is kept, and the moments before and after it
+pub record Call : Type 0 where
+  pub words : List (List ℕ)
   pub code : ℕ
   pub kept : Option HeapKept
+  pub old : Moment
+  pub new : Moment
 
--- how the call ended: its status and what is kept
-abbrev pub ended : Status → Ended
-ended status = record { code = status.code; kept = status.kept }
+-- the call that ended so
+abbrev pub call : List (List ℕ) → Status → Moment → Moment → Call
+call words status old new =
+    record { words = words; code = status.code; kept = status.kept; old = old; new = new }

@@ -1,11 +1,9 @@
 // The top call.
-ghost use Rattle.std.specs.Prelude.{◌≡◌, None, map};
+ghost use Rattle.std.specs.Prelude.{map};
 ghost use Rattle.std.specs.String.{string_bytes};
-ghost use Rattle.run_command.specs.Words.{request_of};
-ghost use Rattle.run_sources.specs.Reading.{IsQuiet};
-ghost use Rattle.js_run.specs.Moment.{moment, ended};
-ghost use Rattle.js_run.specs.Outcome.{CallOutcome, KeepsMoment};
-ghost use Rattle.js_run.specs.Rows.{Exactly, OrWant, IsFileFault, IsToldLarge, IsNoScript, IsToldRefused, HasRefusalStatus, IsRefusalTold, IsMemory, PrintsAll, PrintsEarly, PrintsFull, IsCutShort, IsHonest, IsDone};
+ghost use Rattle.js_run.specs.Moment.{call, moment};
+ghost use Rattle.js_run.specs.Outcome.{CallOutcome};
+ghost use Rattle.js_run.specs.Rows.{EachStatus};
 
 use crate::stages::{run_plan, stopped};
 use crate::status::Status;
@@ -26,9 +24,9 @@ fn run<R: Threads + Sync, F: Files, O: Sink, E: Sink, G: Gate + Sync>(
     err: &mut E,
     gate: &G,
 ) -> Status
-    ensures { CallOutcome (map string_bytes words.now) (ended result)
+    ensures { CallOutcome (call (map string_bytes words.now) result
         (moment (F.state files.old) (O.state out.old) (E.state err.old))
-        (moment (F.state files.new) (O.state out.new) (E.state err.new)) }
+        (moment (F.state files.new) (O.state out.new) (E.state err.new))) }
 {
     match read_words(alloc, words) {
         Ok(plan) => run_plan(rt, alloc, &plan, files, out, err, gate),
@@ -69,59 +67,12 @@ pub fn run_words<R: Threads + Sync, F: Files, O: Sink, E: Sink, G: Gate + Sync>(
     err: &mut E,
     gate: &G,
 ) -> Status
-    ensures outcome { CallOutcome (map string_bytes words.now) (ended result)
+    ensures outcome { CallOutcome (call (map string_bytes words.now) result
         (moment (F.state files.old) (O.state out.old) (E.state err.old))
-        (moment (F.state files.new) (O.state out.new) (E.state err.new)) }
-
-    ensures words { Exactly 2 (ended result)
+        (moment (F.state files.new) (O.state out.new) (E.state err.new))) }
+    ensures rows { EachStatus (call (map string_bytes words.now) result
         (moment (F.state files.old) (O.state out.old) (E.state err.old))
-        (moment (F.state files.new) (O.state out.new) (E.state err.new))
-        (request_of (map string_bytes words.now) ≡ None) }
-
-    ensures read { result.code ≡ 3
-        → IsFileFault (map string_bytes words.now) (F.state files.old) (F.state files.new) }
-    ensures quiet { (result.code ≡ 3 → ⊥) → IsQuiet (F.state files.old) (F.state files.new) }
-    ensures large { IsToldLarge (map string_bytes words.now) (F.state files.old) (F.state files.new)
-        → OrWant 3 (ended result)
-        (moment (F.state files.old) (O.state out.old) (E.state err.old))
-        (moment (F.state files.new) (O.state out.new) (E.state err.new)) }
-
-    ensures script { result.code ≡ 4
-        → IsNoScript (map string_bytes words.now) (F.state files.old) (F.state files.new) }
-    ensures no_script { IsToldRefused (map string_bytes words.now) (F.state files.old) (F.state files.new)
-        → OrWant 4 (ended result)
-        (moment (F.state files.old) (O.state out.old) (E.state err.old))
-        (moment (F.state files.new) (O.state out.new) (E.state err.new)) }
-
-    ensures told { HasRefusalStatus (ended result) → IsRefusalTold (map string_bytes words.now) (ended result)
-        (moment (F.state files.old) (O.state out.old) (E.state err.old))
-        (moment (F.state files.new) (O.state out.new) (E.state err.new)) }
-
-    ensures memory { result.code ≡ 6 → IsMemory (map string_bytes words.now) (ended result)
-        (moment (F.state files.old) (O.state out.old) (E.state err.old))
-        (moment (F.state files.new) (O.state out.new) (E.state err.new)) }
-
-    ensures print { result.code ≡ 0 → PrintsAll (map string_bytes words.now) (ended result)
-        (moment (F.state files.old) (O.state out.old) (E.state err.old))
-        (moment (F.state files.new) (O.state out.new) (E.state err.new)) }
-    ensures early { result.code ≡ 1 → PrintsEarly (map string_bytes words.now) (ended result)
-        (moment (F.state files.old) (O.state out.old) (E.state err.old))
-        (moment (F.state files.new) (O.state out.new) (E.state err.new)) }
-    ensures full { result.code ≡ 5 → PrintsFull (map string_bytes words.now) (ended result)
-        (moment (F.state files.old) (O.state out.old) (E.state err.old))
-        (moment (F.state files.new) (O.state out.new) (E.state err.new)) }
-    ensures write { result.code ≡ 7 → IsCutShort (map string_bytes words.now) (ended result)
-        (moment (F.state files.old) (O.state out.old) (E.state err.old))
-        (moment (F.state files.new) (O.state out.new) (E.state err.new)) }
-
-    ensures honest { (honest : IsHonest (map string_bytes words.now) (F.state files.old) (F.state files.new))
-        → IsDone (map string_bytes words.now) (ended result)
-        (moment (F.state files.old) (O.state out.old) (E.state err.old))
-        (moment (F.state files.new) (O.state out.new) (E.state err.new)) honest }
-
-    ensures keeps { KeepsMoment
-        (moment (F.state files.old) (O.state out.old) (E.state err.old))
-        (moment (F.state files.new) (O.state out.new) (E.state err.new)) }
+        (moment (F.state files.new) (O.state out.new) (E.state err.new))) }
 {
     // laws of what is spelled
     one_script();

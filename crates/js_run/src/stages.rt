@@ -1,18 +1,18 @@
 // What becomes of valid arguments, one stage after the other.
-ghost use Rattle.std.specs.Prelude.{◌≡◌, ◌≤◌, None, length, map, Some};
+ghost use Rattle.std.specs.Prelude.{◌≡◌, ◌≤◌, ℕ, List, None, length, map, Some};
 ghost use Rattle.heap_table.specs.MayMake.{MayMake};
 ghost use Rattle.run_sources.specs.Texts.{generated};
 ghost use Rattle.js_io.specs.SinkState.{SinkState};
-ghost use Rattle.run_command.specs.Words.{IsRequestInRange, Request, made_from, request_for, files as named_files};
+ghost use Rattle.run_command.specs.Words.{IsRequestInRange, Request, made_from, request_for, request_of, files as named_files};
 ghost use Rattle.run_sources.specs.Answers.{AreShort, names_for, sources_for, trees_for};
 ghost use Rattle.run_sources.specs.Program.{program_from};
 ghost use Rattle.run_sources.specs.Reading.{KeepsFiles};
 ghost use Rattle.run_sources.specs.Spelling.{Spell};
-ghost use Rattle.js_run.specs.Answer.{Becomes, stop_report};
+ghost use Rattle.js_run.specs.Answer.{Becomes, HasCauseOf, stop_report};
 ghost use Rattle.js_run.specs.Asked.{names_of, setup_of};
-ghost use Rattle.js_run.specs.Cause.{HasCauseBy, HasCauseOf};
+ghost use Rattle.js_run.specs.Cause.{HasCause};
 ghost use Rattle.js_io.specs.Report.{IsEnd, sinks};
-ghost use Rattle.js_run.specs.Moment.{ended};
+ghost use Rattle.js_run.specs.Moment.{call, moment};
 
 use crate::status::Status;
 use crate::telling::{tell_ran, tell_stop};
@@ -81,7 +81,7 @@ fn run_scripts<R: Threads + Sync, O: Sink, E: Sink, G: Gate + Sync>(
     requires may { MayMake setup.size setup.jobs }
     requires few { length sources.now.scripts.items ≤ 4294967295 }
     requires short { AreShort (sources_for sources.now) }
-    ensures { Becomes (HasCauseOf setup (sources_for sources.now)) (ended result)
+    ensures { Becomes (HasCauseOf setup (sources_for sources.now)) result.code result.kept
         (sinks (O.state out.old) (E.state err.old)) (sinks (O.state out.new) (E.state err.new)) }
 {
     let parsed = match parse_sources(alloc, sources) {
@@ -112,8 +112,10 @@ pub(crate) fn run_plan<R: Threads + Sync, F: Files, O: Sink, E: Sink, G: Gate + 
 ) -> Status
     requires { IsRequestInRange (request_for plan.now) }
     ensures keeps { KeepsFiles (F.state files.old) (F.state files.new) }
-    ensures becomes { Becomes
-        (HasCauseBy (Some (request_for plan.now)) (F.state files.old) (F.state files.new)) (ended result)
+    ensures becomes { (words : List (List ℕ)) → request_of words ≡ Some (request_for plan.now)
+        → Becomes (HasCause (call words result
+        (moment (F.state files.old) (O.state out.old) (E.state err.old))
+        (moment (F.state files.new) (O.state out.new) (E.state err.new)))) result.code result.kept
         (sinks (O.state out.old) (E.state err.old)) (sinks (O.state out.new) (E.state err.new)) }
 {
     let setup = setup(plan);

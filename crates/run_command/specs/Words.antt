@@ -7,7 +7,7 @@ use Rattle.std.specs.Str.{bytes_eq}
 use Rattle.std.specs.Str.Parse.{digits_value, without_leading_sign}
 use Rattle.clap.specs.ValueTests.{is_signed_in}
 use Rattle.clap.specs.Walk.{is_empty}
-use Rattle.clap.specs.Words.{Row, Text, all_of, first_of, matches_of, one_of, fault_of}
+use Rattle.clap.specs.Words.{Row as MatchRow, Text, all_of, first_of as first_match, matches_of, one_of, fault_of}
 use Rattle.js_store.specs.declared.limit.Limit.{Limit}
 use Rattle.js_store.specs.declared.limit.Limit.TheVariants.{Bits32, Bits64}
 use Rattle.run_command.specs.Command.{command}
@@ -41,8 +41,8 @@ number_in least most text = if is_signed_in (pos least) (pos most) text
     then Some (digits_value 10 (without_leading_sign text)) else None
 
 -- the number of an option
-abbrev pub option_number : ℕ → ℕ → Text → List Row → Option ℕ
-option_number least most id rows = option_and_then (number_in least most) (first_of id rows)
+abbrev pub option_number : ℕ → ℕ → Text → List MatchRow → Option ℕ
+option_number least most id rows = option_and_then (number_in least most) (first_match id rows)
 
 -- the most jobs that may be requested
 abbrev pub most_jobs : ℕ
@@ -67,38 +67,38 @@ sizes_by (Some ids) (Some heap_words) (Some slots) = if nat_le (ids + heap_words
 sizes_by _ _ _ = None
 
 -- the sizes that the options give, each in its range
-abbrev pub sizes_in : List Row → Option Sizes
+abbrev pub sizes_in : List MatchRow → Option Sizes
 sizes_in rows = sizes_by (option_number 1 most_size (codes "ids") rows)
     (option_number 1 most_size (codes "heap-words") rows) (option_number 1 most_size (codes "slots") rows)
 
 -- the limit of the length of strings, as `--limit` gives it: 32 or 64
-abbrev pub limit_in : List Row → Option Limit
+abbrev pub limit_in : List MatchRow → Option Limit
 limit_in rows = option_and_then (λ bits. if bits == 32 then Some Bits32
     else (if bits == 64 then Some Bits64 else None)) (option_number 32 64 (codes "limit") rows)
 
 -- `--summary` was given
-abbrev pub summary_in : List Row → Bool
+abbrev pub summary_in : List MatchRow → Bool
 summary_in rows = option_map_or (λ text. bytes_eq text (codes "true")) (one_of (codes "summary") rows) false
 
 -- ---- what is run
 
 -- the arguments that name files, in order
-abbrev pub files_in : List Row → List (List ℕ)
+abbrev pub files_in : List MatchRow → List (List ℕ)
 files_in rows = unwrap_or (all_of (codes "FILE") rows) []
 
 -- files, one or more, but not too many, and a prelude or none
-abbrev pub named_in : List Row → Option Asked
+abbrev pub named_in : List MatchRow → Option Asked
 named_in rows = if nat_le 1 (length (files_in rows)) && nat_le (length (files_in rows)) most_files
-    then Some (files (first_of (codes "prelude") rows) (files_in rows)) else None
+    then Some (files (first_match (codes "prelude") rows) (files_in rows)) else None
 
 -- the number of `--generate`, and neither a prelude nor a file
-abbrev pub generated_in : List Row → Option Asked
-generated_in rows = if is_some (first_of (codes "prelude") rows) || not (is_empty (files_in rows))
+abbrev pub generated_in : List MatchRow → Option Asked
+generated_in rows = if is_some (first_match (codes "prelude") rows) || not (is_empty (files_in rows))
     then None else option_map made_from (option_number 0 4294967295 (codes "generate") rows)
 
 -- files; or `--generate` with its number
-abbrev pub asked_in : List Row → Option Asked
-asked_in rows = if is_some (first_of (codes "generate") rows) then generated_in rows else named_in rows
+abbrev pub asked_in : List MatchRow → Option Asked
+asked_in rows = if is_some (first_match (codes "generate") rows) then generated_in rows else named_in rows
 
 -- ---- the whole
 
@@ -109,7 +109,7 @@ request_by asked (Some jobs) (Some sizes) (Some limit) summary =
 request_by asked _ _ _ summary = None
 
 -- the request of the command's matches: what is to be run, and the options, with the number of `--jobs`
-abbrev pub request_in : List Row → Option Request
+abbrev pub request_in : List MatchRow → Option Request
 request_in rows = option_and_then (λ asked. request_by asked (option_number 1 most_jobs (codes "jobs") rows)
     (sizes_in rows) (limit_in rows) (summary_in rows)) (asked_in rows)
 

@@ -8,7 +8,7 @@ ghost use Rattle.heap_table.specs.Agents.{Belongs, size_of, view_of};
 ghost use Rattle.heap_table.specs.MayMake.{MayMake};
 ghost use Rattle.heap_session.specs.Sessions.{state_by, table_of};
 ghost use Rattle.run_program.specs.Ran.{tree_if};
-ghost use Rattle.run_program.specs.Stages.{IsTold};
+ghost use Rattle.run_program.specs.Stages.{IsRunOver};
 ghost use Rattle.run_here.specs.Here.{IsHere, one_agent};
 ghost use Rattle.run_here.specs.Left.{LeavesMeant, script_by};
 
@@ -60,7 +60,7 @@ fn run_on(
     requires one { length places.old.items ≡ 1 }
     requires none { env.old ≡ [] }
     ensures belongs { Belongs result.1 heap.now }
-    ensures told { IsTold (one_agent (size_of heap.now) limit)
+    ensures told { IsRunOver (one_agent (size_of heap.now) limit)
         (state_by (view_of result.1) (limit_units limit) (table_of heap.now))
         (tree_if prelude.entry) (tree_of script.now ∷ []) result.0 places.new.items None }
     ensures left { LeavesMeant (state_by (view_of result.1) (limit_units limit) (table_of heap.now))

@@ -1,5 +1,5 @@
 -- Of the files that are meant the first ones were run.
-use Rattle.std.proofs.Common.{◌≡◌, List, [], ◌∷◌, ◌++◌, refl, sym, ap, subst, ◌∙◌, append-nil, Option, Some, None}
+use Rattle.std.proofs.Common.{◌≡◌, ℕ, List, [], ◌∷◌, ◌++◌, refl, sym, ap, subst, ◌∙◌, append-nil, Option, Some, None}
 use Rattle.js_store.specs.State.{State}
 use Rattle.js_texts.specs.Texts.{Every}
 use Rattle.eval_values.specs.Outcome.{Out, gave, ended, threw, unsupported}
@@ -7,9 +7,10 @@ use Rattle.js_eval.specs.declared.ending.End.{End}
 use Rattle.js_eval.specs.declared.ending.End.TheVariants.{Done, Threw, Unsupported, Full, Memory}
 use Rattle.js_eval.specs.Evaluates.{script_end}
 use Rattle.js_eval.specs.Script.{Flow}
-use Rattle.run_program.specs.Jobs.{HasJobEnd}
+use Rattle.js_store.specs.declared.faults.FullReport.{FullReport}
+use Rattle.run_program.specs.Jobs.{RunFile, WasFileRun, HasJobEnd}
 use Rattle.run_program.specs.Fits.{all_meant, after_prelude}
-use Rattle.run_program.specs.Files.{RunFile, WasFileRun, IsAsMeant, AfterPrelude, AreFilesOf, means_of}
+use Rattle.run_program.specs.Files.{IsAsMeant, AfterPrelude, AreFilesOf, means_of}
 
 -- all of them where every end is the meaning's
 pub record AreFirst (means : List Flow) (files : List RunFile) : Type 0 where
@@ -27,13 +28,13 @@ stops : (o : Out (Unit {0})) (scripts : List Flow) (e : End) → (e ≡ Done →
 stops (gave x l) scripts e never h = absurd (never h)
 stops (ended i l) scripts e never h = refl
 
-module _ {F : Type 0} (s : State F) (prelude : RunFile) (scripts : List Flow) where
+module _ {F : Type 0} (s : State F) (Why : FullReport → List (List ℕ) → Type 0) (prelude : RunFile) (scripts : List Flow) where
   abbrev AreThese : List RunFile → Type 0
   AreThese files = AreFirst (prelude.mean ∷ after_prelude prelude.mean.out scripts) (prelude ∷ files)
 
-  alone : (files : List RunFile) → (prelude.end ≡ Done → ⊥) → files ≡ [] → AreThese files
+  alone : (files : List RunFile) → (prelude.outcome.end ≡ Done → ⊥) → files ≡ [] → AreThese files
   alone files never none = subst AreThese (sym none)
-      (record { rest = after_prelude prelude.mean.out scripts; split = refl; all = λ h. stops prelude.mean.out scripts prelude.end never h.0 })
+      (record { rest = after_prelude prelude.mean.out scripts; split = refl; all = λ h. stops prelude.mean.out scripts prelude.outcome.end never h.0 })
 
   followed : (files : List RunFile) → Done ≡ script_end prelude.mean.out → means_of files ≡ scripts → AreThese files
   followed files done same = record {
@@ -42,15 +43,15 @@ module _ {F : Type 0} (s : State F) (prelude : RunFile) (scripts : List Flow) wh
     all = λ h. refl;
   }
 
-  after : (files : List RunFile) (e : End) → prelude.end ≡ e → HasJobEnd s prelude.mean prelude.lines e prelude.part → AfterPrelude e scripts files → AreThese files
+  after : (files : List RunFile) (e : End) → prelude.outcome.end ≡ e → HasJobEnd s Why prelude.mean prelude.outcome.lines e prelude.part → AfterPrelude e scripts files → AreThese files
   after files Done is h a = followed files h.end_is a
   after files (Threw k) is h a = alone files (λ d. let both : Threw k ≡ Done = sym is ∙ d in cc) a
   after files (Unsupported at) is h a = alone files (λ d. let both : Unsupported at ≡ Done = sym is ∙ d in cc) a
   after files (Full r) is h a = alone files (λ d. let both : Full r ≡ Done = sym is ∙ d in cc) a
   after files Memory is h a = alone files (λ d. let both : Memory ≡ Done = sym is ∙ d in cc) a
 
-pub are_first : {F : Type 0} (s : State F) (prelude : Option Flow) (scripts : List Flow) (files : List RunFile) → Every (WasFileRun s) files
-    → AreFilesOf prelude scripts files → AreFirst (all_meant prelude scripts) files
-are_first s None scripts files c h = record { rest = []; split = sym h ∙ sym (append-nil (means_of files)); all = λ m. refl }
-are_first s (Some m) scripts [] c h = absurd h
-are_first s (Some m) scripts (f ∷ files) c h = subst (λ (x : Flow). AreFirst (x ∷ after_prelude x.out scripts) (f ∷ files)) h.0 (after s f scripts files f.end refl c.0.ended h.1)
+pub are_first : {F : Type 0} (s : State F) (Why : RunFile → FullReport → List (List ℕ) → Type 0) (prelude : Option Flow) (scripts : List Flow) (files : List RunFile)
+    → Every (WasFileRun s Why) files → AreFilesOf prelude scripts files → AreFirst (all_meant prelude scripts) files
+are_first s Why None scripts files c h = record { rest = []; split = sym h ∙ sym (append-nil (means_of files)); all = λ m. refl }
+are_first s Why (Some m) scripts [] c h = absurd h
+are_first s Why (Some m) scripts (f ∷ files) c h = subst (λ (x : Flow). AreFirst (x ∷ after_prelude x.out scripts) (f ∷ files)) h.0 (after s (Why f) f scripts files f.outcome.end refl c.0.ended h.1)

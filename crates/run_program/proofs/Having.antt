@@ -17,20 +17,20 @@ use Rattle.heap_read.specs.declared.string.JsStr.{JsStr}
 use Rattle.heap_session.specs.Sessions.{SessionFrame}
 use Rattle.run_program.specs.declared.job.Job.{Job}
 use Rattle.run_program.specs.declared.job.Outcome.{Outcome}
-use Rattle.run_program.specs.Jobs.{JobUse, RunsEachJob, number, means}
-use Rattle.run_program.specs.Files.{RunFile, AreRun, AfterPrelude}
+use Rattle.run_program.specs.Jobs.{JobUse, RunFile, RunsEachJob, number, means}
+use Rattle.run_program.specs.Files.{WereRun, AfterPrelude}
 use Rattle.run_program.proofs.Files.{run_jobs, run_one}
+use Rattle.run_program.proofs.Jobs.{file_of}
 use Rattle.run_program.specs.Meant.{scripts_meant}
 use Rattle.run_program.specs.Stages.{AreNumbered, HaveRunFrom, IsUnused, job_trees}
 use Rattle.run_program.proofs.Numbered.{in_places, means_jobs}
 
 -- scripts alone
 pub have_alone : (a b : State SessionFrame) (js : List Job) (os : List Outcome) → IsUnused a → AreNumbered 0 js → RunsEachJob a b [] js os → HaveRunFrom a b None (job_trees js) None os
-have_alone a b js os unused numbered r = let more = run_jobs a.sizes a b [] unused (means a []) js os r in record {
+have_alone a b js os unused numbered r = let more = run_jobs a b [] unused (means a []) js os r in record {
   files = more.0;
   are = more.1.means ∙ means_jobs js [] a.limit;
-  ends = more.1.ends;
-  lines = more.1.lines;
+  came = more.1.came;
   has_prelude = refl;
   in_places = in_places (means a []) b 0 js os r.parts numbered r.each;
   run = more.2;
@@ -49,18 +49,17 @@ module _ (a b : State SessionFrame) (script : Script) (o : Outcome) (after : Lis
   abbrev flow : Flow
   flow = meaning (tree_of script) [] a.limit
 
-  first : (p : JobUse) × AreRun a.sizes b (record { mean = flow; end = o.end; lines = o.lines; part = p } ∷ [])
-  first = run_one a.sizes a b [] unused flow (record { index = 0; script = script }) (record { index = 0; lines = o.lines; end = o.end }) after refl g ev
+  first : (p : JobUse) × WereRun b (file_of flow o p ∷ [])
+  first = run_one a b [] unused flow (record { index = o.index; script = script }) o after refl g ev
 
   abbrev file : RunFile
-  file = record { mean = flow; end = o.end; lines = o.lines; part = first.0 }
+  file = file_of flow o first.0
 
   pub have_stopped : (trees : List Tree) → (o.end ≡ Done → ⊥) → HaveRunFrom a b (Some (tree_of script)) trees (Some o) []
   have_stopped trees never = record {
     files = file ∷ [];
     are = (refl, stopped o.end (scripts_meant a.limit (Some (tree_of script)) trees) never);
-    ends = refl;
-    lines = refl;
+    came = refl;
     has_prelude = refl;
     in_places = tt;
     run = first.1;
@@ -78,11 +77,10 @@ module _ (a b : State SessionFrame) (script : Script) (o : Outcome) (after : Lis
         ∙ ap (λ (l : ℕ). map (λ t. meaning t flow.bindings.top l) (job_trees js)) g.limit)
 
     pub have_behind : AreNumbered 0 js → HaveRunFrom a c (Some (tree_of script)) (job_trees js) (Some o) os
-    have_behind numbered = let more = run_jobs a.sizes b c (file ∷ []) first.1 (means b env) js os r in record {
+    have_behind numbered = let more = run_jobs b c (file ∷ []) first.1 (means b env) js os r in record {
       files = file ∷ more.0;
       are = (refl, subst (λ (e : End). AfterPrelude e (scripts_meant a.limit (Some (tree_of script)) (job_trees js)) more.0) (sym done) (more.1.means ∙ as_meant));
-      ends = ap (λ x. o.end ∷ x) more.1.ends;
-      lines = ap (λ x. o.lines ∷ x) more.1.lines;
+      came = ap (λ x. o ∷ x) more.1.came;
       has_prelude = refl;
       in_places = in_places (means b env) c 0 js os r.parts numbered r.each;
       run = more.2;

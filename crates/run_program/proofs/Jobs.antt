@@ -1,8 +1,10 @@
 -- Jobs in a row.
-use Rattle.std.proofs.Common.{◌≡◌, ℕ, ◌+◌, ◌-◌, ◌<◌, ◌≤◌, List, [], ◌∷◌, ◌++◌, length, take, set, get_or, refl, sym, ap, subst, ◌∙◌, arith, append_assoc, Option, Some, None}
+use Rattle.std.proofs.Common.{◌≡◌, ℕ, ◌+◌, ◌-◌, ◌<◌, ◌≤◌, List, [], ◌∷◌, ◌++◌, length, take, set, get_or, refl, sym, ap, subst, ◌∙◌, arith, append_assoc, Some}
+use Rattle.std.specs.Prelude.{⊤}
 use Rattle.std.proofs.lemmas.List.{append-nil, take_more, take_more_set, get_or-set_other, length-set}
-use Rattle.js_store.specs.State.{State, NamesUnits, Grows}
+use Rattle.js_store.specs.State.{State, Grows}
 use Rattle.js_store.specs.Faults.{Honest, ids_wanted, words_wanted}
+use Rattle.js_store.specs.declared.faults.FullReport.{FullReport}
 use Rattle.js_store.specs.declared.faults.FullReport.TheVariants.{Ids, Words, Slots}
 use Rattle.js_store.specs.declared.faults.StoreFault.{StoreFault}
 use Rattle.js_store.specs.declared.faults.StoreFault.TheVariants as store
@@ -17,8 +19,23 @@ use Rattle.js_eval.specs.Script.{Flow, flow_ledger}
 use Rattle.js_eval.specs.Evaluates.{Finished, Interrupted, Evaluates}
 use Rattle.run_program.specs.declared.job.Job.{Job}
 use Rattle.run_program.specs.declared.job.Outcome.{Outcome}
-use Rattle.run_program.specs.Jobs.{JobUse, fault_in, Reports, Whole, Broken, HasJobEnd, CameOf, AtEach, pairs_of, ids_of, words_of, job_ids_needed}
+use Rattle.run_program.specs.Jobs.{JobUse, RunFile, WasFileRun, fault_in, Reports, Whole, Broken, HasJobEnd, CameOf, AtEach, pairs_of, ids_of, words_of, job_ids_needed}
 use Rattle.run_program.specs.Jobs.{job_words_needed, most_ids_wanted, most_words_wanted, Later, RanJobs, HasNoLines}
+
+abbrev pub file_of : Flow → Outcome → JobUse → RunFile
+file_of m o p = record { mean = m; outcome = o; part = p }
+
+-- a job that was broken off for another reason too
+pub broken_for : (P Q : List (List ℕ) → Type 0) (m : Flow) (lines : List ℕ) (p : JobUse) → ((left : List (List ℕ)) → P left → Q left) → Broken P m lines p → Broken Q m lines p
+broken_for P Q m lines p f h = record {
+  lines_done = h.lines_done;
+  lines_left = h.lines_left;
+  lines_split = h.lines_split;
+  lines_are = h.lines_are;
+  left = h.left;
+  interned = h.interned;
+  why = f h.left h.why;
+}
 
 -- lists of three
 module _ {X Y Z : Type 0} where
@@ -57,51 +74,28 @@ pub grows_later : {F : Type 0} {b c : State F} → Grows b c → Later b c
 grows_later g = record { known = g.known; shut = g.shut; low_ids = g.low_ids; low_words = g.low_words; sizes = g.sizes }
 
 module _ {F : Type 0} {b c : State F} (l : Later b c) where
-  has_later : (n : ℕ) (u : List ℕ) → NamesUnits b n u → NamesUnits c n u
-  has_later n u h = l.known n (has_known b n u h) ∙ h
+  reports_later : (f : RunFile) (r : FullReport) (left : List (List ℕ)) → Reports b f r left → Reports c f r left
+  reports_later f (Ids at want end) left h = (h.0, h.1 ∙ ap (λ z. z.ids) (sym l.sizes), omega (arith, h.2, l.low_ids), h.3, h.4)
+  reports_later f (Words at want end) left h = (h.0, h.1 ∙ ap (λ z. z.words) (sym l.sizes), omega (arith, h.2, l.low_words), h.3)
+  reports_later f (Slots slots) [] h = absurd h
+  reports_later f (Slots slots) (u ∷ us) h = (h.0 ∙ ap (λ z. z.slots) (sym l.sizes), l.shut u h.1)
 
-  reports_later : (f : StoreFault) → Reports b f → Reports c f
-  reports_later (store.Full (Ids at want end)) h = (h.0, h.1 ∙ ap (λ z. z.ids) (sym l.sizes), omega (arith, h.2, l.low_ids), h.3)
-  reports_later (store.Full (Words at want end)) h = (h.0, h.1 ∙ ap (λ z. z.words) (sym l.sizes), omega (arith, h.2, l.low_words))
-  reports_later (store.Full (Slots slots)) h = h ∙ ap (λ z. z.slots) (sym l.sizes)
-  reports_later store.Memory h = tt
+  module _ (f : RunFile) where
+    whole_later : (e : End) → Whole b f.mean f.outcome.lines e f.part → Whole c f.mean f.outcome.lines e f.part
+    whole_later e h = record { end_is = h.end_is; lines_are = h.lines_are; interned = h.interned; texts = λ u k. let t = h.texts u k in (t.0, l.known t.0 (has_known b t.0 u t.1) ∙ t.1) }
 
-  shut_later : (f : StoreFault) (us : List (List ℕ)) → NextShut b f us → NextShut c f us
-  shut_later (store.Full (Slots n)) [] h = h
-  shut_later (store.Full (Slots n)) (u ∷ us) h = l.shut u h
-  shut_later (store.Full (Ids at want end)) us h = tt
-  shut_later (store.Full (Words at want end)) us h = tt
-  shut_later store.Memory us h = tt
+    ended_later : (e : End) → HasJobEnd b (Reports b f) f.mean f.outcome.lines e f.part → HasJobEnd c (Reports c f) f.mean f.outcome.lines e f.part
+    ended_later Done h = whole_later Done h
+    ended_later (Threw k) h = whole_later (Threw k) h
+    ended_later (Unsupported at) h = whole_later (Unsupported at) h
+    ended_later (Full r) h = broken_for (Reports b f r) (Reports c f r) f.mean f.outcome.lines f.part (reports_later f r) h
+    ended_later Memory h = h
 
-  broken_later : (m : Flow) (lines : List ℕ) (f : StoreFault) (p : JobUse) → Broken b m lines f p → Broken c m lines f p
-  broken_later m lines f p h = record {
-    reports = reports_later f h.reports;
-    lines_done = h.lines_done;
-    lines_left = h.lines_left;
-    lines_split = h.lines_split;
-    lines_are = h.lines_are;
-    left = h.left;
-    interned = h.interned;
-    next = shut_later f h.left h.next;
-  }
-
-  whole_later : (m : Flow) (lines : List ℕ) (e : End) (p : JobUse) → Whole b m lines e p → Whole c m lines e p
-  whole_later m lines e p h = record { end_is = h.end_is; lines_are = h.lines_are; interned = h.interned; texts = λ u k. let t = h.texts u k in (t.0, has_later t.0 u t.1) }
-
-  ended_later : (m : Flow) (lines : List ℕ) (e : End) (p : JobUse) → HasJobEnd b m lines e p → HasJobEnd c m lines e p
-  ended_later m lines Done p h = whole_later m lines Done p h
-  ended_later m lines (Threw k) p h = whole_later m lines (Threw k) p h
-  ended_later m lines (Unsupported at) p h = whole_later m lines (Unsupported at) p h
-  ended_later m lines (Full r) p h = broken_later m lines (store.Full r) p h
-  ended_later m lines Memory p h = broken_later m lines store.Memory p h
+  pub file_later : (f : RunFile) → WasFileRun b (Reports b) f → WasFileRun c (Reports c) f
+  file_later f h = record { ended = ended_later f f.outcome.end h.ended; within_ids = h.within_ids; within_words = h.within_words }
 
   pub came_later : (m : Flow) (j : Job) (o : Outcome) (p : JobUse) → CameOf b m j o p → CameOf c m j o p
-  came_later m j o p h = record {
-    index = h.index;
-    ended = ended_later m o.lines o.end p h.ended;
-    within_ids = h.within_ids;
-    within_words = h.within_words;
-  }
+  came_later m j o p h = record { index = h.index; run = file_later (file_of m o p) h.run }
 
 -- no jobs
 pub ran_none : {F : Type 0} (mean : Job → Flow) (a : State F) → RanJobs mean a a [] []
@@ -142,91 +136,109 @@ empty_more os k o f i d m h = let P : Outcome → Type 0 = λ x. HasNoLines x in
     subst P (sym (get_or-set_other os k i o d (λ e. absurd (omega arith)))) (f i d (omega arith) (omega (arith, h, length-set os k o)))
 
 -- one job
-reports_now : {F : Type 0} (b : State F) (f : StoreFault) → Honest b (full_only f) → Reports b f
-reports_now b (store.Full (Ids at want end)) h = (h.0.past_end, h.0.end_is, omega (arith, h.0.at_is), h.1)
-reports_now b (store.Full (Words at want end)) h = (h.past_end, h.end_is, omega (arith, h.at_is))
-reports_now b (store.Full (Slots slots)) h = h.1
-reports_now b store.Memory h = tt
+reports_now : {F : Type 0} (b : State F) (f : RunFile) (r : FullReport) (left : List (List ℕ)) → Honest b (Some (store.Full r)) → NextShut b (store.Full r) left
+    → f.part.ids + ids_wanted (Some (store.Full r)) ≤ (flow_ledger f.mean).ids → f.part.words + words_wanted (Some (store.Full r)) ≤ (flow_ledger f.mean).words → Reports b f r left
+reports_now b f (Ids at want end) left h next i w = (h.0.past_end, h.0.end_is, omega (arith, h.0.at_is), h.1, i)
+reports_now b f (Words at want end) left h next i w = (h.past_end, h.end_is, omega (arith, h.at_is), w)
+reports_now b f (Slots slots) [] h next i w = absurd next
+reports_now b f (Slots slots) (u ∷ us) h next i w = (h.1, next)
 
 module _ {F : Type 0} (mean : Job → Flow) (a b : State F) (g : Grows a b) (j : Job) (o : Outcome) (index : o.index ≡ j.index) where
-  ran_part : (p : JobUse) → CameOf b (mean j) j o p → b.history ≡ a.history ++ p.pairs → b.used_ids ≡ a.used_ids + p.ids → b.used_words ≡ a.used_words + p.words → RanJobs mean a b (j ∷ []) (o ∷ [])
-  ran_part p came grown ids words = record {
+  ran_part : (p : JobUse) → WasFileRun b (Reports b) (file_of (mean j) o p) → b.history ≡ a.history ++ p.pairs → b.used_ids ≡ a.used_ids + p.ids → b.used_words ≡ a.used_words + p.words
+      → RanJobs mean a b (j ∷ []) (o ∷ [])
+  ran_part p run grown ids words = record {
     grows = g;
     parts = p ∷ [];
-    each = (came, tt);
+    each = (record { index = index; run = run }, tt);
     history = grown ∙ ap (λ x. a.history ++ x) (sym (append-nil p.pairs));
     used_ids = omega (arith, ids);
     used_words = omega (arith, words);
   }
 
-  from_whole : (end : End) (after : List (Bound Val)) → o.end ≡ end → fault_in end ≡ None → ((p : JobUse) → Whole b (mean j) o.lines end p → HasJobEnd b (mean j) o.lines end p)
+  abbrev AsEnd : JobUse → End → Type 0
+  AsEnd p e = HasJobEnd b (Reports b (file_of (mean j) o p)) (mean j) o.lines e p
+
+  from_whole : (end : End) (after : List (Bound Val)) → o.end ≡ end → ((p : JobUse) → Whole b (mean j) o.lines end p → AsEnd p end)
       → Finished a b [] o.lines after end (mean j) → RanJobs mean a b (j ∷ []) (o ∷ [])
-  from_whole end after e fault as_end h =
+  from_whole end after e as_end h =
       let p : JobUse = record { pairs = h.interned.pairs; ids = b.used_ids - a.used_ids; words = b.used_words - a.used_words } in
       let whole : Whole b (mean j) o.lines end p = record { end_is = h.end_is; lines_are = h.lines; interned = h.interned.same; texts = h.texts } in
-      let fault_is : fault_in o.end ≡ None = ap fault_in e ∙ fault in
-      ran_part p (record {
-        index = index;
-        ended = subst (λ (x : End). HasJobEnd b (mean j) o.lines x p) (sym e) (as_end p whole);
-        within_ids = subst (λ (x : Option StoreFault). p.ids + ids_wanted x ≤ (flow_ledger (mean j)).ids) (sym fault_is) (omega (arith, h.within_ids, g.used_ids));
-        within_words = subst (λ (x : Option StoreFault). p.words + words_wanted x ≤ (flow_ledger (mean j)).words) (sym fault_is) (omega (arith, h.within_words, g.used_words));
-      }) h.interned.grown (omega (arith, g.used_ids)) (omega (arith, g.used_words))
+      let ids : b.used_ids - a.used_ids ≤ (flow_ledger (mean j)).ids = omega (arith, h.within_ids, g.used_ids) in
+      let words : b.used_words - a.used_words ≤ (flow_ledger (mean j)).words = omega (arith, h.within_words, g.used_words) in
+      ran_part p (record { ended = subst (AsEnd p) (sym e) (as_end p whole); within_ids = ids; within_words = words }) h.interned.grown (omega (arith, g.used_ids)) (omega (arith, g.used_words))
 
-  from_broken : (end : End) (f : StoreFault) → o.end ≡ end → fault_in end ≡ Some f → ((p : JobUse) → Broken b (mean j) o.lines f p → HasJobEnd b (mean j) o.lines end p)
+  from_broken : (end : End) (f : StoreFault) (Why : JobUse → List (List ℕ) → Type 0) → o.end ≡ end → ((p : JobUse) → Broken (Why p) (mean j) o.lines p → AsEnd p end)
+      → ((p : JobUse) (left : List (List ℕ)) → Honest b (full_only f) → NextShut b f left
+      → p.ids + ids_wanted (Some f) ≤ (flow_ledger (mean j)).ids → p.words + words_wanted (Some f) ≤ (flow_ledger (mean j)).words → Why p left)
       → Interrupted a b [] o.lines f (mean j) → RanJobs mean a b (j ∷ []) (o ∷ [])
-  from_broken end f e fault as_end h =
+  from_broken end f Why e as_end reason h =
       let p : JobUse = record { pairs = h.interned.interns.pairs; ids = b.used_ids - a.used_ids; words = b.used_words - a.used_words } in
-      let broken : Broken b (mean j) o.lines f p = record {
-        reports = reports_now b f h.honest;
+      let ids : b.used_ids - a.used_ids + ids_wanted (Some f) ≤ (flow_ledger (mean j)).ids = omega (arith, h.within_ids, g.used_ids) in
+      let words : b.used_words - a.used_words + words_wanted (Some f) ≤ (flow_ledger (mean j)).words = omega (arith, h.within_words, g.used_words) in
+      let few_ids : b.used_ids - a.used_ids ≤ (flow_ledger (mean j)).ids = omega (arith, ids) in
+      let few_words : b.used_words - a.used_words ≤ (flow_ledger (mean j)).words = omega (arith, words) in
+      let broken : Broken (Why p) (mean j) o.lines p = record {
         lines_done = h.lines.done;
         lines_left = h.lines.left;
         lines_split = h.lines.split;
         lines_are = h.lines.written;
         left = h.interned.left;
         interned = h.interned.split ∙ ap (λ x. x ++ h.interned.left) (sym h.interned.interns.same);
-        next = h.interned.next;
+        why = reason p h.interned.left h.honest h.interned.next ids words;
       } in
-      let fault_is : fault_in o.end ≡ Some f = ap fault_in e ∙ fault in
-      ran_part p (record {
-        index = index;
-        ended = subst (λ (x : End). HasJobEnd b (mean j) o.lines x p) (sym e) (as_end p broken);
-        within_ids = subst (λ (x : Option StoreFault). p.ids + ids_wanted x ≤ (flow_ledger (mean j)).ids) (sym fault_is) (omega (arith, h.within_ids, g.used_ids));
-        within_words = subst (λ (x : Option StoreFault). p.words + words_wanted x ≤ (flow_ledger (mean j)).words) (sym fault_is) (omega (arith, h.within_words, g.used_words));
-      }) h.interned.interns.grown (omega (arith, g.used_ids)) (omega (arith, g.used_words))
+      ran_part p (record { ended = subst (AsEnd p) (sym e) (as_end p broken); within_ids = few_ids; within_words = few_words }) h.interned.interns.grown (omega (arith, g.used_ids)) (omega (arith, g.used_words))
 
   pub ran_one : (after : List (Bound Val)) (end : End) → o.end ≡ end → Evaluates a b [] o.lines after end (mean j) → RanJobs mean a b (j ∷ []) (o ∷ [])
-  ran_one after Done e h = from_whole Done after e refl (λ p k. k) h
-  ran_one after (Threw k) e h = from_whole (Threw k) after e refl (λ p w. w) h
-  ran_one after (Unsupported at) e h = from_whole (Unsupported at) after e refl (λ p w. w) h
-  ran_one after (Full r) e h = from_broken (Full r) (store.Full r) e refl (λ p k. k) h
-  ran_one after Memory e h = from_broken Memory store.Memory e refl (λ p k. k) h
+  ran_one after Done e h = from_whole Done after e (λ p k. k) h
+  ran_one after (Threw k) e h = from_whole (Threw k) after e (λ p w. w) h
+  ran_one after (Unsupported at) e h = from_whole (Unsupported at) after e (λ p w. w) h
+  ran_one after (Full r) e h = from_broken (Full r) (store.Full r) (λ p. Reports b (file_of (mean j) o p) r) e (λ p k. k) (λ p left honest next i w. reports_now b
+      (file_of (mean j) o p) r left honest next i w) h
+  ran_one after Memory e h = from_broken Memory store.Memory (λ p left. ⊤) e (λ p k. k) (λ p left honest next i w. tt) h
 
   -- a job that found no memory before it began
   pub ran_not : b ≡ a → o.end ≡ Memory → o.lines ≡ [] → RanJobs mean a b (j ∷ []) (o ∷ [])
   ran_not same e empty =
       let p : JobUse = record { pairs = []; ids = 0; words = 0 } in
-      let broken : Broken b (mean j) o.lines store.Memory p = record {
-        reports = tt;
+      let broken : Broken (λ left. ⊤) (mean j) o.lines p = record {
         lines_done = [];
         lines_left = (mean j).lines;
         lines_split = refl;
         lines_are = empty;
         left = (flow_ledger (mean j)).interned;
         interned = refl;
-        next = tt;
+        why = tt;
       } in
-      ran_part p (record {
-        index = index;
-        ended = subst (λ (x : End). HasJobEnd b (mean j) o.lines x p) (sym e) broken;
-        within_ids = subst (λ (x : End). 0 + ids_wanted (fault_in x) ≤ (flow_ledger (mean j)).ids) (sym e) (omega arith);
-        within_words = subst (λ (x : End). 0 + words_wanted (fault_in x) ≤ (flow_ledger (mean j)).words) (sym e) (omega arith);
-      }) (ap (λ x. x.history) same ∙ sym (append-nil a.history)) (omega (arith, ap (λ x. x.used_ids) same)) (omega (arith, ap (λ x. x.used_words) same))
+      let ids : 0 ≤ (flow_ledger (mean j)).ids = omega arith in
+      let words : 0 ≤ (flow_ledger (mean j)).words = omega arith in
+      ran_part p (record { ended = subst (AsEnd p) (sym e) broken; within_ids = ids; within_words = words })
+      (ap (λ x. x.history) same ∙ sym (append-nil a.history)) (omega (arith, ap (λ x. x.used_ids) same)) (omega (arith, ap (λ x. x.used_words) same))
+
+-- what a job used, with the want of its report besides, is at most what it needs
+module _ {F : Type 0} (b : State F) (f : RunFile) (h : WasFileRun b (Reports b) f) where
+  ids_asked : (e : End) → HasJobEnd b (Reports b f) f.mean f.outcome.lines e f.part → f.part.ids + ids_wanted (fault_in e) ≤ (flow_ledger f.mean).ids
+  ids_asked (Full (Ids at want end)) k = omega (arith, k.why.4)
+  ids_asked (Full (Words at want end)) k = omega (arith, h.within_ids)
+  ids_asked (Full (Slots slots)) k = omega (arith, h.within_ids)
+  ids_asked Done k = omega (arith, h.within_ids)
+  ids_asked (Threw kind) k = omega (arith, h.within_ids)
+  ids_asked (Unsupported at) k = omega (arith, h.within_ids)
+  ids_asked Memory k = omega (arith, h.within_ids)
+
+  words_asked : (e : End) → HasJobEnd b (Reports b f) f.mean f.outcome.lines e f.part → f.part.words + words_wanted (fault_in e) ≤ (flow_ledger f.mean).words
+  words_asked (Full (Words at want end)) k = omega (arith, k.why.3)
+  words_asked (Full (Ids at want end)) k = omega (arith, h.within_words)
+  words_asked (Full (Slots slots)) k = omega (arith, h.within_words)
+  words_asked Done k = omega (arith, h.within_words)
+  words_asked (Threw kind) k = omega (arith, h.within_words)
+  words_asked (Unsupported at) k = omega (arith, h.within_words)
+  words_asked Memory k = omega (arith, h.within_words)
 
 -- what the jobs used, with the want of any one report besides, is at most what they need
 pub ids_within : {F : Type 0} (mean : Job → Flow) (b : State F) (js : List Job) (os : List Outcome) (ps : List JobUse) → AtEach
     (λ j. CameOf b (mean j) j) js os ps → ids_of ps + most_ids_wanted os ≤ job_ids_needed mean js
 ids_within mean b [] [] [] h = omega arith
-ids_within mean b (j ∷ js) (o ∷ os) (p ∷ ps) h = omega (arith, h.0.within_ids, ids_within mean b js os ps h.1)
+ids_within mean b (j ∷ js) (o ∷ os) (p ∷ ps) h = let asked : p.ids + ids_wanted (fault_in o.end) ≤ (flow_ledger (mean j)).ids = ids_asked b (file_of (mean j) o p) h.0.run o.end h.0.run.ended in omega (arith, asked, ids_within mean b js os ps h.1)
 ids_within mean b [] [] (z ∷ zs) h = absurd h
 ids_within mean b [] (y ∷ ys) zs h = absurd h
 ids_within mean b (x ∷ xs) [] zs h = absurd h
@@ -235,7 +247,7 @@ ids_within mean b (x ∷ xs) (y ∷ ys) [] h = absurd h
 pub words_within : {F : Type 0} (mean : Job → Flow) (b : State F) (js : List Job) (os : List Outcome) (ps : List JobUse) → AtEach
     (λ j. CameOf b (mean j) j) js os ps → words_of ps + most_words_wanted os ≤ job_words_needed mean js
 words_within mean b [] [] [] h = omega arith
-words_within mean b (j ∷ js) (o ∷ os) (p ∷ ps) h = omega (arith, h.0.within_words, words_within mean b js os ps h.1)
+words_within mean b (j ∷ js) (o ∷ os) (p ∷ ps) h = let asked : p.words + words_wanted (fault_in o.end) ≤ (flow_ledger (mean j)).words = words_asked b (file_of (mean j) o p) h.0.run o.end h.0.run.ended in omega (arith, asked, words_within mean b js os ps h.1)
 words_within mean b [] [] (z ∷ zs) h = absurd h
 words_within mean b [] (y ∷ ys) zs h = absurd h
 words_within mean b (x ∷ xs) [] zs h = absurd h

@@ -10,8 +10,7 @@ use Rattle.js_eval.specs.Script.{Flow, meaning}
 use Rattle.run_program.specs.declared.job.Job.{Job}
 use Rattle.run_program.specs.declared.job.Outcome.{Outcome}
 use Rattle.run_program.specs.Jobs.{JobUse, CameOf, AtEach}
-use Rattle.run_program.specs.Ran.{AreInPlaces}
-use Rattle.run_program.specs.Stages.{AreNumbered, job_trees}
+use Rattle.run_program.specs.Stages.{AreInPlaces, AreNumbered, job_trees}
 
 -- one more job
 pub numbered_more : (place : ℕ) (js : List Job) (j : Job) → AreNumbered place js → j.index ≡ place + length js → AreNumbered place (js ++ j ∷ [])

@@ -1,10 +1,11 @@
 -- What jobs leave that were run on one heap: each outcome in its job's place, and what all did together.
 use Rattle.eval_values.specs.Conversions.{sum_over}
 use Rattle.std.specs.Prelude.{◌≡◌, ℕ, ◌+◌, ◌<◌, ◌≤◌, List, [], ◌∷◌, ◌++◌, length, map, max, All, Contains}
-use Rattle.std.specs.Prelude.{Option, Some, None, IsSome, IsTrue, flat_map}
+use Rattle.std.specs.Prelude.{Option, Some, None, IsSome, IsTrue, flat_map, ⊤}
 use Rattle.std.specs.List.{concat}
 use Rattle.js_store.specs.State.{State, NamesUnits, Grows}
 use Rattle.js_store.specs.Faults.{ids_wanted, words_wanted}
+use Rattle.js_store.specs.declared.faults.FullReport.{FullReport}
 use Rattle.js_store.specs.declared.faults.FullReport.TheVariants.{Ids, Words, Slots}
 use Rattle.js_store.specs.declared.faults.StoreFault.{StoreFault}
 use Rattle.js_store.specs.declared.faults.StoreFault.TheVariants as store
@@ -12,7 +13,6 @@ use Rattle.eval_tree.specs.Tree.{tree_of}
 use Rattle.eval_scopes.specs.declared.binding_list.Binding.{Binding}
 use Rattle.eval_scopes.specs.Seen.{bounds_of}
 use Rattle.js_item.specs.declared.item.Item.{Item}
-use Rattle.eval_values.specs.Ran.{NextShut}
 use Rattle.js_eval.specs.declared.ending.End.{End}
 use Rattle.js_eval.specs.declared.ending.End.TheVariants.{Full, Memory}
 use Rattle.js_eval.specs.Evaluates.{script_end}
@@ -39,20 +39,11 @@ pub record JobUse : Type 0 where
   pub ids : ℕ
   pub words : ℕ
 
--- the fault of the store, or the lack of memory, by which a script ended
-abbrev pub fault_in : End → Option StoreFault
-fault_in (Full report) = Some (store.Full report)
-fault_in Memory = Some store.Memory
-fault_in _ = None
-
--- what a report says of a store at the moment when it came and at every later one: what was requested passes
--- the end of the counter from a value that it had, and the end is the store's
-abbrev pub Reports : {F : Type 0} → State F → StoreFault → Type 0
-Reports s (store.Full (Ids at want end)) =
-    (end < at + want) × (end ≡ s.sizes.ids) × (at ≤ s.low_ids) × (want ≡ 1)
-Reports s (store.Full (Words at want end)) = (end < at + want) × (end ≡ s.sizes.words) × (at ≤ s.low_words)
-Reports s (store.Full (Slots slots)) = slots ≡ s.sizes.slots
-Reports s store.Memory = Unit {0}
+-- a file that was run: what it means, what came of it, and what it did to the heap
+pub record RunFile : Type 0 where
+  pub mean : Flow
+  pub outcome : Outcome
+  pub part : JobUse
 
 -- A job that came to its own end: the end and the lines are those that are meant, it interned what is meant,
 -- and every string that an expression gave is known.
@@ -63,34 +54,49 @@ pub record Whole {F : Type 0} (s : State F) (m : Flow) (lines : List ℕ) (end :
   pub interned : map (λ p. p.0) part.pairs ≡ (flow_ledger m).interned
   pub texts : (u : List ℕ) → Contains (flow_ledger m).texts u → (n : ℕ) × NamesUnits s n u
 
--- A job that a full store or lack of memory ended: the report is true, the first ones of the lines are there,
--- each of them whole, and the first ones of what is meant were interned. Where the string table was full the
--- next one is shut.
-pub record Broken {F : Type 0} (s : State F) (m : Flow) (lines : List ℕ) (fault : StoreFault)
-    (part : JobUse) : Type 0 where
-  pub reports : Reports s fault
+-- A job that was broken off, for this reason: the first ones of the lines are there, each of them whole, and
+-- the first ones of what is meant were interned. The reason may speak of the lists that are left.
+pub record Broken (Why : List (List ℕ) → Type 0) (m : Flow) (lines : List ℕ) (part : JobUse) : Type 0 where
   pub lines_done : List (List ℕ)
   pub lines_left : List (List ℕ)
   pub lines_split : m.lines ≡ lines_done ++ lines_left
   pub lines_are : lines ≡ concat lines_done
   pub left : List (List ℕ)
   pub interned : (flow_ledger m).interned ≡ map (λ p. p.0) part.pairs ++ left
-  pub next : NextShut s fault left
+  pub why : Why left
 
--- a job came to this end: its own, or that of a full store or lack of memory
-abbrev pub HasJobEnd : {F : Type 0} → State F → Flow → List ℕ → End → JobUse → Type 0
-HasJobEnd s m lines (Full report) part = Broken s m lines (store.Full report) part
-HasJobEnd s m lines Memory part = Broken s m lines store.Memory part
-HasJobEnd s m lines end part = Whole s m lines end part
+-- A job came to this end: its own; or that of a full store, for a reason that its report has; or that of lack
+-- of memory.
+abbrev pub HasJobEnd : {F : Type 0} → State F → (FullReport → List (List ℕ) → Type 0) → Flow → List ℕ → End
+    → JobUse → Type 0
+HasJobEnd s Why m lines (Full report) part = Broken (Why report) m lines part
+HasJobEnd s Why m lines Memory part = Broken (λ left. ⊤) m lines part
+HasJobEnd s Why m lines end part = Whole s m lines end part
 
--- a job and what came of it, said of the store at any moment afterwards: what it used, with what a full store
--- was asked for besides, is at most its need
+-- What came of a file, said of the heap at any moment afterwards, with a reason for each full heap. What it
+-- used is at most its need.
+pub record WasFileRun {F : Type 0} (s : State F) (Why : RunFile → FullReport → List (List ℕ) → Type 0)
+    (f : RunFile) : Type 0 where
+  pub ended : HasJobEnd s (Why f) f.mean f.outcome.lines f.outcome.end f.part
+  pub within_ids : f.part.ids ≤ (flow_ledger f.mean).ids
+  pub within_words : f.part.words ≤ (flow_ledger f.mean).words
+
+-- What a report says of a store at the moment when it came and at every later one: what was requested passes
+-- the end of the counter from a value that it had, the end is the store's, and what the job used is with this
+-- request at most its need. Where the string table was full, the next list is shut.
+abbrev pub Reports : {F : Type 0} → State F → RunFile → FullReport → List (List ℕ) → Type 0
+Reports s f (Ids at want end) left = (end < at + want) × (end ≡ s.sizes.ids) × (at ≤ s.low_ids) × (want ≡ 1)
+    × (f.part.ids + want ≤ (flow_ledger f.mean).ids)
+Reports s f (Words at want end) left = (end < at + want) × (end ≡ s.sizes.words) × (at ≤ s.low_words)
+    × (f.part.words + want ≤ (flow_ledger f.mean).words)
+Reports s f (Slots slots) [] = ⊥
+Reports s f (Slots slots) (next ∷ rest) = (slots ≡ s.sizes.slots) × IsTrue (s.shut next)
+
+-- a job and what came of it, said of the store at any moment afterwards
 pub record CameOf {F : Type 0} (s : State F) (m : Flow) (job : Job) (outcome : Outcome)
     (part : JobUse) : Type 0 where
   pub index : outcome.index ≡ job.index
-  pub ended : HasJobEnd s m outcome.lines outcome.end part
-  pub within_ids : part.ids + ids_wanted (fault_in outcome.end) ≤ (flow_ledger m).ids
-  pub within_words : part.words + words_wanted (fault_in outcome.end) ≤ (flow_ledger m).words
+  pub run : WasFileRun s (Reports s) (record { mean = m; outcome = outcome; part = part })
 
 -- three lists of one length, and so it is at each place
 abbrev pub AtEach : {X Y Z : Type 0} → (X → Y → Z → Type 0) → List X → List Y → List Z → Type 0
@@ -129,6 +135,12 @@ pub record RanJobs {F : Type 0} (mean : Job → Flow) (before after : State F) (
 abbrev pub RunsEachJob : {F : Type 0} → State F → State F → List (Binding (Item JsStr)) → List Job
     → List Outcome → Type 0
 RunsEachJob before after env jobs outcomes = RanJobs (means before env) before after jobs outcomes
+
+-- the fault of the store, or the lack of memory, by which a script ended
+abbrev pub fault_in : End → Option StoreFault
+fault_in (Full report) = Some (store.Full report)
+fault_in Memory = Some store.Memory
+fault_in _ = None
 
 -- what the jobs need together, and the greatest request that one of their reports has
 abbrev pub job_ids_needed : (Job → Flow) → List Job → ℕ

@@ -1,17 +1,18 @@
 -- What came of a prelude and scripts that were run on a heap of their own.
-use Rattle.std.specs.Prelude.{◌≡◌, ℕ, ◌+◌, List, [], ◌∷◌, map, Option, Some, None, option_to_list, ◌++◌}
+use Rattle.std.specs.Prelude.{◌≡◌, ℕ, List, map, Option, Some, None, option_to_list, ◌++◌}
 use Rattle.std.specs.Prelude.{if◌then◌else◌, is_some}
 use Rattle.std.specs.Borrow.{Bor}
 use Rattle.js_store.specs.Limits.{limit_units}
 use Rattle.js_store.specs.State.{State, StoreSizes}
+use Rattle.js_eval.specs.Script.{Flow}
 use Rattle.eval_tree.specs.declared.tree.Script.{Script}
 use Rattle.eval_tree.specs.Tree.{Tree, tree_of}
-use Rattle.heap_table.specs.Agents.{view_of}
+use Rattle.heap_table.specs.Agents.{Belongs, view_of}
 use Rattle.heap_intern.specs.Counting.{different}
 use Rattle.heap_session.specs.Sessions.{SessionFrame, state_by, table_of}
-use Rattle.run_program.specs.declared.job.Outcome.{Outcome}
 use Rattle.run_program.specs.Fits.{all_meant}
-use Rattle.run_program.specs.Files.{RunFile, AreRun, AreFilesOf}
+use Rattle.run_program.specs.Jobs.{RunFile}
+use Rattle.run_program.specs.Files.{AreFilesOf, outcomes_of}
 use Rattle.run_program.specs.Tells.{FilesTell}
 use Rattle.run_program.specs.Kept.{HeapKept}
 use Rattle.run_program.specs.declared.ran.Ran.{Ran}
@@ -33,37 +34,31 @@ tree_if (Some script) = Some (tree_of script.now)
 abbrev pub trees_of : List Script → List Tree
 trees_of scripts = map tree_of scripts
 
--- the numbers of their places, from this one up
-abbrev pub AreInPlaces : ℕ → List Outcome → Type 0
-AreInPlaces place [] = Unit {0}
-AreInPlaces place (outcome ∷ outcomes) = (outcome.index ≡ place) × AreInPlaces (place + 1) outcomes
+-- what all files mean, the prelude first
+abbrev pub flows_meant : ℕ → Option Tree → List Tree → List Flow
+flows_meant limit prelude scripts =
+    all_meant (prelude_meant limit prelude) (scripts_meant limit prelude scripts)
 
 -- Files with these meanings were run on the kept heap, which was made with these sizes, and nothing else was
 -- done there: the prelude first, from no bindings, and where it ended Done each of the scripts, from the
--- bindings that the prelude is meant to leave. What they say of the heap is in `FilesTell`.
+-- bindings that the prelude is meant to leave.
 pub record IsRan (setup : Setup) (prelude : Option Tree) (scripts : List Tree) (ran : Ran) : Type 0 where
   pub files : List RunFile
   pub are : AreFilesOf (prelude_meant (limit_units setup.limit) prelude)
       (scripts_meant (limit_units setup.limit) prelude scripts) files
-  -- the ends, and the bytes of the lines
-  pub ends : map (λ f. f.end) files ≡ map (λ o. o.end) (option_to_list ran.prelude ++ ran.scripts.items)
-  pub lines : map (λ f. f.lines) files ≡ map (λ o. o.lines) (option_to_list ran.prelude ++ ran.scripts.items)
+  pub came : outcomes_of files ≡ option_to_list ran.prelude ++ ran.scripts.items
   -- there is an outcome of the prelude exactly where there is a prelude
   pub has_prelude : is_some prelude ≡ is_some ran.prelude
-  pub in_places : AreInPlaces 0 ran.scripts.items
-  -- what the agent says of the heap
-  pub run : AreRun (setup_sizes setup) (state_kept setup ran.kept) files
-  pub tells : FilesTell (setup_sizes setup) (state_kept setup ran.kept)
-      (all_meant (prelude_meant (limit_units setup.limit) prelude)
-      (scripts_meant (limit_units setup.limit) prelude scripts)) files
+  -- what each came to, and what the agent says of the heap
+  pub tells : FilesTell (state_kept setup ran.kept)
+      (flows_meant (limit_units setup.limit) prelude scripts) files
   -- the heap of these sizes, and an agent of it with the whole share, which has seen both counters where they
-  -- are (all that `Belongs` says of both is the invariant of their type)
+  -- are
   pub sizes : ran.kept.heap.size ≡ setup.size
-  pub of_heap : ran.kept.agent.seat.table_id ≡ table_of ran.kept.heap
+  pub belongs : Belongs ran.kept.agent ran.kept.heap
   pub agents : (view_of ran.kept.agent).agents ≡ setup.jobs
-  pub whole : (view_of ran.kept.agent).share ≡ (view_of ran.kept.agent).agents
-  pub seen_ids : (state_kept setup ran.kept).low_ids ≡ (state_kept setup ran.kept).used_ids
-  pub seen_words : (state_kept setup ran.kept).low_words ≡ (state_kept setup ran.kept).used_words
+  pub whole : (view_of ran.kept.agent).share ≡ setup.jobs
+  pub seen : (view_of ran.kept.agent).low ≡ (view_of ran.kept.agent).used
   -- the number of different lists in the history, where it is asked for
   pub interned : ran.interned
       ≡ (if setup.count then Some (different (state_kept setup ran.kept).history) else None)

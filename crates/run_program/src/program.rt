@@ -9,8 +9,8 @@ ghost use Rattle.heap_intern.specs.Counting.{different};
 ghost use Rattle.heap_session.specs.Sessions.{state_by, state_in, table_of};
 ghost use Rattle.heap_session.specs.Shares.{IsWhole};
 ghost use Rattle.run_program.specs.Jobs.{HasNoLines};
-ghost use Rattle.run_program.specs.Ran.{IsRan, tree_if, trees_of};
-ghost use Rattle.run_program.specs.Stages.{AreNumbered, IsTold, job_trees};
+ghost use Rattle.run_program.specs.Ran.{IsRan, state_kept, tree_if, trees_of};
+ghost use Rattle.run_program.specs.Stages.{AreNumbered, IsRunOver, job_trees};
 
 use crate::prepare::{jobs_of, places};
 use crate::ran::{Kept, Ran, Setup};
@@ -39,7 +39,7 @@ fn count_if(session: &mut Session<&Heap>, count: bool) -> Option<u32>
 /// Runs a prelude, if there is one, from no bindings, and where it ended Done the scripts, each from
 /// the bindings that it left, on a heap of their own in `setup.jobs` groups. A script's number at
 /// the gate and in its outcome is its place. Memory runs out only before anything runs; what finds
-/// none later ends so itself.
+/// none later ends so itself. Each report of a full heap is true of the heap that is kept.
 pub fn run_program<R: Threads + Sync, G: Gate + Sync>(
     rt: &R,
     alloc: Global,
@@ -50,7 +50,9 @@ pub fn run_program<R: Threads + Sync, G: Gate + Sync>(
 ) -> Result<Ran, NoMemory>
     requires may { MayMake setup.size setup.jobs }
     requires few { length scripts.items ≤ 4294967295 }
-    ensures { IfOk result (λ ran. IsRan setup (tree_if prelude.entry) (trees_of scripts.items) ran) }
+    ensures ran { IfOk result (λ ran. IsRan setup (tree_if prelude.entry) (trees_of scripts.items) ran) }
+    ensures told { IfOk result (λ ran. IsRunOver setup (state_kept setup ran.kept) (tree_if prelude.entry)
+        (trees_of scripts.items) ran.prelude ran.scripts.items ran.interned) }
 {
     let jobs = jobs_of(alloc, scripts)?;
     let mut outcomes = places(alloc, jobs.len())?;

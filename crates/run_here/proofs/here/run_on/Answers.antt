@@ -8,7 +8,7 @@ use Rattle.heap_rule.specs.declared.view.View.{View}
 use Rattle.heap_table.specs.Agents.{size_of, view_of}
 use Rattle.heap_session.specs.Sessions.{SessionFrame, state_by, state_in, table_of, session_view}
 use Rattle.run_program.specs.Ran.{tree_if}
-use Rattle.run_program.specs.Stages.{IsTold}
+use Rattle.run_program.specs.Stages.{IsRunOver}
 use Rattle.run_program.proofs.Telling.{begun, kept_limit, kept_of, kept_told, same_state}
 use Rattle.run_here.specs.Here.{one_agent}
 use Rattle.run_here.specs.Left.{LeavesMeant, script_by}
@@ -29,7 +29,7 @@ returns-clause-told c = let h = c.args.heap.now in let setup = one_agent (size_o
     let is : a ≡ begun setup (table_of h) = c.note_slots.ensures.state ∙ (c.new-session.ensures.state ∙ ap (λ (v : View). state_by v (limit_units c.args.limit) (table_of h)) c.requires.view) in
     let of = kept_of setup h prelude trees f.result os None a b t t is refl f.ensures.grows f.ensures.ran c.whole_has_all.ensures c.totals.ensures.state (step_refl t) refl refl in
     let limit = kept_limit setup h prelude trees f.result os None a b t t is refl f.ensures.grows f.ensures.ran c.whole_has_all.ensures c.totals.ensures.state (step_refl t) refl refl in
-    subst (λ (x : State SessionFrame). IsTold setup x prelude trees f.result os None)
+    subst (λ (x : State SessionFrame). IsRunOver setup x prelude trees f.result os None)
     (same_state (session_view s) (view_of c.into_agent.result) (limit_units s.limit) (limit_units c.args.limit)
     (table_of s.text.reader.heap.now) (table_of h) (sym c.into_agent.ensures.view) limit of.0)
     (kept_told setup h prelude trees f.result os None a b t t is refl f.ensures.grows f.ensures.ran c.whole_has_all.ensures c.totals.ensures.state (step_refl t) refl refl)

@@ -1,4 +1,4 @@
-use Rattle.std.proofs.Common.{◌≡◌, ◌-◌, ◌≤◌}
+use Rattle.std.proofs.Common.{◌≡◌, ◌-◌, ◌<◌, ◌≤◌}
 use Rattle.heap_read.specs.Readers.{view_in}
 use Rattle.heap_read.specs.Reads.{Continues, HoldsForms}
 use Rattle.heap_text.specs.Texts.{KeepsOwn}
@@ -12,6 +12,7 @@ invariant-pieces g l = record {
   own : KeepsOwn (view_in l.fn.reader) (view_in l.reader);
   forms : HoldsForms (view_in l.fn.reader) (view_in l.reader);
   reserve : IsReserve (view_in l.reader) l.self;
+  some : 0 < l.done;
   within : l.done ≤ l.ids;
   claimed : IsClaimed (view_in l.fn.reader) (view_in l.reader) l.fn.self l.self l.done 0;
 }

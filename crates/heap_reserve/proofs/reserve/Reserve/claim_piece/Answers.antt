@@ -11,13 +11,13 @@ returns-in-Ok-clause-own g c = let v : View = c.args.reader.now.agent.seat.me.0 
 pub returns-in-Ok-clause-reserve : goal.returns-in-Ok-clause-reserve
 returns-in-Ok-clause-reserve g c = let v : View = c.args.reader.now.agent.seat.me.0 in let first = c.in-Ok.first in let n = c.in-Ok.count in
     reserve_pushed v c.claim_ids.new.self.seat.me.0 c.args.self.now c.keep_all.new.self first n c.in-Ok.ensures.view c.in-Ok.ensures.above_own
-    c.requires.reserve (c.keep_all.ensures.ids ∙ ap (λ (is : List ℕ). is ++ ids_from first n) c.reserve.ensures.items) c.keep_all.ensures.words.0 c.keep_all.ensures.words.1
+    c.requires.reserve c.keep_all.ensures.ids c.keep_all.ensures.words.0 c.keep_all.ensures.words.1
 
 pub returns-in-Ok-clause-ok : goal.returns-in-Ok-clause-ok
 returns-in-Ok-clause-ok g c = let v : View = c.args.reader.now.agent.seat.me.0 in let first = c.in-Ok.first in let n = c.in-Ok.count in
-    let some = c.in-Ok.ensures.count.0 in let most = c.in-Ok.ensures.count.1 in let piece = c.min-piece.ensures in (
-      some,
-      omega (arith, most, piece),
+    let most = c.in-Ok.ensures.count.1 in (
+      c.in-Ok.ensures.count.0,
+      most,
       claimed_ids v c.claim_ids.new.self.seat.me.0 c.args.self.now c.keep_all.new.self first n c.in-Ok.ensures.view
-          (c.keep_all.ensures.ids ∙ ap (λ (is : List ℕ). is ++ ids_from first n) c.reserve.ensures.items) c.keep_all.ensures.words.0 c.keep_all.ensures.words.1,
+          c.keep_all.ensures.ids c.keep_all.ensures.words.0 c.keep_all.ensures.words.1,
     )

@@ -1,8 +1,10 @@
-use Rattle.std.proofs.Common.{◌++◌, ◌∙◌, ℕ, List, length, ap, subst}
+use Rattle.std.proofs.Common.{◌≡◌, ◌++◌, ◌∙◌, ℕ, List, length, ap, subst}
 use Rattle.std.proofs.lemmas.List.{length-append}
 use Rattle.heap_rule.specs.declared.view.View.{View}
 use Rattle.heap_read.proofs.Going.{continues_reads, continues_trans}
-use Rattle.heap_reserve.specs.Trying.{MakesFlat}
+use Rattle.heap_rule.specs.declared.size.HeapSize.{HeapSize}
+use Rattle.heap_table.specs.Agents.{size_of}
+use Rattle.heap_reserve.specs.Making.{IsFlatAnswer}
 use Rattle.heap_reserve.proofs.After.{flat_after}
 use Rattle.heap_reserve.proofs.reserve.Reserve.copy_both.Goals as goal
 
@@ -20,5 +22,8 @@ pub returns-clause-made : goal.returns-clause-made
 returns-clause-made g c us vs h k = let v : View = c.args.reader.now.agent.seat.me.0 in
     let u : View = c.both_pieces.new.reader.agent.seat.me.0 in let w : View = c.copy.new.reader.agent.seat.me.0 in let r = c.args.self.now in
     let s = c.copy.new.self in
-    flat_after v u w r s c.both_pieces.ensures.reads.view (us ++ vs) c.copy.result
-    (subst (λ (xs : List ℕ). MakesFlat u w r s xs c.copy.result) (c.both_pieces.ensures.units us vs h k) c.copy.ensures.made)
+    let z : HeapSize = size_of (g.H.HeapRef.reached c.args.reader.now.heap) in
+    let same : size_of (g.H.HeapRef.reached c.both_pieces.new.reader.heap) ≡ z = ap (λ y. size_of (g.H.HeapRef.reached y)) c.both_pieces.ensures.reads.heap in
+    flat_after v u w r s c.both_pieces.ensures.reads.view z (us ++ vs) c.copy.result
+    (subst (λ (y : HeapSize). IsFlatAnswer u w r s y (us ++ vs) c.copy.result) same
+    (subst (λ (xs : List ℕ). IsFlatAnswer u w r s (size_of (g.H.HeapRef.reached c.both_pieces.new.reader.heap)) xs c.copy.result) (c.both_pieces.ensures.units us vs h k) c.copy.ensures.made))

@@ -1,10 +1,12 @@
-use Rattle.std.proofs.Common.{◌∙◌, ℕ, List, length, ap, subst, arith}
+use Rattle.std.proofs.Common.{◌≡◌, ◌∙◌, ℕ, List, length, ap, subst, arith}
 use Rattle.heap_rule.specs.declared.view.View.{View}
 use Rattle.heap_rule.specs.Births.{part}
 use Rattle.heap_rule.proofs.Possible.{possible_short}
 use Rattle.heap_read.proofs.Going.{continues_reads, continues_trans}
 use Rattle.heap_text.proofs.Pieces.{length_part}
-use Rattle.heap_reserve.specs.Trying.{MakesFlat}
+use Rattle.heap_rule.specs.declared.size.HeapSize.{HeapSize}
+use Rattle.heap_table.specs.Agents.{size_of}
+use Rattle.heap_reserve.specs.Making.{IsFlatAnswer}
 use Rattle.heap_reserve.proofs.After.{flat_after}
 use Rattle.heap_reserve.proofs.reserve.Reserve.copy_part.Goals as goal
 
@@ -26,5 +28,8 @@ pub returns-clause-made : goal.returns-clause-made
 returns-clause-made g c us h = let v : View = c.args.reader.now.agent.seat.me.0 in
     let u : View = c.part_piece-piece.new.reader.agent.seat.me.0 in let w : View = c.copy.new.reader.agent.seat.me.0 in
     let r = c.args.self.now in let s = c.copy.new.self in
-    flat_after v u w r s c.part_piece-piece.ensures.reads.view (part c.args.from c.args.n us) c.copy.result
-    (subst (λ (xs : List ℕ). MakesFlat u w r s xs c.copy.result) (c.part_piece-piece.ensures.units us h) c.copy.ensures.made)
+    let z : HeapSize = size_of (g.H.HeapRef.reached c.args.reader.now.heap) in
+    let same : size_of (g.H.HeapRef.reached c.part_piece-piece.new.reader.heap) ≡ z = ap (λ y. size_of (g.H.HeapRef.reached y)) c.part_piece-piece.ensures.reads.heap in
+    flat_after v u w r s c.part_piece-piece.ensures.reads.view z (part c.args.from c.args.n us) c.copy.result
+    (subst (λ (y : HeapSize). IsFlatAnswer u w r s y (part c.args.from c.args.n us) c.copy.result) same
+    (subst (λ (xs : List ℕ). IsFlatAnswer u w r s (size_of (g.H.HeapRef.reached c.part_piece-piece.new.reader.heap)) xs c.copy.result) (c.part_piece-piece.ensures.units us h) c.copy.ensures.made))

@@ -26,8 +26,8 @@ returns-clause-reserve g c = let v : View = c.args.text.now.reader.agent.seat.me
     let r = c.args.self.now in let s = c.take.new.self in let e = c.take.ensures in let h = c.intern_key_at-answer.ensures in
     let all : c.words_for-words.result ≡ words_holding us = c.words_for-words.ensures ∙ (λ j. words_over (c.is_wide.ensures j) (c.len.ensures j)) in
     let offered : IsOffered r (words_holding us) p = subst (λ (m : ℕ). IsOffered r m p) all c.offer-given.ensures in
-    let taken : IsTakenFrom v w r s p.id (words_holding us) = taken_from v w r s us p c.take.result.0 (words_holding us) c.words_for-words.result answer offered h.interns.0.settled h.interns.1 all e.ids e.words in
-    reserve_taken v w r s p.id (words_holding us) c.requires.reserve taken (e.ordered c.requires.reserve.ordered)
+    let taken : IsTakenFrom v w r s p.id (words_holding us) = taken_from v w r s us p c.take.result.0 (words_holding us) c.words_for-words.result answer c.requires.enough offered h.interns.0.settled h.interns.1 all e.ids e.words in
+    reserve_taken v w r s p.id (words_holding us) c.requires.reserve taken
 
 pub returns-clause-interns : goal.returns-clause-interns
 returns-clause-interns g c = let v : View = c.args.text.now.reader.agent.seat.me.0 in let w : View = c.intern_key_at-answer.new.reader.agent.seat.me.0 in
@@ -38,5 +38,5 @@ returns-clause-interns g c = let v : View = c.args.text.now.reader.agent.seat.me
       given = p;
       offered = offered;
       interned = h.interns.0;
-      taken = taken_from v w r s us p c.take.result.0 (words_holding us) c.words_for-words.result answer offered h.interns.0.settled h.interns.1 all e.ids e.words;
+      taken = taken_from v w r s us p c.take.result.0 (words_holding us) c.words_for-words.result answer c.requires.enough offered h.interns.0.settled h.interns.1 all e.ids e.words;
     }

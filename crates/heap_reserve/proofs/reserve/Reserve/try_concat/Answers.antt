@@ -1,12 +1,15 @@
-use Rattle.std.proofs.Common.{◌+◌, ◌++◌, ◌<◌, ◌≤◌, refl, arith}
+use Rattle.std.proofs.Common.{◌≡◌, ◌∙◌, ◌+◌, ◌++◌, false, true, ◌<◌, ◌≤◌, ap, inl, refl, subst, arith}
 use mathlib.Core.Logic.{dite}
 use native.Mathlib.Decide.{dec_le}
 use Rattle.heap_rule.specs.declared.view.View.{View}
 use Rattle.heap_rule.proofs.MapLemmas.{has_key}
 use Rattle.heap_rule.proofs.Possible.{possible_short}
 use Rattle.heap_read.proofs.Going.{continues_reads, continues_trans}
-use Rattle.heap_read.proofs.Loaded.{reads_trans}
+use Rattle.heap_read.proofs.Loaded.{reads_refl, reads_trans}
 use Rattle.heap_text.specs.Joins.{MIN_CONS}
+use Rattle.heap_rule.specs.declared.size.HeapSize.{HeapSize}
+use Rattle.heap_table.specs.Agents.{size_of}
+use Rattle.heap_reserve.specs.Making.{IsFlatAnswer}
 use Rattle.heap_reserve.proofs.After.{flat_after, rope_after}
 use Rattle.heap_reserve.proofs.reserve.Reserve.try_concat.Goals as goal
 
@@ -37,12 +40,33 @@ returns-clause-tried g c us vs h k = let v : View = c.args.text.now.reader.agent
     let left = c.len-left.ensures.length us h in let right = c.len-right.ensures.length vs (c.len-left.ensures.reads.view.known.units c.args.b.id vs k) in
     let fit = c.if-not-is_joinable.ensures.0 refl in let f0 = fit.0 in let f1 = fit.1 in let f2 = fit.2 in
     let hl = r2.known.units a.id us h in let hr = r2.known.units b.id vs k in
-    let flat = (λ (l : c.len-left.result + c.len-right.result < MIN_CONS). flat_after v w2 x r s r2 (us ++ vs) o (c.join.ensures.short l us vs hl hr)) in
+    let z : HeapSize = size_of (g.H.HeapRef.reached c.args.text.now.reader.heap) in
+    let same : size_of (g.H.HeapRef.reached c.len-right.new.self.heap) ≡ z = ap (λ y. size_of (g.H.HeapRef.reached y)) (c.len-right.ensures.reads.heap ∙ c.len-left.ensures.reads.heap) in
+    let flat = (λ (l : c.len-left.result + c.len-right.result < MIN_CONS). c.join.ensures.short l us vs hl hr) in
     let rope = (λ (l : MIN_CONS ≤ c.len-left.result + c.len-right.result). rope_after v w2 x r s r2 a b (us ++ vs) o (c.join.ensures.long l us vs hl hr)) in record {
-      short = λ e. let l = e.3 in (flat (omega (arith, left, right, l))).made e.4;
+      short = λ e. let l = e.3 in let t = flat (omega (arith, left, right, l)) in
+          (t.0, t.1, flat_after v w2 x r s r2 z (us ++ vs) t.0 (subst (λ (y : HeapSize). IsFlatAnswer w2 x r s y (us ++ vs) t.0) same t.2));
       long = λ e. let l = e.3 in (rope (omega (arith, left, right, l))).made e.4 e.5;
       left = λ no_short no_long. dite (dec_le MIN_CONS (c.len-left.result + c.len-right.result))
           (λ l. (rope l).left (λ both. no_long (omega (arith, left, right, f2), omega (arith, left, f0), omega (arith, right, f1), omega (arith, left, right, l), both.0, both.1)))
           (λ l. let less : c.len-left.result + c.len-right.result < MIN_CONS = omega (arith, l) in
-          (flat less).left (λ enough. no_short (omega (arith, left, right, f2), omega (arith, left, f0), omega (arith, right, f1), omega (arith, left, right, less), enough)));
+          absurd (no_short (omega (arith, left, right, f2), omega (arith, left, f0), omega (arith, right, f1), omega (arith, left, right, less), c.if-not-has_some.ensures.0 refl)));
+    }
+
+pub returns-then-not-has_some-clause-tried : goal.returns-then-not-has_some-clause-tried
+returns-then-not-has_some-clause-tried g c us vs h k = let v : View = c.args.text.now.reader.agent.seat.me.0 in record {
+  short = λ e. (let bad : false ≡ true = c.if-not-has_some.ensures.1 e.4 in absurd (cc));
+  long = λ e. (let bad : false ≡ true = c.if-not-has_some.ensures.1 (inl e.4.0) in absurd (cc));
+  left = λ no_short no_long. (refl, refl, reads_refl v);
+}
+
+pub returns-then-not-is_joinable-clause-tried : goal.returns-then-not-is_joinable-clause-tried
+returns-then-not-is_joinable-clause-tried g c us vs h k = let v : View = c.args.text.now.reader.agent.seat.me.0 in
+    let w1 : View = c.len-left.new.self.agent.seat.me.0 in let w2 : View = c.len-right.new.self.agent.seat.me.0 in
+    let left = c.len-left.ensures.length us h in let right = c.len-right.ensures.length vs (c.len-left.ensures.reads.view.known.units c.args.b.id vs k) in record {
+      short = λ e. let e0 = e.0 in let e1 = e.1 in let e2 = e.2 in
+          let bad : false ≡ true = c.if-not-is_joinable.ensures.1 (omega (arith, left, e1), omega (arith, right, e2), omega (arith, left, right, e0)) in absurd (cc);
+      long = λ e. let e0 = e.0 in let e1 = e.1 in let e2 = e.2 in
+          let bad : false ≡ true = c.if-not-is_joinable.ensures.1 (omega (arith, left, e1), omega (arith, right, e2), omega (arith, left, right, e0)) in absurd (cc);
+      left = λ no_short no_long. (refl, refl, reads_trans v w1 w2 c.len-left.ensures.reads.view c.len-right.ensures.reads.view);
     }
