@@ -40,7 +40,7 @@ use Rattle.js_io.specs.Report.{IsEnd, Sinks}
 use Rattle.js_run.specs.Moment.{Call, Moment}
 use Rattle.js_run.specs.Outcome.{CallOutcome}
 use Rattle.js_run.proofs.Told.{counts_kept}
-use Rattle.js_run.specs.Verdict.{BadWords, NoMemory, NotRead, Refused, TooLarge, Verdict, WasRun, kept_of, report_of}
+use Rattle.js_run.specs.Verdict.{BadWords, NoMemory, NotRead, Refused, TooLarge, Verdict, WasRun, report_of}
 
 -- ---- texts
 
@@ -97,7 +97,7 @@ module _ (words : List (List ℕ)) (request : Request) (lawful : request_of word
   memory_became quiet none end = record { verdict = NoMemory; cause = quiet; ending = end; kept = none }
 
   module _ (sources : Program Named) (texts : AreTexts request.asked old.files.held sources) (quiet : IsQuiet old.files new.files) where
-    were_read : WereRead this
+    abbrev were_read : WereRead this
     were_read = record { request = request; lawful = lawful; sources = sources; texts = texts; quiet = quiet }
 
     of_texts : (v : Verdict) → HasCauseOf (setup_of request) sources v → HasCause this v

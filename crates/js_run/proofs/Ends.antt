@@ -10,7 +10,6 @@ use Rattle.js_eval.specs.Evaluates.{script_end}
 use Rattle.js_eval.specs.Script.{Flow}
 use Rattle.run_program.specs.declared.job.Outcome.{Outcome}
 use Rattle.heap_rule.specs.declared.size.HeapSize.{HeapSize}
-use Rattle.heap_session.specs.Sessions.{SessionFrame}
 use Rattle.run_program.specs.Jobs.{RunFile, WasFileRun, HasJobEnd, Whole}
 use Rattle.run_program.specs.Files.{IsAsMeant, means_of, outcomes_of}
 use Rattle.run_program.specs.Fits.{Fits, all_meant}
@@ -164,14 +163,11 @@ scripts_lines (Some t) None os flow flows has some none is = absurd (cc has)
 -- ---- a program that was run
 
 module _ (request : Request) (trees : Program Tree) (ran : Ran) (p : IsRan (setup_of request) trees.prelude trees.scripts ran) where
-  abbrev kept : State SessionFrame
-  kept = state_kept (setup_of request) ran.kept
-
   flows : List Flow
   flows = all_flows request trees
 
   first : AreFirst (all_flows request trees) p.files
-  first = are_first kept (RanOut kept (all_flows request trees)) (prelude_meant (limit_units request.limit) trees.prelude)
+  first = are_first (state_kept (setup_of request) ran.kept) (RanOut (state_kept (setup_of request) ran.kept) (all_flows request trees)) (prelude_meant (limit_units request.limit) trees.prelude)
       (scripts_meant (limit_units request.limit) trees.prelude trees.scripts) p.files p.tells.run.each p.are
 
   ends_are : file_ends p.files ≡ ends_of ran
@@ -198,7 +194,7 @@ module _ (request : Request) (trees : Program Tree) (ran : Ran) (p : IsRan (setu
       (run_after (prelude_meant (limit_units request.limit) trees.prelude) (scripts_meant (limit_units request.limit) trees.prelude trees.scripts))
   lines_same all =
       let means : map (λ m. concat m.lines) (means_of p.files) ≡ map (λ m. concat m.lines) (all_flows request trees) = ap (map (λ m. concat m.lines)) (sym (means_same all)) in
-      let printed = meant_lines kept (all_flows request trees) p.files p.tells.run.each all in
+      let printed = meant_lines (state_kept (setup_of request) ran.kept) (all_flows request trees) p.files p.tells.run.each all in
       scripts_lines trees.prelude ran.prelude ran.scripts.items (prelude_meant (limit_units request.limit) trees.prelude)
       (scripts_meant (limit_units request.limit) trees.prelude trees.scripts) p.has_prelude
       (has_flow trees.prelude) (no_flow trees.prelude) (ap (map (λ o. o.lines)) (sym p.came) ∙ printed ∙ means)
@@ -215,7 +211,7 @@ module _ (request : Request) (trees : Program Tree) (ran : Ran) (p : IsRan (setu
       ∙ ap (λ l. Printed (status_meant request trees) l (end_lines (in_order names) (ends_meant (all_flows request trees)))) (out_same all)
 
   pub all_done : status_of (ends_of ran) ≡ 0 → Every IsAsMeant p.files
-  all_done is = done_meant kept (all_flows request trees) p.files p.tells.run.each (sym status_same ∙ is)
+  all_done is = done_meant (state_kept (setup_of request) ran.kept) (all_flows request trees) p.files p.tells.run.each (sym status_same ∙ is)
 
   pub done_status : status_of (ends_of ran) ≡ 0 → status_meant request trees ≡ 0
   done_status is = ap status_of (sym (ends_same (all_done is))) ∙ is
@@ -228,17 +224,17 @@ module _ (request : Request) (trees : Program Tree) (ran : Ran) (p : IsRan (setu
 
   pub early_status : status_of (ends_of ran) ≡ 1 → status_meant request trees ≡ 1
   early_status is = ap (λ ms. status_of (ends_meant ms)) first.split
-      ∙ early_meant kept (all_flows request trees) p.files first.rest p.tells.run.each (sym status_same ∙ is)
+      ∙ early_meant (state_kept (setup_of request) ran.kept) (all_flows request trees) p.files first.rest p.tells.run.each (sym status_same ∙ is)
 
-  pub full_first : status_of (ends_of ran) ≡ 5 → FirstFull kept (all_flows request trees) p.files
-  full_first is = first_full kept (all_flows request trees) p.files p.tells.run.each (sym status_same ∙ is)
+  pub full_first : status_of (ends_of ran) ≡ 5 → FirstFull (state_kept (setup_of request) ran.kept) (all_flows request trees) p.files
+  full_first is = first_full (state_kept (setup_of request) ran.kept) (all_flows request trees) p.files p.tells.run.each (sym status_same ∙ is)
 
   -- the heap has the sizes that are asked for
-  sizes_are : kept.sizes ≡ setup_sizes (setup_of request)
+  sizes_are : (state_kept (setup_of request) ran.kept).sizes ≡ setup_sizes (setup_of request)
   sizes_are = ap (λ (z : HeapSize). record { ids = z.ids; words = z.words; slots = z.slots }) (p.belongs.1 ∙ p.sizes)
 
   pub complete : (names : Program FileName) → Fits (setup_sizes (setup_of request)) (all_flows request trees) → Every (λ e. e ≡ Memory → ⊥) (ends_of ran)
       → report_of (WasRun names ran) ≡ Printed (status_meant request trees) (out_meant request trees ran.interned) (end_lines (in_order names) (ends_meant (all_flows request trees)))
   complete names fits none = report_same names (without_memory p.files
-      (fits_meant kept (all_flows request trees) p.files p.tells (subst (λ (z : StoreSizes). Fits z (all_flows request trees)) (sym sizes_are) fits))
+      (fits_meant (state_kept (setup_of request) ran.kept) (all_flows request trees) p.files p.tells (subst (λ (z : StoreSizes). Fits z (all_flows request trees)) (sym sizes_are) fits))
       (subst (Every (λ e. e ≡ Memory → ⊥)) (sym ends_are) none))

@@ -7,7 +7,6 @@ use Rattle.run_command.specs.Words.{Request, request_of}
 use Rattle.run_sources.specs.Program.{FileName, Program, in_order}
 use Rattle.run_sources.specs.Reading.{IsQuiet, IsUnread, IsLarge}
 use Rattle.run_sources.specs.Spelling.{Spell, FirstRefused}
-use Rattle.run_program.specs.declared.ran.Ran.{Ran}
 use Rattle.run_program.specs.Ran.{IsRan}
 use Rattle.js_run.specs.Asked.{AreTexts, names_of, setup_of}
 use Rattle.js_run.specs.Verdict.{Verdict, BadWords, NotRead, TooLarge, Refused, NoMemory, WasRun, report_of, kept_of, status_of, ends_of}
@@ -264,7 +263,7 @@ module _ (c : Call) where
     ends = code_of (report_of o.verdict) c.code c.old.sinks c.new.sinks o.ending
 
     module _ (wanted : o.verdict ≡ NoMemory → ⊥) where
-      ran_to : (HasRefusalStatus c.code → ⊥) → RanTo
+      ran_to : (HasRefusalStatus c.code → ⊥) → RanTo c
       ran_to other = ran_only o.verdict o.cause o.ending o.kept wanted other
 
       rows : HasRows c

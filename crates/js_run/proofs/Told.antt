@@ -1,7 +1,7 @@
 -- What was written of a report.
-use Rattle.std.proofs.Common.{◌≤◌, inl, inr, ⊎_elim, ℕ, List, [], Result, Ok, Err, refl, arith}
-use Rattle.js_io.specs.SinkState.{SinkState, WritesAll}
-use Rattle.js_io.specs.Report.{TakesAll, TakesUntil, IsTold, IsEnd, Sinks, Report, Refusal, Printed}
+use Rattle.std.proofs.Common.{◌≤◌, inl, inr, ⊎_elim, ℕ, List, arith}
+use Rattle.js_io.specs.SinkState.{SinkState}
+use Rattle.js_io.specs.Report.{TakesAll, TakesUntil, IsEnd, Sinks, Report, Refusal, Printed}
 
 calm_counts : (a b : SinkState) (bytes : List ℕ) → TakesAll a b bytes → a.faults ≤ b.faults
 calm_counts a b bytes took = omega (arith, took.calm)

@@ -70,8 +70,8 @@ HasCauseOf setup sources _ = ⊥
 -- a call that ended so came to a verdict of this kind, what was written is what is reported of it, and what
 -- is kept is what is there
 pub record Becomes (Why : Verdict → Type 0) (code : ℕ) (left : Option HeapKept) (old new : Sinks) : Type 0
-    where
-  pub verdict : Verdict
-  pub cause : Why verdict
-  pub ending : IsEnd (report_of verdict) code old new
-  pub kept : left ≡ kept_of verdict
+  where
+    pub verdict : Verdict
+    pub cause : Why verdict
+    pub ending : IsEnd (report_of verdict) code old new
+    pub kept : left ≡ kept_of verdict

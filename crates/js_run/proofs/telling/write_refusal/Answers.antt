@@ -1,6 +1,4 @@
-use Rattle.std.proofs.Common.{◌++◌, ◌∷◌, [], ℕ, List, Result, Err, decimal, subst, sym}
-use Rattle.js_io.specs.SinkState.{SinkState, WritesAll}
-use Rattle.js_io.proofs.Prefixes.{first_failed, then_second}
+use Rattle.js_io.proofs.Prefixes.{then_second}
 use Rattle.js_run.proofs.telling.write_refusal.Goals as goal
 
 pub returns-in-Ok : goal.returns-in-Ok
