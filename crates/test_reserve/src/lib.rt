@@ -5,6 +5,8 @@
 #[cfg(test)]
 mod beside;
 #[cfg(test)]
+mod giving;
+#[cfg(test)]
 mod interning;
 #[cfg(test)]
 mod pieces;
