@@ -30,8 +30,8 @@ RanOut s means f (Slots slots) (next ∷ rest) = (different s.history ≡ s.size
     × ((n : ℕ) → Interned s next n → ⊥) × (s.sizes.slots < count_different (lists_interned means))
 
 -- What files say that were run on a heap, of all those with these meanings: each came to its own end, or
--- ended Full for what ran out, or out of memory. The history is legal, and it has no more different lists than
--- the heap has slots, and ids.
+-- ended Full for what ran out, or out of memory. The history is legal, and it has no more different lists
+-- than the heap has slots, and ids.
 pub record FilesTell {F : Type 0} (s : State F) (means : List Flow) (files : List RunFile) : Type 0 where
   pub run : AreRun s (RanOut s means) files
   pub legal : IsLegal s.history
