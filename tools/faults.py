@@ -88,7 +88,9 @@ def without_statement(text, at):
     tokens = rough(text)
     number = next((number for number, it in enumerate(tokens) if it[2] > at), len(tokens) - 1)
     first = front_of(tokens, number)
-    is_block = is_whole = tokens[first][0] in ("class", "switch", "import", "export")
+    is_block = tokens[first][0] in ("class", "switch", "import", "export")
+    # (a declaration has no block, but may begin with a pattern in braces)
+    is_whole = is_block or tokens[first][0] in ("let", "const", "var")
     is_open, last = 0, first
     for last in range(first, len(tokens)):
         spelling = tokens[last][0]

@@ -23,15 +23,11 @@ def refused_numbers(_house):
     check("generate.py without a number", called("generate.py").returncode == 2 and called("generate.py", "--put", "out").returncode == 2)
 
 
-# What says nothing of itself yet, or isn't run by its own.
-WITHOUT_HELP = {"theorem", "jsstr-installed"}
-
-
 def answered_help(house):
     """Each tool answers --help, in lines of a screen's width, and does nothing else."""
     tools = [it for it in sorted(os.listdir(f"{house.root}/tools")) if os.access(f"{house.root}/tools/{it}", os.X_OK) and os.path.isfile(f"{house.root}/tools/{it}")]
     before = house.git("status", "--porcelain", "--ignored")
-    for tool in (it for it in tools if it not in WITHOUT_HELP):
+    for tool in tools:
         for word in ("--help", "-h"):
             status, out, err = house.call(word, tool=tool)
             check(f"{tool} {word}", (status, err) == (0, "") and tool in out, out + err)

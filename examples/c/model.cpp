@@ -687,7 +687,7 @@ void reserve() {
   play("reserve", a.heap ? MAY : NOTHING, {i}, [&] { return EITHER(u, reserve, answer, &handles[i], ids, words); }, [&] { return agent(i).heap ? agent(i).reserve(ids, words) : REFUSED; }, [&] {
     uint32_t had = uint32_t(agent(i).ids.size()), has = jsstr_reserved(&handles[i]).ids;
     CHECK(has >= had && has < had + ids);
-    agent(i).reserve(has - had, words);
+    if (has > had) agent(i).reserve(has - had, words);
   });
 }
 

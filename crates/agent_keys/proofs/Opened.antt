@@ -1,5 +1,5 @@
 -- Interning units: their string is found, no slot is free, or an opening is found, and then what is reserved is renewed, where that is due, and the string made.
-use Rattle.std.proofs.Common.{◌≡◌, ◌≢◌, ◌∙◌, ⊎_elim, inl, inr, ℕ, ◌+◌, ◌≤◌, List, Option, None, Some, Result, Ok, Err, refl, subst, sym, arith}
+use Rattle.std.proofs.Common.{◌≡◌, ◌≢◌, ◌∙◌, ⊎_elim, inl, inr, ℕ, ◌+◌, ◌≤◌, List, Option, None, Some, Result, Ok, Err, ap, refl, subst, sym, arith}
 use Rattle.std.specs.Prelude.{Contains, IfOk, IsTrue}
 use Rattle.js_header.specs.declared.form.Form.{Form}
 use Rattle.js_header.specs.declared.form.Form.TheVariants.{Unborn, Flat, Cons, Sliced, Thin}
@@ -30,7 +30,8 @@ use Rattle.heap_intern.proofs.Opened.{opening_few}
 use Rattle.heap_reserve.specs.declared.reserve.Reserve.{Reserve}
 use Rattle.heap_reserve.specs.Interning.{InternsAt, InternsKept, IsKeyTaken}
 use Rattle.heap_reserve.proofs.Interned.{same_used}
-use Rattle.heap_reserve.specs.Reserves.{IsReserve}
+use Rattle.heap_reserve.specs.Reserves.{IsReserve, IsTakenFrom}
+use Rattle.heap_text.specs.Texts.{KeepsOwnBut}
 use Rattle.heap_ids.specs.declared.ids.IdSet.{IdSet}
 use Rattle.heap_ids.specs.Sets.{IsIn}
 use Rattle.heap_agents.specs.declared.held.Held.{Held}
@@ -113,6 +114,17 @@ module _ (v u w : View) (r s : Reserve) (us : List ℕ) (plan : HeaderPlan) (o :
   pub never_there : (i : ℕ) → Has v.units i us → StandsInSlot v us i → ⊥
   never_there i x t = let bad : None ≡ Some i = f.finds.again i x t in cc
 
+  but_before : (id start n : ℕ) → KeepsOwnBut u w id start n → KeepsOwnBut v w id start n
+  but_before id start n k = record { ids = λ i m ne x. k.ids i m ne (looks.goes.own_ids i m x); words = λ c y side x. k.words c y side (looks.goes.own_words c y x) }
+
+  taken_before : (id n : ℕ) → IsTakenFrom u w r s id n → IsTakenFrom v w r s id n
+  taken_before id n t = record {
+    had_id = λ some. let e = t.had_id some in (e.0, e.1 ∙ looks.used);
+    new_id = λ none. let e = t.new_id none in (e.0, e.1 ∙ ap (λ (k : ℕ). k + 1) looks.used);
+    had_words = λ fits. let e = t.had_words fits in (e.0, e.1, e.2 ∙ looks.words, but_before id r.start n e.3);
+    new_words = λ more. let e = t.new_words more in (e.0, e.1, e.2 ∙ ap (λ (k : ℕ). k + n) looks.words, but_before id 0 0 e.3);
+  }
+
   taken_opened : IsKeyTaken u w r s us plan a → IsKeyTaken v w r s us plan a
   taken_opened k = record {
     given = k.given;
@@ -123,17 +135,12 @@ module _ (v u w : View) (r s : Reserve) (us : List ℕ) (plan : HeaderPlan) (o :
       units = k.interned.units;
       opened = open_before v u w us looks.goes.known k.interned.opened;
     };
-    taken = record {
-      ids = k.taken.ids;
-      words = k.taken.words;
-      used = k.taken.used ∙ same_used v u (looks.used, looks.words);
-      own = record { ids = λ i n ne x. k.taken.own.ids i n ne (looks.goes.own_ids i n x); words = λ c y side x. k.taken.own.words c y side (looks.goes.own_words c y x) };
-    };
+    taken = taken_before k.given.id plan.words k.taken;
   }
 
   pub kept_opened : InternsKept v w r s us plan a
   kept_opened = record {
-    enough = λ e. let k = taken_opened (h.enough e) in record { ways = inr k; used = k.taken.used };
+    enough = λ e. let k = taken_opened (h.enough e) in let i = k.taken.had_id e.0 in let c = k.taken.had_words e.1 in record { ways = inr k; used = same_used v w (i.1, c.2) };
     claimed = λ no. let t = h.claimed no in (t.0, interns_after v u w us plan a looks t.1);
     again = λ i x p. absurd (never_there i x p);
   }

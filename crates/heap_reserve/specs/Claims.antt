@@ -17,12 +17,13 @@ IsIdRefused v w z r s ids words (Full (full.Ids f)) = IsFull f 1 z.ids × (w.low
     × ((k : ℕ) × (k < ids) × IsClaimed v w r s k words)
 IsIdRefused v w z r s ids words (Full (full.Words f)) = ⊥
 
--- All was claimed; or nothing was, as there are not that many words, or there is no memory for the list of ids;
--- or ids are missing.
+-- All was claimed; or nothing was, as there are not that many words, or there is no memory for the list of
+-- ids; or ids are missing.
 abbrev pub IsClaimAnswer : View → View → HeapSize → Reserve → Reserve → ℕ → ℕ → Result (Unit {0}) ReserveFault
     → Type 0
 IsClaimAnswer v w z r s ids words (Ok u) = IsClaimed v w r s ids words
 IsClaimAnswer v w z r s ids words (Err (Full (full.Words f))) = IsFull f words z.words × (w.low.words ≡ f.at)
     × IsClaimed v w r s 0 0
-IsClaimAnswer v w z r s ids words (Err Memory) = IsClaimed v w r s 0 0 ⊎ IsIdRefused v w z r s ids words Memory
+IsClaimAnswer v w z r s ids words (Err Memory) = IsClaimed v w r s 0 0
+    ⊎ IsIdRefused v w z r s ids words Memory
 IsClaimAnswer v w z r s ids words (Err f) = IsIdRefused v w z r s ids words f

@@ -71,8 +71,8 @@ IsLongCut r p from to us = ((0 < from) ⊎ (to < length us)) × (MIN_CONS ≤ to
 
 module _ (v w : View) (z : HeapSize) (r s : Reserve) where
   -- Joining the strings a with the units us and b with the units vs, where a result has at most `most` units.
-  -- A copy takes what the reserve has, and claims the rest; a Cons takes an id that serves it. Else the reserve
-  -- stays, and the answer is that of a `Text`.
+  -- A copy takes what the reserve has, and claims the rest; a Cons takes an id that serves it. Else the
+  -- reserve stays, and the answer is that of a `Text`.
   pub record IsJoinedBy (most : ℕ) (a b : JsStr) (us vs : List ℕ)
       (answer : Result JsStr JoinFault) : Type 0 where
     pub short : IsShortJoin r most us vs

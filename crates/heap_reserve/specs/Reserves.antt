@@ -71,9 +71,9 @@ abbrev pub IsMissing : Reserve → ℕ → TextFull → Type 0
 IsMissing r n (Ids f) = length (kept_ids r) ≡ 0
 IsMissing r n (Words f) = words_kept r < n
 
--- A new string that needs an id and n content words was refused: the reserve has not what the report says, and
--- the counter of that has no room for it. The reserve stays. No id was used, and words only where the reserve
--- has too few: these were claimed first, and an id is missing.
+-- A new string that needs an id and n content words was refused: the reserve has not what the report says,
+-- and the counter of that has no room for it. The reserve stays. No id was used, and words only where the
+-- reserve has too few: these were claimed first, and an id is missing.
 pub record IsTakingRefused (v w : View) (z : HeapSize) (r s : Reserve) (n : ℕ) (f : TextFull) : Type 0 where
   pub missing : IsMissing r n f
   pub room : LacksRoom w z n f

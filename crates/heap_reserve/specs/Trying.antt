@@ -1,5 +1,5 @@
 -- Helpers: no public contract reaches these definitions.
--- What a new string needs is found, and what a call makes with the reserve: a string, or none where the reserve
+-- What a new string needs is found, and what a call makes with the reserve: a string, or none where that
 -- has not what that needs; and what one exchange of the counter claims for it.
 use Rattle.std.specs.Prelude.{◌≡◌, ◌⊎◌, ℕ, zero, suc, ◌+◌, ◌-◌, ◌<◌, ◌≤◌, [], ◌∷◌, ◌++◌, List, length}
 use Rattle.std.specs.Prelude.{Option, Some, None, Result, Ok, Err}

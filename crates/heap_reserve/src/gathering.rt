@@ -27,8 +27,8 @@ impl Reserve {
         requires reserve { IsReserve (view_in reader.old) self.old }
         ensures continues { MovesView Continues reader.old reader.new }
         ensures forms { KeepsForms (view_in reader.old) (view_in reader.new) }
-        ensures found { IfOk result (λ p. FindsBoth (view_in reader.old) (view_in reader.new) self.old self.new
-            words p.id p.start) }
+        ensures found { IfOk result (λ p. FindsBoth (view_in reader.old) (view_in reader.new) self.old
+            self.new words p.id p.start) }
         ensures refused { IfErr result (λ f. IsTakingRefused (view_in reader.old) (view_in reader.new)
             (size_of (H.reached reader.old.heap)) self.old self.new words f) }
     {

@@ -8,7 +8,7 @@ use heap_table::Heap;
 
 /// No file was run on a heap that was just made. After others a script is evaluated, or jobs are
 /// run. A call that uses nothing and interns nothing leaves what was run, and so does the reading
-/// of both counters. What follows for files that were run: with sizes that are enough each comes to
+/// of both counters. What follows of files that were run: with sizes that are enough each comes to
 /// the end that is meant, unless memory runs out.
 pub fn files_are_run()
     ensures none { NoneRun }
