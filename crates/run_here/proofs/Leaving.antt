@@ -24,7 +24,7 @@ use Rattle.run_program.specs.Jobs.{number, means, RunsEachJob}
 use Rattle.run_program.specs.Stages.{HaveRunFrom, IsUnused}
 use Rattle.run_program.proofs.Having.{have_alone, have_behind, have_stopped}
 use Rattle.run_program.proofs.Jobs.{ran_one}
-use Rattle.run_here.specs.Left.{LeavesMeant, HasLeftFrom, script_by}
+use Rattle.run_here.specs.Left.{LeavesMeant, HasLeftFrom}
 
 -- the one place with another outcome
 pub one_place : (os : List Outcome) (o : Outcome) → length os ≡ 1 → slice_set os 0 o ≡ o ∷ []

@@ -1,5 +1,5 @@
 -- What came of a prelude and a script that were run on a heap of their own without a thread.
-use Rattle.std.specs.Prelude.{List, [], ◌∷◌, Option, false}
+use Rattle.std.specs.Prelude.{[], ◌∷◌, Option, false}
 use Rattle.js_store.specs.Limits.{limit_units}
 use Rattle.js_store.specs.declared.limit.Limit.{Limit}
 use Rattle.eval_tree.specs.Tree.{Tree}

@@ -1,4 +1,4 @@
-use Rattle.std.proofs.Common.{◌≡◌, List, ◌∷◌, [], sym, subst, None}
+use Rattle.std.proofs.Common.{List, ◌∷◌, [], sym, subst, None}
 use Rattle.eval_tree.specs.Tree.{tree_of}
 use Rattle.eval_scopes.specs.Seen.{bounds_of}
 use Rattle.heap_session.specs.Sessions.{state_in}
