@@ -7,11 +7,11 @@ use Rattle.jsstr_c.proofs.Same.{called}
 use Rattle.jsstr_c.proofs.Slots.{known_after}
 use Rattle.jsstr_c.proofs.table.jsstr_slot_of.Goals as goal
 
-pub jsstr_slot_of_unchecked-value-requires-clause-known : goal.jsstr_slot_of_unchecked-value-requires-clause-known
-jsstr_slot_of_unchecked-value-requires-clause-known c = let e = c.has_interned.ensures in
+pub slot_of-value-requires-clause-known : goal.slot_of-value-requires-clause-known
+slot_of-value-requires-clause-known c = let e = c.has_interned.ensures in
     known_after c.args.agent.now.at.value c.has_interned.new.self.at.value c.args.agent.now.live c.requires c.args.s (e.interned.0 c.if-not-has_interned.false) e.same
 
-pub jsstr_slot_of_unchecked-value-requires-clause-call : goal.jsstr_slot_of_unchecked-value-requires-clause-call
-jsstr_slot_of_unchecked-value-requires-clause-call c = let e = c.has_interned.ensures in
+pub slot_of-value-requires-clause-call : goal.slot_of-value-requires-clause-call
+slot_of-value-requires-clause-call c = let e = c.has_interned.ensures in
     subst (λ (o : Option Held). (u : List ℕ) × Contains (history (handle_view o)) (u, c.args.s)) (sym e.same)
     (called c.args.agent.now.at.value c.args.agent.now.live c.requires c.args.s (e.interned.0 c.if-not-has_interned.false)).1
