@@ -185,7 +185,7 @@ static void two_threads(void) {
   CHECK(!pthread_join(threads[0], NULL) && !pthread_join(threads[1], NULL));
   CHECK(jsstr_room_of(&one.agent).seen_slots == KEYS && jsstr_room_of(&other.agent).seen_slots == KEYS);
   CHECK(jsstr_join(&one.agent, &other.agent) == JSSTR_DONE && jsstr_count_interned(&one.agent).value == KEYS);
-  jsstr_counts used = jsstr_totals(&one.agent);
+  jsstr_room used = jsstr_room_of(&one.agent);
   jsstr_room room = jsstr_room_of(&one.agent);
   CHECK(room.ids == used.ids && room.words == used.words && jsstr_free(&one.agent) == JSSTR_DONE);
 }

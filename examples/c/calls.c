@@ -94,7 +94,7 @@ static void fill(world *w) {
   for (left = 0; status == JSSTR_DONE;) status = jsstr_build_units(&w->full, units, 1);
   CHECK(status == JSSTR_NO_MEMORY);
   left = LONG_MAX;
-  w->had = jsstr_built_length(&w->full);
+  w->had = w->full.len;
   CHECK(w->had <= 64);
 }
 

@@ -91,7 +91,7 @@ static void answered(agent *a, jsstr_answer s, const uint16_t *units, uint32_t l
 }
 
 /* What was used before a call for an agent. */
-static jsstr_use used(agent *a) { return a->handle.live ? jsstr_totals_unchecked(&a->handle) : (jsstr_use){0, 0}; }
+static jsstr_use used(agent *a) { return a->handle.live ? jsstr_room_of(&a->handle) : (jsstr_use){0, 0}; }
 
 /* The same before a call that may settle s first; then the words that this takes are not known. */
 static jsstr_use used_settled(agent *a, agent *of, jsstr_id s) {
@@ -124,7 +124,7 @@ static void renewed(agent *a, jsstr_use *before, uint32_t most, uint32_t words) 
   uint32_t more = !few ? 0 : most > a->blocks.words ? most : a->blocks.words;
   jsstr_counts kept = jsstr_reserved(&a->handle);
   if (few && before->words == UINT32_MAX) {
-    jsstr_use after = jsstr_totals_unchecked(&a->handle);
+    jsstr_use after = jsstr_room_of(&a->handle);
     uint32_t taken = kept.ids < a->ids || (no_ids && kept.ids + 1 == after.ids - before->ids);
     a->ids = kept.ids + taken, a->words = kept.words + (taken ? words : 0), before->ids = after.ids;
     return;
@@ -140,7 +140,7 @@ static void renewed(agent *a, jsstr_use *before, uint32_t most, uint32_t words) 
 /* A string of these units was made, or interned as a new one, of what is reserved, where that suffices, and then nothing
    was used; else nothing is taken of it. */
 static int is_taken(agent *a, jsstr_use before, jsstr_answer s, const uint16_t *units, uint32_t len) {
-  jsstr_use after = jsstr_totals_unchecked(&a->handle);
+  jsstr_use after = jsstr_room_of(&a->handle);
   if (!takes(a, units, len)) return jsstr_reserved(&a->handle).ids == a->ids;
   return s.status == JSSTR_DONE && before.ids == after.ids && (before.words == after.words || before.words == UINT32_MAX);
 }
@@ -155,7 +155,7 @@ static int is_renewed(agent *a, jsstr_use before, jsstr_answer s, const uint16_t
 /* The same of a rope or a slice, which takes an id and no word, if it takes any. */
 static int is_linked(agent *a, jsstr_use before) {
   renewed(a, &before, 0, 0);
-  jsstr_use after = jsstr_totals_unchecked(&a->handle);
+  jsstr_use after = jsstr_room_of(&a->handle);
   if (jsstr_reserved(&a->handle).ids == a->ids) return 1;
   a->ids--;
   return before.ids == after.ids;
@@ -575,10 +575,10 @@ static void build(agent *a) {
   case 2: case 3: append_given(); break;
   default: finish(a);
   }
-  CHECK(jsstr_built_length(&built.handle) == built.len);
+  CHECK(built.handle.len == built.len);
   if (chance(50)) return;
   jsstr_drop_builder(&built.handle);
-  CHECK(!built.handle.at && !built.handle.live && jsstr_built_length(&built.handle) == 0);
+  CHECK(!built.handle.at && !built.handle.live && built.handle.len == 0);
   built.len = 0;
 }
 
@@ -587,7 +587,7 @@ static void gauge(agent *a) {
   jsstr_room room = jsstr_room_of(&a->handle);
   if (!a->handle.live) { CHECK(room.status == JSSTR_BAD_ARGUMENT && !room.ids && !room.words && !room.all_ids && !room.seen_slots); return; }
   lawful++;
-  jsstr_use use = jsstr_totals_unchecked(&a->handle);
+  jsstr_use use = jsstr_room_of(&a->handle);
   uint32_t known = 0, keys = 0;
   for (int i = 0; i < IDS; i++) known += a->known[i], keys += a->interned[i];
   CHECK(room.status == JSSTR_DONE && room.all_ids == IDS && room.all_words == WORDS && room.slots == SLOTS);
@@ -608,7 +608,7 @@ static void same(agent *a) {
 
 static void count(agent *a) {
   jsstr_number share = jsstr_share(&a->handle), lists = jsstr_count_interned(&a->handle);
-  jsstr_counts used = jsstr_totals(&a->handle);
+  jsstr_room used = jsstr_room_of(&a->handle);
   CHECK(a->handle.live ? share.status == JSSTR_DONE && share.value == a->share : share.status == JSSTR_BAD_ARGUMENT);
   if (a->share < AGENTS) { CHECK(lists.status == JSSTR_BAD_ARGUMENT && used.status == JSSTR_BAD_ARGUMENT); return; }
   lawful++;
@@ -633,7 +633,7 @@ static void reserve(agent *a) {
   jsstr_answer s = jsstr_reserve(&a->handle, ids, words);
   if (!a->handle.live) { CHECK(s.status == JSSTR_BAD_ARGUMENT); return; }
   lawful++;
-  jsstr_use after = jsstr_totals_unchecked(&a->handle);
+  jsstr_use after = jsstr_room_of(&a->handle);
   jsstr_counts kept = jsstr_reserved(&a->handle);
   CHECK(kept.status == JSSTR_DONE && kept.ids - a->ids == after.ids - before.ids);
   CHECK(s.status == JSSTR_DONE ? !s.id && kept.ids == a->ids + ids : refused_for_room(s.status));

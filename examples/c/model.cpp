@@ -106,7 +106,7 @@ bool is_seen(int i) {
     && !handles[i].at == !a.heap && !handles[i].live == !a.heap;
 }
 
-bool all_are_seen(std::initializer_list<int> who) { return std::all_of(who.begin(), who.end(), is_seen) && jsstr_built_length(&text) == world.built.size(); }
+bool all_are_seen(std::initializer_list<int> who) { return std::all_of(who.begin(), who.end(), is_seen) && text.len == world.built.size(); }
 
 // Ends where an agent sees something else than the model has.
 void check_seen(std::initializer_list<int> who) {
@@ -311,9 +311,9 @@ void settle() {
   int i = some_agent();
   jsstr_id s = some_id(i);
   bool ok = agent(i).knows(s);
-  play("is_settled", NOTHING, {i}, [&] { return EITHER(ok && one_in(3), is_settled, value, &handles[i], s); }, [&] { return ok ? value(is_settled(i, s)) : REFUSED; });
+  play("is_settled", NOTHING, {i}, [&] { return answer(jsstr_is_settled(&handles[i], s)); }, [&] { return ok ? value(is_settled(i, s)) : REFUSED; });
   if (one_in(2)) return;
-  play("settle", NOTHING, {i}, [&] { return EITHER(ok && one_in(3), settle, answer, &handles[i], s); }, [&] {
+  play("settle", NOTHING, {i}, [&] { return answer(jsstr_settle(&handles[i], s)); }, [&] {
     Answer settled = ok ? agent(i).heap->settle(s) : REFUSED;
     return settled.is_done() ? value(s) : settled;
   });
@@ -350,7 +350,7 @@ void read() {
   bool ok = agent(i).knows(s) && from + count <= length, u = ok && is_settled(i, s) && one_in(3);
   Text part;
   blank(units_out, count + 8);
-  play("read", NOTHING, {i}, [&] { return NO_ANSWER(u, read, &handles[i], s, from, units_out, count); }, [&] {
+  play("read", NOTHING, {i}, [&] { return answer(jsstr_read(&handles[i], s, from, units_out, count)); }, [&] {
     return once_settled(i, s, ok, [&] { part = units_of(i, s).substr(from, count); return answer(JSSTR_DONE); });
   });
   wrote(units_out, part);
@@ -365,7 +365,7 @@ void read_all() {
   Text all;
   blank(units_out, room + 8);
   play("length", NOTHING, {i}, [&] { return EITHER(ok && one_in(3), length, value, &handles[i], s); }, [&] { return ok ? value(uint32_t(length)) : REFUSED; });
-  play("read_all", NOTHING, {i}, [&] { return EITHER(u, read_all, answer, &handles[i], s, units_out, room); }, [&] {
+  play("read_all", NOTHING, {i}, [&] { return answer(jsstr_read_all(&handles[i], s, units_out, room)); }, [&] {
     return once_settled(i, s, ok, [&] {
       if (room >= length) all = units_of(i, s);
       return Answer{uint32_t(room < length ? JSSTR_NO_ROOM : JSSTR_DONE), 0, uint32_t(length)};
@@ -396,7 +396,7 @@ void encode() {
   Bytes written;
   blank(bytes_out, room + 8);
   play(is_utf8 ? "to_utf8" : "to_latin1", NOTHING, {i}, [&] {
-    return is_utf8 ? EITHER(u, to_utf8, answer, &handles[i], s, unpaired, bytes_out, room) : EITHER(u, to_latin1, answer, &handles[i], s, bytes_out, room);
+    return is_utf8 ? answer(jsstr_to_utf8(&handles[i], s, unpaired, bytes_out, room)) : answer(jsstr_to_latin1(&handles[i], s, bytes_out, room));
   }, [&] { return once_settled(i, s, ok, [&] { return encoded(right, unmapped, room, written); }); });
   wrote(bytes_out, written);
 }
@@ -405,7 +405,7 @@ void number_of() {
   int i = some_agent();
   jsstr_id s = some_id(i);
   bool ok = agent(i).knows(s), u = is_settled(i, s) && one_in(3), hashes = one_in(2);
-  play(hashes ? "hash" : "array_index", NOTHING, {i}, [&] { return hashes ? EITHER(u, hash, value, &handles[i], s) : EITHER(u, array_index, answer, &handles[i], s); }, [&] {
+  play(hashes ? "hash" : "array_index", NOTHING, {i}, [&] { return hashes ? EITHER(u, hash, value, &handles[i], s) : answer(jsstr_array_index(&handles[i], s)); }, [&] {
     return once_settled(i, s, ok, [&] { return hashes ? value(hash_of(units_of(i, s))) : array_index(units_of(i, s)); });
   });
 }
@@ -441,7 +441,7 @@ void compare() {
   int i = some_agent();
   jsstr_id a = some_id(i), b = one_in(9) ? a : some_id(i);
   bool ok = agent(i).knows(a) && agent(i).knows(b), u = is_settled(i, a) && is_settled(i, b) && one_in(3), orders = one_in(2);
-  play(orders ? "compare" : "equal", NOTHING, {i}, [&] { return orders ? EITHER(u, compare, value, &handles[i], a, b) : EITHER(u, equal, value, &handles[i], a, b); }, [&] {
+  play(orders ? "compare" : "equal", NOTHING, {i}, [&] { return orders ? answer(jsstr_compare(&handles[i], a, b)) : EITHER(u, equal, value, &handles[i], a, b); }, [&] {
     return once_settled(i, a, ok, [&] {
       return once_settled(i, b, true, [&] { return orders ? order(units_of(i, a), units_of(i, b)) : value(units_of(i, a) == units_of(i, b)); });
     });
@@ -457,9 +457,9 @@ void compare_given() {
   bool ok = agent(i).knows(s) && !g.is_too_long(), u = ok && is_settled(i, s) && one_in(3), orders = one_in(2);
   jsstr_agent *a = &handles[i];
   play(orders ? "compare_given" : "equals_given", NOTHING, {i}, [&] {
-    if (g.kind == UNITS) return orders ? EITHER(u, compare_units, value, a, s, g.list(), g.len) : EITHER(u, equals_units, value, a, s, g.list(), g.len);
-    if (g.kind == LATIN1) return orders ? EITHER(u, compare_latin1, value, a, s, g.bytes.data(), g.len) : EITHER(u, equals_latin1, value, a, s, g.bytes.data(), g.len);
-    return orders ? EITHER(u, compare_utf8, answer, a, s, g.bytes.data(), g.len) : EITHER(u, equals_utf8, answer, a, s, g.bytes.data(), g.len);
+    if (g.kind == UNITS) return orders ? answer(jsstr_compare_units(a, s, g.list(), g.len)) : answer(jsstr_equals_units(a, s, g.list(), g.len));
+    if (g.kind == LATIN1) return orders ? answer(jsstr_compare_latin1(a, s, g.bytes.data(), g.len)) : answer(jsstr_equals_latin1(a, s, g.bytes.data(), g.len));
+    return orders ? answer(jsstr_compare_utf8(a, s, g.bytes.data(), g.len)) : answer(jsstr_equals_utf8(a, s, g.bytes.data(), g.len));
   }, [&] {
     if (ok && g.fault != SIZE_MAX) return Answer{JSSTR_NOT_UTF8};
     return once_settled(i, s, ok, [&] { return orders ? order(units_of(i, s), g.units) : value(units_of(i, s) == g.units); });
@@ -474,8 +474,8 @@ void search() {
   jsstr_agent *a = &handles[i];
   const char *const names[] = {"starts_with", "index_of", "last_index_of"};
   play(names[kind], NOTHING, {i}, [&] {
-    if (kind == 0) return EITHER(u, starts_with, value, a, hay, needle, at);
-    return kind == 1 ? EITHER(u, index_of, answer, a, hay, needle, at) : EITHER(u, last_index_of, answer, a, hay, needle, at);
+    if (kind == 0) return answer(jsstr_starts_with(a, hay, needle, at));
+    return kind == 1 ? answer(jsstr_index_of(a, hay, needle, at)) : answer(jsstr_last_index_of(a, hay, needle, at));
   }, [&] {
     return once_settled(i, hay, ok, [&] {
       return once_settled(i, needle, true, [&] {
@@ -515,7 +515,7 @@ void many() {
   ends.push_back(0);
   size_t count = ends.size() - 1;
   play("intern_many", QUIET, {i}, [&] {
-    return EITHER(u, intern_many, answer, &handles[i], reinterpret_cast<const uint16_t *>(units.data()), units.size(), ends.data(), count, ids, room);
+    return answer(jsstr_intern_many(&handles[i], reinterpret_cast<const uint16_t *>(units.data()), units.size(), ends.data(), count, ids, room));
   }, [&] {
     right.clear();
     if (!ok) return REFUSED;
@@ -534,12 +534,12 @@ void keys() {
   int i = some_agent();
   jsstr_id s = some_key(i), t = one_in(2) ? s : some_key(i);
   bool is_live = agent(i).heap, ok = agent(i).has_interned(s), both = ok && agent(i).has_interned(t), u = one_in(3);
-  play("is_interned", NOTHING, {i}, [&] { return EITHER(is_live && u, is_interned, value, &handles[i], s); }, [&] { return is_live ? value(ok) : REFUSED; });
-  play("same", NOTHING, {i}, [&] { return EITHER(both && u, same, value, &handles[i], s, t); }, [&] { return both ? value(s == t) : REFUSED; });
-  play("slot_of", NOTHING, {i}, [&] { return EITHER(ok && u, slot_of, value, &handles[i], s); }, [&] { return ok ? value(agent(i).heap->slot_for(units_of(i, s))) : REFUSED; });
+  play("is_interned", NOTHING, {i}, [&] { return answer(jsstr_is_interned(&handles[i], s)); }, [&] { return is_live ? value(ok) : REFUSED; });
+  play("same", NOTHING, {i}, [&] { return answer(jsstr_same(&handles[i], s, t)); }, [&] { return both ? value(s == t) : REFUSED; });
+  play("slot_of", NOTHING, {i}, [&] { return answer(jsstr_slot_of(&handles[i], s)); }, [&] { return ok ? value(agent(i).heap->slot_for(units_of(i, s))) : REFUSED; });
   uint32_t slot = one_in(20) ? chance(1u << 31) * 2 : chance(is_live ? agent(i).heap->size.slots + 1 : 9);
   bool there = is_live && slot < agent(i).heap->size.slots;
-  play("adopt", NOTHING, {i}, [&] { return EITHER(there && u, adopt, answer, &handles[i], slot); }, [&] { return there ? agent(i).adopt(slot) : REFUSED; });
+  play("adopt", NOTHING, {i}, [&] { return answer(jsstr_adopt(&handles[i], slot)); }, [&] { return there ? agent(i).adopt(slot) : REFUSED; });
 }
 
 // A copy for another agent: of the same heap, or of the other one.
@@ -550,7 +550,7 @@ void carry() {
   bool ok = agent(i).knows(s) && agent(j).heap, interns = one_in(2), u = ok && is_settled(i, s) && one_in(3);
   auto settles = [&] { if (ok) agent(i).heap->settle(s); };
   play(interns ? "intern_into" : "copy_into", MAY, {i, j}, [&] {
-    return interns ? EITHER(u, intern_into, answer, &handles[i], s, &handles[j]) : EITHER(u, copy_into, answer, &handles[i], s, &handles[j]);
+    return interns ? answer(jsstr_intern_into(&handles[i], s, &handles[j])) : answer(jsstr_copy_into(&handles[i], s, &handles[j]));
   }, [&] {
     if (!ok) return REFUSED;
     Answer settled = agent(i).heap->settle(s);
@@ -609,7 +609,7 @@ void build() {
   int i = some_agent();
   bool ok = agent(i).heap, interns = one_in(2), u = ok && one_in(3);
   play(interns ? "built_interned" : "built", interns ? QUIET : making(i), {i}, [&] {
-    return interns ? EITHER(u, built_interned, answer, &text, &handles[i]) : EITHER(u, built, answer, &text, &handles[i]);
+    return interns ? answer(jsstr_built_interned(&text, &handles[i])) : answer(jsstr_built(&text, &handles[i]));
   }, [&] {
     Answer made = !ok ? REFUSED : interns ? agent(i).intern_units(world.built) : agent(i).make(world.built);
     if (made.is_done()) world.built.clear();
@@ -618,7 +618,7 @@ void build() {
   if (!one_in(9)) return;
   jsstr_drop_builder(&text);
   world.built.clear();
-  CHECK(!text.at && !text.live && jsstr_built_length(&text) == 0);
+  CHECK(!text.at && !text.live && text.len == 0);
 }
 
 // ---- Agents
@@ -646,7 +646,7 @@ void join() {
   int i = int(chance(AGENTS)), j = int(chance(AGENTS));
   if (i == j) return;
   bool ok = agent(i).heap && agent(j).heap && agent(j).giver == agent(i).number, u = ok && one_in(3);
-  play("join", NOTHING, {i, j}, [&] { return NO_ANSWER(u, join, &handles[i], &handles[j]); }, [&] {
+  play("join", NOTHING, {i, j}, [&] { return answer(jsstr_join(&handles[i], &handles[j])); }, [&] {
     if (!ok) return REFUSED;
     agent(i).join(agent(j));
     return answer(JSSTR_DONE);
@@ -659,7 +659,7 @@ void drop() {
   for (int j = 0; j < FAR; j++) live += agent(j).heap != nullptr;
   bool ok = agent(i).heap;
   if (!one_in(12) || (ok && live < 2)) return;
-  play("free", NOTHING, {i}, [&] { return NO_ANSWER(ok && one_in(3), free, &handles[i]); }, [&] {
+  play("free", NOTHING, {i}, [&] { return answer(jsstr_free(&handles[i])); }, [&] {
     agent(i) = Agent();
     return ok ? answer(JSSTR_DONE) : REFUSED;
   });
@@ -669,9 +669,9 @@ void count() {
   int i = some_agent();
   const Agent &a = agent(i);
   bool is_whole = a.heap && a.share == a.heap->shares, u = is_whole && one_in(3);
-  play("share", NOTHING, {i}, [&] { return EITHER(a.heap && one_in(3), share, value, &handles[i]); }, [&] { return a.heap ? value(a.share) : REFUSED; });
-  play("totals", NOTHING, {i}, [&] { return EITHER(u, totals, value, &handles[i]); }, [&] { return is_whole ? Answer{JSSTR_DONE, a.heap->ids, a.heap->words} : REFUSED; });
-  play("count_interned", NOTHING, {i}, [&] { return EITHER(u, count_interned, value, &handles[i]); }, [&] { return is_whole ? value(a.heap->used_slots()) : REFUSED; });
+  play("share", NOTHING, {i}, [&] { return answer(jsstr_share(&handles[i])); }, [&] { return a.heap ? value(a.share) : REFUSED; });
+  play("totals", NOTHING, {i}, [&] { return answer(jsstr_totals(&handles[i])); }, [&] { return is_whole ? Answer{JSSTR_DONE, a.heap->ids, a.heap->words} : REFUSED; });
+  play("count_interned", NOTHING, {i}, [&] { return answer(jsstr_count_interned(&handles[i])); }, [&] { return is_whole ? value(a.heap->used_slots()) : REFUSED; });
   if (!a.heap) return;
   CHECK(answer(jsstr_room_of_unchecked(&handles[i])) == answer(jsstr_room_of(&handles[i])) && value(jsstr_reserved_unchecked(&handles[i])) == answer(jsstr_reserved(&handles[i])));
 }
@@ -684,7 +684,7 @@ void reserve() {
   uint32_t ids = some_block(a.heap ? a.heap->size.ids : 9), words = some_block(a.heap ? a.heap->size.words : 9);
   if (ids > 600) ids = 600;
   bool u = a.heap && one_in(3);
-  play("reserve", a.heap ? MAY : NOTHING, {i}, [&] { return EITHER(u, reserve, answer, &handles[i], ids, words); }, [&] { return agent(i).heap ? agent(i).reserve(ids, words) : REFUSED; }, [&] {
+  play("reserve", a.heap ? MAY : NOTHING, {i}, [&] { return answer(jsstr_reserve(&handles[i], ids, words)); }, [&] { return agent(i).heap ? agent(i).reserve(ids, words) : REFUSED; }, [&] {
     uint32_t had = uint32_t(agent(i).ids.size()), has = jsstr_reserved(&handles[i]).ids;
     CHECK(has >= had && has < had + ids);
     agent(i).reserve(has - had, words);
@@ -696,7 +696,7 @@ void renew() {
   jsstr_use blocks = {some_block(400), some_block(2000)};
   if (one_in(3)) blocks = {0, 0};
   bool ok = agent(i).heap, u = ok && one_in(3);
-  play("renew", NOTHING, {i}, [&] { return NO_ANSWER(u, renew, &handles[i], blocks.ids, blocks.words); }, [&] {
+  play("renew", NOTHING, {i}, [&] { return answer(jsstr_renew(&handles[i], blocks.ids, blocks.words)); }, [&] {
     if (ok) agent(i).blocks = blocks;
     return ok ? answer(JSSTR_DONE) : REFUSED;
   });

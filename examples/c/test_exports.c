@@ -83,7 +83,7 @@ static void refuse_calls(void) {
   CHECK(one.status == JSSTR_DONE && jsstr_count_interned(&agent).value == 1);
   jsstr_answer slots = jsstr_intern(&agent, empty.id);
   CHECK(slots.status == JSSTR_NO_SLOTS && slots.end == 1);
-  jsstr_counts use = jsstr_totals(&agent);
+  jsstr_room use = jsstr_room_of(&agent);
   CHECK(use.status == JSSTR_DONE && use.ids == 3 && use.words == 2);
   jsstr_answer ids = jsstr_from_units(&agent, &x, 0);
   CHECK(ids.status == JSSTR_NO_IDS && ids.at == 3 && ids.want == 1 && ids.end == 3);
@@ -185,7 +185,7 @@ static void every_byte(void) {
   jsstr_answer s = jsstr_from_latin1(&agent, bytes, 256);
   CHECK(s.status == JSSTR_DONE && jsstr_length(&agent, s.id).value == 256);
   CHECK(jsstr_read(&agent, s.id, 0, got, 256) == JSSTR_DONE);
-  CHECK(memcmp(want, got, sizeof want) == 0 && jsstr_totals(&agent).words == 32);
+  CHECK(memcmp(want, got, sizeof want) == 0 && jsstr_room_of(&agent).words == 32);
   jsstr_answer t = jsstr_from_units(&agent, want, 256);
   CHECK(t.status == JSSTR_DONE && jsstr_intern(&agent, s.id).id == jsstr_intern(&agent, t.id).id);
   jsstr_free(&agent);
@@ -244,9 +244,9 @@ static void refuse_strings(void) {
   jsstr_id t = made(&a, "another");
   CHECK(jsstr_same(&a, one.id, t).status == JSSTR_BAD_ARGUMENT);
   /* Neither agent has the whole share. */
-  CHECK(jsstr_totals(&a).status == JSSTR_BAD_ARGUMENT && jsstr_count_interned(&b).status == JSSTR_BAD_ARGUMENT);
+  CHECK(jsstr_room_of(&a).status == JSSTR_BAD_ARGUMENT && jsstr_count_interned(&b).status == JSSTR_BAD_ARGUMENT);
   CHECK(jsstr_join(&a, &b) == JSSTR_DONE && jsstr_length(&a, none[0]).value == 18);
-  CHECK(jsstr_totals(&a).status == JSSTR_DONE && jsstr_free(&a) == JSSTR_DONE);
+  CHECK(jsstr_room_of(&a).status == JSSTR_DONE && jsstr_free(&a) == JSSTR_DONE);
 }
 
 static void refuse_parts(void) {
@@ -346,7 +346,7 @@ static void unchecked(void) {
   CHECK(jsstr_find_utf8_unchecked(&a, (const uint8_t *)"units of ", 9).id == key && !jsstr_is_interned_unchecked(&a, one));
   jsstr_join_unchecked(&a, &b);
   CHECK(!b.at && !b.live && jsstr_same(&a, i, j).holds);
-  CHECK(jsstr_count_interned_unchecked(&a) == 2 && jsstr_totals_unchecked(&a).ids == jsstr_totals(&a).ids);
+  CHECK(jsstr_count_interned_unchecked(&a) == 2 && jsstr_room_of(&a).ids == jsstr_room_of(&a).ids);
   jsstr_free_unchecked(&a);
   CHECK(!a.at && !a.live);
 }
@@ -362,14 +362,14 @@ static int is_string(jsstr_answer s, jsstr_id id) {
 }
 
 static int has_used(jsstr_agent *a, uint32_t ids, uint32_t words) {
-  jsstr_counts use = jsstr_totals(a);
+  jsstr_room use = jsstr_room_of(a);
   return use.status == JSSTR_DONE && use.ids == ids && use.words == words;
 }
 
 /* Units that aren't in the table, then are: an id and their words once, and never again. */
 static void intern_row(jsstr_agent *a, const uint16_t *units, uint32_t len, uint32_t words) {
   uint8_t bytes[16];
-  jsstr_counts use = jsstr_totals(a);
+  jsstr_room use = jsstr_room_of(a);
   uint32_t lists = jsstr_count_interned(a).value, narrow = 1;
   CHECK(is_bare(jsstr_find_units(a, units, len), JSSTR_NONE) && has_used(a, use.ids, use.words));
   jsstr_answer key = jsstr_intern_units(a, units, len);
@@ -434,7 +434,7 @@ static void fill_table(uint32_t slots) {
     for (int key = 0; key < 2 * (int)slots; key++) key_row(round % 2 ? &other : &one, key, ids, slots);
   }
   CHECK(jsstr_join(&one, &other) == JSSTR_DONE);
-  CHECK(jsstr_totals(&one).ids == slots && jsstr_count_interned(&one).value == slots && jsstr_free(&one) == JSSTR_DONE);
+  CHECK(jsstr_room_of(&one).ids == slots && jsstr_count_interned(&one).value == slots && jsstr_free(&one) == JSSTR_DONE);
 }
 
 static void intern_units(void) {
@@ -443,7 +443,7 @@ static void intern_units(void) {
   CHECK(jsstr_make((jsstr_size){100, 100, 20}, 1, 1000, &a) == JSSTR_DONE);
   for (uint32_t len = 0; len <= 9; len++) intern_row(&a, narrow, len, (len + 7) / 8);
   for (uint32_t len = 5; len <= 9; len++) intern_row(&a, wide, len, (len + 3) / 4);
-  jsstr_counts use = jsstr_totals(&a);
+  jsstr_room use = jsstr_room_of(&a);
   CHECK(is_bare(jsstr_find_units(&a, narrow, SIZE_MAX / 4), JSSTR_BAD_ARGUMENT));
   CHECK(is_bare(jsstr_intern_latin1(&a, (const uint8_t *)narrow, SIZE_MAX / 4), JSSTR_BAD_ARGUMENT));
   CHECK(is_bare(jsstr_find_utf8(&a, (const uint8_t *)narrow, SIZE_MAX / 4), JSSTR_BAD_ARGUMENT));
@@ -467,7 +467,7 @@ static void intern_again(void) {
     CHECK(one.status == JSSTR_DONE);
     keys[i] = one.id;
   }
-  jsstr_counts use = jsstr_totals(&a);
+  jsstr_room use = jsstr_room_of(&a);
   for (int round = 0; round < ROUNDS; round++) {
     for (int i = 0; i < STRINGS; i++) {
       CHECK(is_string(jsstr_intern(&a, ids[i]), keys[i]) && is_string(jsstr_intern(&a, keys[i]), keys[i]));
@@ -642,7 +642,7 @@ static void copies(void) {
     for (uint32_t len = 0; len <= 40; len += len < 10 ? 1 : 15) {
       for (uint32_t i = 0; i < len; i++) units[i] = (uint16_t)(wide && i % 3 ? 0xD800 + i : i + 1);
       jsstr_id s = jsstr_from_units(&a, units, len).id;
-      jsstr_counts use = jsstr_totals(&b), mine = jsstr_totals(&a);
+      jsstr_room use = jsstr_room_of(&b), mine = jsstr_room_of(&a);
       jsstr_answer copy = jsstr_copy_into(&a, s, &b), again = jsstr_copy_into_unchecked(&a, s, &b);
       uint32_t lanes = wide && len > 1 ? 4 : 8, words = (len + lanes - 1) / lanes;
       CHECK(is_string(copy, copy.id) && is_string(again, again.id) && copy.id != again.id);
@@ -655,7 +655,7 @@ static void copies(void) {
   jsstr_id part = jsstr_slice(&a, rope, 3, 20).id;
   CHECK(has_units(&b, jsstr_copy_into(&a, rope, &b).id, units, 30) && has_units(&b, jsstr_copy_into(&a, part, &b).id, units + 3, 17));
   jsstr_id key = jsstr_intern_into(&a, part, &b).id;
-  jsstr_counts use = jsstr_totals(&b);
+  jsstr_room use = jsstr_room_of(&b);
   CHECK(is_string(jsstr_intern_into(&a, part, &b), key) && is_string(jsstr_intern_into_unchecked(&a, part, &b), key));
   CHECK(is_string(jsstr_find_units(&b, units + 3, 17), key) && jsstr_is_interned(&b, key).holds && has_used(&b, use.ids, use.words));
   CHECK(jsstr_intern(&a, part).status == JSSTR_DONE && has_units(&b, jsstr_copy_into(&a, part, &b).id, units + 3, 17));
@@ -665,8 +665,8 @@ static void copies(void) {
   CHECK(within.status == JSSTR_DONE && within.id != left && has_units(&c, within.id, units, 15));
   CHECK(jsstr_intern_into(&a, part, &c).id == jsstr_intern(&c, part).id && jsstr_join(&a, &c) == JSSTR_DONE);
   /* Bad arguments change neither heap. */
-  use = jsstr_totals(&b);
-  jsstr_counts mine = jsstr_totals(&a);
+  use = jsstr_room_of(&b);
+  jsstr_room mine = jsstr_room_of(&a);
   CHECK(is_bare(jsstr_copy_into(&a, 199, &b), JSSTR_BAD_ARGUMENT) && is_bare(jsstr_intern_into(&a, UINT32_MAX, &b), JSSTR_BAD_ARGUMENT));
   CHECK(is_bare(jsstr_copy_into(&a, left, &c), JSSTR_BAD_ARGUMENT) && is_bare(jsstr_intern_into(&a, left, &c), JSSTR_BAD_ARGUMENT));
   CHECK(is_bare(jsstr_copy_into(&c, left, &a), JSSTR_BAD_ARGUMENT) && is_bare(jsstr_intern_into(&c, left, &a), JSSTR_BAD_ARGUMENT));
