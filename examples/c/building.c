@@ -70,20 +70,20 @@ static void refuse_row(jsstr_agent *a, jsstr_builder *text, const row *r) {
   const uint8_t *bytes = (const uint8_t *)r->bytes;
   uint32_t at = (uint32_t)r->fault;
   jsstr_room use = jsstr_room_of(a);
-  CHECK(is_fault(jsstr_from_wtf8(a, bytes, r->size), at) && is_fault(jsstr_from_wtf8_unchecked(a, bytes, r->size), at));
-  CHECK(is_fault(jsstr_intern_wtf8(a, bytes, r->size), at) && is_fault(jsstr_intern_wtf8_unchecked(a, bytes, r->size), at));
-  CHECK(is_fault(jsstr_find_wtf8(a, bytes, r->size), at) && is_fault(jsstr_find_wtf8_unchecked(a, bytes, r->size), at));
+  CHECK(is_fault(jsstr_from_wtf8(a, bytes, r->size), at));
+  CHECK(is_fault(jsstr_intern_wtf8(a, bytes, r->size), at));
+  CHECK(is_fault(jsstr_find_wtf8(a, bytes, r->size), at));
   CHECK(is_fault(jsstr_build_wtf8(text, bytes, r->size), at) && text->len == 0 && has_used(a, use.ids, use.words));
 }
 
 static void read_row(jsstr_agent *a, jsstr_builder *text, const row *r) {
   const uint8_t *bytes = (const uint8_t *)r->bytes;
-  CHECK(is_bare(jsstr_find_wtf8(a, bytes, r->size), JSSTR_NONE) && is_bare(jsstr_find_wtf8_unchecked(a, bytes, r->size), JSSTR_NONE));
-  jsstr_answer s = jsstr_from_wtf8(a, bytes, r->size), t = jsstr_from_wtf8_unchecked(a, bytes, r->size), key = jsstr_intern_wtf8(a, bytes, r->size);
+  CHECK(is_bare(jsstr_find_wtf8(a, bytes, r->size), JSSTR_NONE));
+  jsstr_answer s = jsstr_from_wtf8(a, bytes, r->size), t = jsstr_from_wtf8(a, bytes, r->size), key = jsstr_intern_wtf8(a, bytes, r->size);
   CHECK(is_string(s, s.id) && is_string(t, t.id) && is_string(key, key.id) && s.id != t.id);
   CHECK(has_units(a, s.id, r->units, r->len) && has_units(a, t.id, r->units, r->len) && has_units(a, key.id, r->units, r->len));
-  CHECK(is_string(jsstr_intern_wtf8_unchecked(a, bytes, r->size), key.id) && is_string(jsstr_find_units(a, r->units, r->len), key.id));
-  CHECK(is_string(jsstr_find_wtf8(a, bytes, r->size), key.id) && is_string(jsstr_find_wtf8_unchecked(a, bytes, r->size), key.id));
+  CHECK(is_string(jsstr_intern_wtf8(a, bytes, r->size), key.id) && is_string(jsstr_find_units(a, r->units, r->len), key.id));
+  CHECK(is_string(jsstr_find_wtf8(a, bytes, r->size), key.id));
   CHECK(is_bare(jsstr_build_wtf8(text, bytes, r->size), JSSTR_DONE) && is_string(jsstr_built_interned(text, a), key.id));
   CHECK(is_written(a, s.id, bytes, r->size));
 }
@@ -144,7 +144,7 @@ static void try_all(jsstr_agent *a, jsstr_builder *text, const uint8_t *b, size_
     size_t good = well(b, n, wtf8);
     jsstr_room use = jsstr_room_of(a);
     const jsstr_answer told[] = {
-      (wtf8 ? jsstr_from_wtf8 : jsstr_from_utf8)(a, b, n), (wtf8 ? jsstr_from_wtf8_unchecked : jsstr_from_utf8_unchecked)(a, b, n),
+      (wtf8 ? jsstr_from_wtf8 : jsstr_from_utf8)(a, b, n),
       (wtf8 ? jsstr_intern_wtf8 : jsstr_intern_utf8)(a, b, n), (wtf8 ? jsstr_find_wtf8 : jsstr_find_utf8)(a, b, n),
       (wtf8 ? jsstr_build_wtf8 : jsstr_build_utf8)(text, b, n)};
     for (size_t i = 0; i < sizeof told / sizeof *told; i++) CHECK(good < n ? is_fault(told[i], (uint32_t)good) : told[i].status == JSSTR_DONE);
@@ -219,13 +219,12 @@ static void append(void) {
     CHECK(is_bare(jsstr_build_utf8(&text, (const uint8_t *)"\xF0\x9F\x98\x80", 4), JSSTR_DONE) && text.len == 6);
     CHECK(is_bare(jsstr_build_wtf8(&text, (const uint8_t *)TRAIL, 3), JSSTR_DONE) && text.len == 7);
     jsstr_id rope = made(&a, "rope"), others = made(&b, "of b");
-    CHECK((round % 2 ? jsstr_build_string_unchecked : jsstr_build_string)(&text, &a, rope) == JSSTR_DONE && text.len == 11);
+    CHECK(jsstr_build_string(&text, &a, rope) == JSSTR_DONE && text.len == 11);
     CHECK(jsstr_build_string(&text, &a, others) == JSSTR_BAD_ARGUMENT && jsstr_build_string(&text, &a, JSSTR_NO_STRING) == JSSTR_BAD_ARGUMENT);
     CHECK(is_fault(jsstr_build_utf8(&text, (const uint8_t *)"abc" LEAD, 6), 3) && is_fault(jsstr_build_wtf8(&text, (const uint8_t *)LEAD TRAIL, 6), 3));
     CHECK(text.len == 11 && jsstr_build_number(&text, -7) == JSSTR_DONE && text.len == 13);
     jsstr_room room = jsstr_room_of(&a);
-    jsstr_answer s = round == 0 ? jsstr_built(&text, &a) : round == 1 ? jsstr_built_unchecked(&text, &a)
-      : round == 2 ? jsstr_built_interned(&text, &a) : jsstr_built_interned_unchecked(&text, &a);
+    jsstr_answer s = round < 2 ? jsstr_built(&text, &a) : jsstr_built_interned(&text, &a);
     CHECK(is_string(s, s.id) && has_units(&a, s.id, all, 13) && text.len == 0 && jsstr_is_settled(&a, s.id).holds);
     CHECK(jsstr_is_interned(&a, s.id).holds == (round > 1) && jsstr_room_of(&a).ids == room.ids + (round < 3) && jsstr_room_of(&a).words == room.words + (round < 3 ? 4 : 0));
     jsstr_answer empty = jsstr_built(&text, &a);
@@ -292,8 +291,7 @@ static void two_heaps(void) {
     jsstr_id key = jsstr_intern_latin1(&full, (const uint8_t *)"only one", 8).id;
     CHECK(jsstr_build_latin1(&text, (const uint8_t *)"nine units", 10) == JSSTR_DONE);
     for (int form = i < 2 ? 0 : 2; form < 4; form++) {
-      jsstr_answer s = form == 0 ? jsstr_built(&text, &full) : form == 1 ? jsstr_built_unchecked(&text, &full)
-        : form == 2 ? jsstr_built_interned(&text, &full) : jsstr_built_interned_unchecked(&text, &full);
+      jsstr_answer s = form < 2 ? jsstr_built(&text, &full) : jsstr_built_interned(&text, &full);
       CHECK(!memcmp(&s, &refusals[i], sizeof s) && text.len == 10);
     }
     jsstr_answer kept = i % 2 ? jsstr_built(&text, &other) : jsstr_built_interned(&text, &other);

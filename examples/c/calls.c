@@ -18,7 +18,6 @@ static answer truth(jsstr_truth t) { return ANSWER(t.status, t.holds); }
 static answer order(jsstr_order o) { return ANSWER(o.status, (uint32_t)o.order); }
 static answer place(jsstr_place p) { return ANSWER(p.status, p.at); }
 static answer bytes(jsstr_bytes b) { return ANSWER(b.status, b.at, b.size); }
-static answer use(jsstr_use u) { return ANSWER(JSSTR_DONE, u.ids, u.words); }
 static answer used(jsstr_counts u) { return ANSWER(u.status, u.ids, u.words); }
 static answer room(jsstr_room r) { return ANSWER(r.status, r.ids, r.words, r.all_ids, r.all_words, r.slots, r.seen_slots); }
 

@@ -1,4 +1,4 @@
-/* Every call of jsstr.h, in both forms, and the same calls by jsstr.hpp: what each answers, what it uses of the heap, what it refuses, and
+/* Every call of jsstr.h and jsstr_unchecked.h, and the same calls by jsstr.hpp: what each answers, what it uses of the heap, what it refuses, and
    whether it allocates. The table below has a row for each, with the answer that jsstr.h and docs/HEAP.md give; a new call has its rows
    there. calls.c makes the calls of C, calls.cpp those of C++; play.h has what both look at. */
 #ifndef CALLS_H
@@ -15,7 +15,7 @@ typedef char any_byte;
 #define ANSWER(...) answer{{__VA_ARGS__}}
 #define ID(string) (string).id()
 #else
-#include "jsstr.h"
+#include "jsstr_unchecked.h"
 typedef jsstr_agent any_agent;
 typedef jsstr_builder any_builder;
 typedef jsstr_id any_string, any_key;

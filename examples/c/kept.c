@@ -31,7 +31,7 @@ static size_t list(int i, uint16_t *units) {
    has none. */
 static void row(jsstr_agent *a, uint16_t *units, size_t n, jsstr_id id) {
   CHECK(is_string(jsstr_find_units(a, units, n), id) && is_string(jsstr_intern_units(a, units, n), id));
-  CHECK(is_string(jsstr_intern_units_unchecked(a, units, n), id) && is_string(jsstr_find_units_unchecked(a, units, n), id));
+  CHECK(is_string(jsstr_intern_units(a, units, n), id) && is_string(jsstr_find_units(a, units, n), id));
   CHECK(jsstr_is_interned(a, id).holds && jsstr_equals_units(a, id, units, n).holds);
   if (!n) return;
   units[n - 1] ^= 0x8000;

@@ -1,6 +1,6 @@
 /* Strings and texts of the greatest length, and of one unit more. It needs 3 GB of memory: where less is free it says so,
    and ends with 77. Prints "ok". */
-#include "jsstr.h"
+#include "jsstr_unchecked.h"
 #include <stdio.h>
 #include <stdlib.h>
 #include <string.h>
