@@ -142,13 +142,9 @@ static long play(const row *r, answer *got) {
   return count;
 }
 
-/* What a refusal for lack of memory may leave: a rope that is settled, or what was claimed before its ids. */
+/* What a refusal for lack of memory may leave: a rope that is settled. */
 static state left_by(const row *r, world *w, state before) {
   state now = seen(w);
-  if (r->memory == MEMORY_RESERVED) {
-    CHECK(now.ids[0] < before.ids[0] + 3 && jsstr_reserved(&w->one).words == 4);
-    before.ids[0] = now.ids[0], before.words[0] += 4;
-  }
   if ((r->memory == MEMORY_SETTLED || r->memory == MEMORY_NOTED) && now.is_settled && !before.is_settled) before.is_settled = 1, before.words[0] += 3;
   return before;
 }

@@ -29,7 +29,7 @@ typedef uint8_t any_byte;
 
 /* What a call does for its answer: it allocates nothing; or it does; or it does, and has settled a rope before that; or it
    does beside its answer, or for its answer and beside it too; or for the ids that it claims after its words. */
-enum takes { NOTHING, MEMORY, MEMORY_SETTLED, MEMORY_NOTED, MEMORY_RESERVED, NOTED };
+enum takes { NOTHING, MEMORY, MEMORY_SETTLED, MEMORY_NOTED, NOTED };
 
 /* Why a row has no call of C++: jsstr.hpp has none, or its types leave no way to make the one that is refused. */
 enum untried { NO_METHOD, IMPOSSIBLE };
@@ -90,10 +90,10 @@ static const any_byte key_bytes[] = "key", twin_bytes[] = "a plain onea plain on
   ROW(join_refused, NOTHING, told(jsstr_join(&w->one, &w->far)), w->one.join(std::move(w->far)), is_refused()) \
   ROW(share, NOTHING, number(jsstr_share(&w->one)), w->one.share(), is_number(2)) \
   ROW(share_refused, NOTHING, number(jsstr_share(&w->none)), w->none.share(), is_refused()) \
-  ROW(reserve, MEMORY_RESERVED, string(jsstr_reserve(&w->one, 3, 4)), w->one.reserve(3, 4), uses(is_done(), 3, 4)) \
+  ROW(reserve, MEMORY, string(jsstr_reserve(&w->one, 3, 4)), w->one.reserve(3, 4), uses(is_done(), 3, 4)) \
   ROW(reserve_refused, NOTHING, string(jsstr_reserve(&w->none, 3, 4)), w->none.reserve(3, 4), is_refused()) \
   ROW(reserve_words, NOTHING, string(jsstr_reserve(&w->one, 0, 4)), w->one.reserve(0, 4), uses(is_done(), 0, 4)) \
-  ROW(reserve_more_words, NOTHING, string(jsstr_reserve(&w->one, 3, 100)), w->one.reserve(3, 100), is_answer(JSSTR_NO_WORDS, 0, 9, 100, 64)) \
+  ROW(reserve_more_words, MEMORY, string(jsstr_reserve(&w->one, 3, 100)), w->one.reserve(3, 100), is_answer(JSSTR_NO_WORDS, 0, 9, 100, 64)) \
   ROW(renew, NOTHING, told(jsstr_renew(&w->one, 3, 4)), w->one.renew(3, 4), is_done()) \
   ROW(renew_refused, NOTHING, told(jsstr_renew(&w->none, 3, 4)), w->none.renew(3, 4), is_refused()) \
   ROW(renewing, NOTED, ((void)jsstr_renew(&w->one, 3, 4), string(jsstr_from_units(&w->one, UNITS))), (void(w->one.renew(3, 4)), w->one.from({UNITS})), is_string(&w->one, L"units\xE9", 3, 4)) \

@@ -114,7 +114,7 @@ static uint32_t words_of(const uint16_t *units, uint32_t len) {
   return (len + lanes - 1) / lanes;
 }
 
-/* What a copy of these units takes of what is reserved, where that suffices. */
+/* What a copy of these units, which are interned, takes of what is reserved: an id and its words, or nothing. */
 static int takes(agent *a, const uint16_t *units, uint32_t len) {
   uint32_t words = words_of(units, len);
   if (!a->ids || words > a->words) return 0;
@@ -123,19 +123,12 @@ static int takes(agent *a, const uint16_t *units, uint32_t len) {
 }
 
 /* What is renewed for a string that takes so many words, and needs at most `most`: a block of what is missing, if there is
-   one of all that is. What was left shows whether the words begin a new run. Where it isn't known what was used before,
-   what is left is believed. */
+   one of all that is. What was left shows whether the words begin a new run. */
 static void renewed(agent *a, use *before, uint32_t most, uint32_t words) {
   int no_ids = !a->ids, few = a->words < most;
   if (!(no_ids || few) || (no_ids && !a->blocks.ids) || (few && !a->blocks.words)) return;
   uint32_t more = !few ? 0 : most > a->blocks.words ? most : a->blocks.words;
   jsstr_counts kept = jsstr_reserved(&a->handle);
-  if (few && before->words == UINT32_MAX) {
-    use after = used_now(&a->handle);
-    uint32_t taken = kept.ids < a->ids || (no_ids && kept.ids + 1 == after.ids - before->ids);
-    a->ids = kept.ids + taken, a->words = kept.words + (taken ? words : 0), before->ids = after.ids;
-    return;
-  }
   if (few && more > WORDS - before->words) return;
   uint32_t ids = !no_ids ? 0 : a->blocks.ids < IDS - before->ids ? a->blocks.ids : IDS - before->ids;
   a->ids += ids, before->ids += ids;
@@ -144,19 +137,28 @@ static void renewed(agent *a, use *before, uint32_t most, uint32_t words) {
   a->words = kept.words + (a->ids ? words : 0) == a->words + more ? a->words + more : more;
 }
 
-/* A string of these units was made, or interned as a new one, of what is reserved, where that suffices, and then nothing
-   was used; else nothing is taken of it. */
-static int is_taken(agent *a, use before, jsstr_answer s, const uint16_t *units, uint32_t len) {
+/* A string of these units was made, or interned as a new one: it took the id, and the words, of what is reserved, each where
+   there is what it needs, and used what was lacking; interned, it took both or neither. A refusal is of what was lacking, and
+   leaves what is reserved. */
+static int is_taken(agent *a, use before, jsstr_answer s, const uint16_t *units, uint32_t len, int interns) {
   use after = used_now(&a->handle);
-  if (!takes(a, units, len)) return jsstr_reserved(&a->handle).ids == a->ids;
-  return s.status == JSSTR_DONE && before.ids == after.ids && (before.words == after.words || before.words == UINT32_MAX);
+  uint32_t words = words_of(units, len), id = a->ids > 0, has = words <= a->words;
+  if (interns && !(id && has)) id = has = 0;
+  if (s.status != JSSTR_DONE) return s.status == JSSTR_NO_IDS ? !id : s.status == JSSTR_NO_WORDS && !has;
+  a->ids -= id, a->words -= has ? words : 0;
+  return after.ids == before.ids + !id && (before.words == UINT32_MAX || after.words == before.words + (has ? 0 : words));
 }
 
-/* The same, and what is reserved was renewed before. */
-static int is_renewed(agent *a, use before, jsstr_answer s, const uint16_t *units, uint32_t len, int is_short) {
-  uint32_t words = words_of(units, len);
-  renewed(a, &before, is_short ? (len + 3) / 4 : words, words);
-  return is_taken(a, before, s, units, len);
+/* The same, and what is reserved was renewed before. Where it isn't known what was used before, what is left is believed. */
+static int is_renewed(agent *a, use before, jsstr_answer s, const uint16_t *units, uint32_t len, int is_short, int interns) {
+  uint32_t words = words_of(units, len), most = is_short ? (len + 3) / 4 : words;
+  if (before.words == UINT32_MAX && a->words < most && a->blocks.words) {
+    jsstr_counts kept = jsstr_reserved(&a->handle);
+    a->ids = kept.ids, a->words = kept.words;
+    return 1;
+  }
+  renewed(a, &before, most, words);
+  return is_taken(a, before, s, units, len, interns);
 }
 
 /* The same of a rope or a slice, which takes an id and no word, if it takes any. */
@@ -258,7 +260,7 @@ static void make(agent *a) {
   if (!a->handle.live) { CHECK(s.status == JSSTR_BAD_ARGUMENT); return; }
   lawful++;
   if (is_refused(&g, s)) return;
-  CHECK(is_renewed(a, before, s, g.units, g.len, 0));
+  CHECK(is_renewed(a, before, s, g.units, g.len, 0, 0));
   answered(a, s, g.units, g.len);
 }
 
@@ -273,7 +275,7 @@ static void concat(agent *a) {
   uint16_t units[LIMIT];
   memcpy(units, texts[l].units, m * 2);
   memcpy(units + m, texts[r].units, n * 2);
-  if (m && n) CHECK(m + n < 13 ? is_renewed(a, before, s, units, m + n, 1) : is_linked(a, before));
+  if (m && n) CHECK(m + n < 13 ? is_renewed(a, before, s, units, m + n, 1, 0) : is_linked(a, before));
   answered(a, s, units, m + n);
 }
 
@@ -285,7 +287,7 @@ static void slice(agent *a) {
   if (!knows(a, s) || from > to || to > len) { CHECK(t.status == JSSTR_BAD_ARGUMENT); return; }
   lawful++;
   if (to - from < len && jsstr_is_settled(&a->handle, s).holds)
-    CHECK(to - from < 13 ? is_renewed(a, before, t, texts[s].units + from, to - from, 1) : is_linked(a, before));
+    CHECK(to - from < 13 ? is_renewed(a, before, t, texts[s].units + from, to - from, 1, 0) : is_linked(a, before));
   answered(a, t, texts[s].units + from, to - from);
 }
 
@@ -339,7 +341,7 @@ static void carry(agent *a, agent *b) {
   jsstr_answer t = jsstr_copy_into(&a->handle, s, &b->handle);
   if (!knows(a, s) || !b->handle.live) { CHECK(t.status == JSSTR_BAD_ARGUMENT); return; }
   lawful++;
-  if (jsstr_is_settled(&a->handle, s).holds) CHECK(is_renewed(b, before, t, texts[s].units, texts[s].len, 0));
+  if (jsstr_is_settled(&a->handle, s).holds) CHECK(is_renewed(b, before, t, texts[s].units, texts[s].len, 0, 0));
   answered(b, t, texts[s].units, texts[s].len);
 }
 
@@ -467,7 +469,7 @@ static void key(agent *a) {
   if (!a->handle.live) { CHECK(one.status == JSSTR_BAD_ARGUMENT); return; }
   lawful++;
   if (is_refused(&g, one)) return;
-  if (!find && is_new(g.units, g.len)) CHECK(is_renewed(a, before, one, g.units, g.len, 0));
+  if (!find && is_new(g.units, g.len)) CHECK(is_renewed(a, before, one, g.units, g.len, 0, 1));
   if (find && !is_used(slot_for(g.units, g.len))) CHECK(one.status == JSSTR_NONE && !one.id);
   else interned(a, one, g.units, g.len);
 }
@@ -566,8 +568,8 @@ static void finish(agent *a) {
   int interns = (int)chance(2), here = chance(9) > 0;
   use before = used(a);
   jsstr_answer s = (interns ? jsstr_built_interned : jsstr_built)(&built.handle, here ? &a->handle : &stranger.handle);
-  if (here && a->handle.live && !interns) CHECK(is_renewed(a, before, s, built.units, built.len, 0));
-  if (here && a->handle.live && interns && is_new(built.units, built.len)) CHECK(is_renewed(a, before, s, built.units, built.len, 0));
+  if (here && a->handle.live && !interns) CHECK(is_renewed(a, before, s, built.units, built.len, 0, 0));
+  if (here && a->handle.live && interns && is_new(built.units, built.len)) CHECK(is_renewed(a, before, s, built.units, built.len, 0, 1));
   if (here && !a->handle.live) CHECK(s.status == JSSTR_BAD_ARGUMENT);
   else if (here) (interns ? interned : answered)(a, s, built.units, built.len);
   else CHECK(s.status == JSSTR_DONE || s.status == JSSTR_NO_IDS || s.status == JSSTR_NO_WORDS || s.status == JSSTR_NO_SLOTS);

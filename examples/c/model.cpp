@@ -679,7 +679,7 @@ void reserve() {
   play("reserve", a.heap ? MAY : NOTHING, {i}, [&] { return answer(jsstr_reserve(&handles[i], ids, words)); }, [&] { return agent(i).heap ? agent(i).reserve(ids, words) : REFUSED; }, [&] {
     uint32_t had = uint32_t(agent(i).ids.size()), has = jsstr_reserved(&handles[i]).ids;
     CHECK(has >= had && has < had + ids);
-    agent(i).reserve(has - had, words);
+    if (has > had) agent(i).reserve(has - had, words);
   });
 }
 

@@ -138,25 +138,27 @@ struct Agent {
     return count < id_count ? heap->no_ids() : Answer{JSSTR_DONE};
   }
 
-  // What is reserved is renewed for a string that needs at most so many words. The words are claimed before it shows whether there is memory for
-  // the list of the ids.
+  // What is reserved is renewed for a string that needs at most so many words. Without memory for the list of the ids nothing is claimed.
   void renew(uint32_t most) {
     bool no_ids = ids.empty(), few = words < most;
-    if (!(no_ids || few) || (no_ids && !blocks.ids) || (few && !blocks.words)) return;
+    if (!(no_ids || few) || (no_ids && !(blocks.ids && renewals)) || (few && !blocks.words)) return;
     if (few && !heap->claims(std::max(most, blocks.words))) return;
     if (few) keep_words(std::max(most, blocks.words));
-    if (no_ids && renewals) renewals--, keep_ids(std::min(blocks.ids, heap->size.ids - heap->ids));
+    if (no_ids) renewals--, keep_ids(std::min(blocks.ids, heap->size.ids - heap->ids));
   }
 
-  // A new string of so many words, with an id above a number. What is reserved is renewed before, as for a string of at most `most` words; the
-  // string takes all that it needs from that, or nothing. A refusal leaves what is reserved, and loses words that were claimed.
+  // A new string of so many words, with an id above a number. What is reserved is renewed before, as for a string of at most `most` words. The
+  // string takes the id and the words from that, each where there is what it needs, and claims the rest; one that is interned takes both or neither.
+  // A refusal leaves what is reserved, and loses words that were claimed.
   Answer born(String made, uint32_t count, uint32_t most, int64_t above = -1) {
     renew(most);
-    bool is_taken = count <= words && !ids.empty() && int64_t(ids.front()) > above;
-    if (!is_taken && !heap->claims(count)) return heap->no_words(count);
-    if (!is_taken && heap->ids == heap->size.ids) return heap->no_ids();
-    jsstr_id id = is_taken ? ids.front() : heap->ids++;
-    if (is_taken) ids.pop_front(), words -= count;
+    bool has_words = count <= words, has_id = !ids.empty() && int64_t(ids.front()) > above;
+    if (made.fixed && !(has_words && has_id)) has_words = has_id = false;
+    if (!has_words && !heap->claims(count)) return heap->no_words(count);
+    if (!has_id && heap->ids == heap->size.ids) return heap->no_ids();
+    jsstr_id id = has_id ? ids.front() : heap->ids++;
+    if (has_id) ids.pop_front();
+    if (has_words) words -= count;
     heap->strings[id] = std::move(made);
     return answers(id);
   }

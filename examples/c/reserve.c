@@ -53,7 +53,7 @@ static void take(void) {
   jsstr_id empty = id_of(made(&a, ""));
   CHECK(id_of(jsstr_concat(&a, empty, one)) == one && has(&a, 8, 24, 1, 13));
   CHECK(id_of(jsstr_copy_into(&a, both, &far)) == 0 && id_of(jsstr_copy_into(&far, 0, &a)) == 7 && has(&a, 8, 24, 0, 11));
-  CHECK(id_of(made(&a, "of its own")) == 8 && has(&a, 9, 26, 0, 11));
+  CHECK(id_of(made(&a, "of its own")) == 8 && has(&a, 9, 24, 0, 9)); /* an id of its own, and words of these */
   CHECK(jsstr_free(&a) == JSSTR_DONE && jsstr_free(&far) == JSSTR_DONE);
 }
 
@@ -138,7 +138,7 @@ static void share(void) {
   CHECK(jsstr_split(&a, 1, &b) == JSSTR_DONE && is_done(jsstr_reserve(&b, 3, 6)) && jsstr_join(&a, &b) == JSSTR_DONE && has(&a, 11, 22, 1, 6)); /* the words do */
   CHECK(id_of(made(&a, LONG)) == 7 && has(&a, 11, 22, 0, 3));
   CHECK(jsstr_split(&a, 1, &b) == JSSTR_DONE && is_refused(jsstr_reserve(&b, 40, 8), JSSTR_NO_IDS, 30, 1, 30) && has(&b, 30, 30, 19, 8));
-  CHECK(is_refused(made(&a, "a"), JSSTR_NO_WORDS, 30, 1, 30) && is_refused(made(&a, ""), JSSTR_NO_IDS, 30, 1, 30) && id_of(made(&b, LONG)) == 11);
+  CHECK(is_refused(made(&a, "a"), JSSTR_NO_IDS, 30, 1, 30) && is_refused(made(&a, ""), JSSTR_NO_IDS, 30, 1, 30) && id_of(made(&b, LONG)) == 11);
   CHECK(jsstr_free(&b) == JSSTR_DONE && has(&a, 30, 30, 0, 3) && is_refused(made(&a, ""), JSSTR_NO_IDS, 30, 1, 30)); /* what b reserved is lost */
   CHECK(jsstr_free(&a) == JSSTR_DONE);
 }
@@ -163,16 +163,16 @@ static void renew(void) {
   CHECK(empty == 8 && has(&a, 12, 20, 3, 3) && id_of(jsstr_concat(&a, empty, b)) == b && has(&a, 12, 20, 3, 3));
   CHECK(jsstr_renew(&a, 0, 6) == JSSTR_DONE); /* where no id is left it claims nothing */
   for (jsstr_id i = 9; i < 12; i++) CHECK(id_of(made(&a, "")) == i);
-  CHECK(id_of(made(&a, "")) == 12 && has(&a, 13, 20, 0, 3) && id_of(made(&a, LONG)) == 13 && has(&a, 14, 23, 0, 3));
-  CHECK(id_of(made(&a, LONGER)) == 14 && has(&a, 15, 31, 0, 3));
-  CHECK(jsstr_renew(&a, 4, 0) == JSSTR_DONE && id_of(made(&a, LONGER)) == 15 && has(&a, 16, 39, 0, 3));
-  CHECK(id_of(made(&a, "short")) == 16 && has(&a, 20, 39, 3, 2));
+  CHECK(id_of(made(&a, "")) == 12 && has(&a, 13, 20, 0, 3) && id_of(made(&a, LONG)) == 13 && has(&a, 14, 20, 0, 0)); /* its words are there */
+  CHECK(id_of(made(&a, LONGER)) == 14 && has(&a, 15, 28, 0, 0));
+  CHECK(jsstr_renew(&a, 4, 0) == JSSTR_DONE && id_of(made(&a, LONGER)) == 15 && has(&a, 16, 36, 0, 0));
+  CHECK(is_done(jsstr_reserve(&a, 0, 3)) && id_of(made(&a, "short")) == 16 && has(&a, 20, 39, 3, 2));
   CHECK(jsstr_renew(&a, 0, 0) == JSSTR_DONE && is_refused(made(&a, LONG), JSSTR_NO_WORDS, 39, 3, 40) && has(&a, 20, 39, 3, 2));
   CHECK(jsstr_renew(&a, 4, 6) == JSSTR_DONE && is_refused(made(&a, LONG), JSSTR_NO_WORDS, 39, 3, 40) && has(&a, 20, 39, 3, 2));
   CHECK(id_of(made(&a, "short")) == 17 && id_of(made(&a, "short")) == 18 && has(&a, 20, 39, 1, 0));
-  CHECK(id_of(made(&a, "short")) == 20 && has(&a, 21, 40, 1, 0)); /* no whole block is left, but the word is */
-  CHECK(is_refused(made(&a, "short"), JSSTR_NO_WORDS, 40, 1, 40) && id_of(made(&a, "")) == 19 && has(&a, 21, 40, 0, 0));
-  for (jsstr_id i = 21; i < 30; i++) CHECK(id_of(made(&a, "")) == i); /* the last block is of one id */
+  CHECK(id_of(made(&a, "short")) == 19 && has(&a, 20, 40, 0, 0)); /* no whole block is left, but the word is */
+  CHECK(is_refused(made(&a, "short"), JSSTR_NO_WORDS, 40, 1, 40) && id_of(made(&a, "")) == 20 && has(&a, 24, 40, 3, 0));
+  for (jsstr_id i = 21; i < 30; i++) CHECK(id_of(made(&a, "")) == i); /* the last block is of two ids */
   CHECK(has(&a, 30, 40, 0, 0) && is_refused(made(&a, ""), JSSTR_NO_IDS, 30, 1, 30) && has(&a, 30, 40, 0, 0));
   CHECK(jsstr_free(&a) == JSSTR_DONE);
 }
