@@ -1,5 +1,5 @@
 #!/usr/bin/env python3
-"""Measures the heap for C, by the calls that test their condition and by those that don't, beside std::u16string,
+"""Measures the heap for C, by the calls that test their condition and, where there are some, by those that don't, beside std::u16string,
 tables of it for one thread and for more, and what is installed of oneTBB, V8, SpiderMonkey and JavaScriptCore.
 
 Usage: bench/c_heap.py PREFIX [--only TEXT] [--rounds N] [--before PREFIX] [--table]
@@ -30,7 +30,7 @@ HERE = os.path.join(os.path.dirname(os.path.abspath(__file__)), "c_heap")
 CXX = shlex.split(os.environ.get("CXX", "c++"))
 FLAGS = ["-O2", "-Wall", "-Wextra", "-pthread"]
 # Calls that a library may have, and the macro with which their rows are compiled.
-LATER = {"jsstr_reserve_unchecked": "HAS_RESERVE", "jsstr_renew": "HAS_RENEW", "jsstr_intern_many_unchecked": "HAS_INTERN_MANY"}
+LATER = {"jsstr_reserve": "HAS_RESERVE", "jsstr_renew": "HAS_RENEW", "jsstr_intern_many": "HAS_INTERN_MANY"}
 OURS = ["checked", "unchecked", "reserved", "64 a call", "64/256", "beside"]
 ENGINES, TABLES = ["before", "C++", "V8", "SpiderMonkey", "JSC"], ["before", "C++", "mutex", "64 shards", "TBB"]
 # The rows of one thread, in ns a call or what they say. Those with more follow.

@@ -4,7 +4,7 @@
 // key of all threads together, and their ratios to a string made and interned, or to the shards.
 //
 //     c++ -O2 -std=c++17 -pthread -I PREFIX/include bench/c_intern.cpp PREFIX/lib/libjsstr.a -o c_intern && ./c_intern [COUNT]
-#include "jsstr.h"
+#include "jsstr_unchecked.h"
 #include <algorithm>
 #include <array>
 #include <atomic>
@@ -57,8 +57,7 @@ struct Calls {
   jsstr_answer (*find_units)(jsstr_agent *, const uint16_t *, size_t);
 };
 static const Calls CHECKED = {"checked", jsstr_from_units, jsstr_intern, jsstr_intern_units, jsstr_find_units};
-static const Calls UNCHECKED = {"unchecked", jsstr_from_units_unchecked, jsstr_intern_unchecked, jsstr_intern_units_unchecked,
-  jsstr_find_units_unchecked};
+static const Calls UNCHECKED = {"unchecked", jsstr_from_units, jsstr_intern_unchecked, jsstr_intern_units, jsstr_find_units};
 
 // ns a call of one(t, i) for each i below count: i is thread i % threads's. All begin at once.
 template <typename One> static double timed(uint32_t threads, uint32_t count, One one) {

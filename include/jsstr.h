@@ -4,12 +4,10 @@
    makes its calls from one thread at a time. A string is a number below 2^29, and may be 0.
    docs/EMBEDDING.md says what is proved of the calls, and what to do when a heap is full.
 
-   TWO FORMS. jsstr_x tests its condition, and where it fails answers JSSTR_BAD_ARGUMENT and has done
-   nothing. jsstr_x_unchecked, at the end, leaves the condition to the caller; where it is broken, anything
-   may happen, as with a wrong index in C. Both serve one handle. A call on a text alone has no condition, and
-   one form.
+   CONDITIONS. A call tests its condition, and where it fails answers JSSTR_BAD_ARGUMENT and has done nothing. A call
+   on a text alone has none. jsstr_unchecked.h has eight calls that test nothing, where that gains a tenth or more.
 
-   WHAT C STILL OWES to both forms:
+   WHAT C STILL OWES:
    - A handle, of an agent or a text, is zero, or was written by this library, and by nothing else. Never copy
      a handle; to move one, copy its bytes and zero the old place before the next call.
    - One call at a time on a handle. It goes to another thread by what orders memory: the start or the join
@@ -54,7 +52,7 @@ extern "C" {
 /* An agent; all zero where there is none. */
 typedef struct jsstr_agent { void *at; uint32_t live; } jsstr_agent;
 
-/* A text that is built up, outside any heap; all zero is an empty one. */
+/* A text that is built up, outside any heap, of `len` units; all zero is an empty one. */
 typedef struct jsstr_builder { void *at; uint32_t live, len; } jsstr_builder;
 
 /* A string; JSSTR_NO_STRING is none. */
@@ -111,7 +109,6 @@ typedef struct jsstr_place { uint32_t status, at; } jsstr_place;
 typedef struct jsstr_words { uint32_t status; bool wide; uint32_t lane, length, count; } jsstr_words;
 typedef struct jsstr_bytes { uint32_t status, at, size; } jsstr_bytes;
 typedef struct jsstr_counts { uint32_t status, ids, words; } jsstr_counts;
-typedef struct jsstr_use { uint32_t ids, words; } jsstr_use;
 typedef struct jsstr_room {
   uint32_t status, ids, words;        /* what each counter was: claimed by all agents up to then */
   uint32_t all_ids, all_words, slots; /* the sizes of the heap */
@@ -128,8 +125,8 @@ typedef struct jsstr_room {
 uint32_t jsstr_make(jsstr_size size, uint32_t agents, uint32_t limit, jsstr_agent *out);
 
 /* Frees an agent, and with the last one the heap (tested, not proved); *agent is zero afterwards. Its share
-   doesn't return to the others: none ever has the whole again, as jsstr_share shows, which jsstr_totals and
-   jsstr_count_interned need, and what it reserved is lost. Where the heap goes on, join the agent instead. */
+   doesn't return to the others: none ever has the whole again, as jsstr_share shows, which
+   jsstr_count_interned needs, and what it reserved is lost. Where the heap goes on, join the agent instead. */
 uint32_t jsstr_free(jsstr_agent *agent);
 
 /* In `out` an agent of the same heap with `give` of the share, which knows all that this one knows.
@@ -274,8 +271,8 @@ jsstr_place jsstr_index_of(jsstr_agent *agent, jsstr_id hay, jsstr_id needle, ui
    Settles both. */
 jsstr_place jsstr_last_index_of(jsstr_agent *agent, jsstr_id hay, jsstr_id needle, uint32_t limit);
 
-/* The one string of the string table with the units of s: every agent gets the same one for equal units, and
-   so one empty string. It is known, and settled. It uses at most an id, and words where s is a slice. Settles s. */
+/* The one string of the string table with the units of s: every agent gets the same one for equal units, so two of these
+   have equal units where their numbers are equal. It is known, and settled. It uses at most an id, and words where s is a slice. Settles s. */
 jsstr_answer jsstr_intern(jsstr_agent *agent, jsstr_id s);
 
 /* The same of units that are in no string yet. Where the table has their string by then, nothing is used: no id,
@@ -331,9 +328,6 @@ jsstr_answer jsstr_build_wtf8(jsstr_builder *text, const uint8_t *bytes, size_t 
 uint32_t jsstr_build_string(jsstr_builder *text, jsstr_agent *agent, jsstr_id s);
 uint32_t jsstr_build_number(jsstr_builder *text, int64_t number);
 
-/* How many units a text has. */
-uint32_t jsstr_built_length(const jsstr_builder *text);
-
 /* A new string with the units of a text, settled; and the one string of the string table with them. They answer and
    use what jsstr_from_units and jsstr_intern_units do. After DONE the text is empty, and keeps its memory for the
    next one; else it is what it was. */
@@ -347,81 +341,11 @@ void jsstr_drop_builder(jsstr_builder *text);
    it knows its strings. Any number is allowed. */
 jsstr_truth jsstr_is_interned(jsstr_agent *agent, jsstr_id s);
 
-/* Whether two interned strings have equal units, which is whether their numbers are equal.
-   Condition: a and b are interned. */
-jsstr_truth jsstr_same(jsstr_agent *agent, jsstr_id a, jsstr_id b);
-
 /* How full the heap is, while others run too: at least what this agent has seen before, and used. */
 jsstr_room jsstr_room_of(jsstr_agent *agent);
 
-/* What was used, by all agents, and how many different lists of units were interned.
-   Condition: the agent has the whole share. Where others hold shares, the unchecked forms answer what each
-   counter, or slot, was at some moment; no contract says so (of counters jsstr_room_of does). */
-jsstr_counts jsstr_totals(jsstr_agent *agent);
+/* How many different lists of units were interned. Condition: the agent has the whole share. */
 jsstr_number jsstr_count_interned(jsstr_agent *agent);
-
-/* THE SAME, with the same parameters, CONDITION NOT TESTED. And nothing is settled on the way: the strings that
-   are cut, read, compared, searched, searched for, interned or appended are settled already. What has no
-   status here always succeeds. */
-uint32_t jsstr_make_unchecked(jsstr_size, uint32_t, uint32_t, jsstr_agent *);
-void jsstr_free_unchecked(jsstr_agent *);
-uint32_t jsstr_split_unchecked(jsstr_agent *, uint32_t, jsstr_agent *);
-void jsstr_join_unchecked(jsstr_agent *, jsstr_agent *);
-uint32_t jsstr_share_unchecked(jsstr_agent *);
-jsstr_answer jsstr_reserve_unchecked(jsstr_agent *, uint32_t, uint32_t);
-void jsstr_renew_unchecked(jsstr_agent *, uint32_t, uint32_t);
-jsstr_use jsstr_reserved_unchecked(jsstr_agent *);
-jsstr_answer jsstr_from_units_unchecked(jsstr_agent *, const uint16_t *, size_t);
-jsstr_answer jsstr_from_latin1_unchecked(jsstr_agent *, const uint8_t *, size_t);
-jsstr_answer jsstr_from_utf8_unchecked(jsstr_agent *, const uint8_t *, size_t);
-jsstr_answer jsstr_from_wtf8_unchecked(jsstr_agent *, const uint8_t *, size_t);
-jsstr_answer jsstr_concat_unchecked(jsstr_agent *, jsstr_id, jsstr_id);
-jsstr_answer jsstr_slice_unchecked(jsstr_agent *, jsstr_id, uint32_t, uint32_t);
-uint32_t jsstr_length_unchecked(jsstr_agent *, jsstr_id);
-jsstr_answer jsstr_settle_unchecked(jsstr_agent *, jsstr_id);
-void jsstr_read_unchecked(jsstr_agent *, jsstr_id, uint32_t, uint16_t *, size_t);
-jsstr_bytes jsstr_read_all_unchecked(jsstr_agent *, jsstr_id, uint16_t *, size_t);
-uint16_t jsstr_unit_at_unchecked(jsstr_agent *, jsstr_id, uint32_t);
-jsstr_bytes jsstr_to_utf8_unchecked(jsstr_agent *, jsstr_id, uint32_t, uint8_t *, size_t);
-jsstr_bytes jsstr_to_latin1_unchecked(jsstr_agent *, jsstr_id, uint8_t *, size_t);
-uint32_t jsstr_hash_unchecked(jsstr_agent *, jsstr_id);
-jsstr_number jsstr_array_index_unchecked(jsstr_agent *, jsstr_id);
-bool jsstr_is_settled_unchecked(jsstr_agent *, jsstr_id);
-jsstr_words jsstr_window_unchecked(jsstr_agent *, jsstr_id, uint32_t, uint64_t *, size_t);
-int32_t jsstr_compare_unchecked(jsstr_agent *, jsstr_id, jsstr_id);
-bool jsstr_equal_unchecked(jsstr_agent *, jsstr_id, jsstr_id);
-int32_t jsstr_compare_units_unchecked(jsstr_agent *, jsstr_id, const uint16_t *, size_t);
-bool jsstr_equals_units_unchecked(jsstr_agent *, jsstr_id, const uint16_t *, size_t);
-int32_t jsstr_compare_latin1_unchecked(jsstr_agent *, jsstr_id, const uint8_t *, size_t);
-jsstr_order jsstr_compare_utf8_unchecked(jsstr_agent *, jsstr_id, const uint8_t *, size_t);
-bool jsstr_equals_latin1_unchecked(jsstr_agent *, jsstr_id, const uint8_t *, size_t);
-jsstr_truth jsstr_equals_utf8_unchecked(jsstr_agent *, jsstr_id, const uint8_t *, size_t);
-bool jsstr_starts_with_unchecked(jsstr_agent *, jsstr_id, jsstr_id, uint32_t);
-jsstr_place jsstr_index_of_unchecked(jsstr_agent *, jsstr_id, jsstr_id, uint32_t);
-jsstr_place jsstr_last_index_of_unchecked(jsstr_agent *, jsstr_id, jsstr_id, uint32_t);
-jsstr_answer jsstr_intern_unchecked(jsstr_agent *, jsstr_id);
-jsstr_answer jsstr_intern_units_unchecked(jsstr_agent *, const uint16_t *, size_t);
-jsstr_answer jsstr_intern_latin1_unchecked(jsstr_agent *, const uint8_t *, size_t);
-jsstr_answer jsstr_intern_utf8_unchecked(jsstr_agent *, const uint8_t *, size_t);
-jsstr_answer jsstr_intern_wtf8_unchecked(jsstr_agent *, const uint8_t *, size_t);
-jsstr_answer jsstr_intern_many_unchecked(jsstr_agent *, const uint16_t *, size_t, const uint32_t *, size_t, jsstr_id *,
-                                         size_t);
-jsstr_answer jsstr_find_units_unchecked(jsstr_agent *, const uint16_t *, size_t);
-jsstr_answer jsstr_find_latin1_unchecked(jsstr_agent *, const uint8_t *, size_t);
-jsstr_answer jsstr_find_utf8_unchecked(jsstr_agent *, const uint8_t *, size_t);
-jsstr_answer jsstr_find_wtf8_unchecked(jsstr_agent *, const uint8_t *, size_t);
-uint32_t jsstr_slot_of_unchecked(jsstr_agent *, jsstr_id);
-jsstr_answer jsstr_adopt_unchecked(jsstr_agent *, uint32_t);
-jsstr_answer jsstr_copy_into_unchecked(jsstr_agent *, jsstr_id, jsstr_agent *);
-jsstr_answer jsstr_intern_into_unchecked(jsstr_agent *, jsstr_id, jsstr_agent *);
-bool jsstr_is_interned_unchecked(jsstr_agent *, jsstr_id);
-bool jsstr_same_unchecked(const jsstr_agent *, jsstr_id, jsstr_id);
-uint32_t jsstr_build_string_unchecked(jsstr_builder *, jsstr_agent *, jsstr_id);
-jsstr_answer jsstr_built_unchecked(jsstr_builder *, jsstr_agent *);
-jsstr_answer jsstr_built_interned_unchecked(jsstr_builder *, jsstr_agent *);
-jsstr_room jsstr_room_of_unchecked(jsstr_agent *);
-jsstr_use jsstr_totals_unchecked(jsstr_agent *);
-uint32_t jsstr_count_interned_unchecked(jsstr_agent *);
 
 #ifdef __cplusplus
 }

@@ -373,9 +373,6 @@ public:
   /// Whether s is an interned string of this agent, so that its number makes a key.
   answer<bool> is_interned(string s) { return given(truth(jsstr_is_interned(handle(), s.id()))); }
 
-  /// What all agents used, and how many different lists of units were interned: this one must have the whole
-  /// share.
-  answer<use> totals() { return given(used(jsstr_totals(handle()))); }
   answer<std::uint32_t> count_interned() { return given(number(jsstr_count_interned(handle()))); }
 
   /// How full the heap is, also while other agents run.
@@ -529,7 +526,7 @@ public:
   }
 
   /// How many units there are.
-  std::uint32_t length() const noexcept { return jsstr_built_length(&text); }
+  std::uint32_t length() const noexcept { return text.len; }
 
   /// A new string with these units, and the one string of the string table with them. The text is empty then.
   answer<jsstr::string> string(agent &to) { return agent::given(agent::made<jsstr::string>(jsstr_built(&text, to.handle()))); }

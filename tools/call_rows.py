@@ -1,4 +1,4 @@
-"""The functions that include/jsstr.h declares, and the methods of include/jsstr.hpp that call them, beside the rows of examples/c/calls.h: each
+"""The functions that include/jsstr.h and jsstr_unchecked.h declare, and the methods of include/jsstr.hpp that call them, beside the rows of examples/c/calls.h: each
 function has its rows, each row an answer, and each method is called where its function is."""
 
 import collections
@@ -22,6 +22,11 @@ Row = collections.namedtuple("Row", "name takes call method expected")
 def declared(header):
     """The functions of the library, in the order of the header."""
     return DECLARED.findall(COMMENT.sub(" ", header))
+
+
+def tested_in(header):
+    """The functions that test a condition: those with a handle of an agent that they change."""
+    return {it[1] for it in DECLARED.finditer(COMMENT.sub(" ", header)) if "jsstr_agent *" in it[0] and not it[1].endswith("_unchecked")}
 
 
 def arguments(text, at):
@@ -86,9 +91,9 @@ def faults_of_methods(functions, found, methods):
 
 
 def faults(header, wrapper, source):
-    """What the table lacks: a function without a row of its name that calls it, a checked one without a row in which it is refused, a row
+    """What the table lacks: a function without a row of its name that calls it, one on an agent without a row in which it is refused, a row
     without an answer, a method that wraps a call and isn't called where that is."""
-    functions, faults_found, by_name = declared(header), [], {}
+    functions, faults_found, by_name, tested = declared(header), [], {}, tested_in(header)
     for it in rows(source):
         if len(it) != len(Row._fields) or not all(it):
             faults_found.append(f"the row {it[0]} has no call of C++, or no expected answer")
@@ -100,6 +105,6 @@ def faults(header, wrapper, source):
         if f"{function}(" not in by_name.get(name, none).call:
             faults_found.append(f"no row {name} calls {function}")
         refused = by_name.get(f"{name}_refused", none)
-        if f"{function}_unchecked" in functions and (f"{function}(" not in refused.call or refused.expected != REFUSED):
+        if function in tested and (f"{function}(" not in refused.call or refused.expected != REFUSED):
             faults_found.append(f"no row {name}_refused calls {function} where its condition fails")
     return faults_found + faults_of_methods(functions, by_name.values(), wrapped(wrapper))

@@ -98,8 +98,8 @@ def cmake_version(version):
 
 
 def headers():
-    """The headers for C and for C++."""
-    return {it: read(checkout.ROOT, "include", it) for it in ("jsstr.h", "jsstr.hpp")}
+    """The headers for C, that of the calls that test nothing, and the one for C++."""
+    return {it: read(checkout.ROOT, "include", it) for it in ("jsstr.h", "jsstr_unchecked.h", "jsstr.hpp")}
 
 
 def library_files(archive, record, others=()):

@@ -128,10 +128,10 @@ def said_first(wrapper):
         yield f".PP\n.nf\n{roff(it)}\n.fi" if it.startswith("    ") else f".PP\n{roff(it)}"
 
 
-def library_page(version, header, wrapper, others=()):
-    """The page of the library: what include/jsstr.h says, without the guards of C and C++, and the head of include/jsstr.hpp."""
-    plain = re.sub(r"(?m)^#(?:ifndef|if|endif|ifdef|include).*\n(?:extern \"C\" \{\n|\}\n)?", "", header)
-    plain = re.sub(r"(?m)^#define JSSTR_H\n", "", plain)
+def library_page(version, header, unchecked, wrapper, others=()):
+    """The page of the library: what the headers for C say, without the guards of C and C++, and the head of include/jsstr.hpp."""
+    plain = re.sub(r"(?m)^#(?:ifndef|if|endif|ifdef|include).*\n(?:extern \"C\" \{\n|\}\n)?", "", f"{header}{unchecked}")
+    plain = re.sub(r"(?m)^#define JSSTR_(?:UNCHECKED_)?H\n", "", plain)
     return page("jsstr", 3, version, "a heap of strings that threads share, for C and C++", [
         ("SYNOPSIS", ".nf\n#include <jsstr.h>\ncc $(pkg\\-config \\-\\-cflags jsstr) a.c $(pkg\\-config \\-\\-libs jsstr)\n.fi"),
         ("DESCRIPTION", "\n".join(described(plain))),

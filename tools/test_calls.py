@@ -8,9 +8,9 @@ static inline int jsstr_inline(int it) {
   return jsstr_one(it);
 }
 int jsstr_one(int it);
-int jsstr_two(int *it, int a,
+int jsstr_two(jsstr_agent *it, int a,
               int b);
-int jsstr_two_unchecked(int *, int, int);
+int jsstr_two_unchecked(jsstr_agent *it, int a, int b);
 int jsstr_three(int it);
 void jsstr_drop(int *it);
 """
@@ -84,9 +84,11 @@ def rows_of_calls(_house):
     for method, wanted in MORE:
         said = call_rows.faults(HEADER, WRAPPER.replace("public:\n", f"public:\n  {method}\n"), source_of(ROWS))
         check(f"{method} is found", said == wanted, str(said))
-    header, wrapper, source = (read(REPOSITORY, *it) for it in (("include", "jsstr.h"), ("include", "jsstr.hpp"), ("examples", "c", "calls.h")))
+    names = (("include", "jsstr.h"), ("include", "jsstr_unchecked.h"), ("include", "jsstr.hpp"), ("examples", "c", "calls.h"))
+    checked, unchecked, wrapper, source = (read(REPOSITORY, *it) for it in names)
+    header = f"{checked}{unchecked}"
     functions = call_rows.declared(header)
-    check("the header declares calls in both forms", {"jsstr_version", "jsstr_intern_many", "jsstr_intern_many_unchecked"} < set(functions), str(functions))
+    check("the header declares calls in both forms", {"jsstr_version", "jsstr_concat", "jsstr_concat_unchecked"} < set(functions), str(functions))
     methods = call_rows.wrapped(wrapper)
     check("the header for C++ wraps calls", {"jsstr_make", "jsstr_free", "jsstr_read_all", "jsstr_built"} < set(methods) and "jsstr_window" not in methods, str(methods))
     said = call_rows.faults(f"{header}uint32_t jsstr_more(void);\n", wrapper, source)

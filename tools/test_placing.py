@@ -17,7 +17,7 @@ PROGRAM = ["bin/jsstr", "bin/jsstr-where", "libexec/jsstr/jsstr", "share/jsstr/h
 PARTS = ["arguments", "checking", "explaining", "faults", "hints", "inputs", "methods", "naming", "reading", "running", "trial", "where"]
 PROGRAM += [f"share/jsstr/{it}" for it in ("VERSION", "installed", "jsstr.proved", *(f"{it}.py" for it in PARTS))]
 PROGRAM = sorted([*PROGRAM, "share/man/man1/jsstr-where.1", "share/man/man1/jsstr.1", "share/zsh/site-functions/_jsstr"])
-HEADERS = ["include/jsstr.h", "include/jsstr.hpp"]
+HEADERS = ["include/jsstr.h", "include/jsstr.hpp", "include/jsstr_unchecked.h"]
 LIBRARY = [*HEADERS, "lib/cmake/jsstr/jsstrConfig.cmake", "lib/cmake/jsstr/jsstrConfigVersion.cmake", "lib/libjsstr.a", "lib/pkgconfig/jsstr.pc", "share/jsstr/library.proved", "share/man/man3/jsstr.3"]
 
 
@@ -259,7 +259,7 @@ def man_pages(_house):
     check("a page names others where they are there", ".BR jsstr (3)" not in made["jsstr.1"] and ".BR jsstr (3)" in pages.jsstr_page("1", ["jsstr.3"]) and "SEE ALSO" not in made["jsstr.3"])
     language = re.sub(r"\\f.|\\(?=-)", "", made["jsstr-language.7"])
     check("the page of the language has all of it", all(it in language for it in ("OPERATORS", "a === b, a !== b", "replaceAll(w, t)", "Number: left out")) and "](" not in language, language[:200])
-    calls = re.findall(r"\b(jsstr_\w+)\(", read(REPOSITORY, "include/jsstr.h"))
+    calls = [call for it in ("jsstr.h", "jsstr_unchecked.h") for call in re.findall(r"\b(jsstr_\w+)\(", read(REPOSITORY, "include", it))]
     check("the library's page has each call", calls and all(it in made["jsstr.3"] for it in calls))
     check("and what C++ has", "jsstr::agent::make" in made["jsstr.3"] and "JSSTR_THROW" in made["jsstr.3"])
 

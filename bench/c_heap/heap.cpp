@@ -1,6 +1,10 @@
 // The rows of the heap, by the calls that test their condition, and by those that don't. bench/c_heap.py compiles and
 // asks it. HAS_RESERVE, HAS_RENEW and HAS_INTERN_MANY are defined where jsstr.h has these calls.
+#if __has_include("jsstr_unchecked.h")
+#include "jsstr_unchecked.h"
+#else
 #include "jsstr.h"
+#endif
 #include "rows.h"
 
 namespace {
@@ -27,14 +31,9 @@ constexpr Calls CHECKED = {"checked", jsstr_from_units, jsstr_from_latin1, jsstr
   jsstr_read,
   [](jsstr_agent *a, jsstr_id s, jsstr_id t) { jsstr_order o = jsstr_compare(a, s, t); want(o.status == JSSTR_DONE); return o.order; },
   [](jsstr_agent *a, jsstr_id s, jsstr_id t) { jsstr_truth it = jsstr_equal(a, s, t); want(it.status == JSSTR_DONE); return it.holds; }};
-constexpr Calls UNCHECKED = {"unchecked", jsstr_from_units_unchecked, jsstr_from_latin1_unchecked, jsstr_concat_unchecked,
-  jsstr_slice_unchecked, jsstr_settle_unchecked, jsstr_intern_unchecked, jsstr_intern_units_unchecked, jsstr_index_of_unchecked,
-  jsstr_length_unchecked,
-  [](jsstr_agent *a, jsstr_id s, uint32_t from, uint16_t *out, size_t len) {
-    jsstr_read_unchecked(a, s, from, out, len);
-    return uint32_t{JSSTR_DONE};
-  },
-  jsstr_compare_unchecked, jsstr_equal_unchecked};
+// (what has one form is the same call)
+constexpr Calls UNCHECKED = {"unchecked", jsstr_from_units, jsstr_from_latin1, jsstr_concat_unchecked, jsstr_slice_unchecked, jsstr_settle,
+  jsstr_intern_unchecked, jsstr_intern_units, jsstr_index_of, jsstr_length_unchecked, jsstr_read, CHECKED.compare, jsstr_equal_unchecked};
 
 using Ids = std::vector<jsstr_id>;
 
@@ -94,7 +93,7 @@ void each_its_own(jsstr_agent *, uint32_t) {}
 #ifdef HAS_RESERVE
 constexpr uint32_t BLOCK = 1024;
 void by_blocks(jsstr_agent *agent, uint32_t i) {
-  if (i % BLOCK == 0) want(is_done(jsstr_reserve_unchecked(agent, BLOCK, 2 * BLOCK)));
+  if (i % BLOCK == 0) want(is_done(jsstr_reserve(agent, BLOCK, 2 * BLOCK)));
 }
 #endif
 
@@ -293,7 +292,7 @@ double hit_many() {
       all += keys()[scrambled(i * BATCH + k, KEYS)];
       ends[k] = uint32_t(all.size());
     }
-    want(is_done(jsstr_intern_many_unchecked(heap.agent(), units_of(all), all.size(), ends, BATCH, ids, BATCH)));
+    want(is_done(jsstr_intern_many(heap.agent(), units_of(all), all.size(), ends, BATCH, ids, BATCH)));
     for (uint32_t k = 0; k < BATCH; k++) want(ids[k] == there[scrambled(i * BATCH + k, KEYS)]);
   }) / BATCH;
 }
@@ -370,7 +369,7 @@ template <class Handle, const Blocks &blocks> void add_together(Rows &rows, cons
   for (uint32_t threads : THREADS) {
     add("together: make 5-12", threads, pool(), [](jsstr_agent *agent, const Ids &, uint32_t i) {
       const Text &text = pool()[i % POOL];
-      return jsstr_from_units_unchecked(agent, units_of(text), text.size());
+      return jsstr_from_units(agent, units_of(text), text.size());
     });
     add("together: join 10-24", threads, pool(), [](jsstr_agent *agent, const Ids &made, uint32_t i) {
       return jsstr_concat_unchecked(agent, made[i % POOL], made[(i + 1) % POOL]);

@@ -26,8 +26,8 @@ static int is_string(jsstr_answer s, jsstr_id id) { return s.status == JSSTR_DON
 static int is_number(jsstr_number n, uint32_t status, uint32_t value) { return n.status == status && n.value == value; }
 
 static int has_room(jsstr_agent *a, jsstr_room want) {
-  jsstr_room checked = jsstr_room_of(a), unchecked = jsstr_room_of_unchecked(a);
-  return !memcmp(&checked, &want, sizeof want) && !memcmp(&unchecked, &want, sizeof want);
+  jsstr_room seen = jsstr_room_of(a);
+  return !memcmp(&seen, &want, sizeof want);
 }
 
 static int has_units(jsstr_agent *a, jsstr_id s, const text *of) {
@@ -56,13 +56,13 @@ static void hand_over(uint32_t slots) {
     jsstr_id key = keys[i] = i % 2 ? jsstr_intern(&one, made).id : jsstr_intern_units(&one, texts[i].units, texts[i].len).id;
     uint32_t slot = free_slot(&texts[i], is_used, slots);
     is_used[slot] = 1;
-    CHECK(is_number(jsstr_slot_of(&one, key), JSSTR_DONE, slot) && jsstr_slot_of_unchecked(&one, key) == slot);
+    CHECK(is_number(jsstr_slot_of(&one, key), JSSTR_DONE, slot));
     CHECK(is_number(jsstr_slot_of(&other, key), JSSTR_BAD_ARGUMENT, 0) && jsstr_length(&other, key).status == JSSTR_BAD_ARGUMENT);
     jsstr_room before = jsstr_room_of(&other);
-    CHECK(is_string(i % 3 ? jsstr_adopt(&other, slot) : jsstr_adopt_unchecked(&other, slot), key));
+    CHECK(is_string(jsstr_adopt(&other, slot), key));
     before.seen_slots++;
     CHECK(has_room(&other, before) && has_units(&other, key, &texts[i]));
-    CHECK(jsstr_is_interned(&other, key).holds && jsstr_is_settled(&other, key).holds && jsstr_same(&other, key, key).holds);
+    CHECK(jsstr_is_interned(&other, key).holds && jsstr_is_settled(&other, key).holds && jsstr_slot_of(&other, key).value == slot);
     CHECK(jsstr_length(&other, made).status == JSSTR_BAD_ARGUMENT || made == key);
     CHECK(is_string(jsstr_find_units(&other, texts[i].units, texts[i].len), key) && is_string(jsstr_adopt(&other, slot), key));
     CHECK(is_number(jsstr_slot_of(&other, key), JSSTR_DONE, slot) && is_string(jsstr_adopt(&one, slot), key));
@@ -89,7 +89,7 @@ static void refuse(void) {
   const uint32_t slots[] = {7, 8, 1u << 29, UINT32_MAX - 1, UINT32_MAX};
   for (size_t i = 0; i < sizeof slots / sizeof *slots; i++) CHECK(is_bare(jsstr_adopt(&a, slots[i]), JSSTR_BAD_ARGUMENT));
   for (uint32_t i = 0; i < 7; i++)
-    if (i != slot) CHECK(is_bare(jsstr_adopt(&a, i), JSSTR_NONE) && is_bare(jsstr_adopt_unchecked(&a, i), JSSTR_NONE));
+    if (i != slot) CHECK(is_bare(jsstr_adopt(&a, i), JSSTR_NONE));
   const jsstr_id ids[] = {own, others, 9, 10, 1u << 29, JSSTR_NO_STRING};
   for (size_t i = 0; i < sizeof ids / sizeof *ids; i++) CHECK(is_number(jsstr_slot_of(&a, ids[i]), JSSTR_BAD_ARGUMENT, 0));
   CHECK(has_room(&a, room) && !jsstr_is_interned(&a, own).holds && jsstr_length(&a, others).status == JSSTR_BAD_ARGUMENT);
@@ -185,7 +185,7 @@ static void two_threads(void) {
   CHECK(!pthread_join(threads[0], NULL) && !pthread_join(threads[1], NULL));
   CHECK(jsstr_room_of(&one.agent).seen_slots == KEYS && jsstr_room_of(&other.agent).seen_slots == KEYS);
   CHECK(jsstr_join(&one.agent, &other.agent) == JSSTR_DONE && jsstr_count_interned(&one.agent).value == KEYS);
-  jsstr_counts used = jsstr_totals(&one.agent);
+  jsstr_room used = jsstr_room_of(&one.agent);
   jsstr_room room = jsstr_room_of(&one.agent);
   CHECK(room.ids == used.ids && room.words == used.words && jsstr_free(&one.agent) == JSSTR_DONE);
 }

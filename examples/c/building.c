@@ -16,7 +16,7 @@ static int is_string(jsstr_answer s, jsstr_id id) { return s.status == JSSTR_DON
 static int is_fault(jsstr_answer s, uint32_t at) { return s.status == JSSTR_NOT_UTF8 && !s.id && s.at == at && !s.want && !s.end; }
 
 static int has_used(jsstr_agent *a, uint32_t ids, uint32_t words) {
-  jsstr_counts use = jsstr_totals(a);
+  jsstr_room use = jsstr_room_of(a);
   return use.status == JSSTR_DONE && use.ids == ids && use.words == words;
 }
 
@@ -69,21 +69,21 @@ static int is_written(jsstr_agent *a, jsstr_id s, const uint8_t *bytes, size_t s
 static void refuse_row(jsstr_agent *a, jsstr_builder *text, const row *r) {
   const uint8_t *bytes = (const uint8_t *)r->bytes;
   uint32_t at = (uint32_t)r->fault;
-  jsstr_counts use = jsstr_totals(a);
-  CHECK(is_fault(jsstr_from_wtf8(a, bytes, r->size), at) && is_fault(jsstr_from_wtf8_unchecked(a, bytes, r->size), at));
-  CHECK(is_fault(jsstr_intern_wtf8(a, bytes, r->size), at) && is_fault(jsstr_intern_wtf8_unchecked(a, bytes, r->size), at));
-  CHECK(is_fault(jsstr_find_wtf8(a, bytes, r->size), at) && is_fault(jsstr_find_wtf8_unchecked(a, bytes, r->size), at));
-  CHECK(is_fault(jsstr_build_wtf8(text, bytes, r->size), at) && jsstr_built_length(text) == 0 && has_used(a, use.ids, use.words));
+  jsstr_room use = jsstr_room_of(a);
+  CHECK(is_fault(jsstr_from_wtf8(a, bytes, r->size), at));
+  CHECK(is_fault(jsstr_intern_wtf8(a, bytes, r->size), at));
+  CHECK(is_fault(jsstr_find_wtf8(a, bytes, r->size), at));
+  CHECK(is_fault(jsstr_build_wtf8(text, bytes, r->size), at) && text->len == 0 && has_used(a, use.ids, use.words));
 }
 
 static void read_row(jsstr_agent *a, jsstr_builder *text, const row *r) {
   const uint8_t *bytes = (const uint8_t *)r->bytes;
-  CHECK(is_bare(jsstr_find_wtf8(a, bytes, r->size), JSSTR_NONE) && is_bare(jsstr_find_wtf8_unchecked(a, bytes, r->size), JSSTR_NONE));
-  jsstr_answer s = jsstr_from_wtf8(a, bytes, r->size), t = jsstr_from_wtf8_unchecked(a, bytes, r->size), key = jsstr_intern_wtf8(a, bytes, r->size);
+  CHECK(is_bare(jsstr_find_wtf8(a, bytes, r->size), JSSTR_NONE));
+  jsstr_answer s = jsstr_from_wtf8(a, bytes, r->size), t = jsstr_from_wtf8(a, bytes, r->size), key = jsstr_intern_wtf8(a, bytes, r->size);
   CHECK(is_string(s, s.id) && is_string(t, t.id) && is_string(key, key.id) && s.id != t.id);
   CHECK(has_units(a, s.id, r->units, r->len) && has_units(a, t.id, r->units, r->len) && has_units(a, key.id, r->units, r->len));
-  CHECK(is_string(jsstr_intern_wtf8_unchecked(a, bytes, r->size), key.id) && is_string(jsstr_find_units(a, r->units, r->len), key.id));
-  CHECK(is_string(jsstr_find_wtf8(a, bytes, r->size), key.id) && is_string(jsstr_find_wtf8_unchecked(a, bytes, r->size), key.id));
+  CHECK(is_string(jsstr_intern_wtf8(a, bytes, r->size), key.id) && is_string(jsstr_find_units(a, r->units, r->len), key.id));
+  CHECK(is_string(jsstr_find_wtf8(a, bytes, r->size), key.id));
   CHECK(is_bare(jsstr_build_wtf8(text, bytes, r->size), JSSTR_DONE) && is_string(jsstr_built_interned(text, a), key.id));
   CHECK(is_written(a, s.id, bytes, r->size));
 }
@@ -111,11 +111,11 @@ static size_t well(const uint8_t *b, size_t n, int wtf8) {
 /* A list of bytes to be looked for, and to be appended: each answer by the rule. */
 static void try_list(jsstr_agent *a, jsstr_builder *text, const uint8_t *bytes, size_t size) {
   size_t utf8 = well(bytes, size, 0), wtf8 = well(bytes, size, 1);
-  uint32_t length = jsstr_built_length(text);
+  uint32_t length = text->len;
   jsstr_answer s = jsstr_find_utf8(a, bytes, size), t = jsstr_find_wtf8(a, bytes, size), u = jsstr_build_wtf8(text, bytes, size);
   CHECK(utf8 == size ? is_bare(s, JSSTR_NONE) : is_fault(s, (uint32_t)utf8));
   CHECK(wtf8 == size ? is_bare(t, JSSTR_NONE) && is_bare(u, JSSTR_DONE) : is_fault(t, (uint32_t)wtf8) && is_fault(u, (uint32_t)wtf8));
-  CHECK((jsstr_built_length(text) > length) == (wtf8 == size));
+  CHECK((text->len > length) == (wtf8 == size));
 }
 
 /* Lists of bytes at the ends of ranges: each one of three, many of four, and these behind a surrogate. */
@@ -142,9 +142,9 @@ static void every_list(void) {
 static void try_all(jsstr_agent *a, jsstr_builder *text, const uint8_t *b, size_t n) {
   for (int wtf8 = 0; wtf8 < 2; wtf8++) {
     size_t good = well(b, n, wtf8);
-    jsstr_counts use = jsstr_totals(a);
+    jsstr_room use = jsstr_room_of(a);
     const jsstr_answer told[] = {
-      (wtf8 ? jsstr_from_wtf8 : jsstr_from_utf8)(a, b, n), (wtf8 ? jsstr_from_wtf8_unchecked : jsstr_from_utf8_unchecked)(a, b, n),
+      (wtf8 ? jsstr_from_wtf8 : jsstr_from_utf8)(a, b, n),
       (wtf8 ? jsstr_intern_wtf8 : jsstr_intern_utf8)(a, b, n), (wtf8 ? jsstr_find_wtf8 : jsstr_find_utf8)(a, b, n),
       (wtf8 ? jsstr_build_wtf8 : jsstr_build_utf8)(text, b, n)};
     for (size_t i = 0; i < sizeof told / sizeof *told; i++) CHECK(good < n ? is_fault(told[i], (uint32_t)good) : told[i].status == JSSTR_DONE);
@@ -194,7 +194,7 @@ static void read_rows(void) {
   for (size_t i = 0; i < ROWS; i++) (rows[i].fault < 0 ? read_row : refuse_row)(&a, &text, &rows[i]);
   jsstr_answer empty = jsstr_from_wtf8(&a, &x, 0);
   CHECK(is_string(empty, empty.id) && jsstr_length(&a, empty.id).value == 0 && is_bare(jsstr_find_wtf8(&a, &x, 0), JSSTR_NONE));
-  jsstr_counts use = jsstr_totals(&a);
+  jsstr_room use = jsstr_room_of(&a);
   const size_t lengths[] = {(size_t)JSSTR_MAX_LENGTH + 1, SIZE_MAX / 4};
   for (int i = 0; i < 2; i++) {
     CHECK(is_bare(jsstr_from_wtf8(&a, &x, lengths[i]), JSSTR_BAD_ARGUMENT) && is_bare(jsstr_intern_wtf8(&a, &x, lengths[i]), JSSTR_BAD_ARGUMENT));
@@ -212,30 +212,29 @@ static void append(void) {
   jsstr_builder text = {0};
   static const uint16_t units[] = {0x4E16, 0xD800, 'u'}, all[] = {0x4E16, 0xD800, 'u', 0xE9, 0xD83D, 0xDE00, 0xDC00, 'r', 'o', 'p', 'e', '-', '7'};
   CHECK(jsstr_make((jsstr_size){100, 100, 11}, 2, 100, &a) == JSSTR_DONE && jsstr_split(&a, 1, &b) == JSSTR_DONE);
-  CHECK(jsstr_built_length(&text) == 0);
+  CHECK(text.len == 0);
   for (int round = 0; round < 4; round++) {
-    CHECK(jsstr_build_units(&text, units, 3) == JSSTR_DONE && jsstr_built_length(&text) == 3);
+    CHECK(jsstr_build_units(&text, units, 3) == JSSTR_DONE && text.len == 3);
     CHECK(jsstr_build_units(&text, units, 0) == JSSTR_DONE && jsstr_build_latin1(&text, (const uint8_t *)"\xE9", 1) == JSSTR_DONE);
-    CHECK(is_bare(jsstr_build_utf8(&text, (const uint8_t *)"\xF0\x9F\x98\x80", 4), JSSTR_DONE) && jsstr_built_length(&text) == 6);
-    CHECK(is_bare(jsstr_build_wtf8(&text, (const uint8_t *)TRAIL, 3), JSSTR_DONE) && jsstr_built_length(&text) == 7);
+    CHECK(is_bare(jsstr_build_utf8(&text, (const uint8_t *)"\xF0\x9F\x98\x80", 4), JSSTR_DONE) && text.len == 6);
+    CHECK(is_bare(jsstr_build_wtf8(&text, (const uint8_t *)TRAIL, 3), JSSTR_DONE) && text.len == 7);
     jsstr_id rope = made(&a, "rope"), others = made(&b, "of b");
-    CHECK((round % 2 ? jsstr_build_string_unchecked : jsstr_build_string)(&text, &a, rope) == JSSTR_DONE && jsstr_built_length(&text) == 11);
+    CHECK(jsstr_build_string(&text, &a, rope) == JSSTR_DONE && text.len == 11);
     CHECK(jsstr_build_string(&text, &a, others) == JSSTR_BAD_ARGUMENT && jsstr_build_string(&text, &a, JSSTR_NO_STRING) == JSSTR_BAD_ARGUMENT);
     CHECK(is_fault(jsstr_build_utf8(&text, (const uint8_t *)"abc" LEAD, 6), 3) && is_fault(jsstr_build_wtf8(&text, (const uint8_t *)LEAD TRAIL, 6), 3));
-    CHECK(jsstr_built_length(&text) == 11 && jsstr_build_number(&text, -7) == JSSTR_DONE && jsstr_built_length(&text) == 13);
+    CHECK(text.len == 11 && jsstr_build_number(&text, -7) == JSSTR_DONE && text.len == 13);
     jsstr_room room = jsstr_room_of(&a);
-    jsstr_answer s = round == 0 ? jsstr_built(&text, &a) : round == 1 ? jsstr_built_unchecked(&text, &a)
-      : round == 2 ? jsstr_built_interned(&text, &a) : jsstr_built_interned_unchecked(&text, &a);
-    CHECK(is_string(s, s.id) && has_units(&a, s.id, all, 13) && jsstr_built_length(&text) == 0 && jsstr_is_settled(&a, s.id).holds);
+    jsstr_answer s = round < 2 ? jsstr_built(&text, &a) : jsstr_built_interned(&text, &a);
+    CHECK(is_string(s, s.id) && has_units(&a, s.id, all, 13) && text.len == 0 && jsstr_is_settled(&a, s.id).holds);
     CHECK(jsstr_is_interned(&a, s.id).holds == (round > 1) && jsstr_room_of(&a).ids == room.ids + (round < 3) && jsstr_room_of(&a).words == room.words + (round < 3 ? 4 : 0));
     jsstr_answer empty = jsstr_built(&text, &a);
     CHECK(is_string(empty, empty.id) && jsstr_length(&a, empty.id).value == 0);
   }
   CHECK(jsstr_join(&a, &b) == JSSTR_DONE && jsstr_free(&a) == JSSTR_DONE);
   CHECK(jsstr_build_latin1(&text, (const uint8_t *)"half", 4) == JSSTR_DONE && is_bare(jsstr_built(&text, &a), JSSTR_BAD_ARGUMENT));
-  CHECK(is_bare(jsstr_built_interned(&text, &a), JSSTR_BAD_ARGUMENT) && jsstr_build_string(&text, &a, 0) == JSSTR_BAD_ARGUMENT && jsstr_built_length(&text) == 4);
+  CHECK(is_bare(jsstr_built_interned(&text, &a), JSSTR_BAD_ARGUMENT) && jsstr_build_string(&text, &a, 0) == JSSTR_BAD_ARGUMENT && text.len == 4);
   jsstr_drop_builder(&text);
-  CHECK(!text.at && !text.live && !text.len && jsstr_built_length(&text) == 0);
+  CHECK(!text.at && !text.live && !text.len && text.len == 0);
   jsstr_drop_builder(&text);
   CHECK(!text.at && !text.live && !text.len);
 }
@@ -248,11 +247,11 @@ static void too_long(void) {
   for (uint32_t had = 0; had < 2; had++) {
     const size_t lengths[] = {(size_t)JSSTR_MAX_LENGTH - had + 1, SIZE_MAX / 4};
     for (int i = 0; i < 2; i++) {
-      CHECK(jsstr_build_units(&text, units, lengths[i]) == JSSTR_TOO_LONG && jsstr_built_length(&text) == had);
-      CHECK(jsstr_build_latin1(&text, bytes, lengths[i]) == JSSTR_TOO_LONG && jsstr_built_length(&text) == had);
+      CHECK(jsstr_build_units(&text, units, lengths[i]) == JSSTR_TOO_LONG && text.len == had);
+      CHECK(jsstr_build_latin1(&text, bytes, lengths[i]) == JSSTR_TOO_LONG && text.len == had);
       size_t size = i ? SIZE_MAX / 4 : 3 * (size_t)JSSTR_MAX_LENGTH + 1;
       CHECK(is_bare(jsstr_build_utf8(&text, bytes, size), JSSTR_TOO_LONG) && is_bare(jsstr_build_wtf8(&text, bytes, size), JSSTR_TOO_LONG));
-      CHECK(jsstr_built_length(&text) == had);
+      CHECK(text.len == had);
     }
     CHECK(jsstr_build_latin1(&text, bytes, 1) == JSSTR_DONE);
   }
@@ -272,7 +271,7 @@ static void numbers(void) {
     for (size_t power = 1; i >= some && power <= (i - some) / 6; power++) number *= 10;
     if (i >= some) number = (number + (int64_t)(i % 3) - 1) * (i % 2 ? -1 : 1);
     int size = snprintf(digits, sizeof digits, "%" PRId64, number);
-    CHECK(jsstr_build_number(&text, number) == JSSTR_DONE && jsstr_built_length(&text) == (uint32_t)size);
+    CHECK(jsstr_build_number(&text, number) == JSSTR_DONE && text.len == (uint32_t)size);
     jsstr_answer s = jsstr_built(&text, &a);
     CHECK(s.status == JSSTR_DONE && jsstr_equals_latin1(&a, s.id, (const uint8_t *)digits, (size_t)size).holds);
   }
@@ -292,12 +291,11 @@ static void two_heaps(void) {
     jsstr_id key = jsstr_intern_latin1(&full, (const uint8_t *)"only one", 8).id;
     CHECK(jsstr_build_latin1(&text, (const uint8_t *)"nine units", 10) == JSSTR_DONE);
     for (int form = i < 2 ? 0 : 2; form < 4; form++) {
-      jsstr_answer s = form == 0 ? jsstr_built(&text, &full) : form == 1 ? jsstr_built_unchecked(&text, &full)
-        : form == 2 ? jsstr_built_interned(&text, &full) : jsstr_built_interned_unchecked(&text, &full);
-      CHECK(!memcmp(&s, &refusals[i], sizeof s) && jsstr_built_length(&text) == 10);
+      jsstr_answer s = form < 2 ? jsstr_built(&text, &full) : jsstr_built_interned(&text, &full);
+      CHECK(!memcmp(&s, &refusals[i], sizeof s) && text.len == 10);
     }
     jsstr_answer kept = i % 2 ? jsstr_built(&text, &other) : jsstr_built_interned(&text, &other);
-    CHECK(kept.status == JSSTR_DONE && jsstr_equals_latin1(&other, kept.id, (const uint8_t *)"nine units", 10).holds && jsstr_built_length(&text) == 0);
+    CHECK(kept.status == JSSTR_DONE && jsstr_equals_latin1(&other, kept.id, (const uint8_t *)"nine units", 10).holds && text.len == 0);
     CHECK(jsstr_build_string(&text, &full, key) == JSSTR_DONE && is_string(jsstr_built_interned(&text, &full), key));
     CHECK(jsstr_free(&full) == JSSTR_DONE);
   }
@@ -312,9 +310,9 @@ static void ropes(void) {
   CHECK(jsstr_make((jsstr_size){20, 3, 1}, 1, 100, &a) == JSSTR_DONE);
   jsstr_id s = made(&a, "12345678"), rope = jsstr_concat(&a, s, s).id, large = jsstr_concat(&a, rope, rope).id;
   CHECK(jsstr_build_latin1(&text, (const uint8_t *)"x", 1) == JSSTR_DONE && jsstr_build_string(&text, &a, rope) == JSSTR_DONE);
-  CHECK(jsstr_is_settled(&a, rope).holds && jsstr_built_length(&text) == 17 && has_used(&a, 3, 3));
-  CHECK(jsstr_build_string(&text, &a, large) == JSSTR_NO_WORDS && jsstr_built_length(&text) == 17 && !jsstr_is_settled(&a, large).holds);
-  CHECK(jsstr_built(&text, &a).status == JSSTR_NO_WORDS && jsstr_built_length(&text) == 17 && jsstr_free(&a) == JSSTR_DONE);
+  CHECK(jsstr_is_settled(&a, rope).holds && text.len == 17 && has_used(&a, 3, 3));
+  CHECK(jsstr_build_string(&text, &a, large) == JSSTR_NO_WORDS && text.len == 17 && !jsstr_is_settled(&a, large).holds);
+  CHECK(jsstr_built(&text, &a).status == JSSTR_NO_WORDS && text.len == 17 && jsstr_free(&a) == JSSTR_DONE);
   CHECK(jsstr_make((jsstr_size){20, 3, 1}, 1, 100, &a) == JSSTR_DONE);
   jsstr_answer whole = jsstr_built(&text, &a);
   CHECK(whole.status == JSSTR_DONE && jsstr_equals_latin1(&a, whole.id, (const uint8_t *)"x1234567812345678", 17).holds);

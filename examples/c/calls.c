@@ -18,7 +18,6 @@ static answer truth(jsstr_truth t) { return ANSWER(t.status, t.holds); }
 static answer order(jsstr_order o) { return ANSWER(o.status, (uint32_t)o.order); }
 static answer place(jsstr_place p) { return ANSWER(p.status, p.at); }
 static answer bytes(jsstr_bytes b) { return ANSWER(b.status, b.at, b.size); }
-static answer use(jsstr_use u) { return ANSWER(JSSTR_DONE, u.ids, u.words); }
 static answer used(jsstr_counts u) { return ANSWER(u.status, u.ids, u.words); }
 static answer room(jsstr_room r) { return ANSWER(r.status, r.ids, r.words, r.all_ids, r.all_words, r.slots, r.seen_slots); }
 
@@ -94,7 +93,7 @@ static void fill(world *w) {
   for (left = 0; status == JSSTR_DONE;) status = jsstr_build_units(&w->full, units, 1);
   CHECK(status == JSSTR_NO_MEMORY);
   left = LONG_MAX;
-  w->had = jsstr_built_length(&w->full);
+  w->had = w->full.len;
   CHECK(w->had <= 64);
 }
 
@@ -143,13 +142,9 @@ static long play(const row *r, answer *got) {
   return count;
 }
 
-/* What a refusal for lack of memory may leave: a rope that is settled, or what was claimed before its ids. */
+/* What a refusal for lack of memory may leave: a rope that is settled. */
 static state left_by(const row *r, world *w, state before) {
   state now = seen(w);
-  if (r->memory == MEMORY_RESERVED) {
-    CHECK(now.ids[0] < before.ids[0] + 3 && jsstr_reserved(&w->one).words == 4);
-    before.ids[0] = now.ids[0], before.words[0] += 4;
-  }
   if ((r->memory == MEMORY_SETTLED || r->memory == MEMORY_NOTED) && now.is_settled && !before.is_settled) before.is_settled = 1, before.words[0] += 3;
   return before;
 }

@@ -1,4 +1,4 @@
-/* Every call of jsstr.h, in both forms, and the same calls by jsstr.hpp: what each answers, what it uses of the heap, what it refuses, and
+/* Every call of jsstr.h and jsstr_unchecked.h, and the same calls by jsstr.hpp: what each answers, what it uses of the heap, what it refuses, and
    whether it allocates. The table below has a row for each, with the answer that jsstr.h and docs/HEAP.md give; a new call has its rows
    there. calls.c makes the calls of C, calls.cpp those of C++; play.h has what both look at. */
 #ifndef CALLS_H
@@ -15,7 +15,7 @@ typedef char any_byte;
 #define ANSWER(...) answer{{__VA_ARGS__}}
 #define ID(string) (string).id()
 #else
-#include "jsstr.h"
+#include "jsstr_unchecked.h"
 typedef jsstr_agent any_agent;
 typedef jsstr_builder any_builder;
 typedef jsstr_id any_string, any_key;
@@ -29,7 +29,7 @@ typedef uint8_t any_byte;
 
 /* What a call does for its answer: it allocates nothing; or it does; or it does, and has settled a rope before that; or it
    does beside its answer, or for its answer and beside it too; or for the ids that it claims after its words. */
-enum takes { NOTHING, MEMORY, MEMORY_SETTLED, MEMORY_NOTED, MEMORY_RESERVED, NOTED };
+enum takes { NOTHING, MEMORY, MEMORY_SETTLED, MEMORY_NOTED, NOTED };
 
 /* Why a row has no call of C++: jsstr.hpp has none, or its types leave no way to make the one that is refused. */
 enum untried { NO_METHOD, IMPOSSIBLE };
@@ -80,47 +80,35 @@ static const any_byte key_bytes[] = "key", twin_bytes[] = "a plain onea plain on
 #define CALLS(ROW) \
   ROW(version, NOTHING, value(jsstr_version()), NO_METHOD, is_number(JSSTR_VERSION_NUMBER)) \
   ROW(make, MEMORY, told(jsstr_make(size, 2, 100, &w->out)), jsstr::agent::make(size, 2, 100), shares(is_done(), 2, 2, 2)) \
-  ROW(make_unchecked, MEMORY, told(jsstr_make_unchecked(size, 2, 100, &w->out)), NO_METHOD, shares(is_done(), 2, 2, 2)) \
   ROW(make_refused, NOTHING, told(jsstr_make(size, 2, 100, &w->one)), IMPOSSIBLE, is_refused()) \
   ROW(make_without_slots, NOTHING, told(jsstr_make((jsstr_size){64, 64, 0}, 2, 100, &w->out)), jsstr::agent::make({64, 64, 0}, 2, 100), is_answer(JSSTR_BAD_SIZE)) \
   ROW(free, NOTHING, told(jsstr_free(&w->other)), ended(w->other), shares(is_done(), 2, 0, 0)) \
-  ROW(free_unchecked, NOTHING, (jsstr_free_unchecked(&w->other), told(JSSTR_DONE)), NO_METHOD, shares(is_done(), 2, 0, 0)) \
   ROW(free_refused, NOTHING, told(jsstr_free(&w->none)), IMPOSSIBLE, is_refused()) \
   ROW(split, MEMORY, told(jsstr_split(&w->one, 1, &w->out)), w->one.split(1), shares(is_done(), 1, 2, 1)) \
-  ROW(split_unchecked, MEMORY, told(jsstr_split_unchecked(&w->one, 1, &w->out)), NO_METHOD, shares(is_done(), 1, 2, 1)) \
   ROW(split_refused, NOTHING, told(jsstr_split(&w->one, 2, &w->out)), w->one.split(2), is_refused()) \
   ROW(join, NOTHING, told(jsstr_join(&w->one, &w->other)), w->one.join(std::move(w->other)), joined(is_done())) \
-  ROW(join_unchecked, NOTHING, (jsstr_join_unchecked(&w->one, &w->other), told(JSSTR_DONE)), NO_METHOD, joined(is_done())) \
   ROW(join_refused, NOTHING, told(jsstr_join(&w->one, &w->far)), w->one.join(std::move(w->far)), is_refused()) \
   ROW(share, NOTHING, number(jsstr_share(&w->one)), w->one.share(), is_number(2)) \
-  ROW(share_unchecked, NOTHING, value(jsstr_share_unchecked(&w->one)), NO_METHOD, is_number(2)) \
   ROW(share_refused, NOTHING, number(jsstr_share(&w->none)), w->none.share(), is_refused()) \
-  ROW(reserve, MEMORY_RESERVED, string(jsstr_reserve(&w->one, 3, 4)), w->one.reserve(3, 4), uses(is_done(), 3, 4)) \
-  ROW(reserve_unchecked, MEMORY_RESERVED, string(jsstr_reserve_unchecked(&w->one, 3, 4)), NO_METHOD, uses(is_done(), 3, 4)) \
+  ROW(reserve, MEMORY, string(jsstr_reserve(&w->one, 3, 4)), w->one.reserve(3, 4), uses(is_done(), 3, 4)) \
   ROW(reserve_refused, NOTHING, string(jsstr_reserve(&w->none, 3, 4)), w->none.reserve(3, 4), is_refused()) \
   ROW(reserve_words, NOTHING, string(jsstr_reserve(&w->one, 0, 4)), w->one.reserve(0, 4), uses(is_done(), 0, 4)) \
-  ROW(reserve_more_words, NOTHING, string(jsstr_reserve(&w->one, 3, 100)), w->one.reserve(3, 100), is_answer(JSSTR_NO_WORDS, 0, 9, 100, 64)) \
+  ROW(reserve_more_words, MEMORY, string(jsstr_reserve(&w->one, 3, 100)), w->one.reserve(3, 100), is_answer(JSSTR_NO_WORDS, 0, 9, 100, 64)) \
   ROW(renew, NOTHING, told(jsstr_renew(&w->one, 3, 4)), w->one.renew(3, 4), is_done()) \
-  ROW(renew_unchecked, NOTHING, (jsstr_renew_unchecked(&w->one, 3, 4), told(JSSTR_DONE)), NO_METHOD, is_done()) \
   ROW(renew_refused, NOTHING, told(jsstr_renew(&w->none, 3, 4)), w->none.renew(3, 4), is_refused()) \
-  ROW(renewing, NOTED, (jsstr_renew_unchecked(&w->one, 3, 4), string(jsstr_from_units(&w->one, UNITS))), (void(w->one.renew(3, 4)), w->one.from({UNITS})), is_string(&w->one, L"units\xE9", 3, 4)) \
-  ROW(renewing_key, NOTED, (jsstr_renew_unchecked(&w->one, 3, 4), string(jsstr_intern_units(&w->one, UNITS))), (void(w->one.renew(3, 4)), w->one.intern({UNITS})), is_key(&w->one, L"units\xE9", 3, 4)) \
+  ROW(renewing, NOTED, ((void)jsstr_renew(&w->one, 3, 4), string(jsstr_from_units(&w->one, UNITS))), (void(w->one.renew(3, 4)), w->one.from({UNITS})), is_string(&w->one, L"units\xE9", 3, 4)) \
+  ROW(renewing_key, NOTED, ((void)jsstr_renew(&w->one, 3, 4), string(jsstr_intern_units(&w->one, UNITS))), (void(w->one.renew(3, 4)), w->one.intern({UNITS})), is_key(&w->one, L"units\xE9", 3, 4)) \
   ROW(reserved, NOTHING, used(jsstr_reserved(&w->far)), w->far.reserved(), is_answer(JSSTR_DONE, 3, 9)) \
-  ROW(reserved_unchecked, NOTHING, use(jsstr_reserved_unchecked(&w->far)), NO_METHOD, is_answer(JSSTR_DONE, 3, 9)) \
   ROW(reserved_refused, NOTHING, used(jsstr_reserved(&w->none)), w->none.reserved(), is_refused()) \
   ROW(from_units, NOTHING, string(jsstr_from_units(&w->one, UNITS)), w->one.from({UNITS}), is_string(&w->one, L"units\xE9", 1, 1)) \
-  ROW(from_units_unchecked, NOTHING, string(jsstr_from_units_unchecked(&w->one, UNITS)), NO_METHOD, is_string(&w->one, L"units\xE9", 1, 1)) \
   ROW(from_units_refused, NOTHING, string(jsstr_from_units(&w->one, units, TOO_LONG)), w->one.from({units, TOO_LONG}), is_refused()) \
   ROW(from_units_reserved, NOTHING, string(jsstr_from_units(&w->far, UNITS)), w->far.from({UNITS}), is_string(&w->far, L"units\xE9", 0, 0)) \
   ROW(from_latin1, NOTHING, string(jsstr_from_latin1(&w->one, LATIN1)), w->one.from_latin1({LATIN1}), is_string(&w->one, L"Latin-1 \xE9", 1, 2)) \
-  ROW(from_latin1_unchecked, NOTHING, string(jsstr_from_latin1_unchecked(&w->one, LATIN1)), NO_METHOD, is_string(&w->one, L"Latin-1 \xE9", 1, 2)) \
   ROW(from_latin1_refused, NOTHING, string(jsstr_from_latin1(&w->one, latin1, TOO_LONG)), w->one.from_latin1({latin1, TOO_LONG}), is_refused()) \
   ROW(from_utf8, NOTHING, string(jsstr_from_utf8(&w->one, UTF8)), w->one.from_utf8({UTF8}), is_string(&w->one, L"UTF-8 \xE9 \xD83D\xDE00", 1, 3)) \
-  ROW(from_utf8_unchecked, NOTHING, string(jsstr_from_utf8_unchecked(&w->one, UTF8)), NO_METHOD, is_string(&w->one, L"UTF-8 \xE9 \xD83D\xDE00", 1, 3)) \
   ROW(from_utf8_refused, NOTHING, string(jsstr_from_utf8(&w->one, utf8, TOO_LONG)), w->one.from_utf8({utf8, TOO_LONG}), is_refused()) \
   ROW(from_utf8_of_wtf8, NOTHING, string(jsstr_from_utf8(&w->one, WTF8)), w->one.from_utf8({WTF8}), is_answer(JSSTR_NOT_UTF8, 0, 6)) \
   ROW(from_wtf8, NOTHING, string(jsstr_from_wtf8(&w->one, WTF8)), w->one.from_wtf8({WTF8}), is_string(&w->one, L"WTF-8 \xD800", 1, 2)) \
-  ROW(from_wtf8_unchecked, NOTHING, string(jsstr_from_wtf8_unchecked(&w->one, WTF8)), NO_METHOD, is_string(&w->one, L"WTF-8 \xD800", 1, 2)) \
   ROW(from_wtf8_refused, NOTHING, string(jsstr_from_wtf8(&w->one, wtf8, TOO_LONG)), w->one.from_wtf8({wtf8, TOO_LONG}), is_refused()) \
   ROW(from_wtf8_of_latin1, NOTHING, string(jsstr_from_wtf8(&w->one, LATIN1)), w->one.from_wtf8({LATIN1}), is_answer(JSSTR_NOT_UTF8, 0, 8)) \
   ROW(concat, NOTHING, string(jsstr_concat(&w->one, w->rope, w->plain)), w->one.concat(w->rope, w->plain), is_string(&w->one, ROPE PLAIN, 1, 0)) \
@@ -138,43 +126,35 @@ static const any_byte key_bytes[] = "key", twin_bytes[] = "a plain onea plain on
   ROW(length_unchecked, NOTHING, value(jsstr_length_unchecked(&w->one, w->rope)), NO_METHOD, is_number(22)) \
   ROW(length_refused, NOTHING, number(jsstr_length(&w->one, w->theirs)), w->one.length(w->theirs), is_refused()) \
   ROW(settle, NOTHING, string(jsstr_settle(&w->one, w->rope)), w->one.settle(w->rope), settled(is_that(&w->one, w->rope, ROPE))) \
-  ROW(settle_unchecked, NOTHING, string(jsstr_settle_unchecked(&w->one, w->rope)), NO_METHOD, settled(is_that(&w->one, w->rope, ROPE))) \
   ROW(settle_refused, NOTHING, string(jsstr_settle(&w->one, w->theirs)), w->one.settle(w->theirs), is_refused()) \
   ROW(read, NOTHING, told(jsstr_read(&w->one, w->rope, 2, w->units, 9)), w->one.read(w->rope, 2, w->units, 9), settled(wrote(is_done(), L"plain one"))) \
-  ROW(read_unchecked, NOTHING, (jsstr_read_unchecked(&w->one, w->twin, 2, w->units, 9), told(JSSTR_DONE)), NO_METHOD, wrote(is_done(), L"plain one")) \
   ROW(read_refused, NOTHING, told(jsstr_read(&w->one, w->rope, 14, w->units, 9)), w->one.read(w->rope, 14, w->units, 9), is_refused()) \
   ROW(read_all, NOTHING, bytes(jsstr_read_all(&w->one, w->rope, w->units, 64)), w->one.units(w->rope), settled(wrote(is_size(22), ROPE))) \
-  ROW(read_all_unchecked, NOTHING, bytes(jsstr_read_all_unchecked(&w->one, w->twin, w->units, 64)), NO_METHOD, wrote(is_size(22), ROPE)) \
   ROW(read_all_refused, NOTHING, bytes(jsstr_read_all(&w->one, w->theirs, w->units, 64)), w->one.units(w->theirs), is_refused()) \
   ROW(unit_at, NOTHING, number(jsstr_unit_at(&w->one, w->rope, 3)), w->one.unit(w->rope, 3), settled(is_number('l'))) \
   ROW(unit_at_unchecked, NOTHING, value(jsstr_unit_at_unchecked(&w->one, w->wide, 5)), NO_METHOD, is_number(0x4E16)) \
   ROW(unit_at_refused, NOTHING, number(jsstr_unit_at(&w->one, w->rope, 22)), w->one.unit(w->rope, 22), is_refused()) \
   ROW(unit_at_wide, NOTHING, number(jsstr_unit_at(&w->one, w->wide, 5)), w->one.unit(w->wide, 5), is_number(0x4E16)) \
   ROW(to_utf8, NOTHING, bytes(jsstr_to_utf8(&w->one, w->rope, JSSTR_REPLACE, w->bytes, 64)), w->one.utf8(w->rope), settled(wrote_bytes(is_size(22), "a plain onea plain one"))) \
-  ROW(to_utf8_unchecked, NOTHING, bytes(jsstr_to_utf8_unchecked(&w->one, w->wide, JSSTR_KEEP, w->bytes, 64)), NO_METHOD, wrote_bytes(is_size(13), "w\xC3\xAF" "de \xE4\xB8\x96 \xED\xA0\x80")) \
   ROW(to_utf8_refused, NOTHING, bytes(jsstr_to_utf8(&w->one, w->rope, 3, w->bytes, 64)), w->one.utf8(w->rope, jsstr::unpaired(3)), is_refused()) \
   ROW(to_utf8_replacing, NOTHING, bytes(jsstr_to_utf8(&w->one, w->wide, JSSTR_REPLACE, w->bytes, 64)), \
       w->one.utf8(w->wide, jsstr::unpaired::replace), wrote_bytes(is_size(13), "w\xC3\xAF" "de \xE4\xB8\x96 \xEF\xBF\xBD")) \
   ROW(to_utf8_refusing, NOTHING, bytes(jsstr_to_utf8(&w->one, w->wide, JSSTR_REFUSE, w->bytes, 64)), w->one.utf8(w->wide, jsstr::unpaired::refuse), is_answer(JSSTR_UNMAPPED, 7)) \
   ROW(to_latin1, NOTHING, bytes(jsstr_to_latin1(&w->one, w->rope, w->bytes, 64)), w->one.latin1(w->rope), settled(wrote_bytes(is_size(22), "a plain onea plain one"))) \
-  ROW(to_latin1_unchecked, NOTHING, bytes(jsstr_to_latin1_unchecked(&w->one, w->twin, w->bytes, 64)), NO_METHOD, wrote_bytes(is_size(22), "a plain onea plain one")) \
   ROW(to_latin1_refused, NOTHING, bytes(jsstr_to_latin1(&w->one, w->theirs, w->bytes, 64)), w->one.latin1(w->theirs), is_refused()) \
   ROW(to_latin1_unmapped, NOTHING, bytes(jsstr_to_latin1(&w->one, w->wide, w->bytes, 64)), w->one.latin1(w->wide), is_answer(JSSTR_UNMAPPED, 5)) \
   ROW(hash, NOTHING, number(jsstr_hash(&w->one, w->rope)), w->one.hash(w->rope), settled(is_number(hash(ROPE)))) \
   ROW(hash_unchecked, NOTHING, value(jsstr_hash_unchecked(&w->one, w->twin)), NO_METHOD, is_number(hash(ROPE))) \
   ROW(hash_refused, NOTHING, number(jsstr_hash(&w->one, w->theirs)), w->one.hash(w->theirs), is_refused()) \
   ROW(array_index, NOTHING, number(jsstr_array_index(&w->one, made(w, "4096"))), w->one.array_index(made(w, "4096")), uses(is_number(4096), 1, 1)) \
-  ROW(array_index_unchecked, NOTHING, number(jsstr_array_index_unchecked(&w->one, made(w, "4096"))), NO_METHOD, uses(is_number(4096), 1, 1)) \
   ROW(array_index_refused, NOTHING, number(jsstr_array_index(&w->one, w->theirs)), w->one.array_index(w->theirs), is_refused()) \
   ROW(array_index_of_none, NOTHING, number(jsstr_array_index(&w->one, w->rope)), w->one.array_index(w->rope), settled(is_answer(JSSTR_NONE))) \
   ROW(is_settled, NOTHING, truth(jsstr_is_settled(&w->one, w->rope)), w->one.is_settled(w->rope), is_false()) \
-  ROW(is_settled_unchecked, NOTHING, value(jsstr_is_settled_unchecked(&w->one, w->twin)), NO_METHOD, is_true()) \
   ROW(is_settled_refused, NOTHING, truth(jsstr_is_settled(&w->one, w->theirs)), w->one.is_settled(w->theirs), is_refused()) \
   ROW(window, NOTHING, window(w, jsstr_window(&w->one, w->rope, 0, w->words, 16)), NO_METHOD, settled(wrote(is_window(false, 0, 22, 3), ROPE))) \
   ROW(window_unchecked, NOTHING, window(w, jsstr_window_unchecked(&w->one, w->wide, 0, w->words, 16)), NO_METHOD, wrote(is_window(true, 0, 8, 2), L"w\xEF" L"de \x4E16 \xD800")) \
   ROW(window_refused, NOTHING, window(w, jsstr_window(&w->one, w->theirs, 0, w->words, 16)), NO_METHOD, is_refused()) \
   ROW(compare, NOTHING, order(jsstr_compare(&w->one, w->plain, w->rope)), w->one.compare(w->plain, w->rope), settled(is_order(-1))) \
-  ROW(compare_unchecked, NOTHING, value((uint32_t)jsstr_compare_unchecked(&w->one, w->key, w->plain)), NO_METHOD, is_order(1)) \
   ROW(compare_refused, NOTHING, order(jsstr_compare(&w->one, w->plain, w->theirs)), w->one.compare(w->plain, w->theirs), is_refused()) \
   ROW(compare_same, NOTHING, order(jsstr_compare(&w->one, w->rope, w->twin)), w->one.compare(w->rope, w->twin), settled(is_order(0))) \
   ROW(equal, NOTHING, truth(jsstr_equal(&w->one, w->twin, w->rope)), w->one.equal(w->twin, w->rope), settled(is_true())) \
@@ -182,37 +162,28 @@ static const any_byte key_bytes[] = "key", twin_bytes[] = "a plain onea plain on
   ROW(equal_refused, NOTHING, truth(jsstr_equal(&w->one, w->plain, w->theirs)), w->one.equal(w->plain, w->theirs), is_refused()) \
   ROW(equal_not, NOTHING, truth(jsstr_equal(&w->one, w->plain, w->twin)), w->one.equal(w->plain, w->twin), is_false()) \
   ROW(compare_units, NOTHING, order(jsstr_compare_units(&w->one, w->rope, UNITS)), w->one.compare(w->rope, {UNITS}), settled(is_order(-1))) \
-  ROW(compare_units_unchecked, NOTHING, value((uint32_t)jsstr_compare_units_unchecked(&w->one, w->wide, UNITS)), NO_METHOD, is_order(1)) \
   ROW(compare_units_refused, NOTHING, order(jsstr_compare_units(&w->one, w->theirs, UNITS)), w->one.compare(w->theirs, {UNITS}), is_refused()) \
   ROW(equals_units, NOTHING, truth(jsstr_equals_units(&w->one, w->rope, TWIN_UNITS)), w->one.equal(w->rope, {TWIN_UNITS}), settled(is_true())) \
-  ROW(equals_units_unchecked, NOTHING, value(jsstr_equals_units_unchecked(&w->one, w->wide, wide, 8)), NO_METHOD, is_true()) \
   ROW(equals_units_refused, NOTHING, truth(jsstr_equals_units(&w->one, w->theirs, UNITS)), w->one.equal(w->theirs, {UNITS}), is_refused()) \
   ROW(equals_units_not, NOTHING, truth(jsstr_equals_units(&w->one, w->plain, TWIN_UNITS)), w->one.equal(w->plain, {TWIN_UNITS}), is_false()) \
   ROW(compare_latin1, NOTHING, order(jsstr_compare_latin1(&w->one, w->rope, LATIN1)), w->one.compare_latin1(w->rope, {LATIN1}), settled(is_order(1))) \
-  ROW(compare_latin1_unchecked, NOTHING, value((uint32_t)jsstr_compare_latin1_unchecked(&w->one, w->plain, TWIN_BYTES)), NO_METHOD, is_order(-1)) \
   ROW(compare_latin1_refused, NOTHING, order(jsstr_compare_latin1(&w->one, w->theirs, LATIN1)), w->one.compare_latin1(w->theirs, {LATIN1}), is_refused()) \
   ROW(compare_utf8, NOTHING, order(jsstr_compare_utf8(&w->one, w->rope, UTF8)), w->one.compare_utf8(w->rope, {UTF8}), settled(is_order(1))) \
-  ROW(compare_utf8_unchecked, NOTHING, order(jsstr_compare_utf8_unchecked(&w->one, w->plain, TWIN_BYTES)), NO_METHOD, is_order(-1)) \
   ROW(compare_utf8_refused, NOTHING, order(jsstr_compare_utf8(&w->one, w->theirs, UTF8)), w->one.compare_utf8(w->theirs, {UTF8}), is_refused()) \
   ROW(compare_utf8_of_wtf8, NOTHING, order(jsstr_compare_utf8(&w->one, w->rope, WTF8)), w->one.compare_utf8(w->rope, {WTF8}), is_answer(JSSTR_NOT_UTF8)) \
   ROW(equals_latin1, NOTHING, truth(jsstr_equals_latin1(&w->one, w->rope, TWIN_BYTES)), w->one.equal_latin1(w->rope, {TWIN_BYTES}), settled(is_true())) \
-  ROW(equals_latin1_unchecked, NOTHING, value(jsstr_equals_latin1_unchecked(&w->one, w->key, KEY_BYTES)), NO_METHOD, is_true()) \
   ROW(equals_latin1_refused, NOTHING, truth(jsstr_equals_latin1(&w->one, w->theirs, LATIN1)), w->one.equal_latin1(w->theirs, {LATIN1}), is_refused()) \
   ROW(equals_latin1_not, NOTHING, truth(jsstr_equals_latin1(&w->one, w->plain, LATIN1)), w->one.equal_latin1(w->plain, {LATIN1}), is_false()) \
   ROW(equals_utf8, NOTHING, truth(jsstr_equals_utf8(&w->one, w->rope, TWIN_BYTES)), w->one.equal_utf8(w->rope, {TWIN_BYTES}), settled(is_true())) \
-  ROW(equals_utf8_unchecked, NOTHING, truth(jsstr_equals_utf8_unchecked(&w->one, jsstr_from_utf8(&w->one, UTF8).id, UTF8)), NO_METHOD, uses(is_true(), 1, 3)) \
   ROW(equals_utf8_refused, NOTHING, truth(jsstr_equals_utf8(&w->one, w->theirs, UTF8)), w->one.equal_utf8(w->theirs, {UTF8}), is_refused()) \
   ROW(equals_utf8_not, NOTHING, truth(jsstr_equals_utf8(&w->one, w->plain, UTF8)), w->one.equal_utf8(w->plain, {UTF8}), is_false()) \
   ROW(starts_with, NOTHING, truth(jsstr_starts_with(&w->one, w->rope, w->plain, 11)), w->one.starts_with(w->rope, w->plain, 11), settled(is_true())) \
-  ROW(starts_with_unchecked, NOTHING, value(jsstr_starts_with_unchecked(&w->one, w->twin, w->plain, 11)), NO_METHOD, is_true()) \
   ROW(starts_with_refused, NOTHING, truth(jsstr_starts_with(&w->one, w->plain, w->theirs, 0)), w->one.starts_with(w->plain, w->theirs, 0), is_refused()) \
   ROW(starts_with_not, NOTHING, truth(jsstr_starts_with(&w->one, w->twin, w->plain, 10)), w->one.starts_with(w->twin, w->plain, 10), is_false()) \
   ROW(index_of, NOTHING, place(jsstr_index_of(&w->one, w->rope, w->plain, 1)), w->one.index_of(w->rope, w->plain, 1), settled(is_place(11))) \
-  ROW(index_of_unchecked, NOTHING, place(jsstr_index_of_unchecked(&w->one, w->twin, w->plain, 0)), NO_METHOD, is_place(0)) \
   ROW(index_of_refused, NOTHING, place(jsstr_index_of(&w->one, w->rope, w->plain, 23)), w->one.index_of(w->rope, w->plain, 23), is_refused()) \
   ROW(index_of_none, NOTHING, place(jsstr_index_of(&w->one, w->twin, w->plain, 12)), w->one.index_of(w->twin, w->plain, 12), is_answer(JSSTR_NONE)) \
   ROW(last_index_of, NOTHING, place(jsstr_last_index_of(&w->one, w->rope, w->plain, 99)), w->one.last_index_of(w->rope, w->plain, 99), settled(is_place(11))) \
-  ROW(last_index_of_unchecked, NOTHING, place(jsstr_last_index_of_unchecked(&w->one, w->twin, w->plain, 10)), NO_METHOD, is_place(0)) \
   ROW(last_index_of_refused, NOTHING, place(jsstr_last_index_of(&w->one, w->plain, w->theirs, 99)), w->one.last_index_of(w->plain, w->theirs, 99), is_refused()) \
   ROW(last_index_of_none, NOTHING, place(jsstr_last_index_of(&w->one, w->twin, w->key, 99)), w->one.last_index_of(w->twin, w->key, 99), is_answer(JSSTR_NONE)) \
   ROW(intern, NOTED, string(jsstr_intern(&w->one, w->rope)), w->one.intern(w->rope), settled(is_key(&w->one, ROPE, 1, 0))) \
@@ -221,54 +192,41 @@ static const any_byte key_bytes[] = "key", twin_bytes[] = "a plain onea plain on
   ROW(intern_again, NOTED, (jsstr_intern(&w->one, w->plain), string(jsstr_intern(&w->one, w->plain))), (void(w->one.intern(w->plain)), w->one.intern(w->plain)), is_key(&w->one, PLAIN, 1, 0)) \
   ROW(intern_there, NOTED, string(jsstr_intern(&w->one, made(w, "key"))), w->one.intern(made(w, "key")), uses(is_that(&w->one, w->key, L"key"), 1, 1)) \
   ROW(intern_units, NOTHING, string(jsstr_intern_units(&w->one, UNITS)), w->one.intern({UNITS}), is_key(&w->one, L"units\xE9", 1, 1)) \
-  ROW(intern_units_unchecked, NOTHING, string(jsstr_intern_units_unchecked(&w->one, UNITS)), NO_METHOD, is_key(&w->one, L"units\xE9", 1, 1)) \
   ROW(intern_units_refused, NOTHING, string(jsstr_intern_units(&w->one, units, TOO_LONG)), w->one.intern({units, TOO_LONG}), is_refused()) \
   ROW(intern_units_there, NOTHING, string(jsstr_intern_units(&w->one, KEY_UNITS)), w->one.intern({KEY_UNITS}), is_that(&w->one, w->key, L"key")) \
   ROW(intern_units_first, NOTED, string(jsstr_intern_units(&w->far, UNITS)), w->far.intern({UNITS}), is_key(&w->far, L"units\xE9", 0, 0)) \
   ROW(intern_latin1, NOTHING, string(jsstr_intern_latin1(&w->one, LATIN1)), w->one.intern_latin1({LATIN1}), is_key(&w->one, L"Latin-1 \xE9", 1, 2)) \
-  ROW(intern_latin1_unchecked, NOTHING, string(jsstr_intern_latin1_unchecked(&w->one, KEY_BYTES)), NO_METHOD, is_that(&w->one, w->key, L"key")) \
   ROW(intern_latin1_refused, NOTHING, string(jsstr_intern_latin1(&w->one, latin1, TOO_LONG)), w->one.intern_latin1({latin1, TOO_LONG}), is_refused()) \
   ROW(intern_utf8, NOTHING, string(jsstr_intern_utf8(&w->one, UTF8)), w->one.intern_utf8({UTF8}), is_key(&w->one, L"UTF-8 \xE9 \xD83D\xDE00", 1, 3)) \
-  ROW(intern_utf8_unchecked, NOTHING, string(jsstr_intern_utf8_unchecked(&w->one, KEY_BYTES)), NO_METHOD, is_that(&w->one, w->key, L"key")) \
   ROW(intern_utf8_refused, NOTHING, string(jsstr_intern_utf8(&w->one, utf8, TOO_LONG)), w->one.intern_utf8({utf8, TOO_LONG}), is_refused()) \
   ROW(intern_utf8_first, NOTED, string(jsstr_intern_utf8(&w->far, UTF8)), w->far.intern_utf8({UTF8}), is_key(&w->far, L"UTF-8 \xE9 \xD83D\xDE00", 0, 0)) \
   ROW(intern_utf8_of_wtf8, NOTHING, string(jsstr_intern_utf8(&w->one, WTF8)), w->one.intern_utf8({WTF8}), is_answer(JSSTR_NOT_UTF8, 0, 6)) \
   ROW(intern_wtf8, NOTHING, string(jsstr_intern_wtf8(&w->one, WTF8)), w->one.intern_wtf8({WTF8}), is_key(&w->one, L"WTF-8 \xD800", 1, 2)) \
-  ROW(intern_wtf8_unchecked, NOTHING, string(jsstr_intern_wtf8_unchecked(&w->one, KEY_BYTES)), NO_METHOD, is_that(&w->one, w->key, L"key")) \
   ROW(intern_wtf8_refused, NOTHING, string(jsstr_intern_wtf8(&w->one, wtf8, TOO_LONG)), w->one.intern_wtf8({wtf8, TOO_LONG}), is_refused()) \
   ROW(intern_wtf8_of_latin1, NOTHING, string(jsstr_intern_wtf8(&w->one, LATIN1)), w->one.intern_wtf8({LATIN1}), is_answer(JSSTR_NOT_UTF8, 0, 8)) \
   ROW(intern_many, NOTHING, string(jsstr_intern_many(&w->one, UNITS, ends, 3, w->ids, 3)), w->one.intern_many({UNITS}, {ends, ends + 3}), is_keys(&w->one, L"u ni ts\xE9", 3, 3)) \
-  ROW(intern_many_unchecked, NOTHING, string(jsstr_intern_many_unchecked(&w->one, UNITS, ends, 3, w->ids, 3)), NO_METHOD, is_keys(&w->one, L"u ni ts\xE9", 3, 3)) \
   ROW(intern_many_refused, NOTHING, string(jsstr_intern_many(&w->one, UNITS, descending, 3, w->ids, 3)), w->one.intern_many({UNITS}, {descending, descending + 3}), is_refused()) \
   ROW(find_units, NOTHING, string(jsstr_find_units(&w->one, KEY_UNITS)), w->one.find({KEY_UNITS}), is_that(&w->one, w->key, L"key")) \
-  ROW(find_units_unchecked, NOTHING, string(jsstr_find_units_unchecked(&w->one, UNITS)), NO_METHOD, is_answer(JSSTR_NONE)) \
   ROW(find_units_refused, NOTHING, string(jsstr_find_units(&w->one, key, TOO_LONG)), w->one.find({key, TOO_LONG}), is_refused()) \
   ROW(find_units_first, NOTED, string(jsstr_find_units(&w->far, UNITS)), w->far.find({UNITS}), is_answer(JSSTR_NONE)) \
   ROW(find_latin1, NOTHING, string(jsstr_find_latin1(&w->one, KEY_BYTES)), w->one.find_latin1({KEY_BYTES}), is_that(&w->one, w->key, L"key")) \
-  ROW(find_latin1_unchecked, NOTHING, string(jsstr_find_latin1_unchecked(&w->one, KEY_BYTES)), NO_METHOD, is_that(&w->one, w->key, L"key")) \
   ROW(find_latin1_refused, NOTHING, string(jsstr_find_latin1(&w->one, key_bytes, TOO_LONG)), w->one.find_latin1({key_bytes, TOO_LONG}), is_refused()) \
   ROW(find_utf8, NOTHING, string(jsstr_find_utf8(&w->one, KEY_BYTES)), w->one.find_utf8({KEY_BYTES}), is_that(&w->one, w->key, L"key")) \
-  ROW(find_utf8_unchecked, NOTHING, string(jsstr_find_utf8_unchecked(&w->one, KEY_BYTES)), NO_METHOD, is_that(&w->one, w->key, L"key")) \
   ROW(find_utf8_refused, NOTHING, string(jsstr_find_utf8(&w->one, key_bytes, TOO_LONG)), w->one.find_utf8({key_bytes, TOO_LONG}), is_refused()) \
   ROW(find_utf8_first, NOTED, string(jsstr_find_utf8(&w->far, UTF8)), w->far.find_utf8({UTF8}), is_answer(JSSTR_NONE)) \
   ROW(find_utf8_of_wtf8, NOTHING, string(jsstr_find_utf8(&w->one, WTF8)), w->one.find_utf8({WTF8}), is_answer(JSSTR_NOT_UTF8, 0, 6)) \
   ROW(find_wtf8, NOTHING, string(jsstr_find_wtf8(&w->one, KEY_BYTES)), w->one.find_wtf8({KEY_BYTES}), is_that(&w->one, w->key, L"key")) \
-  ROW(find_wtf8_unchecked, NOTHING, string(jsstr_find_wtf8_unchecked(&w->one, KEY_BYTES)), NO_METHOD, is_that(&w->one, w->key, L"key")) \
   ROW(find_wtf8_refused, NOTHING, string(jsstr_find_wtf8(&w->one, key_bytes, TOO_LONG)), w->one.find_wtf8({key_bytes, TOO_LONG}), is_refused()) \
   ROW(find_wtf8_of_latin1, NOTHING, string(jsstr_find_wtf8(&w->one, LATIN1)), w->one.find_wtf8({LATIN1}), is_answer(JSSTR_NOT_UTF8, 0, 8)) \
   ROW(slot_of, NOTHING, number(jsstr_slot_of(&w->one, w->key)), w->one.slot_of(w->key), is_number(hash(L"key") % 13)) \
-  ROW(slot_of_unchecked, NOTHING, value(jsstr_slot_of_unchecked(&w->one, w->key)), NO_METHOD, is_number(hash(L"key") % 13)) \
   ROW(slot_of_refused, NOTHING, number(jsstr_slot_of(&w->one, w->plain)), w->one.slot_of(jsstr::key(w->plain.id())), is_refused()) \
   ROW(adopt, NOTHING, string(jsstr_adopt(&w->other, hash(L"key") % 13)), w->other.adopt(hash(L"key") % 13), learned(is_that(&w->other, w->key, L"key"))) \
-  ROW(adopt_unchecked, NOTHING, string(jsstr_adopt_unchecked(&w->other, hash(L"key") % 13)), NO_METHOD, learned(is_that(&w->other, w->key, L"key"))) \
   ROW(adopt_refused, NOTHING, string(jsstr_adopt(&w->other, 13)), w->other.adopt(13), is_refused()) \
   ROW(adopt_none, NOTHING, string(jsstr_adopt(&w->other, (hash(L"key") + 1) % 13)), w->other.adopt((hash(L"key") + 1) % 13), is_answer(JSSTR_NONE)) \
   ROW(copy_into, MEMORY, string(jsstr_copy_into(&w->one, w->plain, &w->far)), w->one.copy_into(w->plain, w->far), is_string(&w->far, PLAIN, 0, 0)) \
-  ROW(copy_into_unchecked, MEMORY, string(jsstr_copy_into_unchecked(&w->one, w->plain, &w->far)), NO_METHOD, is_string(&w->far, PLAIN, 0, 0)) \
   ROW(copy_into_refused, NOTHING, string(jsstr_copy_into(&w->one, w->plain, &w->none)), w->one.copy_into(w->plain, w->none), is_refused()) \
   ROW(copy_rope_into, MEMORY_SETTLED, string(jsstr_copy_into(&w->one, w->rope, &w->far)), w->one.copy_into(w->rope, w->far), settled(is_string(&w->far, ROPE, 0, 0))) \
   ROW(intern_into, MEMORY_NOTED, string(jsstr_intern_into(&w->one, w->plain, &w->far)), w->one.intern_into(w->plain, w->far), is_key(&w->far, PLAIN, 0, 0)) \
-  ROW(intern_into_unchecked, MEMORY_NOTED, string(jsstr_intern_into_unchecked(&w->one, w->plain, &w->far)), NO_METHOD, is_key(&w->far, PLAIN, 0, 0)) \
   ROW(intern_into_refused, NOTHING, string(jsstr_intern_into(&w->one, w->plain, &w->none)), w->one.intern_into(w->plain, w->none), is_refused()) \
   ROW(intern_rope_into, MEMORY_NOTED, string(jsstr_intern_into(&w->one, w->rope, &w->far)), w->one.intern_into(w->rope, w->far), settled(is_key(&w->far, ROPE, 0, 0))) \
   ROW(build_units, MEMORY, told(jsstr_build_units(&w->full, UNITS)), w->full.append({UNITS}), appended(&w->full, L"units\xE9")) \
@@ -283,35 +241,22 @@ static const any_byte key_bytes[] = "key", twin_bytes[] = "a plain onea plain on
   ROW(build_first_wtf8, MEMORY, string(jsstr_build_wtf8(&w->empty, WTF8)), w->empty.append_wtf8({WTF8}), appended(&w->empty, L"WTF-8 \xD800")) \
   ROW(build_wtf8_of_latin1, NOTHING, string(jsstr_build_wtf8(&w->full, LATIN1)), w->full.append_wtf8({LATIN1}), is_answer(JSSTR_NOT_UTF8, 0, 8)) \
   ROW(build_string, MEMORY, told(jsstr_build_string(&w->full, &w->one, w->plain)), w->full.append(w->one, w->plain), appended(&w->full, PLAIN)) \
-  ROW(build_string_unchecked, MEMORY, told(jsstr_build_string_unchecked(&w->full, &w->one, w->plain)), NO_METHOD, appended(&w->full, PLAIN)) \
   ROW(build_string_refused, NOTHING, told(jsstr_build_string(&w->full, &w->one, w->theirs)), w->full.append(w->one, w->theirs), is_refused()) \
   ROW(build_first_string, MEMORY, told(jsstr_build_string(&w->empty, &w->one, w->plain)), w->empty.append(w->one, w->plain), appended(&w->empty, PLAIN)) \
   ROW(build_rope, MEMORY_SETTLED, told(jsstr_build_string(&w->full, &w->one, w->rope)), w->full.append(w->one, w->rope), settled(appended(&w->full, ROPE))) \
   ROW(build_number, MEMORY, told(jsstr_build_number(&w->full, -2147483647)), w->full.append(std::int64_t(-2147483647)), appended(&w->full, L"-2147483647")) \
   ROW(build_first_number, MEMORY, told(jsstr_build_number(&w->empty, 7)), w->empty.append(std::int32_t(7)), appended(&w->empty, L"7")) \
-  ROW(built_length, NOTHING, value(jsstr_built_length(&w->text)), w->text.length(), is_number(6)) \
   ROW(built, NOTHING, string(jsstr_built(&w->text, &w->one)), w->text.string(w->one), spent(is_string(&w->one, L"text \x4E16", 1, 2))) \
-  ROW(built_unchecked, NOTHING, string(jsstr_built_unchecked(&w->text, &w->one)), NO_METHOD, spent(is_string(&w->one, L"text \x4E16", 1, 2))) \
   ROW(built_refused, NOTHING, string(jsstr_built(&w->text, &w->none)), w->text.string(w->none), is_refused()) \
   ROW(built_of_nothing, NOTHING, string(jsstr_built(&w->empty, &w->one)), w->empty.string(w->one), is_string(&w->one, L"", 1, 0)) \
   ROW(built_interned, NOTHING, string(jsstr_built_interned(&w->text, &w->one)), w->text.interned(w->one), spent(is_key(&w->one, L"text \x4E16", 1, 2))) \
-  ROW(built_interned_unchecked, NOTHING, string(jsstr_built_interned_unchecked(&w->text, &w->one)), NO_METHOD, spent(is_key(&w->one, L"text \x4E16", 1, 2))) \
   ROW(built_interned_refused, NOTHING, string(jsstr_built_interned(&w->text, &w->none)), w->text.interned(w->none), is_refused()) \
   ROW(drop_builder, NOTHING, (jsstr_drop_builder(&w->text), value(w->text.at || w->text.live || w->text.len)), ended(w->text), spent(is_number(0))) \
   ROW(is_interned, NOTHING, truth(jsstr_is_interned(&w->one, w->key)), w->one.is_interned(w->key), is_true()) \
-  ROW(is_interned_unchecked, NOTHING, value(jsstr_is_interned_unchecked(&w->one, w->plain)), NO_METHOD, is_false()) \
   ROW(is_interned_refused, NOTHING, truth(jsstr_is_interned(&w->none, w->key)), w->none.is_interned(w->key), is_refused()) \
-  ROW(same, NOTHING, truth(jsstr_same(&w->one, w->key, w->key)), NO_METHOD, is_true()) \
-  ROW(same_unchecked, NOTHING, value(jsstr_same_unchecked(&w->one, w->key, jsstr_intern_units(&w->one, UNITS).id)), NO_METHOD, learned(uses(is_false(), 1, 1))) \
-  ROW(same_refused, NOTHING, truth(jsstr_same(&w->one, w->key, w->plain)), NO_METHOD, is_refused()) \
   ROW(room_of, NOTHING, room(jsstr_room_of(&w->one)), w->one.room(), is_answer(JSSTR_DONE, 6, 9, 64, 64, 13, 1)) \
-  ROW(room_of_unchecked, NOTHING, room(jsstr_room_of_unchecked(&w->far)), NO_METHOD, is_answer(JSSTR_DONE, 3, 9, 64, 64, 13, 0)) \
   ROW(room_of_refused, NOTHING, room(jsstr_room_of(&w->none)), w->none.room(), is_refused()) \
-  ROW(totals, NOTHING, (jsstr_join(&w->one, &w->other), used(jsstr_totals(&w->one))), (void(w->one.join(std::move(w->other))), w->one.totals()), joined(is_answer(JSSTR_DONE, 6, 9))) \
-  ROW(totals_unchecked, NOTHING, use(jsstr_totals_unchecked(&w->far)), NO_METHOD, is_answer(JSSTR_DONE, 3, 9)) \
-  ROW(totals_refused, NOTHING, used(jsstr_totals(&w->one)), w->one.totals(), is_refused()) \
   ROW(count_interned, NOTHING, (jsstr_join(&w->one, &w->other), number(jsstr_count_interned(&w->one))), (void(w->one.join(std::move(w->other))), w->one.count_interned()), joined(is_number(1))) \
-  ROW(count_interned_unchecked, NOTHING, value(jsstr_count_interned_unchecked(&w->far)), NO_METHOD, is_number(0)) \
   ROW(count_interned_refused, NOTHING, number(jsstr_count_interned(&w->one)), w->one.count_interned(), is_refused())
 
 /* An answer of any kind: its status and its numbers, in the order of its fields. */

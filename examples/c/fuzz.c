@@ -18,6 +18,7 @@
 #define FAIL(c) do { printf("call %ld, line %d: %s\n", call, __LINE__, c); exit(1); } while (0)
 #define CHECK(c) do { if (!(c)) FAIL(#c); } while (0)
 
+typedef struct use { uint32_t ids, words; } use;
 typedef struct text { uint16_t *units; uint32_t len; } text;
 typedef struct agent {
   jsstr_agent handle;
@@ -25,7 +26,7 @@ typedef struct agent {
   int number, giver;
   uint8_t known[IDS], interned[IDS];
   uint32_t ids, words; /* what it reserved, and has left */
-  jsstr_use blocks;    /* by which it renews that */
+  use blocks; /* by which it renews that */
 } agent;
 
 static text texts[IDS];
@@ -90,12 +91,18 @@ static void answered(agent *a, jsstr_answer s, const uint16_t *units, uint32_t l
   a->known[s.id] = 1;
 }
 
+/* What all agents used. */
+static use used_now(jsstr_agent *a) {
+  jsstr_room now = jsstr_room_of(a);
+  return (use){now.ids, now.words};
+}
+
 /* What was used before a call for an agent. */
-static jsstr_use used(agent *a) { return a->handle.live ? jsstr_totals_unchecked(&a->handle) : (jsstr_use){0, 0}; }
+static use used(agent *a) { return a->handle.live ? used_now(&a->handle) : (use){0, 0}; }
 
 /* The same before a call that may settle s first; then the words that this takes are not known. */
-static jsstr_use used_settled(agent *a, agent *of, jsstr_id s) {
-  jsstr_use now = used(a);
+static use used_settled(agent *a, agent *of, jsstr_id s) {
+  use now = used(a);
   if (knows(of, s) && !jsstr_is_settled(&of->handle, s).holds) now.words = UINT32_MAX;
   return now;
 }
@@ -107,7 +114,7 @@ static uint32_t words_of(const uint16_t *units, uint32_t len) {
   return (len + lanes - 1) / lanes;
 }
 
-/* What a copy of these units takes of what is reserved, where that suffices. */
+/* What a copy of these units, which are interned, takes of what is reserved: an id and its words, or nothing. */
 static int takes(agent *a, const uint16_t *units, uint32_t len) {
   uint32_t words = words_of(units, len);
   if (!a->ids || words > a->words) return 0;
@@ -116,19 +123,12 @@ static int takes(agent *a, const uint16_t *units, uint32_t len) {
 }
 
 /* What is renewed for a string that takes so many words, and needs at most `most`: a block of what is missing, if there is
-   one of all that is. What was left shows whether the words begin a new run. Where it isn't known what was used before,
-   what is left is believed. */
-static void renewed(agent *a, jsstr_use *before, uint32_t most, uint32_t words) {
+   one of all that is. What was left shows whether the words begin a new run. */
+static void renewed(agent *a, use *before, uint32_t most, uint32_t words) {
   int no_ids = !a->ids, few = a->words < most;
   if (!(no_ids || few) || (no_ids && !a->blocks.ids) || (few && !a->blocks.words)) return;
   uint32_t more = !few ? 0 : most > a->blocks.words ? most : a->blocks.words;
   jsstr_counts kept = jsstr_reserved(&a->handle);
-  if (few && before->words == UINT32_MAX) {
-    jsstr_use after = jsstr_totals_unchecked(&a->handle);
-    uint32_t taken = kept.ids < a->ids || (no_ids && kept.ids + 1 == after.ids - before->ids);
-    a->ids = kept.ids + taken, a->words = kept.words + (taken ? words : 0), before->ids = after.ids;
-    return;
-  }
   if (few && more > WORDS - before->words) return;
   uint32_t ids = !no_ids ? 0 : a->blocks.ids < IDS - before->ids ? a->blocks.ids : IDS - before->ids;
   a->ids += ids, before->ids += ids;
@@ -137,25 +137,34 @@ static void renewed(agent *a, jsstr_use *before, uint32_t most, uint32_t words) 
   a->words = kept.words + (a->ids ? words : 0) == a->words + more ? a->words + more : more;
 }
 
-/* A string of these units was made, or interned as a new one, of what is reserved, where that suffices, and then nothing
-   was used; else nothing is taken of it. */
-static int is_taken(agent *a, jsstr_use before, jsstr_answer s, const uint16_t *units, uint32_t len) {
-  jsstr_use after = jsstr_totals_unchecked(&a->handle);
-  if (!takes(a, units, len)) return jsstr_reserved(&a->handle).ids == a->ids;
-  return s.status == JSSTR_DONE && before.ids == after.ids && (before.words == after.words || before.words == UINT32_MAX);
+/* A string of these units was made, or interned as a new one: it took the id, and the words, of what is reserved, each where
+   there is what it needs, and used what was lacking; interned, it took both or neither. A refusal is of what was lacking, and
+   leaves what is reserved. */
+static int is_taken(agent *a, use before, jsstr_answer s, const uint16_t *units, uint32_t len, int interns) {
+  use after = used_now(&a->handle);
+  uint32_t words = words_of(units, len), id = a->ids > 0, has = words <= a->words;
+  if (interns && !(id && has)) id = has = 0;
+  if (s.status != JSSTR_DONE) return s.status == JSSTR_NO_IDS ? !id : s.status == JSSTR_NO_WORDS && !has;
+  a->ids -= id, a->words -= has ? words : 0;
+  return after.ids == before.ids + !id && (before.words == UINT32_MAX || after.words == before.words + (has ? 0 : words));
 }
 
-/* The same, and what is reserved was renewed before. */
-static int is_renewed(agent *a, jsstr_use before, jsstr_answer s, const uint16_t *units, uint32_t len, int is_short) {
-  uint32_t words = words_of(units, len);
-  renewed(a, &before, is_short ? (len + 3) / 4 : words, words);
-  return is_taken(a, before, s, units, len);
+/* The same, and what is reserved was renewed before. Where it isn't known what was used before, what is left is believed. */
+static int is_renewed(agent *a, use before, jsstr_answer s, const uint16_t *units, uint32_t len, int is_short, int interns) {
+  uint32_t words = words_of(units, len), most = is_short ? (len + 3) / 4 : words;
+  if (before.words == UINT32_MAX && a->words < most && a->blocks.words) {
+    jsstr_counts kept = jsstr_reserved(&a->handle);
+    a->ids = kept.ids, a->words = kept.words;
+    return 1;
+  }
+  renewed(a, &before, most, words);
+  return is_taken(a, before, s, units, len, interns);
 }
 
 /* The same of a rope or a slice, which takes an id and no word, if it takes any. */
-static int is_linked(agent *a, jsstr_use before) {
+static int is_linked(agent *a, use before) {
   renewed(a, &before, 0, 0);
-  jsstr_use after = jsstr_totals_unchecked(&a->handle);
+  use after = used_now(&a->handle);
   if (jsstr_reserved(&a->handle).ids == a->ids) return 1;
   a->ids--;
   return before.ids == after.ids;
@@ -245,19 +254,19 @@ static void make(agent *a) {
   given g;
   enum kind kind = (enum kind)chance(KINDS);
   give(&g, kind);
-  jsstr_use before = used(a);
+  use before = used(a);
   jsstr_answer s = kind == UNITS ? jsstr_from_units(&a->handle, g.units, g.len) : kind == LATIN1 ? jsstr_from_latin1(&a->handle, g.bytes, g.n)
     : kind == UTF8 ? jsstr_from_utf8(&a->handle, g.bytes, g.n) : jsstr_from_wtf8(&a->handle, g.bytes, g.n);
   if (!a->handle.live) { CHECK(s.status == JSSTR_BAD_ARGUMENT); return; }
   lawful++;
   if (is_refused(&g, s)) return;
-  CHECK(is_renewed(a, before, s, g.units, g.len, 0));
+  CHECK(is_renewed(a, before, s, g.units, g.len, 0, 0));
   answered(a, s, g.units, g.len);
 }
 
 static void concat(agent *a) {
   jsstr_id l = some_id(a), r = some_id(a);
-  jsstr_use before = used(a);
+  use before = used(a);
   jsstr_answer s = jsstr_concat(&a->handle, l, r);
   if (!knows(a, l) || !knows(a, r)) { CHECK(s.status == JSSTR_BAD_ARGUMENT); return; }
   lawful++;
@@ -266,19 +275,19 @@ static void concat(agent *a) {
   uint16_t units[LIMIT];
   memcpy(units, texts[l].units, m * 2);
   memcpy(units + m, texts[r].units, n * 2);
-  if (m && n) CHECK(m + n < 13 ? is_renewed(a, before, s, units, m + n, 1) : is_linked(a, before));
+  if (m && n) CHECK(m + n < 13 ? is_renewed(a, before, s, units, m + n, 1, 0) : is_linked(a, before));
   answered(a, s, units, m + n);
 }
 
 static void slice(agent *a) {
   jsstr_id s = some_id(a);
   uint32_t len = knows(a, s) ? texts[s].len : 9, from = chance(len + 2), to = chance(9) ? from + chance(len + 2 - from) : chance(500);
-  jsstr_use before = used_settled(a, a, s);
+  use before = used_settled(a, a, s);
   jsstr_answer t = jsstr_slice(&a->handle, s, from, to);
   if (!knows(a, s) || from > to || to > len) { CHECK(t.status == JSSTR_BAD_ARGUMENT); return; }
   lawful++;
   if (to - from < len && jsstr_is_settled(&a->handle, s).holds)
-    CHECK(to - from < 13 ? is_renewed(a, before, t, texts[s].units + from, to - from, 1) : is_linked(a, before));
+    CHECK(to - from < 13 ? is_renewed(a, before, t, texts[s].units + from, to - from, 1, 0) : is_linked(a, before));
   answered(a, t, texts[s].units + from, to - from);
 }
 
@@ -328,11 +337,11 @@ static void carry(agent *a, agent *b) {
     CHECK((t.status == JSSTR_BAD_ARGUMENT) == !knows(a, s));
     return;
   }
-  jsstr_use before = used_settled(b, a, s);
+  use before = used_settled(b, a, s);
   jsstr_answer t = jsstr_copy_into(&a->handle, s, &b->handle);
   if (!knows(a, s) || !b->handle.live) { CHECK(t.status == JSSTR_BAD_ARGUMENT); return; }
   lawful++;
-  if (jsstr_is_settled(&a->handle, s).holds) CHECK(is_renewed(b, before, t, texts[s].units, texts[s].len, 0));
+  if (jsstr_is_settled(&a->handle, s).holds) CHECK(is_renewed(b, before, t, texts[s].units, texts[s].len, 0, 0));
   answered(b, t, texts[s].units, texts[s].len);
 }
 
@@ -453,14 +462,14 @@ static void key(agent *a) {
   enum kind kind = (enum kind)chance(KINDS);
   int find = (int)chance(2);
   give(&g, kind);
-  jsstr_use before = used(a);
+  use before = used(a);
   jsstr_answer one = kind == UNITS ? (find ? jsstr_find_units : jsstr_intern_units)(&a->handle, g.units, g.len)
     : (kind == LATIN1 ? find ? jsstr_find_latin1 : jsstr_intern_latin1 : kind == UTF8 ? find ? jsstr_find_utf8 : jsstr_intern_utf8
     : find ? jsstr_find_wtf8 : jsstr_intern_wtf8)(&a->handle, g.bytes, g.n);
   if (!a->handle.live) { CHECK(one.status == JSSTR_BAD_ARGUMENT); return; }
   lawful++;
   if (is_refused(&g, one)) return;
-  if (!find && is_new(g.units, g.len)) CHECK(is_renewed(a, before, one, g.units, g.len, 0));
+  if (!find && is_new(g.units, g.len)) CHECK(is_renewed(a, before, one, g.units, g.len, 0, 1));
   if (find && !is_used(slot_for(g.units, g.len))) CHECK(one.status == JSSTR_NONE && !one.id);
   else interned(a, one, g.units, g.len);
 }
@@ -557,10 +566,10 @@ static void append_string(agent *a) {
 /* A string of the text, here or in a heap that has little room; a refusal leaves the text. */
 static void finish(agent *a) {
   int interns = (int)chance(2), here = chance(9) > 0;
-  jsstr_use before = used(a);
+  use before = used(a);
   jsstr_answer s = (interns ? jsstr_built_interned : jsstr_built)(&built.handle, here ? &a->handle : &stranger.handle);
-  if (here && a->handle.live && !interns) CHECK(is_renewed(a, before, s, built.units, built.len, 0));
-  if (here && a->handle.live && interns && is_new(built.units, built.len)) CHECK(is_renewed(a, before, s, built.units, built.len, 0));
+  if (here && a->handle.live && !interns) CHECK(is_renewed(a, before, s, built.units, built.len, 0, 0));
+  if (here && a->handle.live && interns && is_new(built.units, built.len)) CHECK(is_renewed(a, before, s, built.units, built.len, 0, 1));
   if (here && !a->handle.live) CHECK(s.status == JSSTR_BAD_ARGUMENT);
   else if (here) (interns ? interned : answered)(a, s, built.units, built.len);
   else CHECK(s.status == JSSTR_DONE || s.status == JSSTR_NO_IDS || s.status == JSSTR_NO_WORDS || s.status == JSSTR_NO_SLOTS);
@@ -575,10 +584,10 @@ static void build(agent *a) {
   case 2: case 3: append_given(); break;
   default: finish(a);
   }
-  CHECK(jsstr_built_length(&built.handle) == built.len);
+  CHECK(built.handle.len == built.len);
   if (chance(50)) return;
   jsstr_drop_builder(&built.handle);
-  CHECK(!built.handle.at && !built.handle.live && jsstr_built_length(&built.handle) == 0);
+  CHECK(!built.handle.at && !built.handle.live && built.handle.len == 0);
   built.len = 0;
 }
 
@@ -587,34 +596,28 @@ static void gauge(agent *a) {
   jsstr_room room = jsstr_room_of(&a->handle);
   if (!a->handle.live) { CHECK(room.status == JSSTR_BAD_ARGUMENT && !room.ids && !room.words && !room.all_ids && !room.seen_slots); return; }
   lawful++;
-  jsstr_use use = jsstr_totals_unchecked(&a->handle);
+  use all = used_now(&a->handle);
   uint32_t known = 0, keys = 0;
   for (int i = 0; i < IDS; i++) known += a->known[i], keys += a->interned[i];
   CHECK(room.status == JSSTR_DONE && room.all_ids == IDS && room.all_words == WORDS && room.slots == SLOTS);
-  CHECK(room.ids == use.ids && room.words == use.words && room.ids >= known && room.seen_slots == keys);
+  CHECK(room.ids == all.ids && room.words == all.words && room.ids >= known && room.seen_slots == keys);
   CHECK(room.ids >= last.ids && room.words >= last.words);
   last = room;
 }
 
-static void same(agent *a) {
-  jsstr_id s = some_key(a), t = chance(2) ? some_key(a) : s;
-  jsstr_truth o = jsstr_same(&a->handle, s, t);
-  int ok = knows(a, s) && knows(a, t) && a->interned[s] && a->interned[t];
+static void is_key(agent *a) {
+  jsstr_id s = some_key(a);
   jsstr_truth is = jsstr_is_interned(&a->handle, s);
   CHECK(a->handle.live ? is.status == JSSTR_DONE && is.holds == (s < IDS && a->interned[s]) : is.status == JSSTR_BAD_ARGUMENT);
-  lawful += ok;
-  CHECK(ok ? o.status == JSSTR_DONE && o.holds == (s == t) : o.status == JSSTR_BAD_ARGUMENT);
+  lawful += knows(a, s);
 }
 
 static void count(agent *a) {
   jsstr_number share = jsstr_share(&a->handle), lists = jsstr_count_interned(&a->handle);
-  jsstr_counts used = jsstr_totals(&a->handle);
   CHECK(a->handle.live ? share.status == JSSTR_DONE && share.value == a->share : share.status == JSSTR_BAD_ARGUMENT);
-  if (a->share < AGENTS) { CHECK(lists.status == JSSTR_BAD_ARGUMENT && used.status == JSSTR_BAD_ARGUMENT); return; }
+  if (a->share < AGENTS) { CHECK(lists.status == JSSTR_BAD_ARGUMENT); return; }
   lawful++;
-  uint32_t seen = 0;
-  for (int i = 0; i < IDS; i++) seen += a->known[i];
-  CHECK(lists.status == JSSTR_DONE && lists.value == entries && used.ids >= seen && used.ids <= IDS && used.words <= WORDS);
+  CHECK(lists.status == JSSTR_DONE && lists.value == entries);
 }
 
 static void settle(agent *a) {
@@ -629,11 +632,11 @@ static void settle(agent *a) {
 static void reserve(agent *a) {
   uint32_t ids = chance(9) ? chance(6) : chance(2 * IDS), words = chance(9) ? chance(20) : chance(2 * WORDS);
   if (chance(200)) ids %= 6, words %= 20;
-  jsstr_use before = used(a);
+  use before = used(a);
   jsstr_answer s = jsstr_reserve(&a->handle, ids, words);
   if (!a->handle.live) { CHECK(s.status == JSSTR_BAD_ARGUMENT); return; }
   lawful++;
-  jsstr_use after = jsstr_totals_unchecked(&a->handle);
+  use after = used_now(&a->handle);
   jsstr_counts kept = jsstr_reserved(&a->handle);
   CHECK(kept.status == JSSTR_DONE && kept.ids - a->ids == after.ids - before.ids);
   CHECK(s.status == JSSTR_DONE ? !s.id && kept.ids == a->ids + ids : refused_for_room(s.status));
@@ -643,8 +646,8 @@ static void reserve(agent *a) {
 }
 
 static void renew(agent *a) {
-  jsstr_use blocks = {chance(3) ? chance(6) : 0, chance(3) ? chance(20) : 0};
-  if (chance(40) == 0) blocks = (jsstr_use){chance(2) ? IDS : blocks.ids, chance(2) ? 2 * WORDS : blocks.words};
+  use blocks = {chance(3) ? chance(6) : 0, chance(3) ? chance(20) : 0};
+  if (chance(40) == 0) blocks = (use){chance(2) ? IDS : blocks.ids, chance(2) ? 2 * WORDS : blocks.words};
   uint32_t status = jsstr_renew(&a->handle, blocks.ids, blocks.words);
   CHECK(status == (a->handle.live ? JSSTR_DONE : JSSTR_BAD_ARGUMENT));
   if (!a->handle.live) return;
@@ -667,7 +670,7 @@ static void split(agent *a, agent *b) {
   b->giver = a->number;
   b->number = (int)++numbers;
   b->ids = b->words = 0;
-  b->blocks = (jsstr_use){0, 0};
+  b->blocks = (use){0, 0};
   a->share -= give;
 }
 
@@ -704,7 +707,7 @@ int main(int count_of, char **told) {
     case 6: case 7: read(a); break;
     case 8: case 9: search(a); break;
     case 10: intern(a); break;
-    case 11: same(a); break;
+    case 11: is_key(a); break;
     case 12: count(a); break;
     case 13: settle(a); break;
     case 14: split(a, b); break;

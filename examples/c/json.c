@@ -205,7 +205,7 @@ static void read_all(jsstr_size size, bool makes_first) {
   for (size_t i = 0; i < THREADS; i++) CHECK(!pthread_join(threads[i], NULL));
   for (size_t i = 1; i < THREADS; i++) CHECK(jsstr_join(&root->agent, &readers[i].agent) == JSSTR_DONE);
   for (size_t i = 0; i < THREADS; i++) check_values(root, &readers[i], seen, &keys, &names, &strings);
-  jsstr_counts used = jsstr_totals(&root->agent);
+  jsstr_room used = jsstr_room_of(&root->agent);
   uint64_t ids = strings.count + (makes_first ? keys.count : 0);
   uint64_t words = strings.words + (makes_first ? keys.words : names.words);
   CHECK(used.status == JSSTR_DONE && jsstr_count_interned(&root->agent).value == names.count);

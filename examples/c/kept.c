@@ -14,7 +14,7 @@ static int is_bare(jsstr_answer s, uint32_t status) { return s.status == status 
 static int is_string(jsstr_answer s, jsstr_id id) { return s.status == JSSTR_DONE && s.id == id && !s.at && !s.want && !s.end; }
 
 static int has_used(jsstr_agent *a, uint32_t ids, uint32_t words) {
-  jsstr_counts use = jsstr_totals(a);
+  jsstr_room use = jsstr_room_of(a);
   return use.status == JSSTR_DONE && use.ids == ids && use.words == words;
 }
 
@@ -31,7 +31,7 @@ static size_t list(int i, uint16_t *units) {
    has none. */
 static void row(jsstr_agent *a, uint16_t *units, size_t n, jsstr_id id) {
   CHECK(is_string(jsstr_find_units(a, units, n), id) && is_string(jsstr_intern_units(a, units, n), id));
-  CHECK(is_string(jsstr_intern_units_unchecked(a, units, n), id) && is_string(jsstr_find_units_unchecked(a, units, n), id));
+  CHECK(is_string(jsstr_intern_units(a, units, n), id) && is_string(jsstr_find_units(a, units, n), id));
   CHECK(jsstr_is_interned(a, id).holds && jsstr_equals_units(a, id, units, n).holds);
   if (!n) return;
   units[n - 1] ^= 0x8000;
@@ -74,7 +74,7 @@ static void two_agents(void) {
   pairs(&b, &a);
   CHECK(jsstr_join(&a, &b) == JSSTR_DONE);
   while (jsstr_from_units(&a, units, 1).status == JSSTR_DONE) {}
-  jsstr_counts use = jsstr_totals(&a);
+  jsstr_room use = jsstr_room_of(&a);
   for (int i = 0; i < LISTS; i++) row(&a, units, list(i, units), ids[i]);
   CHECK(has_used(&a, use.ids, use.words) && jsstr_free(&a) == JSSTR_DONE);
 }

@@ -1,6 +1,6 @@
 /* Strings and texts of the greatest length, and of one unit more. It needs 3 GB of memory: where less is free it says so,
    and ends with 77. Prints "ok". */
-#include "jsstr.h"
+#include "jsstr_unchecked.h"
 #include <stdio.h>
 #include <stdlib.h>
 #include <string.h>
@@ -78,15 +78,15 @@ static jsstr_id join(jsstr_agent *a) {
 static void build(jsstr_agent *a, jsstr_id s, jsstr_id one) {
   jsstr_builder text = {0};
   static const uint16_t unit = 'x';
-  CHECK(jsstr_build_string(&text, a, s) == JSSTR_DONE && jsstr_built_length(&text) == MOST);
+  CHECK(jsstr_build_string(&text, a, s) == JSSTR_DONE && text.len == MOST);
   CHECK(jsstr_build_units(&text, &unit, 1) == JSSTR_TOO_LONG && jsstr_build_latin1(&text, digits, 1) == JSSTR_TOO_LONG);
   CHECK(jsstr_build_number(&text, 7) == JSSTR_TOO_LONG && jsstr_build_number(&text, -2147483647 - 1) == JSSTR_TOO_LONG);
   CHECK(is_bare(jsstr_build_utf8(&text, digits, 1), JSSTR_TOO_LONG) && is_bare(jsstr_build_wtf8(&text, digits, 1), JSSTR_TOO_LONG));
   CHECK(jsstr_build_string(&text, a, one) == JSSTR_TOO_LONG && jsstr_build_string(&text, a, s) == JSSTR_TOO_LONG);
   CHECK(jsstr_build_units(&text, &unit, 0) == JSSTR_DONE && is_bare(jsstr_build_utf8(&text, digits, 0), JSSTR_DONE));
-  CHECK(jsstr_built_length(&text) == MOST);
+  CHECK(text.len == MOST);
   jsstr_id t = made(jsstr_built(&text, a));
-  CHECK(jsstr_built_length(&text) == 0 && jsstr_equal(a, s, t).holds && jsstr_compare(a, s, t).order == 0);
+  CHECK(text.len == 0 && jsstr_equal(a, s, t).holds && jsstr_compare(a, s, t).order == 0);
   jsstr_drop_builder(&text);
 }
 

@@ -88,7 +88,6 @@ const Answer REFUSED = {JSSTR_BAD_ARGUMENT};
 
 // A call in one of its forms: what the unchecked one gives that has no status is made an answer by `made`.
 #define EITHER(is_unchecked, call, made, ...) ((is_unchecked) ? made(jsstr_##call##_unchecked(__VA_ARGS__)) : answer(jsstr_##call(__VA_ARGS__)))
-#define NO_ANSWER(is_unchecked, call, ...) ((is_unchecked) ? (jsstr_##call##_unchecked(__VA_ARGS__), answer(JSSTR_DONE)) : answer(jsstr_##call(__VA_ARGS__)))
 
 Agent &agent(int i) { return world.agents[i]; }
 
@@ -106,7 +105,7 @@ bool is_seen(int i) {
     && !handles[i].at == !a.heap && !handles[i].live == !a.heap;
 }
 
-bool all_are_seen(std::initializer_list<int> who) { return std::all_of(who.begin(), who.end(), is_seen) && jsstr_built_length(&text) == world.built.size(); }
+bool all_are_seen(std::initializer_list<int> who) { return std::all_of(who.begin(), who.end(), is_seen) && text.len == world.built.size(); }
 
 // Ends where an agent sees something else than the model has.
 void check_seen(std::initializer_list<int> who) {
@@ -257,19 +256,18 @@ struct Given {
   Answer not_utf8() const { return {JSSTR_NOT_UTF8, 0, uint32_t(fault)}; }
 };
 
-// The calls that take units or bytes and answer a string, by kind, in both forms.
+// The calls that take units or bytes and answer a string, by kind.
 typedef jsstr_answer OfUnits(jsstr_agent *, const uint16_t *, size_t);
 typedef jsstr_answer OfBytes(jsstr_agent *, const uint8_t *, size_t);
 struct Family {
-  OfUnits *units[2];
-  OfBytes *bytes[3][2];
+  OfUnits *units;
+  OfBytes *bytes[3];
 
-  Answer operator()(bool is_unchecked, jsstr_agent *a, const Given &g) const {
-    return answer(g.kind == UNITS ? units[is_unchecked](a, g.list(), g.len) : bytes[g.kind - LATIN1][is_unchecked](a, g.bytes.data(), g.len));
+  Answer operator()(jsstr_agent *a, const Given &g) const {
+    return answer(g.kind == UNITS ? units(a, g.list(), g.len) : bytes[g.kind - LATIN1](a, g.bytes.data(), g.len));
   }
 };
-#define BOTH(call) {jsstr_##call, jsstr_##call##_unchecked}
-#define FAMILY(call) {BOTH(call##_units), {BOTH(call##_latin1), BOTH(call##_utf8), BOTH(call##_wtf8)}}
+#define FAMILY(call) {jsstr_##call##_units, {jsstr_##call##_latin1, jsstr_##call##_utf8, jsstr_##call##_wtf8}}
 const Family FROM = FAMILY(from), INTERN = FAMILY(intern), FIND = FAMILY(find);
 
 // ---- The calls
@@ -277,15 +275,15 @@ const Family FROM = FAMILY(from), INTERN = FAMILY(intern), FIND = FAMILY(find);
 void from() {
   int i = some_agent();
   Given g;
-  bool ok = agent(i).heap && !g.is_too_long(), u = ok && one_in(3);
-  play("from", making(i), {i}, [&] { return FROM(u, &handles[i], g); }, [&] { return !ok ? REFUSED : g.fault != SIZE_MAX ? g.not_utf8() : agent(i).make(g.units); });
+  bool ok = agent(i).heap && !g.is_too_long();
+  play("from", making(i), {i}, [&] { return FROM(&handles[i], g); }, [&] { return !ok ? REFUSED : g.fault != SIZE_MAX ? g.not_utf8() : agent(i).make(g.units); });
 }
 
 void key() {
   int i = some_agent();
   Given g;
-  bool ok = agent(i).heap && !g.is_too_long(), u = ok && one_in(3), finds = one_in(3);
-  play(finds ? "find" : "intern_units", QUIET, {i}, [&] { return (finds ? FIND : INTERN)(u, &handles[i], g); }, [&] {
+  bool ok = agent(i).heap && !g.is_too_long(), finds = one_in(3);
+  play(finds ? "find" : "intern_units", QUIET, {i}, [&] { return (finds ? FIND : INTERN)(&handles[i], g); }, [&] {
     return !ok ? REFUSED : g.fault != SIZE_MAX ? g.not_utf8() : finds ? agent(i).find(g.units) : agent(i).intern_units(g.units);
   });
 }
@@ -311,9 +309,9 @@ void settle() {
   int i = some_agent();
   jsstr_id s = some_id(i);
   bool ok = agent(i).knows(s);
-  play("is_settled", NOTHING, {i}, [&] { return EITHER(ok && one_in(3), is_settled, value, &handles[i], s); }, [&] { return ok ? value(is_settled(i, s)) : REFUSED; });
+  play("is_settled", NOTHING, {i}, [&] { return answer(jsstr_is_settled(&handles[i], s)); }, [&] { return ok ? value(is_settled(i, s)) : REFUSED; });
   if (one_in(2)) return;
-  play("settle", NOTHING, {i}, [&] { return EITHER(ok && one_in(3), settle, answer, &handles[i], s); }, [&] {
+  play("settle", NOTHING, {i}, [&] { return answer(jsstr_settle(&handles[i], s)); }, [&] {
     Answer settled = ok ? agent(i).heap->settle(s) : REFUSED;
     return settled.is_done() ? value(s) : settled;
   });
@@ -347,10 +345,10 @@ void read() {
   jsstr_id s = some_id(i);
   uint32_t length = uint32_t(length_of(i, s)), from = chance(length + 1), count = chance(length - from + 1) + (one_in(30) ? length : 0);
   if (count > ROOM) return;
-  bool ok = agent(i).knows(s) && from + count <= length, u = ok && is_settled(i, s) && one_in(3);
+  bool ok = agent(i).knows(s) && from + count <= length;
   Text part;
   blank(units_out, count + 8);
-  play("read", NOTHING, {i}, [&] { return NO_ANSWER(u, read, &handles[i], s, from, units_out, count); }, [&] {
+  play("read", NOTHING, {i}, [&] { return answer(jsstr_read(&handles[i], s, from, units_out, count)); }, [&] {
     return once_settled(i, s, ok, [&] { part = units_of(i, s).substr(from, count); return answer(JSSTR_DONE); });
   });
   wrote(units_out, part);
@@ -361,11 +359,11 @@ void read_all() {
   jsstr_id s = some_id(i);
   size_t length = length_of(i, s), room = one_in(2) ? length : chance(uint32_t(length) + 9);
   if (room > ROOM) return;
-  bool ok = agent(i).knows(s), u = is_settled(i, s) && one_in(3);
+  bool ok = agent(i).knows(s);
   Text all;
   blank(units_out, room + 8);
   play("length", NOTHING, {i}, [&] { return EITHER(ok && one_in(3), length, value, &handles[i], s); }, [&] { return ok ? value(uint32_t(length)) : REFUSED; });
-  play("read_all", NOTHING, {i}, [&] { return EITHER(u, read_all, answer, &handles[i], s, units_out, room); }, [&] {
+  play("read_all", NOTHING, {i}, [&] { return answer(jsstr_read_all(&handles[i], s, units_out, room)); }, [&] {
     return once_settled(i, s, ok, [&] {
       if (room >= length) all = units_of(i, s);
       return Answer{uint32_t(room < length ? JSSTR_NO_ROOM : JSSTR_DONE), 0, uint32_t(length)};
@@ -386,7 +384,7 @@ void encode() {
   int i = some_agent();
   jsstr_id s = some_id(i);
   uint32_t unpaired = one_in(30) ? 3 + chance(9) : chance(3);
-  bool is_utf8 = one_in(2), ok = agent(i).knows(s) && (!is_utf8 || unpaired <= JSSTR_KEEP), u = ok && is_settled(i, s) && one_in(3);
+  bool is_utf8 = one_in(2), ok = agent(i).knows(s) && (!is_utf8 || unpaired <= JSSTR_KEEP);
   const Text units = agent(i).knows(s) ? units_of(i, s) : Text();
   const Utf8 utf8(units, unpaired == JSSTR_REPLACE);
   size_t wide = std::find_if(units.begin(), units.end(), [](char16_t it) { return it > 255; }) - units.begin();
@@ -396,7 +394,7 @@ void encode() {
   Bytes written;
   blank(bytes_out, room + 8);
   play(is_utf8 ? "to_utf8" : "to_latin1", NOTHING, {i}, [&] {
-    return is_utf8 ? EITHER(u, to_utf8, answer, &handles[i], s, unpaired, bytes_out, room) : EITHER(u, to_latin1, answer, &handles[i], s, bytes_out, room);
+    return is_utf8 ? answer(jsstr_to_utf8(&handles[i], s, unpaired, bytes_out, room)) : answer(jsstr_to_latin1(&handles[i], s, bytes_out, room));
   }, [&] { return once_settled(i, s, ok, [&] { return encoded(right, unmapped, room, written); }); });
   wrote(bytes_out, written);
 }
@@ -405,7 +403,7 @@ void number_of() {
   int i = some_agent();
   jsstr_id s = some_id(i);
   bool ok = agent(i).knows(s), u = is_settled(i, s) && one_in(3), hashes = one_in(2);
-  play(hashes ? "hash" : "array_index", NOTHING, {i}, [&] { return hashes ? EITHER(u, hash, value, &handles[i], s) : EITHER(u, array_index, answer, &handles[i], s); }, [&] {
+  play(hashes ? "hash" : "array_index", NOTHING, {i}, [&] { return hashes ? EITHER(u, hash, value, &handles[i], s) : answer(jsstr_array_index(&handles[i], s)); }, [&] {
     return once_settled(i, s, ok, [&] { return hashes ? value(hash_of(units_of(i, s))) : array_index(units_of(i, s)); });
   });
 }
@@ -441,7 +439,7 @@ void compare() {
   int i = some_agent();
   jsstr_id a = some_id(i), b = one_in(9) ? a : some_id(i);
   bool ok = agent(i).knows(a) && agent(i).knows(b), u = is_settled(i, a) && is_settled(i, b) && one_in(3), orders = one_in(2);
-  play(orders ? "compare" : "equal", NOTHING, {i}, [&] { return orders ? EITHER(u, compare, value, &handles[i], a, b) : EITHER(u, equal, value, &handles[i], a, b); }, [&] {
+  play(orders ? "compare" : "equal", NOTHING, {i}, [&] { return orders ? answer(jsstr_compare(&handles[i], a, b)) : EITHER(u, equal, value, &handles[i], a, b); }, [&] {
     return once_settled(i, a, ok, [&] {
       return once_settled(i, b, true, [&] { return orders ? order(units_of(i, a), units_of(i, b)) : value(units_of(i, a) == units_of(i, b)); });
     });
@@ -454,12 +452,12 @@ void compare_given() {
   Given g;
   if (g.kind == WTF8) return;
   if (g.is_too_long() && g.kind != UTF8) g.len = g.kind == UNITS ? g.units.size() : g.bytes.size();
-  bool ok = agent(i).knows(s) && !g.is_too_long(), u = ok && is_settled(i, s) && one_in(3), orders = one_in(2);
+  bool ok = agent(i).knows(s) && !g.is_too_long(), orders = one_in(2);
   jsstr_agent *a = &handles[i];
   play(orders ? "compare_given" : "equals_given", NOTHING, {i}, [&] {
-    if (g.kind == UNITS) return orders ? EITHER(u, compare_units, value, a, s, g.list(), g.len) : EITHER(u, equals_units, value, a, s, g.list(), g.len);
-    if (g.kind == LATIN1) return orders ? EITHER(u, compare_latin1, value, a, s, g.bytes.data(), g.len) : EITHER(u, equals_latin1, value, a, s, g.bytes.data(), g.len);
-    return orders ? EITHER(u, compare_utf8, answer, a, s, g.bytes.data(), g.len) : EITHER(u, equals_utf8, answer, a, s, g.bytes.data(), g.len);
+    if (g.kind == UNITS) return orders ? answer(jsstr_compare_units(a, s, g.list(), g.len)) : answer(jsstr_equals_units(a, s, g.list(), g.len));
+    if (g.kind == LATIN1) return orders ? answer(jsstr_compare_latin1(a, s, g.bytes.data(), g.len)) : answer(jsstr_equals_latin1(a, s, g.bytes.data(), g.len));
+    return orders ? answer(jsstr_compare_utf8(a, s, g.bytes.data(), g.len)) : answer(jsstr_equals_utf8(a, s, g.bytes.data(), g.len));
   }, [&] {
     if (ok && g.fault != SIZE_MAX) return Answer{JSSTR_NOT_UTF8};
     return once_settled(i, s, ok, [&] { return orders ? order(units_of(i, s), g.units) : value(units_of(i, s) == g.units); });
@@ -470,12 +468,12 @@ void search() {
   int i = some_agent(), kind = int(chance(3));
   jsstr_id hay = some_id(i), needle = some_id(i);
   uint32_t length = uint32_t(length_of(i, hay)), at = one_in(9) ? chance(1u << 31) * 2 + 1 : chance(length + 2);
-  bool ok = agent(i).knows(hay) && agent(i).knows(needle) && (kind != 1 || at <= length), u = ok && is_settled(i, hay) && is_settled(i, needle) && one_in(3);
+  bool ok = agent(i).knows(hay) && agent(i).knows(needle) && (kind != 1 || at <= length);
   jsstr_agent *a = &handles[i];
   const char *const names[] = {"starts_with", "index_of", "last_index_of"};
   play(names[kind], NOTHING, {i}, [&] {
-    if (kind == 0) return EITHER(u, starts_with, value, a, hay, needle, at);
-    return kind == 1 ? EITHER(u, index_of, answer, a, hay, needle, at) : EITHER(u, last_index_of, answer, a, hay, needle, at);
+    if (kind == 0) return answer(jsstr_starts_with(a, hay, needle, at));
+    return kind == 1 ? answer(jsstr_index_of(a, hay, needle, at)) : answer(jsstr_last_index_of(a, hay, needle, at));
   }, [&] {
     return once_settled(i, hay, ok, [&] {
       return once_settled(i, needle, true, [&] {
@@ -509,13 +507,12 @@ void many() {
   size_t room = ends.size() + chance(2);
   if (one_in(20) && room) room = chance(uint32_t(ends.size()) + 1);
   ok = ok && room >= ends.size();
-  bool u = ok && one_in(3);
   std::vector<jsstr_id> right;
   std::fill(ids, ids + 8, 0x5A5Au);
   ends.push_back(0);
   size_t count = ends.size() - 1;
   play("intern_many", QUIET, {i}, [&] {
-    return EITHER(u, intern_many, answer, &handles[i], reinterpret_cast<const uint16_t *>(units.data()), units.size(), ends.data(), count, ids, room);
+    return answer(jsstr_intern_many(&handles[i], reinterpret_cast<const uint16_t *>(units.data()), units.size(), ends.data(), count, ids, room));
   }, [&] {
     right.clear();
     if (!ok) return REFUSED;
@@ -532,14 +529,13 @@ void many() {
 
 void keys() {
   int i = some_agent();
-  jsstr_id s = some_key(i), t = one_in(2) ? s : some_key(i);
-  bool is_live = agent(i).heap, ok = agent(i).has_interned(s), both = ok && agent(i).has_interned(t), u = one_in(3);
-  play("is_interned", NOTHING, {i}, [&] { return EITHER(is_live && u, is_interned, value, &handles[i], s); }, [&] { return is_live ? value(ok) : REFUSED; });
-  play("same", NOTHING, {i}, [&] { return EITHER(both && u, same, value, &handles[i], s, t); }, [&] { return both ? value(s == t) : REFUSED; });
-  play("slot_of", NOTHING, {i}, [&] { return EITHER(ok && u, slot_of, value, &handles[i], s); }, [&] { return ok ? value(agent(i).heap->slot_for(units_of(i, s))) : REFUSED; });
+  jsstr_id s = some_key(i);
+  bool is_live = agent(i).heap, ok = agent(i).has_interned(s);
+  play("is_interned", NOTHING, {i}, [&] { return answer(jsstr_is_interned(&handles[i], s)); }, [&] { return is_live ? value(ok) : REFUSED; });
+  play("slot_of", NOTHING, {i}, [&] { return answer(jsstr_slot_of(&handles[i], s)); }, [&] { return ok ? value(agent(i).heap->slot_for(units_of(i, s))) : REFUSED; });
   uint32_t slot = one_in(20) ? chance(1u << 31) * 2 : chance(is_live ? agent(i).heap->size.slots + 1 : 9);
   bool there = is_live && slot < agent(i).heap->size.slots;
-  play("adopt", NOTHING, {i}, [&] { return EITHER(there && u, adopt, answer, &handles[i], slot); }, [&] { return there ? agent(i).adopt(slot) : REFUSED; });
+  play("adopt", NOTHING, {i}, [&] { return answer(jsstr_adopt(&handles[i], slot)); }, [&] { return there ? agent(i).adopt(slot) : REFUSED; });
 }
 
 // A copy for another agent: of the same heap, or of the other one.
@@ -547,10 +543,10 @@ void carry() {
   int i = some_agent(), j = some_agent();
   if (i == j) return;
   jsstr_id s = some_id(i);
-  bool ok = agent(i).knows(s) && agent(j).heap, interns = one_in(2), u = ok && is_settled(i, s) && one_in(3);
+  bool ok = agent(i).knows(s) && agent(j).heap, interns = one_in(2);
   auto settles = [&] { if (ok) agent(i).heap->settle(s); };
   play(interns ? "intern_into" : "copy_into", MAY, {i, j}, [&] {
-    return interns ? EITHER(u, intern_into, answer, &handles[i], s, &handles[j]) : EITHER(u, copy_into, answer, &handles[i], s, &handles[j]);
+    return interns ? answer(jsstr_intern_into(&handles[i], s, &handles[j])) : answer(jsstr_copy_into(&handles[i], s, &handles[j]));
   }, [&] {
     if (!ok) return REFUSED;
     Answer settled = agent(i).heap->settle(s);
@@ -592,8 +588,8 @@ void append_string() {
   int i = some_agent();
   jsstr_id s = some_id(i);
   if (world.built.size() > 300) return;
-  bool ok = agent(i).knows(s), u = is_settled(i, s) && one_in(3);
-  play("build_string", MAY, {i}, [&] { return answer(u ? jsstr_build_string_unchecked(&text, &handles[i], s) : jsstr_build_string(&text, &handles[i], s)); }, [&] {
+  bool ok = agent(i).knows(s);
+  play("build_string", MAY, {i}, [&] { return answer(jsstr_build_string(&text, &handles[i], s)); }, [&] {
     return once_settled(i, s, ok, [&] {
       world.built += units_of(i, s);
       return answer(JSSTR_DONE);
@@ -607,9 +603,9 @@ void build() {
   if (kind == 3) return append_number();
   if (kind == 4) return append_string();
   int i = some_agent();
-  bool ok = agent(i).heap, interns = one_in(2), u = ok && one_in(3);
+  bool ok = agent(i).heap, interns = one_in(2);
   play(interns ? "built_interned" : "built", interns ? QUIET : making(i), {i}, [&] {
-    return interns ? EITHER(u, built_interned, answer, &text, &handles[i]) : EITHER(u, built, answer, &text, &handles[i]);
+    return interns ? answer(jsstr_built_interned(&text, &handles[i])) : answer(jsstr_built(&text, &handles[i]));
   }, [&] {
     Answer made = !ok ? REFUSED : interns ? agent(i).intern_units(world.built) : agent(i).make(world.built);
     if (made.is_done()) world.built.clear();
@@ -618,7 +614,7 @@ void build() {
   if (!one_in(9)) return;
   jsstr_drop_builder(&text);
   world.built.clear();
-  CHECK(!text.at && !text.live && jsstr_built_length(&text) == 0);
+  CHECK(!text.at && !text.live && text.len == 0);
 }
 
 // ---- Agents
@@ -634,8 +630,8 @@ void split() {
   int i = int(chance(FAR)), j = one_in(20) ? int(chance(FAR)) : some_free();
   if (j == AGENTS || i == j) return;
   uint32_t give = one_in(9) ? chance(9) : 1 + chance(2);
-  bool ok = agent(i).heap && give >= 1 && give < agent(i).share && !agent(j).heap, u = ok && one_in(3);
-  play("split", ok ? MAY : NOTHING, {i, j}, [&] { return answer(u ? jsstr_split_unchecked(&handles[i], give, &handles[j]) : jsstr_split(&handles[i], give, &handles[j])); }, [&] {
+  bool ok = agent(i).heap && give >= 1 && give < agent(i).share && !agent(j).heap;
+  play("split", ok ? MAY : NOTHING, {i, j}, [&] { return answer(jsstr_split(&handles[i], give, &handles[j])); }, [&] {
     if (!ok) return REFUSED;
     agent(i).split(give, ++numbers, agent(j));
     return answer(JSSTR_DONE);
@@ -645,8 +641,8 @@ void split() {
 void join() {
   int i = int(chance(AGENTS)), j = int(chance(AGENTS));
   if (i == j) return;
-  bool ok = agent(i).heap && agent(j).heap && agent(j).giver == agent(i).number, u = ok && one_in(3);
-  play("join", NOTHING, {i, j}, [&] { return NO_ANSWER(u, join, &handles[i], &handles[j]); }, [&] {
+  bool ok = agent(i).heap && agent(j).heap && agent(j).giver == agent(i).number;
+  play("join", NOTHING, {i, j}, [&] { return answer(jsstr_join(&handles[i], &handles[j])); }, [&] {
     if (!ok) return REFUSED;
     agent(i).join(agent(j));
     return answer(JSSTR_DONE);
@@ -659,7 +655,7 @@ void drop() {
   for (int j = 0; j < FAR; j++) live += agent(j).heap != nullptr;
   bool ok = agent(i).heap;
   if (!one_in(12) || (ok && live < 2)) return;
-  play("free", NOTHING, {i}, [&] { return NO_ANSWER(ok && one_in(3), free, &handles[i]); }, [&] {
+  play("free", NOTHING, {i}, [&] { return answer(jsstr_free(&handles[i])); }, [&] {
     agent(i) = Agent();
     return ok ? answer(JSSTR_DONE) : REFUSED;
   });
@@ -668,12 +664,9 @@ void drop() {
 void count() {
   int i = some_agent();
   const Agent &a = agent(i);
-  bool is_whole = a.heap && a.share == a.heap->shares, u = is_whole && one_in(3);
-  play("share", NOTHING, {i}, [&] { return EITHER(a.heap && one_in(3), share, value, &handles[i]); }, [&] { return a.heap ? value(a.share) : REFUSED; });
-  play("totals", NOTHING, {i}, [&] { return EITHER(u, totals, value, &handles[i]); }, [&] { return is_whole ? Answer{JSSTR_DONE, a.heap->ids, a.heap->words} : REFUSED; });
-  play("count_interned", NOTHING, {i}, [&] { return EITHER(u, count_interned, value, &handles[i]); }, [&] { return is_whole ? value(a.heap->used_slots()) : REFUSED; });
-  if (!a.heap) return;
-  CHECK(answer(jsstr_room_of_unchecked(&handles[i])) == answer(jsstr_room_of(&handles[i])) && value(jsstr_reserved_unchecked(&handles[i])) == answer(jsstr_reserved(&handles[i])));
+  bool is_whole = a.heap && a.share == a.heap->shares;
+  play("share", NOTHING, {i}, [&] { return answer(jsstr_share(&handles[i])); }, [&] { return a.heap ? value(a.share) : REFUSED; });
+  play("count_interned", NOTHING, {i}, [&] { return answer(jsstr_count_interned(&handles[i])); }, [&] { return is_whole ? value(a.heap->used_slots()) : REFUSED; });
 }
 
 uint32_t some_block(uint32_t most) { return one_in(3) ? 0 : one_in(20) ? most : one_in(40) ? chance(1u << 29) : chance(8); }
@@ -683,8 +676,7 @@ void reserve() {
   Agent &a = agent(i);
   uint32_t ids = some_block(a.heap ? a.heap->size.ids : 9), words = some_block(a.heap ? a.heap->size.words : 9);
   if (ids > 600) ids = 600;
-  bool u = a.heap && one_in(3);
-  play("reserve", a.heap ? MAY : NOTHING, {i}, [&] { return EITHER(u, reserve, answer, &handles[i], ids, words); }, [&] { return agent(i).heap ? agent(i).reserve(ids, words) : REFUSED; }, [&] {
+  play("reserve", a.heap ? MAY : NOTHING, {i}, [&] { return answer(jsstr_reserve(&handles[i], ids, words)); }, [&] { return agent(i).heap ? agent(i).reserve(ids, words) : REFUSED; }, [&] {
     uint32_t had = uint32_t(agent(i).ids.size()), has = jsstr_reserved(&handles[i]).ids;
     CHECK(has >= had && has < had + ids);
     if (has > had) agent(i).reserve(has - had, words);
@@ -693,10 +685,10 @@ void reserve() {
 
 void renew() {
   int i = some_agent();
-  jsstr_use blocks = {some_block(400), some_block(2000)};
+  Use blocks = {some_block(400), some_block(2000)};
   if (one_in(3)) blocks = {0, 0};
-  bool ok = agent(i).heap, u = ok && one_in(3);
-  play("renew", NOTHING, {i}, [&] { return NO_ANSWER(u, renew, &handles[i], blocks.ids, blocks.words); }, [&] {
+  bool ok = agent(i).heap;
+  play("renew", NOTHING, {i}, [&] { return answer(jsstr_renew(&handles[i], blocks.ids, blocks.words)); }, [&] {
     if (ok) agent(i).blocks = blocks;
     return ok ? answer(JSSTR_DONE) : REFUSED;
   });
@@ -716,7 +708,7 @@ void make_none() {
   }
   int i = int(chance(AGENTS));
   bool ok = !agent(i).heap;
-  play("make", NOTHING, {i}, [&] { return answer(ok && one_in(3) ? jsstr_make_unchecked(size, agents, limit, &handles[i]) : jsstr_make(size, agents, limit, &handles[i])); },
+  play("make", NOTHING, {i}, [&] { return answer(jsstr_make(size, agents, limit, &handles[i])); },
        [&] { return ok ? Answer{JSSTR_BAD_SIZE} : REFUSED; });
 }
 

@@ -2,7 +2,7 @@
 // first. Written from jsstr.h and docs/HEAP.md, for model.cpp, which makes each call in both.
 #ifndef MODEL_HPP
 #define MODEL_HPP
-#include "jsstr.h"
+#include "jsstr_unchecked.h"
 #include <algorithm>
 #include <cstdint>
 #include <deque>
@@ -16,6 +16,11 @@ using Text = std::u16string;
 using Bytes = std::basic_string<uint8_t>;
 
 // An answer of any kind: its status, and its numbers in the order of its fields.
+// Ids and words.
+struct Use {
+  uint32_t ids, words;
+};
+
 struct Answer {
   uint32_t numbers[7] = {};
   Answer(std::initializer_list<uint32_t> given) { std::copy(given.begin(), given.end(), numbers); }
@@ -102,7 +107,7 @@ struct Agent {
   std::vector<bool> known, interned;
   std::deque<jsstr_id> ids;      // what it reserved, and has left
   uint32_t words = 0, end = 0;   // of words, and where they end
-  jsstr_use blocks = {0, 0};
+  Use blocks = {0, 0};
 
   bool knows(jsstr_id s) const { return heap && s < heap->size.ids && known[s]; }
   bool has_interned(jsstr_id s) const { return knows(s) && interned[s]; }
@@ -305,7 +310,6 @@ struct Utf8 {
 // ---- The answers that units alone give
 
 inline Answer value(uint32_t n) { return {JSSTR_DONE, n}; }
-inline Answer value(jsstr_use u) { return {JSSTR_DONE, u.ids, u.words}; }
 
 // An answer of jsstr_to_utf8 or jsstr_to_latin1 to a string that spells these bytes, where all its units have some.
 inline Answer encoded(const Bytes &bytes, size_t unmapped, size_t room, Bytes &written) {

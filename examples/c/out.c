@@ -1,6 +1,6 @@
 /* Reading strings out: units, hashes, UTF-8, WTF-8 and Latin-1 into buffers of each size, and comparing with
-   lists of units and with bytes; in both forms, with each bad argument. Prints "ok". */
-#include "jsstr.h"
+   lists of units and with bytes; with each bad argument. Prints "ok". */
+#include "jsstr_unchecked.h"
 #include <stdio.h>
 #include <stdlib.h>
 #include <string.h>
@@ -61,7 +61,7 @@ static void write_to_each_room(jsstr_agent *agent, jsstr_id s, uint32_t unpaired
     uint8_t out[4 * MOST], blank[sizeof out];
     memset(out, 0xAA, sizeof out);
     memset(blank, 0xAA, sizeof blank);
-    jsstr_bytes told = room % 2 ? jsstr_to_utf8(agent, s, unpaired, out, room) : jsstr_to_utf8_unchecked(agent, s, unpaired, out, room);
+    jsstr_bytes told = jsstr_to_utf8(agent, s, unpaired, out, room);
     CHECK(told.at == 0 && told.size == need);
     CHECK(told.status == (room < need ? JSSTR_NO_ROOM : JSSTR_DONE));
     size_t done = room < need ? 0 : need;
@@ -80,8 +80,6 @@ static void try_row(jsstr_agent *agent, const row *r, jsstr_id s) {
   } else {
     uint8_t out = 7;
     jsstr_bytes told = jsstr_to_utf8(agent, s, JSSTR_REFUSE, &out, 0);
-    CHECK(told.status == JSSTR_UNMAPPED && told.at == (uint32_t)r->unpaired && told.size == 0 && out == 7);
-    told = jsstr_to_utf8_unchecked(agent, s, JSSTR_REFUSE, &out, 0);
     CHECK(told.status == JSSTR_UNMAPPED && told.at == (uint32_t)r->unpaired && told.size == 0 && out == 7);
     CHECK(jsstr_equals_utf8(agent, s, (const uint8_t *)r->wtf8, strlen(r->wtf8)).status == JSSTR_NOT_UTF8);
     CHECK(jsstr_compare_utf8(agent, s, (const uint8_t *)r->wtf8, strlen(r->wtf8)).status == JSSTR_NOT_UTF8);
@@ -110,27 +108,18 @@ static void compare_all(jsstr_agent *agent) {
       int order = order_of(&rows[i].of, other);
       jsstr_order told = jsstr_compare_units(agent, s, other->units, other->len);
       CHECK(told.status == JSSTR_DONE && told.order == order);
-      CHECK(jsstr_compare_units_unchecked(agent, s, other->units, other->len) == order);
       jsstr_truth same = jsstr_equals_units(agent, s, other->units, other->len);
       CHECK(same.status == JSSTR_DONE && same.holds == (order == 0));
-      CHECK(jsstr_equals_units_unchecked(agent, s, other->units, other->len) == (order == 0));
     }
   }
 }
 
-/* How a string compares with bytes, by both forms of both calls, as Latin-1 and as UTF-8. */
+/* How a string compares with bytes, by both calls, as Latin-1 and as UTF-8. */
 static void compare_as(jsstr_agent *agent, jsstr_id s, const uint8_t *bytes, size_t len, int utf8, int order) {
   jsstr_order told = (utf8 ? jsstr_compare_utf8 : jsstr_compare_latin1)(agent, s, bytes, len);
   CHECK(told.status == JSSTR_DONE && told.order == order);
   jsstr_truth same = (utf8 ? jsstr_equals_utf8 : jsstr_equals_latin1)(agent, s, bytes, len);
   CHECK(same.status == JSSTR_DONE && same.holds == (order == 0));
-  if (utf8) {
-    told = jsstr_compare_utf8_unchecked(agent, s, bytes, len);
-    same = jsstr_equals_utf8_unchecked(agent, s, bytes, len);
-    CHECK(told.status == JSSTR_DONE && told.order == order && same.status == JSSTR_DONE && same.holds == (order == 0));
-  } else {
-    CHECK(jsstr_compare_latin1_unchecked(agent, s, bytes, len) == order && jsstr_equals_latin1_unchecked(agent, s, bytes, len) == (order == 0));
-  }
 }
 
 /* Bytes that are read in several pieces: each front of them, and a unit changed at each place. */
@@ -167,7 +156,7 @@ static void compare_bytes(jsstr_agent *agent) {
   compare_as(agent, s, text, all, 1, 0);
   compare_as(agent, s, text, 0, 0, 1);
   text[all - 2] = 0xFF;
-  CHECK(jsstr_compare_utf8_unchecked(agent, s, text, all).status == JSSTR_NOT_UTF8 && jsstr_equals_utf8_unchecked(agent, s, text, all).status == JSSTR_NOT_UTF8);
+  CHECK(jsstr_compare_utf8(agent, s, text, all).status == JSSTR_NOT_UTF8 && jsstr_equals_utf8(agent, s, text, all).status == JSSTR_NOT_UTF8);
 }
 
 static void write_latin1(jsstr_agent *agent) {
@@ -182,7 +171,7 @@ static void write_latin1(jsstr_agent *agent) {
   told = jsstr_to_latin1(agent, narrow, out, 20);
   CHECK(told.status == JSSTR_DONE && told.size == 17 && memcmp(out, want, 17) == 0 && out[17] == 0xAA);
   memset(out, 0xAA, sizeof out);
-  told = jsstr_to_latin1_unchecked(agent, narrow, out, 17);
+  told = jsstr_to_latin1(agent, narrow, out, 17);
   CHECK(told.status == JSSTR_DONE && told.size == 17 && memcmp(out, want, 17) == 0 && out[17] == 0xAA);
   CHECK(jsstr_equals_latin1(agent, narrow, want, 17).holds && !jsstr_equals_latin1(agent, narrow, want, 16).holds);
   CHECK(jsstr_compare_latin1(agent, narrow, want, 17).order == 0 && jsstr_compare_latin1(agent, narrow, want, 16).order == 1);
@@ -212,7 +201,7 @@ static void settle_on_the_way(void) {
   CHECK(jsstr_make((jsstr_size){9, 4, 1}, 1, 100, &agent) == JSSTR_DONE);
   jsstr_id half = jsstr_from_latin1(&agent, (const uint8_t *)"0123456789abcdef", 16).id;
   jsstr_id rope = jsstr_concat(&agent, half, half).id, other = jsstr_concat(&agent, rope, half).id;
-  CHECK(jsstr_is_settled(&agent, half).holds && !jsstr_is_settled(&agent, rope).holds && !jsstr_is_settled_unchecked(&agent, rope));
+  CHECK(jsstr_is_settled(&agent, half).holds && !jsstr_is_settled(&agent, rope).holds);
   CHECK(jsstr_is_settled(&agent, rope).status == JSSTR_DONE);
   uint8_t out[48];
   uint16_t unit = 0;
@@ -226,7 +215,7 @@ static void settle_on_the_way(void) {
   CHECK(jsstr_make((jsstr_size){9, 40, 1}, 1, 100, &agent) == JSSTR_DONE);
   half = jsstr_from_latin1(&agent, (const uint8_t *)"0123456789abcdef", 16).id;
   rope = jsstr_concat(&agent, half, half).id;
-  CHECK(jsstr_unit_at(&agent, rope, 31).value == 'f' && jsstr_is_settled(&agent, rope).holds && jsstr_is_settled_unchecked(&agent, rope));
+  CHECK(jsstr_unit_at(&agent, rope, 31).value == 'f' && jsstr_is_settled(&agent, rope).holds);
   jsstr_free(&agent);
 }
 

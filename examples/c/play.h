@@ -12,7 +12,7 @@
 #define BUILT_LENGTH(text) (text)->length()
 #else
 #define HANDLE(agent) (agent)
-#define BUILT_LENGTH(text) jsstr_built_length(text)
+#define BUILT_LENGTH(text) (text)->len
 #endif
 
 #define CHECK(c) do { if (!(c)) failed(__LINE__, #c); } while (0)

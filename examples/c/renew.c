@@ -91,7 +91,7 @@ static void check(host *h) {
   for (uint32_t i = 0; i < ENTRIES; i++) {
     entry *e = &h->entries[i];
     CHECK(jsstr_equal(agent, e->name, made(agent, "name", i)).holds);
-    CHECK(jsstr_same(agent, e->name, done(jsstr_intern(agent, made(agent, "name", i)))).holds);
+    CHECK(e->name == done(jsstr_intern(agent, made(agent, "name", i))));
     jsstr_id left = made(agent, "the value that was stored as number", e->number);
     CHECK(jsstr_starts_with(agent, e->value, left, 0).holds);
   }

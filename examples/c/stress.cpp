@@ -129,10 +129,10 @@ struct alignas(64) Worker {
     const Text text = key(number);
     std::string digits = std::to_string(number);
     CHECK(jsstr_build_units(&built, reinterpret_cast<const uint16_t *>(text.data()), text.size() - digits.size()) == JSSTR_DONE);
-    CHECK(jsstr_build_number(&built, int32_t(number)) == JSSTR_DONE && jsstr_built_length(&built) == text.size());
+    CHECK(jsstr_build_number(&built, int32_t(number)) == JSSTR_DONE && built.len == text.size());
     jsstr_answer one = jsstr_built_interned(&built, &agent);
     if (!is_key(number, one)) jsstr_drop_builder(&built);
-    CHECK(jsstr_built_length(&built) == 0);
+    CHECK(built.len == 0);
   }
 
   // A few keys in one call, one of them twice.

@@ -1,6 +1,6 @@
 /* The exports that out.c, building.c and board.c don't try, beyond calls.c: calls in a row, each refusal, each kind of bad
    argument, and two threads that intern the same units. Prints "ok". */
-#include "jsstr.h"
+#include "jsstr_unchecked.h"
 #include <pthread.h>
 #include <stdio.h>
 #include <stdlib.h>
@@ -83,7 +83,7 @@ static void refuse_calls(void) {
   CHECK(one.status == JSSTR_DONE && jsstr_count_interned(&agent).value == 1);
   jsstr_answer slots = jsstr_intern(&agent, empty.id);
   CHECK(slots.status == JSSTR_NO_SLOTS && slots.end == 1);
-  jsstr_counts use = jsstr_totals(&agent);
+  jsstr_room use = jsstr_room_of(&agent);
   CHECK(use.status == JSSTR_DONE && use.ids == 3 && use.words == 2);
   jsstr_answer ids = jsstr_from_units(&agent, &x, 0);
   CHECK(ids.status == JSSTR_NO_IDS && ids.at == 3 && ids.want == 1 && ids.end == 3);
@@ -116,8 +116,8 @@ static void intern_by_two(void) {
       CHECK(memcmp(want + from, got, (n - from) * 2) == 0 && got[n - from] == 0);
     }
   }
-  CHECK(jsstr_same(&a.agent, a.numbers[3], b.numbers[3]).holds);
-  CHECK(!jsstr_same(&a.agent, a.numbers[3], b.numbers[4]).holds);
+  CHECK(a.numbers[3] == b.numbers[3]);
+  CHECK(a.numbers[3] != b.numbers[4]);
   jsstr_free(&a.agent);
 }
 
@@ -185,7 +185,7 @@ static void every_byte(void) {
   jsstr_answer s = jsstr_from_latin1(&agent, bytes, 256);
   CHECK(s.status == JSSTR_DONE && jsstr_length(&agent, s.id).value == 256);
   CHECK(jsstr_read(&agent, s.id, 0, got, 256) == JSSTR_DONE);
-  CHECK(memcmp(want, got, sizeof want) == 0 && jsstr_totals(&agent).words == 32);
+  CHECK(memcmp(want, got, sizeof want) == 0 && jsstr_room_of(&agent).words == 32);
   jsstr_answer t = jsstr_from_units(&agent, want, 256);
   CHECK(t.status == JSSTR_DONE && jsstr_intern(&agent, s.id).id == jsstr_intern(&agent, t.id).id);
   jsstr_free(&agent);
@@ -233,20 +233,18 @@ static void refuse_strings(void) {
     CHECK(jsstr_last_index_of(&a, u, s, 0).status == JSSTR_BAD_ARGUMENT);
     CHECK(jsstr_last_index_of(&a, s, u, 0).status == JSSTR_BAD_ARGUMENT);
     CHECK(jsstr_intern(&a, u).status == JSSTR_BAD_ARGUMENT);
-    CHECK(jsstr_same(&a, u, u).status == JSSTR_BAD_ARGUMENT);
+    CHECK(jsstr_slot_of(&a, u).status == JSSTR_BAD_ARGUMENT);
     CHECK(jsstr_is_interned(&a, u).status == JSSTR_DONE && !jsstr_is_interned(&a, u).holds);
   }
   CHECK(jsstr_length(&a, s).value == 13 && jsstr_length(&b, s).value == 13);
   /* Known, and not an answer of the string table. */
-  CHECK(jsstr_same(&a, s, s).status == JSSTR_BAD_ARGUMENT);
+  CHECK(jsstr_slot_of(&a, s).status == JSSTR_BAD_ARGUMENT);
   jsstr_answer one = jsstr_intern(&a, s);
-  CHECK(one.status == JSSTR_DONE && jsstr_same(&a, one.id, one.id).holds);
-  jsstr_id t = made(&a, "another");
-  CHECK(jsstr_same(&a, one.id, t).status == JSSTR_BAD_ARGUMENT);
+  CHECK(one.status == JSSTR_DONE && jsstr_slot_of(&a, one.id).status == JSSTR_DONE);
   /* Neither agent has the whole share. */
-  CHECK(jsstr_totals(&a).status == JSSTR_BAD_ARGUMENT && jsstr_count_interned(&b).status == JSSTR_BAD_ARGUMENT);
+  CHECK(jsstr_count_interned(&a).status == JSSTR_BAD_ARGUMENT && jsstr_count_interned(&b).status == JSSTR_BAD_ARGUMENT);
   CHECK(jsstr_join(&a, &b) == JSSTR_DONE && jsstr_length(&a, none[0]).value == 18);
-  CHECK(jsstr_totals(&a).status == JSSTR_DONE && jsstr_free(&a) == JSSTR_DONE);
+  CHECK(jsstr_count_interned(&a).status == JSSTR_DONE && jsstr_free(&a) == JSSTR_DONE);
 }
 
 static void refuse_parts(void) {
@@ -320,35 +318,22 @@ static void unchecked(void) {
   jsstr_agent a = {0}, b = {0};
   static const uint16_t units[] = {'u', 'n', 'i', 't', 's', ' ', 'o', 'f', ' ', 'o', 'n', 'e', ' ', 'r', 'o', 'p', 'e'};
   uint16_t got[17];
-  CHECK(jsstr_make_unchecked((jsstr_size){100, 100, 10}, 2, 1000, &a) == JSSTR_DONE);
-  jsstr_id one = jsstr_from_units_unchecked(&a, units, 9).id;
-  jsstr_id other = jsstr_from_latin1_unchecked(&a, (const uint8_t *)"one rope", 8).id;
-  CHECK(jsstr_from_utf8_unchecked(&a, (const uint8_t *)"\xC3\xA9", 2).status == JSSTR_DONE);
+  CHECK(jsstr_make((jsstr_size){100, 100, 10}, 2, 1000, &a) == JSSTR_DONE);
+  jsstr_id one = jsstr_from_units(&a, units, 9).id, other = made(&a, "one rope");
   jsstr_id all = jsstr_concat_unchecked(&a, one, other).id;
   CHECK(jsstr_length_unchecked(&a, all) == 17 && jsstr_length(&a, all).value == 17);
-  CHECK(jsstr_settle_unchecked(&a, all).id == all);
-  jsstr_read_unchecked(&a, all, 0, got, 17);
-  CHECK(memcmp(units, got, sizeof got) == 0);
+  CHECK(jsstr_settle(&a, all).id == all && jsstr_read(&a, all, 0, got, 17) == JSSTR_DONE && !memcmp(units, got, sizeof got));
   jsstr_id part = jsstr_slice_unchecked(&a, all, 9, 17).id;
-  CHECK(jsstr_equal_unchecked(&a, part, other) && jsstr_compare_unchecked(&a, part, all) == -1);
-  CHECK(jsstr_starts_with_unchecked(&a, all, part, 9) && jsstr_index_of_unchecked(&a, all, part, 0).at == 9);
-  CHECK(jsstr_last_index_of_unchecked(&a, all, part, 17).at == 9 && jsstr_index_of(&a, all, part, 0).at == 9);
-  CHECK(jsstr_share_unchecked(&a) == 2);
-  CHECK(jsstr_split_unchecked(&a, 1, &b) == JSSTR_DONE && jsstr_equal(&b, part, other).holds);
+  CHECK(jsstr_equal_unchecked(&a, part, other) && !jsstr_equal_unchecked(&a, part, all) && jsstr_compare(&a, part, all).order == -1);
+  CHECK(jsstr_unit_at_unchecked(&a, all, 16) == 'e' && jsstr_hash_unchecked(&a, part) == jsstr_hash(&a, other).value);
+  CHECK(jsstr_split(&a, 1, &b) == JSSTR_DONE && jsstr_equal(&b, part, other).holds);
   jsstr_id i = jsstr_intern_unchecked(&b, part).id, j = jsstr_intern(&b, other).id;
-  CHECK(jsstr_same_unchecked(&b, i, j) && jsstr_same(&b, i, j).holds);
-  CHECK(jsstr_same(&a, i, j).status == JSSTR_BAD_ARGUMENT);
-  jsstr_id key = jsstr_intern_units_unchecked(&b, units, 9).id;
-  CHECK(jsstr_intern_latin1_unchecked(&b, (const uint8_t *)"units of ", 9).id == key);
-  CHECK(jsstr_intern_utf8_unchecked(&b, (const uint8_t *)"units of ", 9).id == key);
-  CHECK(jsstr_find_units_unchecked(&a, units, 9).id == key && jsstr_is_interned_unchecked(&a, key));
-  CHECK(jsstr_find_latin1_unchecked(&a, (const uint8_t *)"units of", 8).status == JSSTR_NONE);
-  CHECK(jsstr_find_utf8_unchecked(&a, (const uint8_t *)"units of ", 9).id == key && !jsstr_is_interned_unchecked(&a, one));
-  jsstr_join_unchecked(&a, &b);
-  CHECK(!b.at && !b.live && jsstr_same(&a, i, j).holds);
-  CHECK(jsstr_count_interned_unchecked(&a) == 2 && jsstr_totals_unchecked(&a).ids == jsstr_totals(&a).ids);
-  jsstr_free_unchecked(&a);
-  CHECK(!a.at && !a.live);
+  CHECK(i == j && jsstr_slot_of(&a, i).status == JSSTR_BAD_ARGUMENT);
+  jsstr_id key = jsstr_intern_units(&b, units, 9).id;
+  CHECK(jsstr_intern_latin1(&b, (const uint8_t *)"units of ", 9).id == key && jsstr_intern_unchecked(&b, one).id == key);
+  CHECK(jsstr_find_units(&a, units, 9).id == key && jsstr_is_interned(&a, key).holds && !jsstr_is_interned(&a, one).holds);
+  CHECK(jsstr_join(&a, &b) == JSSTR_DONE && !b.at && !b.live && jsstr_is_interned(&a, i).holds);
+  CHECK(jsstr_count_interned(&a).value == 2 && jsstr_free(&a) == JSSTR_DONE && !a.at && !a.live);
 }
 
 /* Whether an answer has this status, and nothing else. */
@@ -362,14 +347,14 @@ static int is_string(jsstr_answer s, jsstr_id id) {
 }
 
 static int has_used(jsstr_agent *a, uint32_t ids, uint32_t words) {
-  jsstr_counts use = jsstr_totals(a);
+  jsstr_room use = jsstr_room_of(a);
   return use.status == JSSTR_DONE && use.ids == ids && use.words == words;
 }
 
 /* Units that aren't in the table, then are: an id and their words once, and never again. */
 static void intern_row(jsstr_agent *a, const uint16_t *units, uint32_t len, uint32_t words) {
   uint8_t bytes[16];
-  jsstr_counts use = jsstr_totals(a);
+  jsstr_room use = jsstr_room_of(a);
   uint32_t lists = jsstr_count_interned(a).value, narrow = 1;
   CHECK(is_bare(jsstr_find_units(a, units, len), JSSTR_NONE) && has_used(a, use.ids, use.words));
   jsstr_answer key = jsstr_intern_units(a, units, len);
@@ -381,7 +366,7 @@ static void intern_row(jsstr_agent *a, const uint16_t *units, uint32_t len, uint
     CHECK(is_string(jsstr_intern_utf8(a, bytes, len), key.id) && is_string(jsstr_find_utf8(a, bytes, len), key.id));
   }
   CHECK(has_used(a, use.ids + 1, use.words + words) && jsstr_count_interned(a).value == lists + 1);
-  CHECK(jsstr_is_interned(a, key.id).holds && jsstr_same(a, key.id, key.id).holds);
+  CHECK(jsstr_is_interned(a, key.id).holds);
   jsstr_id s = jsstr_from_units(a, units, len).id;
   CHECK(!jsstr_is_interned(a, s).holds && jsstr_equal(a, s, key.id).holds && is_string(jsstr_intern(a, s), key.id));
 }
@@ -434,7 +419,7 @@ static void fill_table(uint32_t slots) {
     for (int key = 0; key < 2 * (int)slots; key++) key_row(round % 2 ? &other : &one, key, ids, slots);
   }
   CHECK(jsstr_join(&one, &other) == JSSTR_DONE);
-  CHECK(jsstr_totals(&one).ids == slots && jsstr_count_interned(&one).value == slots && jsstr_free(&one) == JSSTR_DONE);
+  CHECK(jsstr_room_of(&one).ids == slots && jsstr_count_interned(&one).value == slots && jsstr_free(&one) == JSSTR_DONE);
 }
 
 static void intern_units(void) {
@@ -443,7 +428,7 @@ static void intern_units(void) {
   CHECK(jsstr_make((jsstr_size){100, 100, 20}, 1, 1000, &a) == JSSTR_DONE);
   for (uint32_t len = 0; len <= 9; len++) intern_row(&a, narrow, len, (len + 7) / 8);
   for (uint32_t len = 5; len <= 9; len++) intern_row(&a, wide, len, (len + 3) / 4);
-  jsstr_counts use = jsstr_totals(&a);
+  jsstr_room use = jsstr_room_of(&a);
   CHECK(is_bare(jsstr_find_units(&a, narrow, SIZE_MAX / 4), JSSTR_BAD_ARGUMENT));
   CHECK(is_bare(jsstr_intern_latin1(&a, (const uint8_t *)narrow, SIZE_MAX / 4), JSSTR_BAD_ARGUMENT));
   CHECK(is_bare(jsstr_find_utf8(&a, (const uint8_t *)narrow, SIZE_MAX / 4), JSSTR_BAD_ARGUMENT));
@@ -467,7 +452,7 @@ static void intern_again(void) {
     CHECK(one.status == JSSTR_DONE);
     keys[i] = one.id;
   }
-  jsstr_counts use = jsstr_totals(&a);
+  jsstr_room use = jsstr_room_of(&a);
   for (int round = 0; round < ROUNDS; round++) {
     for (int i = 0; i < STRINGS; i++) {
       CHECK(is_string(jsstr_intern(&a, ids[i]), keys[i]) && is_string(jsstr_intern(&a, keys[i]), keys[i]));
@@ -527,7 +512,7 @@ static void intern_many(void) {
   CHECK(ids[0] == 0 && ids[1] == ids[2] && ids[3] == 0 && ids[5] == 7 && jsstr_is_interned(&a, ids[4]).holds);
   CHECK(is_string(jsstr_find_units(&a, units, 2), ids[1]) && is_string(jsstr_find_units(&a, units + 4, 1), ids[4]));
   jsstr_id again[5];
-  CHECK(is_string(jsstr_intern_many_unchecked(&a, units, 5, ends, 5, again, 5), 5) && !memcmp(again, ids, sizeof again) && has_used(&a, 3, 2));
+  CHECK(is_string(jsstr_intern_many(&a, units, 5, ends, 5, again, 5), 5) && !memcmp(again, ids, sizeof again) && has_used(&a, 3, 2));
   CHECK(jsstr_free(&a) == JSSTR_DONE);
 }
 
@@ -541,7 +526,7 @@ static void refuse_many(void) {
     jsstr_agent a = {0};
     jsstr_id ids[] = {7, 7, 7, 7, 7};
     CHECK(jsstr_make(sizes[way / 2], 1, 9, &a) == JSSTR_DONE);
-    jsstr_answer s = (way % 2 ? jsstr_intern_many : jsstr_intern_many_unchecked)(&a, units, 5, ends, 5, ids, 5);
+    jsstr_answer s = jsstr_intern_many(&a, units, 5, ends, 5, ids, 5);
     CHECK(!memcmp(&s, &refusals[way / 2], sizeof s) && ids[0] == ids[2] && ids[3] == 7 && ids[4] == 7);
     CHECK(is_string(jsstr_find_units(&a, units, 1), ids[0]) && is_string(jsstr_find_units(&a, units + 1, 1), ids[1]));
     CHECK(is_bare(jsstr_find_units(&a, units + 3, 1), JSSTR_NONE) && jsstr_count_interned(&a).value == 2 && jsstr_free(&a) == JSSTR_DONE);
@@ -574,8 +559,7 @@ static void malformed_keys(void) {
 /* The number of a string as an array index; -1 where it is none. */
 static int64_t index_of(jsstr_agent *a, const char *text) {
   jsstr_id s = made(a, text);
-  jsstr_number n = jsstr_array_index(a, s), again = jsstr_array_index_unchecked(a, s);
-  CHECK(n.status == again.status && n.value == again.value);
+  jsstr_number n = jsstr_array_index(a, s);
   CHECK(n.status == JSSTR_DONE || (n.status == JSSTR_NONE && !n.value));
   return n.status == JSSTR_DONE ? (int64_t)n.value : -1;
 }
@@ -610,15 +594,14 @@ static void read_all(void) {
     for (uint32_t len = 0; len <= 20; len++) {
       for (uint32_t i = 0; i < len; i++) units[i] = (uint16_t)(wide && i % 3 ? 0xD800 + i : i);
       jsstr_id s = jsstr_from_units(&a, units, len).id;
-      for (uint32_t room = 0; room <= len + 1; room++)
-        for (int form = 0; form < 2; form++) {
-          memset(got, 0x5A, sizeof got);
-          jsstr_bytes b = form ? jsstr_read_all_unchecked(&a, s, got, room) : jsstr_read_all(&a, s, got, room);
-          CHECK(b.status == (room < len ? JSSTR_NO_ROOM : JSSTR_DONE) && b.size == len && !b.at);
-          uint32_t written = room < len ? 0 : len;
-          CHECK(!memcmp(units, got, written * 2));
-          for (uint32_t i = written; i < 22; i++) CHECK(got[i] == 0x5A5A);
-        }
+      for (uint32_t room = 0; room <= len + 1; room++) {
+        memset(got, 0x5A, sizeof got);
+        jsstr_bytes b = jsstr_read_all(&a, s, got, room);
+        CHECK(b.status == (room < len ? JSSTR_NO_ROOM : JSSTR_DONE) && b.size == len && !b.at);
+        uint32_t written = room < len ? 0 : len;
+        CHECK(!memcmp(units, got, written * 2));
+        for (uint32_t i = written; i < 22; i++) CHECK(got[i] == 0x5A5A);
+      }
     }
   got[0] = 7;
   jsstr_bytes bad = jsstr_read_all(&a, 99, got, 22);
@@ -642,8 +625,8 @@ static void copies(void) {
     for (uint32_t len = 0; len <= 40; len += len < 10 ? 1 : 15) {
       for (uint32_t i = 0; i < len; i++) units[i] = (uint16_t)(wide && i % 3 ? 0xD800 + i : i + 1);
       jsstr_id s = jsstr_from_units(&a, units, len).id;
-      jsstr_counts use = jsstr_totals(&b), mine = jsstr_totals(&a);
-      jsstr_answer copy = jsstr_copy_into(&a, s, &b), again = jsstr_copy_into_unchecked(&a, s, &b);
+      jsstr_room use = jsstr_room_of(&b), mine = jsstr_room_of(&a);
+      jsstr_answer copy = jsstr_copy_into(&a, s, &b), again = jsstr_copy_into(&a, s, &b);
       uint32_t lanes = wide && len > 1 ? 4 : 8, words = (len + lanes - 1) / lanes;
       CHECK(is_string(copy, copy.id) && is_string(again, again.id) && copy.id != again.id);
       CHECK(has_used(&b, use.ids + 2, use.words + 2 * words) && has_used(&a, mine.ids, mine.words));
@@ -655,8 +638,8 @@ static void copies(void) {
   jsstr_id part = jsstr_slice(&a, rope, 3, 20).id;
   CHECK(has_units(&b, jsstr_copy_into(&a, rope, &b).id, units, 30) && has_units(&b, jsstr_copy_into(&a, part, &b).id, units + 3, 17));
   jsstr_id key = jsstr_intern_into(&a, part, &b).id;
-  jsstr_counts use = jsstr_totals(&b);
-  CHECK(is_string(jsstr_intern_into(&a, part, &b), key) && is_string(jsstr_intern_into_unchecked(&a, part, &b), key));
+  jsstr_room use = jsstr_room_of(&b);
+  CHECK(is_string(jsstr_intern_into(&a, part, &b), key));
   CHECK(is_string(jsstr_find_units(&b, units + 3, 17), key) && jsstr_is_interned(&b, key).holds && has_used(&b, use.ids, use.words));
   CHECK(jsstr_intern(&a, part).status == JSSTR_DONE && has_units(&b, jsstr_copy_into(&a, part, &b).id, units + 3, 17));
   /* Within one heap. */
@@ -665,8 +648,8 @@ static void copies(void) {
   CHECK(within.status == JSSTR_DONE && within.id != left && has_units(&c, within.id, units, 15));
   CHECK(jsstr_intern_into(&a, part, &c).id == jsstr_intern(&c, part).id && jsstr_join(&a, &c) == JSSTR_DONE);
   /* Bad arguments change neither heap. */
-  use = jsstr_totals(&b);
-  jsstr_counts mine = jsstr_totals(&a);
+  use = jsstr_room_of(&b);
+  jsstr_room mine = jsstr_room_of(&a);
   CHECK(is_bare(jsstr_copy_into(&a, 199, &b), JSSTR_BAD_ARGUMENT) && is_bare(jsstr_intern_into(&a, UINT32_MAX, &b), JSSTR_BAD_ARGUMENT));
   CHECK(is_bare(jsstr_copy_into(&a, left, &c), JSSTR_BAD_ARGUMENT) && is_bare(jsstr_intern_into(&a, left, &c), JSSTR_BAD_ARGUMENT));
   CHECK(is_bare(jsstr_copy_into(&c, left, &a), JSSTR_BAD_ARGUMENT) && is_bare(jsstr_intern_into(&c, left, &a), JSSTR_BAD_ARGUMENT));

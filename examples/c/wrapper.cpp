@@ -112,7 +112,7 @@ static void splits_and_joins(jsstr::agent &agent) {
     CHECK(!part && part.length(name).error().why == status::bad_argument);
     CHECK(agent.join(std::move(part)).error().why == status::bad_argument && part.join(std::move(part)).error().why == status::bad_argument);
   }
-  CHECK(agent.share().value() == 4 && agent.totals().value().ids > 0);
+  CHECK(agent.share().value() == 4 && agent.room().value().ids > 0);
 }
 
 // What a refusal says.

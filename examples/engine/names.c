@@ -162,7 +162,7 @@ void names_join(names_seat *into, names_seat *seat)
 
 names_use names_used(names_seat *last)
 {
-	jsstr_counts used = jsstr_totals(&last->agent);
+	jsstr_room used = jsstr_room_of(&last->agent);
 	return (names_use){ used.ids, used.words, jsstr_count_interned(&last->agent).value };
 }
 

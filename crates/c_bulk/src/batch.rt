@@ -11,25 +11,6 @@ use c_steps::{JsAnswer, are_lists, bad_argument, of_batch};
 /// The one string of the table for each of many lists of units, in turn, up to the first one that is refused.
 /// The lists lie one behind another; `ends` has where each ends.
 #[unsafe(no_mangle)]
-pub extern "C" fn jsstr_intern_many_unchecked(
-    agent: &mut JsAgent,
-    units: &[u16],
-    ends: &[u32],
-    ids: &mut [u32],
-) -> JsAnswer
-    requires ready { IsReady agent.old.at.value }
-    requires lists { AreLists (length units.now) ends.now (length ids.old) }
-    ensures handle { IsHandle agent.new }
-    ensures told { result.status ≢ reports.BAD_ARGUMENT }
-    ensures interns { InternsMany agent.old.at.value agent.new.at.value units.now ends.now ids.old ids.new
-        result }
-{
-    let batch = agent_keys::intern_many(agent.held(), units, ends, ids);
-    of_batch(batch)
-}
-
-/// The same, with its conditions tested.
-#[unsafe(no_mangle)]
 pub extern "C" fn jsstr_intern_many(
     agent: &mut JsAgent,
     units: &[u16],
@@ -48,5 +29,6 @@ pub extern "C" fn jsstr_intern_many(
     if agent.is_empty() || !are_lists(units.len(), ends, ids.len()) {
         return bad_argument();
     }
-    jsstr_intern_many_unchecked(agent, units, ends, ids)
+    let batch = agent_keys::intern_many(agent.held(), units, ends, ids);
+    of_batch(batch)
 }

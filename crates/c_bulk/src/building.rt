@@ -1,5 +1,5 @@
 // Texts that are built up outside any heap, and then become strings. Calls on a text alone have no condition.
-ghost use Rattle.std.specs.Prelude.{◌≡◌, length, None, ◌≢◌, ℕ, List, ◌↔◌};
+ghost use Rattle.std.specs.Prelude.{◌≡◌, None, ◌≢◌, ℕ, List, ◌↔◌};
 ghost use Rattle.js_number.specs.Arith.{text_of};
 ghost use Rattle.js_number.specs.declared.Num.TheVariants.{Int};
 ghost use Rattle.heap_rule.specs.Maps.{Has, HasKey};
@@ -105,14 +105,8 @@ pub extern "C" fn jsstr_build_wtf8(alloc: Global, text: &mut JsBuilder, bytes: &
     }
 }
 
-/// Adds the units of a settled string.
-#[unsafe(no_mangle)]
-pub extern "C" fn jsstr_build_string_unchecked(
-    alloc: Global,
-    text: &mut JsBuilder,
-    agent: &mut JsAgent,
-    s: u32,
-) -> u32
+// Adds the units of a settled string.
+fn add_settled(alloc: Global, text: &mut JsBuilder, agent: &mut JsAgent, s: u32) -> u32
     requires text { IsBuilder text.old }
     requires ready { IsReady agent.old.at.value }
     requires known { HasKey (handle_view agent.old.at.value).units s }
@@ -136,7 +130,7 @@ pub extern "C" fn jsstr_build_string_unchecked(
     }
 }
 
-/// The same, with its conditions tested and the string settled first.
+/// Adds the units of a string, which is settled first.
 #[unsafe(no_mangle)]
 pub extern "C" fn jsstr_build_string(
     alloc: Global,
@@ -156,28 +150,11 @@ pub extern "C" fn jsstr_build_string(
     if settled.status != DONE {
         return settled.status;
     }
-    jsstr_build_string_unchecked(alloc, text, agent, s)
+    add_settled(alloc, text, agent, s)
 }
 
 /// A new string with the units of a text, settled. The text is empty then, and keeps its memory for the next
 /// one; where there is no room for the string, the text stays, so that it can go into another heap.
-#[unsafe(no_mangle)]
-pub extern "C" fn jsstr_built_unchecked(
-    alloc: Global,
-    text: &mut JsBuilder,
-    agent: &mut JsAgent,
-) -> JsAnswer
-    requires text { IsBuilder text.old }
-    requires ready { IsReady agent.old.at.value }
-    ensures handle { IsBuilder text.new × IsHandle agent.new }
-    ensures told { result.status ≢ reports.BAD_ARGUMENT }
-    ensures makes { MakesString agent.old.at.value agent.new.at.value (text_so_far text.old.at.value) result }
-    ensures spent { EmptiesText text.old.at.value text.new.at.value result.status }
-{
-    text.spend(alloc, agent, Task::Make)
-}
-
-/// The same, with its conditions tested.
 #[unsafe(no_mangle)]
 pub extern "C" fn jsstr_built(alloc: Global, text: &mut JsBuilder, agent: &mut JsAgent) -> JsAnswer
     requires text { IsBuilder text.old }
@@ -191,28 +168,10 @@ pub extern "C" fn jsstr_built(alloc: Global, text: &mut JsBuilder, agent: &mut J
     if agent.is_empty() {
         return bad_argument();
     }
-    jsstr_built_unchecked(alloc, text, agent)
+    text.spend(alloc, agent, Task::Make)
 }
 
 /// The one string of the table with the units of a text, which is then empty or stays, as for a new string.
-#[unsafe(no_mangle)]
-pub extern "C" fn jsstr_built_interned_unchecked(
-    alloc: Global,
-    text: &mut JsBuilder,
-    agent: &mut JsAgent,
-) -> JsAnswer
-    requires text { IsBuilder text.old }
-    requires ready { IsReady agent.old.at.value }
-    ensures handle { IsBuilder text.new × IsHandle agent.new }
-    ensures told { result.status ≢ reports.BAD_ARGUMENT }
-    ensures interns { IsInterning agent.old.at.value agent.new.at.value (text_so_far text.old.at.value)
-        result }
-    ensures spent { EmptiesText text.old.at.value text.new.at.value result.status }
-{
-    text.spend(alloc, agent, Task::Intern)
-}
-
-/// The same, with its conditions tested.
 #[unsafe(no_mangle)]
 pub extern "C" fn jsstr_built_interned(
     alloc: Global,
@@ -231,16 +190,7 @@ pub extern "C" fn jsstr_built_interned(
     if agent.is_empty() {
         return bad_argument();
     }
-    jsstr_built_interned_unchecked(alloc, text, agent)
-}
-
-/// How many units a text has.
-#[unsafe(no_mangle)]
-pub extern "C" fn jsstr_built_length(text: &JsBuilder) -> u32
-    requires { IsBuilder text.now }
-    ensures { result ≡ length (text_so_far text.now.at.value) }
-{
-    text.len
+    text.spend(alloc, agent, Task::Intern)
 }
 
 /// Gives the memory of a text back. The handle is zero then.

@@ -1,10 +1,9 @@
 // Strings of one heap that are made, or interned, in another.
 ghost use Rattle.std.specs.Prelude.{◌≢◌, ℕ, List, ◌≡◌, ◌↔◌, ◌⊎◌};
-ghost use Rattle.heap_rule.specs.Maps.{Has, HasKey};
-ghost use Rattle.heap_rule.specs.Views.{IsSeenSettled};
+ghost use Rattle.heap_rule.specs.Maps.{Has};
 ghost use Rattle.heap_agents.specs.Ready.{HandleSpends, IsReady, handle_view, HandleKnows};
 ghost use Rattle.c_handles.specs.Handles.{IsHandle};
-ghost use Rattle.c_steps.specs.Checked.{OnlyLooks, RefusesSettling, SettlesAndLooks};
+ghost use Rattle.c_steps.specs.Checked.{RefusesSettling, SettlesAndLooks};
 ghost use Rattle.c_steps.specs.Given.{IsInterning, MakesString, OrNoMemory};
 ghost use Rattle.c_steps.specs.Reports as reports;
 
@@ -12,31 +11,8 @@ use c_handles::JsAgent;
 use c_steps::{DONE, JsAnswer, Task, bad_argument, on_string, settle_known};
 use std::alloc::Global;
 
-/// A new string in another heap with the units of a settled string. It allocates for the duration of the
+/// A new string in another heap with the units of a string, which is settled first. It allocates for the duration of the
 /// call.
-#[unsafe(no_mangle)]
-pub extern "C" fn jsstr_copy_into_unchecked(
-    alloc: Global,
-    from: &mut JsAgent,
-    s: u32,
-    to: &mut JsAgent,
-) -> JsAnswer
-    requires ready { IsReady from.old.at.value }
-    requires known { HasKey (handle_view from.old.at.value).units s }
-    requires settled { IsSeenSettled (handle_view from.old.at.value) s }
-    requires other { IsReady to.old.at.value }
-    ensures handle { IsHandle from.new }
-    ensures other_handle { IsHandle to.new }
-    ensures looks { OnlyLooks from.old.at.value from.new.at.value }
-    ensures told { result.status ≢ reports.BAD_ARGUMENT }
-    ensures leaves { HandleSpends to.old.at.value to.new.at.value }
-    ensures does { (us : List ℕ) → Has (handle_view from.old.at.value).units s us
-        → OrNoMemory MakesString to.old.at.value to.new.at.value us result }
-{
-    on_string(alloc, from, s, to, Task::Make)
-}
-
-/// The same, with its conditions tested and the string settled first.
 #[unsafe(no_mangle)]
 pub extern "C" fn jsstr_copy_into(
     alloc: Global,
@@ -65,33 +41,11 @@ pub extern "C" fn jsstr_copy_into(
     if settled.status != DONE {
         return settled;
     }
-    jsstr_copy_into_unchecked(alloc, from, s, to)
+    on_string(alloc, from, s, to, Task::Make)
 }
 
-/// The one string of another heap's table with the units of a settled string. It allocates for the duration
+/// The one string of another heap's table with the units of a string, which is settled first. It allocates for the duration
 /// of the call.
-#[unsafe(no_mangle)]
-pub extern "C" fn jsstr_intern_into_unchecked(
-    alloc: Global,
-    from: &mut JsAgent,
-    s: u32,
-    to: &mut JsAgent,
-) -> JsAnswer
-    requires ready { IsReady from.old.at.value }
-    requires known { HasKey (handle_view from.old.at.value).units s }
-    requires settled { IsSeenSettled (handle_view from.old.at.value) s }
-    requires other { IsReady to.old.at.value }
-    ensures handle { IsHandle from.new }
-    ensures other_handle { IsHandle to.new }
-    ensures looks { OnlyLooks from.old.at.value from.new.at.value }
-    ensures told { result.status ≢ reports.BAD_ARGUMENT }
-    ensures does { (us : List ℕ) → Has (handle_view from.old.at.value).units s us
-        → OrNoMemory IsInterning to.old.at.value to.new.at.value us result }
-{
-    on_string(alloc, from, s, to, Task::Intern)
-}
-
-/// The same, with its conditions tested and the string settled first.
 #[unsafe(no_mangle)]
 pub extern "C" fn jsstr_intern_into(
     alloc: Global,
@@ -119,5 +73,5 @@ pub extern "C" fn jsstr_intern_into(
     if settled.status != DONE {
         return settled;
     }
-    jsstr_intern_into_unchecked(alloc, from, s, to)
+    on_string(alloc, from, s, to, Task::Intern)
 }

@@ -7,23 +7,9 @@ ghost use Rattle.c_steps.specs.Reports as reports;
 ghost use Rattle.c_bulk.specs.Reserving.{IsReserving};
 
 use c_handles::JsAgent;
-use c_steps::{
-    BAD_ARGUMENT, DONE, JsAnswer, JsTotals, JsUse, bad_argument, of_reserve, without_totals,
-};
+use c_steps::{BAD_ARGUMENT, DONE, JsAnswer, JsTotals, bad_argument, of_reserve, without_totals};
 
 /// Claims so many content words in one piece, and then so many ids, from which later strings are taken.
-#[unsafe(no_mangle)]
-pub extern "C" fn jsstr_reserve_unchecked(agent: &mut JsAgent, ids: u32, words: u32) -> JsAnswer
-    requires ready { IsReady agent.old.at.value }
-    ensures handle { IsHandle agent.new }
-    ensures told { result.status ≢ reports.BAD_ARGUMENT }
-    ensures claims { IsReserving agent.old.at.value agent.new.at.value ids words result }
-{
-    let answer = agent_makes::reserve(agent.held(), ids, words);
-    of_reserve(answer)
-}
-
-/// The same, with its conditions tested.
 #[unsafe(no_mangle)]
 pub extern "C" fn jsstr_reserve(agent: &mut JsAgent, ids: u32, words: u32) -> JsAnswer
     requires { IsHandle agent.old }
@@ -37,23 +23,11 @@ pub extern "C" fn jsstr_reserve(agent: &mut JsAgent, ids: u32, words: u32) -> Js
     if agent.is_empty() {
         return bad_argument();
     }
-    jsstr_reserve_unchecked(agent, ids, words)
+    let answer = agent_makes::reserve(agent.held(), ids, words);
+    of_reserve(answer)
 }
 
 /// How many ids and content words of an agent were claimed in advance, and are left.
-#[unsafe(no_mangle)]
-pub extern "C" fn jsstr_reserved_unchecked(agent: &mut JsAgent) -> JsUse
-    requires ready { IsReady agent.old.at.value }
-    ensures handle { IsHandle agent.new }
-    ensures same { agent.new.at.value ≡ agent.old.at.value }
-    ensures ids { result.ids ≡ handle_reserved_ids agent.old.at.value }
-    ensures words { result.words ≡ handle_reserved_words agent.old.at.value }
-{
-    let (ids, words) = agent_makes::reserved(agent.held());
-    JsUse { ids, words }
-}
-
-/// The same, with its conditions tested.
 #[unsafe(no_mangle)]
 pub extern "C" fn jsstr_reserved(agent: &mut JsAgent) -> JsTotals
     requires { IsHandle agent.old }
@@ -67,26 +41,16 @@ pub extern "C" fn jsstr_reserved(agent: &mut JsAgent) -> JsTotals
     if agent.is_empty() {
         return without_totals(BAD_ARGUMENT);
     }
-    let kept = jsstr_reserved_unchecked(agent);
+    let (ids, words) = agent_makes::reserved(agent.held());
     JsTotals {
         status: DONE,
-        ids: kept.ids,
-        words: kept.words,
+        ids,
+        words,
     }
 }
 
 /// Sets how many ids and content words the agent claims at once from now on, where a new string finds too few
 /// in reserve; 0 and 0 to stop that.
-#[unsafe(no_mangle)]
-pub extern "C" fn jsstr_renew_unchecked(agent: &mut JsAgent, ids: u32, words: u32)
-    requires ready { IsReady agent.old.at.value }
-    ensures handle { IsHandle agent.new }
-    ensures sets { HandleSetsBlocks agent.old.at.value agent.new.at.value ids words }
-{
-    agent_makes::renew(agent.held(), ids, words);
-}
-
-/// The same, with its conditions tested.
 #[unsafe(no_mangle)]
 pub extern "C" fn jsstr_renew(agent: &mut JsAgent, ids: u32, words: u32) -> u32
     requires { IsHandle agent.old }
@@ -100,6 +64,6 @@ pub extern "C" fn jsstr_renew(agent: &mut JsAgent, ids: u32, words: u32) -> u32
     if agent.is_empty() {
         return BAD_ARGUMENT;
     }
-    jsstr_renew_unchecked(agent, ids, words);
+    agent_makes::renew(agent.held(), ids, words);
     DONE
 }

@@ -7,22 +7,21 @@ ghost use Rattle.heap_rule.specs.Views.{IsSeenSettled};
 ghost use Rattle.heap_agents.specs.Ready.{IsReady, handle_view, HandleKnows};
 ghost use Rattle.c_handles.specs.Handles.{IsHandle};
 ghost use Rattle.c_steps.specs.Checked.{OnlyLooks};
-ghost use Rattle.c_steps.specs.Lists.{OnSpelled, SaysOrder, SaysSame, ComparesUnits, OrdersUnits};
+ghost use Rattle.c_steps.specs.Lists.{OnSpelled, ComparesUnits, OrdersUnits};
 ghost use Rattle.c_steps.specs.Reports.{no_order, no_truth, order_number};
 ghost use Rattle.c_steps.specs.Reports as reports;
 
 use c_handles::JsAgent;
 use c_steps::{
-    BAD_ARGUMENT, DONE, JsOrder, JsTruth, NOT_UTF8, compare_spelled, equals_spelled, has_spelled,
-    left, not_utf8, of_order, order_spelled, settle_known, without_order, without_truth,
+    BAD_ARGUMENT, DONE, JsOrder, JsTruth, NOT_UTF8, equals_spelled, of_order, order_spelled,
+    settle_known, without_order, without_truth,
 };
 use heap_bytes::{Encoding, Spelling};
 use heap_rule::MAX;
 use heap_text::JsStr;
 
-/// Whether a settled string has just these units.
-#[unsafe(no_mangle)]
-pub extern "C" fn jsstr_equals_units_unchecked(agent: &mut JsAgent, s: u32, units: &[u16]) -> bool
+// Whether a settled string has just these units.
+fn has_units(agent: &mut JsAgent, s: u32, units: &[u16]) -> bool
     requires ready { IsReady agent.old.at.value }
     requires known { HasKey (handle_view agent.old.at.value).units s }
     requires settled { IsSeenSettled (handle_view agent.old.at.value) s }
@@ -34,7 +33,7 @@ pub extern "C" fn jsstr_equals_units_unchecked(agent: &mut JsAgent, s: u32, unit
     agent_reads::has_units(agent.held(), JsStr { id: s }, units)
 }
 
-/// The same, with its conditions tested and the string settled first.
+/// Whether a string has just these units. It is settled first.
 #[unsafe(no_mangle)]
 pub extern "C" fn jsstr_equals_units(agent: &mut JsAgent, s: u32, units: &[u16]) -> JsTruth
     requires { IsHandle agent.old }
@@ -46,28 +45,15 @@ pub extern "C" fn jsstr_equals_units(agent: &mut JsAgent, s: u32, units: &[u16])
     if settled.status != DONE {
         return without_truth(settled.status);
     }
-    let holds = jsstr_equals_units_unchecked(agent, s, units);
+    let holds = has_units(agent, s, units);
     JsTruth {
         status: DONE,
         holds,
     }
 }
 
-/// Whether a settled string has just these one-byte units, as Latin-1 is.
-#[unsafe(no_mangle)]
-pub extern "C" fn jsstr_equals_latin1_unchecked(agent: &mut JsAgent, s: u32, bytes: &[u8]) -> bool
-    requires ready { IsReady agent.old.at.value }
-    requires known { HasKey (handle_view agent.old.at.value).units s }
-    requires settled { IsSeenSettled (handle_view agent.old.at.value) s }
-    ensures handle { IsHandle agent.new }
-    ensures looks { OnlyLooks agent.old.at.value agent.new.at.value }
-    ensures same { (us : List ℕ) → Has (handle_view agent.old.at.value).units s us
-        → IsTrue result ↔ (us ≡ bytes.now) }
-{
-    has_spelled(agent, s, &Spelling::Latin1(bytes))
-}
-
-/// The same, with its conditions tested and the string settled first.
+/// Whether a string has just these one-byte units, as Latin-1 is.
+/// The string is settled first.
 #[unsafe(no_mangle)]
 pub extern "C" fn jsstr_equals_latin1(agent: &mut JsAgent, s: u32, bytes: &[u8]) -> JsTruth
     requires { IsHandle agent.old }
@@ -79,33 +65,9 @@ pub extern "C" fn jsstr_equals_latin1(agent: &mut JsAgent, s: u32, bytes: &[u8])
     equals_spelled(agent, s, &Spelling::Latin1(bytes))
 }
 
-/// Whether a settled string has just the units of the text whose UTF-8 these bytes are. Other bytes are
+/// Whether a string has just the units of the text whose UTF-8 these bytes are. Other bytes are
 /// refused before anything is done.
-#[unsafe(no_mangle)]
-pub extern "C" fn jsstr_equals_utf8_unchecked(agent: &mut JsAgent, s: u32, bytes: &[u8]) -> JsTruth
-    requires ready { IsReady agent.old.at.value }
-    requires known { HasKey (handle_view agent.old.at.value).units s }
-    requires settled { IsSeenSettled (handle_view agent.old.at.value) s }
-    requires short { length bytes.now ≤ MAX }
-    ensures handle { IsHandle agent.new }
-    ensures memory { result.status ≢ reports.NO_MEMORY }
-    ensures says { OnSpelled agent.old.at.value agent.new.at.value bytes.now result.status
-        (result ≡ no_truth result.status)
-        (λ vs. SaysSame agent.old.at.value agent.new.at.value s vs result) }
-{
-    match Spelling::read(Encoding::Utf8, bytes) {
-        Ok(spelled) => {
-            let holds = has_spelled(agent, s, &spelled);
-            JsTruth {
-                status: DONE,
-                holds,
-            }
-        }
-        Err(at) => without_truth(left(agent, not_utf8(at as u32)).status),
-    }
-}
-
-/// The same, with its conditions tested; where the bytes are UTF-8, the string is settled first.
+/// Where the bytes are UTF-8, the string is settled first.
 #[unsafe(no_mangle)]
 pub extern "C" fn jsstr_equals_utf8(agent: &mut JsAgent, s: u32, bytes: &[u8]) -> JsTruth
     requires { IsHandle agent.old }
@@ -129,10 +91,8 @@ pub extern "C" fn jsstr_equals_utf8(agent: &mut JsAgent, s: u32, bytes: &[u8]) -
     }
 }
 
-/// The order of a settled string and a list by units, where a proper prefix comes first: -1 where the
-/// string comes first, 0 where both have the same units, else 1.
-#[unsafe(no_mangle)]
-pub extern "C" fn jsstr_compare_units_unchecked(agent: &mut JsAgent, s: u32, units: &[u16]) -> i32
+// The order of a settled string and a list by units.
+fn order_with(agent: &mut JsAgent, s: u32, units: &[u16]) -> i32
     requires ready { IsReady agent.old.at.value }
     requires known { HasKey (handle_view agent.old.at.value).units s }
     requires settled { IsSeenSettled (handle_view agent.old.at.value) s }
@@ -145,7 +105,8 @@ pub extern "C" fn jsstr_compare_units_unchecked(agent: &mut JsAgent, s: u32, uni
     of_order(answer)
 }
 
-/// The same, with its conditions tested and the string settled first.
+/// The order of a string and a list by units, where a proper prefix comes first: -1 where the string comes
+/// first, 0 where both have the same units, else 1. The string is settled first.
 #[unsafe(no_mangle)]
 pub extern "C" fn jsstr_compare_units(agent: &mut JsAgent, s: u32, units: &[u16]) -> JsOrder
     requires { IsHandle agent.old }
@@ -157,28 +118,15 @@ pub extern "C" fn jsstr_compare_units(agent: &mut JsAgent, s: u32, units: &[u16]
     if settled.status != DONE {
         return without_order(settled.status);
     }
-    let order = jsstr_compare_units_unchecked(agent, s, units);
+    let order = order_with(agent, s, units);
     JsOrder {
         status: DONE,
         order,
     }
 }
 
-/// The order of a settled string and one-byte units, as Latin-1 is.
-#[unsafe(no_mangle)]
-pub extern "C" fn jsstr_compare_latin1_unchecked(agent: &mut JsAgent, s: u32, bytes: &[u8]) -> i32
-    requires ready { IsReady agent.old.at.value }
-    requires known { HasKey (handle_view agent.old.at.value).units s }
-    requires settled { IsSeenSettled (handle_view agent.old.at.value) s }
-    ensures handle { IsHandle agent.new }
-    ensures looks { OnlyLooks agent.old.at.value agent.new.at.value }
-    ensures order { (us : List ℕ) → Has (handle_view agent.old.at.value).units s us
-        → result ≡ order_number (units_cmp us bytes.now) }
-{
-    compare_spelled(agent, s, &Spelling::Latin1(bytes))
-}
-
-/// The same, with its conditions tested and the string settled first.
+/// The order of a string and one-byte units, as Latin-1 is.
+/// The string is settled first.
 #[unsafe(no_mangle)]
 pub extern "C" fn jsstr_compare_latin1(agent: &mut JsAgent, s: u32, bytes: &[u8]) -> JsOrder
     requires { IsHandle agent.old }
@@ -190,33 +138,9 @@ pub extern "C" fn jsstr_compare_latin1(agent: &mut JsAgent, s: u32, bytes: &[u8]
     order_spelled(agent, s, &Spelling::Latin1(bytes))
 }
 
-/// The order of a settled string and the units of the text whose UTF-8 these bytes are. Other bytes are
+/// The order of a string and the units of the text whose UTF-8 these bytes are. Other bytes are
 /// refused before anything is done.
-#[unsafe(no_mangle)]
-pub extern "C" fn jsstr_compare_utf8_unchecked(agent: &mut JsAgent, s: u32, bytes: &[u8]) -> JsOrder
-    requires ready { IsReady agent.old.at.value }
-    requires known { HasKey (handle_view agent.old.at.value).units s }
-    requires settled { IsSeenSettled (handle_view agent.old.at.value) s }
-    requires short { length bytes.now ≤ MAX }
-    ensures handle { IsHandle agent.new }
-    ensures memory { result.status ≢ reports.NO_MEMORY }
-    ensures says { OnSpelled agent.old.at.value agent.new.at.value bytes.now result.status
-        (result ≡ no_order result.status)
-        (λ vs. SaysOrder agent.old.at.value agent.new.at.value s vs result) }
-{
-    match Spelling::read(Encoding::Utf8, bytes) {
-        Ok(spelled) => {
-            let order = compare_spelled(agent, s, &spelled);
-            JsOrder {
-                status: DONE,
-                order,
-            }
-        }
-        Err(at) => without_order(left(agent, not_utf8(at as u32)).status),
-    }
-}
-
-/// The same, with its conditions tested; where the bytes are UTF-8, the string is settled first.
+/// Where the bytes are UTF-8, the string is settled first.
 #[unsafe(no_mangle)]
 pub extern "C" fn jsstr_compare_utf8(agent: &mut JsAgent, s: u32, bytes: &[u8]) -> JsOrder
     requires { IsHandle agent.old }

@@ -59,22 +59,8 @@ pub extern "C" fn jsstr_length(agent: &mut JsAgent, s: u32) -> JsNumber
     }
 }
 
-/// The units of a settled string from unit `from` on, as many as there is room for.
-#[unsafe(no_mangle)]
-pub extern "C" fn jsstr_read_unchecked(agent: &mut JsAgent, s: u32, from: u32, out: &mut [u16])
-    requires ready { IsReady agent.old.at.value }
-    requires settled { IsSeenSettled (handle_view agent.old.at.value) s }
-    requires within { (us : List ℕ) × Has (handle_view agent.old.at.value).units s us
-        × (from + length out.old ≤ length us) }
-    ensures handle { IsHandle agent.new }
-    ensures looks { OnlyLooks agent.old.at.value agent.new.at.value }
-    ensures units { (us : List ℕ) → Has (handle_view agent.old.at.value).units s us
-        → out.new ≡ slice_range us from (from + length out.old) }
-{
-    read_into(agent, s, from, out)
-}
-
-/// The same, with its conditions tested and the string settled first.
+/// The units of a string from unit `from` on, as many as there is room for.
+/// The string is settled first.
 #[unsafe(no_mangle)]
 pub extern "C" fn jsstr_read(agent: &mut JsAgent, s: u32, from: u32, out: &mut [u16]) -> u32
     requires { IsHandle agent.old }
@@ -88,13 +74,12 @@ pub extern "C" fn jsstr_read(agent: &mut JsAgent, s: u32, from: u32, out: &mut [
     if settled.status != DONE {
         return settled.status;
     }
-    jsstr_read_unchecked(agent, s, from, out);
+    read_into(agent, s, from, out);
     DONE
 }
 
-/// All units of a settled string into `out`; how many they are.
-#[unsafe(no_mangle)]
-pub extern "C" fn jsstr_read_all_unchecked(agent: &mut JsAgent, s: u32, out: &mut [u16]) -> JsBytes
+// All units of a settled string into `out`; how many they are.
+fn write_all(agent: &mut JsAgent, s: u32, out: &mut [u16]) -> JsBytes
     requires ready { IsReady agent.old.at.value }
     requires known { HasKey (handle_view agent.old.at.value).units s }
     requires settled { IsSeenSettled (handle_view agent.old.at.value) s }
@@ -109,7 +94,8 @@ pub extern "C" fn jsstr_read_all_unchecked(agent: &mut JsAgent, s: u32, out: &mu
     of_bytes(answer)
 }
 
-/// The same, with its conditions tested and the string settled first.
+/// All units of a string into `out`; how many they are.
+/// The string is settled first.
 #[unsafe(no_mangle)]
 pub extern "C" fn jsstr_read_all(agent: &mut JsAgent, s: u32, out: &mut [u16]) -> JsBytes
     requires { IsHandle agent.old }
@@ -123,7 +109,7 @@ pub extern "C" fn jsstr_read_all(agent: &mut JsAgent, s: u32, out: &mut [u16]) -
     if settled.status != DONE {
         return without_bytes(settled.status);
     }
-    jsstr_read_all_unchecked(agent, s, out)
+    write_all(agent, s, out)
 }
 
 /// Unit number `place` of a settled string.
@@ -199,15 +185,9 @@ pub extern "C" fn jsstr_window(agent: &mut JsAgent, s: u32, at: u32, out: &mut [
     jsstr_window_unchecked(agent, s, at, out)
 }
 
-/// The UTF-8 of a settled string into `out`. An unpaired surrogate becomes U+FFFD (0), refuses the call
-/// (1), or stays, as WTF-8 has it (2).
-#[unsafe(no_mangle)]
-pub extern "C" fn jsstr_to_utf8_unchecked(
-    agent: &mut JsAgent,
-    s: u32,
-    unpaired: u32,
-    out: &mut [u8],
-) -> JsBytes
+// The UTF-8 of a settled string into `out`. An unpaired surrogate becomes U+FFFD (0), refuses the call
+// (1), or stays, as WTF-8 has it (2).
+fn write_utf8(agent: &mut JsAgent, s: u32, unpaired: u32, out: &mut [u8]) -> JsBytes
     requires ready { IsReady agent.old.at.value }
     requires known { HasKey (handle_view agent.old.at.value).units s }
     requires settled { IsSeenSettled (handle_view agent.old.at.value) s }
@@ -225,7 +205,9 @@ pub extern "C" fn jsstr_to_utf8_unchecked(
     of_bytes(answer)
 }
 
-/// The same, with its conditions tested and the string settled first.
+/// The UTF-8 of a string into `out`. An unpaired surrogate becomes U+FFFD (0), refuses the call
+/// (1), or stays, as WTF-8 has it (2).
+/// The string is settled first.
 #[unsafe(no_mangle)]
 pub extern "C" fn jsstr_to_utf8(
     agent: &mut JsAgent,
@@ -250,13 +232,12 @@ pub extern "C" fn jsstr_to_utf8(
     if settled.status != DONE {
         return without_bytes(settled.status);
     }
-    jsstr_to_utf8_unchecked(agent, s, unpaired, out)
+    write_utf8(agent, s, unpaired, out)
 }
 
-/// The units of a settled string into `out`, a byte each, as Latin-1 has them. A unit over 255 refuses the
-/// call.
-#[unsafe(no_mangle)]
-pub extern "C" fn jsstr_to_latin1_unchecked(agent: &mut JsAgent, s: u32, out: &mut [u8]) -> JsBytes
+// The units of a settled string into `out`, a byte each, as Latin-1 has them. A unit over 255 refuses the
+// call.
+fn write_latin1(agent: &mut JsAgent, s: u32, out: &mut [u8]) -> JsBytes
     requires ready { IsReady agent.old.at.value }
     requires known { HasKey (handle_view agent.old.at.value).units s }
     requires settled { IsSeenSettled (handle_view agent.old.at.value) s }
@@ -271,7 +252,9 @@ pub extern "C" fn jsstr_to_latin1_unchecked(agent: &mut JsAgent, s: u32, out: &m
     of_bytes(answer)
 }
 
-/// The same, with its conditions tested and the string settled first.
+/// The units of a string into `out`, a byte each, as Latin-1 has them. A unit over 255 refuses the
+/// call.
+/// The string is settled first.
 #[unsafe(no_mangle)]
 pub extern "C" fn jsstr_to_latin1(agent: &mut JsAgent, s: u32, out: &mut [u8]) -> JsBytes
     requires { IsHandle agent.old }
@@ -285,7 +268,7 @@ pub extern "C" fn jsstr_to_latin1(agent: &mut JsAgent, s: u32, out: &mut [u8]) -
     if settled.status != DONE {
         return without_bytes(settled.status);
     }
-    jsstr_to_latin1_unchecked(agent, s, out)
+    write_latin1(agent, s, out)
 }
 
 /// The hash by which the string table looks for the units of a settled string.
@@ -318,9 +301,8 @@ pub extern "C" fn jsstr_hash(agent: &mut JsAgent, s: u32) -> JsNumber
     of_number(Some(value))
 }
 
-/// The number of a settled string that is an array index (ECMA-262, "array index"); NONE where it is none.
-#[unsafe(no_mangle)]
-pub extern "C" fn jsstr_array_index_unchecked(agent: &mut JsAgent, s: u32) -> JsNumber
+// The number of a settled string that is an array index (ECMA-262, "array index"); NONE where it is none.
+fn index_of_settled(agent: &mut JsAgent, s: u32) -> JsNumber
     requires ready { IsReady agent.old.at.value }
     requires known { HasKey (handle_view agent.old.at.value).units s }
     requires settled { IsSeenSettled (handle_view agent.old.at.value) s }
@@ -335,7 +317,8 @@ pub extern "C" fn jsstr_array_index_unchecked(agent: &mut JsAgent, s: u32) -> Js
     of_number(answer)
 }
 
-/// The same, with its conditions tested and the string settled first.
+/// The number of a string that is an array index (ECMA-262, "array index"); NONE where it is none.
+/// The string is settled first.
 #[unsafe(no_mangle)]
 pub extern "C" fn jsstr_array_index(agent: &mut JsAgent, s: u32) -> JsNumber
     requires { IsHandle agent.old }
@@ -349,12 +332,11 @@ pub extern "C" fn jsstr_array_index(agent: &mut JsAgent, s: u32) -> JsNumber
     if settled.status != DONE {
         return without_number(settled.status);
     }
-    jsstr_array_index_unchecked(agent, s)
+    index_of_settled(agent, s)
 }
 
-/// Whether a string is settled, by one load of its form, which the agent knows from then on.
-#[unsafe(no_mangle)]
-pub extern "C" fn jsstr_is_settled_unchecked(agent: &mut JsAgent, s: u32) -> bool
+// Whether a string is settled, by one load of its form, which the agent knows from then on.
+fn is_seen_settled(agent: &mut JsAgent, s: u32) -> bool
     requires ready { IsReady agent.old.at.value }
     requires known { HasKey (handle_view agent.old.at.value).units s }
     ensures handle { IsHandle agent.new }
@@ -366,7 +348,7 @@ pub extern "C" fn jsstr_is_settled_unchecked(agent: &mut JsAgent, s: u32) -> boo
     agent_reads::is_settled(agent.held(), JsStr { id: s })
 }
 
-/// The same, with its conditions tested.
+/// Whether a string is settled, by one load of its form, which the agent knows from then on.
 #[unsafe(no_mangle)]
 pub extern "C" fn jsstr_is_settled(agent: &mut JsAgent, s: u32) -> JsTruth
     requires { IsHandle agent.old }
@@ -384,7 +366,7 @@ pub extern "C" fn jsstr_is_settled(agent: &mut JsAgent, s: u32) -> JsTruth
     if !agent.knows(s) {
         return without_truth(BAD_ARGUMENT);
     }
-    let holds = jsstr_is_settled_unchecked(agent, s);
+    let holds = is_seen_settled(agent, s);
     JsTruth {
         status: DONE,
         holds,

@@ -16,15 +16,9 @@ use c_steps::{
 };
 use heap_text::JsStr;
 
-/// Whether the units of `needle` occur in `hay` at place `at`, both settled. At a place where they have no
-/// room they don't.
-#[unsafe(no_mangle)]
-pub extern "C" fn jsstr_starts_with_unchecked(
-    agent: &mut JsAgent,
-    hay: u32,
-    needle: u32,
-    at: u32,
-) -> bool
+// Whether the units of `needle` occur in `hay` at place `at`, both settled. At a place where they have no
+// room they don't.
+fn begins_at(agent: &mut JsAgent, hay: u32, needle: u32, at: u32) -> bool
     requires ready { IsReady agent.old.at.value }
     requires left { IsSearchable (handle_view agent.old.at.value) hay }
     requires right { IsSearchable (handle_view agent.old.at.value) needle }
@@ -40,7 +34,9 @@ pub extern "C" fn jsstr_starts_with_unchecked(
     agent_searches::starts_with(agent.held(), JsStr { id: hay }, JsStr { id: needle }, at)
 }
 
-/// The same, with its conditions tested and both strings settled first.
+/// Whether the units of `needle` occur in `hay` at place `at`. At a place where they have no
+/// room they don't.
+/// Both are settled first.
 #[unsafe(no_mangle)]
 pub extern "C" fn jsstr_starts_with(agent: &mut JsAgent, hay: u32, needle: u32, at: u32) -> JsTruth
     requires { IsHandle agent.old }
@@ -56,22 +52,16 @@ pub extern "C" fn jsstr_starts_with(agent: &mut JsAgent, hay: u32, needle: u32, 
     if status != DONE {
         return without_truth(status);
     }
-    let holds = jsstr_starts_with_unchecked(agent, hay, needle, at);
+    let holds = begins_at(agent, hay, needle, at);
     JsTruth {
         status: DONE,
         holds,
     }
 }
 
-/// The least place at or after `from` at which `needle` occurs in `hay`, both settled. An empty one occurs
-/// at every place.
-#[unsafe(no_mangle)]
-pub extern "C" fn jsstr_index_of_unchecked(
-    agent: &mut JsAgent,
-    hay: u32,
-    needle: u32,
-    from: u32,
-) -> JsPlace
+// The least place at or after `from` at which `needle` occurs in `hay`, both settled. An empty one occurs
+// at every place.
+fn first_in(agent: &mut JsAgent, hay: u32, needle: u32, from: u32) -> JsPlace
     requires ready { IsReady agent.old.at.value }
     requires left { IsSearchable (handle_view agent.old.at.value) hay }
     requires right { IsSearchable (handle_view agent.old.at.value) needle }
@@ -96,7 +86,9 @@ pub extern "C" fn jsstr_index_of_unchecked(
     of_place(answer)
 }
 
-/// The same, with its conditions tested and both strings settled first.
+/// The least place at or after `from` at which `needle` occurs in `hay`. An empty one occurs
+/// at every place.
+/// Both are settled first.
 #[unsafe(no_mangle)]
 pub extern "C" fn jsstr_index_of(agent: &mut JsAgent, hay: u32, needle: u32, from: u32) -> JsPlace
     requires { IsHandle agent.old }
@@ -112,18 +104,12 @@ pub extern "C" fn jsstr_index_of(agent: &mut JsAgent, hay: u32, needle: u32, fro
     if status != DONE {
         return without_place(status);
     }
-    jsstr_index_of_unchecked(agent, hay, needle, from)
+    first_in(agent, hay, needle, from)
 }
 
-/// The greatest place at most `limit` at which `needle` occurs in `hay`, both settled. An empty one occurs
-/// at every place.
-#[unsafe(no_mangle)]
-pub extern "C" fn jsstr_last_index_of_unchecked(
-    agent: &mut JsAgent,
-    hay: u32,
-    needle: u32,
-    limit: u32,
-) -> JsPlace
+// The greatest place at most `limit` at which `needle` occurs in `hay`, both settled. An empty one occurs
+// at every place.
+fn last_in(agent: &mut JsAgent, hay: u32, needle: u32, limit: u32) -> JsPlace
     requires ready { IsReady agent.old.at.value }
     requires left { IsSearchable (handle_view agent.old.at.value) hay }
     requires right { IsSearchable (handle_view agent.old.at.value) needle }
@@ -147,7 +133,9 @@ pub extern "C" fn jsstr_last_index_of_unchecked(
     of_place(answer)
 }
 
-/// The same, with its conditions tested and both strings settled first.
+/// The greatest place at most `limit` at which `needle` occurs in `hay`. An empty one occurs
+/// at every place.
+/// Both are settled first.
 #[unsafe(no_mangle)]
 pub extern "C" fn jsstr_last_index_of(
     agent: &mut JsAgent,
@@ -168,5 +156,5 @@ pub extern "C" fn jsstr_last_index_of(
     if status != DONE {
         return without_place(status);
     }
-    jsstr_last_index_of_unchecked(agent, hay, needle, limit)
+    last_in(agent, hay, needle, limit)
 }

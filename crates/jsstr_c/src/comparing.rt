@@ -15,10 +15,8 @@ use c_handles::JsAgent;
 use c_steps::{DONE, JsOrder, JsTruth, of_order, settle_both, without_order, without_truth};
 use heap_text::JsStr;
 
-/// The order of two settled strings by their units, where a proper prefix comes first: -1 where `a` comes
-/// before `b`, 0 where both have the same units, else 1.
-#[unsafe(no_mangle)]
-pub extern "C" fn jsstr_compare_unchecked(agent: &mut JsAgent, a: u32, b: u32) -> i32
+// The order of two settled strings.
+fn order_of(agent: &mut JsAgent, a: u32, b: u32) -> i32
     requires ready { IsReady agent.old.at.value }
     requires left { IsSearchable (handle_view agent.old.at.value) a }
     requires right { IsSearchable (handle_view agent.old.at.value) b }
@@ -35,7 +33,8 @@ pub extern "C" fn jsstr_compare_unchecked(agent: &mut JsAgent, a: u32, b: u32) -
     of_order(answer)
 }
 
-/// The same, with its conditions tested and both strings settled first.
+/// The order of two strings by their units, where a proper prefix comes first: -1 where `a` comes before `b`,
+/// 0 where both have the same units, else 1. Both are settled first.
 #[unsafe(no_mangle)]
 pub extern "C" fn jsstr_compare(agent: &mut JsAgent, a: u32, b: u32) -> JsOrder
     requires { IsHandle agent.old }
@@ -51,7 +50,7 @@ pub extern "C" fn jsstr_compare(agent: &mut JsAgent, a: u32, b: u32) -> JsOrder
     if status != DONE {
         return without_order(status);
     }
-    let order = jsstr_compare_unchecked(agent, a, b);
+    let order = order_of(agent, a, b);
     JsOrder {
         status: DONE,
         order,

@@ -21,39 +21,6 @@ use std::alloc::Global;
 /// A heap of these sizes and its first agent, which has the whole share. `out` gets the agent where the
 /// answer is `JSSTR_DONE`.
 #[unsafe(no_mangle)]
-pub extern "C" fn jsstr_make_unchecked(
-    alloc: Global,
-    size: JsSize,
-    agents: u32,
-    limit: u32,
-    out: &mut JsAgent,
-) -> u32
-    requires empty { out.old.at.value ≡ None }
-    ensures ready { result ≡ reports.DONE → IsReady out.new.at.value }
-    ensures view { result ≡ reports.DONE → handle_view out.new.at.value ≡ first_view (size_for size) agents }
-    ensures lawful { result ≡ reports.DONE → MayMake (size_for size) agents × (limit ≤ MAX) }
-    ensures refused { result ≡ reports.BAD_SIZE → ¬ (MayMake (size_for size) agents × (limit ≤ MAX)) }
-    ensures limit { result ≡ reports.DONE → handle_limit out.new.at.value ≡ limit }
-    ensures nothing { result ≡ reports.DONE → HandleReservesNothing out.new.at.value }
-    ensures unmade { result ≢ reports.DONE → out.new.at.value ≡ None }
-    ensures statuses { (result ≡ reports.DONE)
-        ⊎ ((result ≡ reports.BAD_SIZE) ⊎ (result ≡ reports.NO_MEMORY)) }
-    ensures told { result ≢ reports.BAD_ARGUMENT }
-    ensures handle { IsHandle out.old → IsHandle out.new }
-{
-    let JsSize { ids, words, slots } = size;
-    match Held::make(alloc, HeapSize { ids, words, slots }, agents, limit) {
-        Ok(held) => {
-            out.put(held);
-            DONE
-        }
-        Err(MakeFault::Size) => BAD_SIZE,
-        Err(MakeFault::Memory) => NO_MEMORY,
-    }
-}
-
-/// The same, with its conditions tested.
-#[unsafe(no_mangle)]
 pub extern "C" fn jsstr_make(
     alloc: Global,
     size: JsSize,
@@ -78,20 +45,18 @@ pub extern "C" fn jsstr_make(
     if !out.is_empty() {
         return BAD_ARGUMENT;
     }
-    jsstr_make_unchecked(alloc, size, agents, limit, out)
+    let JsSize { ids, words, slots } = size;
+    match Held::make(alloc, HeapSize { ids, words, slots }, agents, limit) {
+        Ok(held) => {
+            out.put(held);
+            DONE
+        }
+        Err(MakeFault::Size) => BAD_SIZE,
+        Err(MakeFault::Memory) => NO_MEMORY,
+    }
 }
 
 /// Gives an agent back; with the last one of a heap goes the heap.
-#[unsafe(no_mangle)]
-pub extern "C" fn jsstr_free_unchecked(alloc: Global, agent: &mut JsAgent)
-    requires { IsReady agent.old.at.value }
-    ensures gone { agent.new.at.value ≡ None }
-    ensures handle { IsHandle agent.new }
-{
-    drop(agent.take(alloc));
-}
-
-/// The same, with its conditions tested.
 #[unsafe(no_mangle)]
 pub extern "C" fn jsstr_free(alloc: Global, agent: &mut JsAgent) -> u32
     requires { IsHandle agent.old }
@@ -103,22 +68,11 @@ pub extern "C" fn jsstr_free(alloc: Global, agent: &mut JsAgent) -> u32
     if agent.is_empty() {
         return BAD_ARGUMENT;
     }
-    jsstr_free_unchecked(alloc, agent);
+    drop(agent.take(alloc));
     DONE
 }
 
 /// How many agents this one may become, itself counted.
-#[unsafe(no_mangle)]
-pub extern "C" fn jsstr_share_unchecked(agent: &mut JsAgent) -> u32
-    requires ready { IsReady agent.old.at.value }
-    ensures handle { IsHandle agent.new }
-    ensures same { agent.new.at.value ≡ agent.old.at.value }
-    ensures share { result ≡ share_in agent.old.at.value }
-{
-    agent.held().share()
-}
-
-/// The same, with its conditions tested.
 #[unsafe(no_mangle)]
 pub extern "C" fn jsstr_share(agent: &mut JsAgent) -> JsNumber
     requires { IsHandle agent.old }
@@ -131,7 +85,7 @@ pub extern "C" fn jsstr_share(agent: &mut JsAgent) -> JsNumber
     if agent.is_empty() {
         return without_number(BAD_ARGUMENT);
     }
-    let value = jsstr_share_unchecked(agent);
+    let value = agent.held().share();
     JsNumber {
         status: DONE,
         value,
@@ -140,52 +94,6 @@ pub extern "C" fn jsstr_share(agent: &mut JsAgent) -> JsNumber
 
 /// A new agent with a part of the share, which knows all that this one knows. `out` gets it where the
 /// answer is `JSSTR_DONE`; else nothing has changed.
-#[unsafe(no_mangle)]
-pub extern "C" fn jsstr_split_unchecked(
-    alloc: Global,
-    agent: &mut JsAgent,
-    give: u32,
-    out: &mut JsAgent,
-) -> u32
-    requires ready { IsReady agent.old.at.value }
-    requires some { 1 ≤ give }
-    requires less { give < share_in agent.old.at.value }
-    requires empty { out.old.at.value ≡ None }
-    ensures handle { IsHandle agent.new }
-    ensures ready { IsReady agent.new.at.value }
-    ensures same { IsBeside agent.old.at.value agent.new.at.value }
-    ensures out_ready { result ≡ reports.DONE
-        → IsReady out.new.at.value × IsBeside agent.old.at.value out.new.at.value }
-    ensures left { result ≡ reports.DONE
-        → handle_view agent.new.at.value ≡ left_after_split (handle_view agent.old.at.value) give }
-    ensures right { result ≡ reports.DONE
-        → handle_view out.new.at.value ≡ right_after_split (handle_view agent.old.at.value) give }
-    ensures shares { result ≡ reports.DONE
-        → (share_in agent.new.at.value + give ≡ share_in agent.old.at.value)
-        × (share_in out.new.at.value ≡ give) }
-    ensures marks { MarksStay agent.old.at.value agent.new.at.value }
-    ensures known { result ≡ reports.DONE
-        → (i : ℕ) → HandleKnows agent.old.at.value i → HandleKnows out.new.at.value i }
-    ensures interned { result ≡ reports.DONE
-        → (i : ℕ) → HasInterned agent.old.at.value i → HasInterned out.new.at.value i }
-    ensures giver { result ≡ reports.DONE → giver_in out.new.at.value ≡ handle_number agent.old.at.value }
-    ensures nothing { result ≡ reports.DONE → HandleReservesNothing out.new.at.value }
-    ensures out_handle { IsHandle out.old → IsHandle out.new }
-    ensures told { result ≢ reports.BAD_ARGUMENT }
-    ensures statuses { (result ≡ reports.DONE) ⊎ (result ≡ reports.NO_MEMORY) }
-    ensures refused { result ≢ reports.DONE
-        → (agent.new.at.value ≡ agent.old.at.value) × (out.new.at.value ≡ None) }
-{
-    match agent.held().split(alloc, give) {
-        Ok(other) => {
-            out.put(other);
-            DONE
-        }
-        Err(_) => NO_MEMORY,
-    }
-}
-
-/// The same, with its conditions tested.
 #[unsafe(no_mangle)]
 pub extern "C" fn jsstr_split(
     alloc: Global,
@@ -223,37 +131,20 @@ pub extern "C" fn jsstr_split(
     if agent.is_empty() || !out.is_empty() {
         return BAD_ARGUMENT;
     }
-    let share = jsstr_share_unchecked(agent);
+    let share = agent.held().share();
     if give < 1 || give >= share {
         return BAD_ARGUMENT;
     }
-    jsstr_split_unchecked(alloc, agent, give, out)
+    match agent.held().split(alloc, give) {
+        Ok(other) => {
+            out.put(other);
+            DONE
+        }
+        Err(_) => NO_MEMORY,
+    }
 }
 
-/// Takes over what another agent of the heap has and knows, and gives that one back.
-#[unsafe(no_mangle)]
-pub extern "C" fn jsstr_join_unchecked(alloc: Global, agent: &mut JsAgent, other: &mut JsAgent)
-    requires ready { IsReady agent.old.at.value }
-    requires other { IsReady other.old.at.value }
-    requires beside { IsBeside agent.old.at.value other.old.at.value }
-    requires may { MayJoin (handle_view agent.old.at.value) (handle_view other.old.at.value) }
-    ensures handle { IsHandle agent.new }
-    ensures ready { IsReady agent.new.at.value }
-    ensures same { IsBeside agent.old.at.value agent.new.at.value }
-    ensures view { handle_view agent.new.at.value
-        ≡ joined_view (handle_view agent.old.at.value) (handle_view other.old.at.value) }
-    ensures share { share_in agent.new.at.value ≡ share_in agent.old.at.value + share_in other.old.at.value }
-    ensures marks { HandleStaysMarked agent.old.at.value agent.new.at.value }
-    ensures reserve { HandleTakesOver agent.old.at.value other.old.at.value agent.new.at.value }
-    ensures known { (i : ℕ) → HandleKnows other.old.at.value i → HandleKnows agent.new.at.value i }
-    ensures interned { (i : ℕ) → HasInterned other.old.at.value i → HasInterned agent.new.at.value i }
-    ensures gone { other.new.at.value ≡ None }
-    ensures other_handle { IsHandle other.new }
-{
-    agent.held().join(Box::into_inner(other.take(alloc)));
-}
-
-/// The same, with its conditions tested. The other was split off from this one, as shown by their numbers;
+/// Takes over what another agent of the heap has and knows, and gives that one back. The other was split off from this one, as shown by their numbers;
 /// that agents with such numbers have one heap is tested by a step, of which no clause says more. That the
 /// numbers were given by splits is the caller's.
 #[unsafe(no_mangle)]

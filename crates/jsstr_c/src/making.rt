@@ -5,14 +5,12 @@ ghost use Rattle.heap_rule.specs.Maps.{Has, HasKey};
 ghost use Rattle.heap_rule.specs.Views.{IsSeenSettled};
 ghost use Rattle.heap_agents.specs.Ready.{IsReady, handle_view, HandleKnows};
 ghost use Rattle.c_handles.specs.Handles.{IsHandle};
-ghost use Rattle.c_steps.specs.Checked.{IsSameOrMeasured, ReachesLength, SettlesFirst, SettlesKnown};
+ghost use Rattle.c_steps.specs.Checked.{IsSameOrMeasured, ReachesLength, SettlesFirst};
 ghost use Rattle.c_steps.specs.Reports as reports;
 ghost use Rattle.jsstr_c.specs.Made.{CutsString, JoinsStrings, CutsSettled};
 
 use c_handles::JsAgent;
-use c_steps::{
-    DONE, JsAnswer, bad_argument, of_join, of_text, settle, settle_known, settle_reaching,
-};
+use c_steps::{DONE, JsAnswer, bad_argument, of_join, of_text, settle_known, settle_reaching};
 use heap_text::JsStr;
 
 /// The units of one string, and then those of another.
@@ -57,17 +55,7 @@ pub extern "C" fn jsstr_concat(agent: &mut JsAgent, a: u32, b: u32) -> JsAnswer
 
 /// Sees to it that a string is settled, so that it may be cut, read and interned. The answer is the
 /// string.
-#[unsafe(no_mangle)]
-pub extern "C" fn jsstr_settle_unchecked(agent: &mut JsAgent, s: u32) -> JsAnswer
-    requires ready { IsReady agent.old.at.value }
-    requires known { HasKey (handle_view agent.old.at.value).units s }
-    ensures handle { IsHandle agent.new }
-    ensures settles { SettlesKnown agent.old.at.value agent.new.at.value s result }
-{
-    settle(agent, s)
-}
-
-/// The same, with its conditions tested. The calls that settle first then have no units to copy.
+/// The calls that settle first then have no units to copy.
 #[unsafe(no_mangle)]
 pub extern "C" fn jsstr_settle(agent: &mut JsAgent, s: u32) -> JsAnswer
     requires { IsHandle agent.old }

@@ -1,13 +1,12 @@
 // The string table, and its strings by their slots.
-ghost use Rattle.std.specs.Prelude.{◌≡◌, ◌≢◌, ◌↔◌, ℕ, List, IsTrue, Contains, ◌<◌};
-ghost use Rattle.heap_rule.specs.Maps.{Has, HasKey};
-ghost use Rattle.heap_rule.specs.Views.{IsSeenSettled, history};
+ghost use Rattle.std.specs.Prelude.{◌≡◌, ◌≢◌, ◌↔◌, IsTrue, ◌<◌};
+ghost use Rattle.heap_rule.specs.Maps.{HasKey};
+ghost use Rattle.heap_rule.specs.Views.{IsSeenSettled};
 ghost use Rattle.heap_table.specs.Known.{KeepsKnown};
 ghost use Rattle.heap_agents.specs.Interned.{IsEntered, KeepsCalls};
 ghost use Rattle.heap_agents.specs.Ready.{HasInterned, IsReady, handle_view, HandleKnows, size_in};
 ghost use Rattle.agent_keys.specs.Board.{TellsSlot};
 ghost use Rattle.c_handles.specs.Handles.{IsHandle};
-ghost use Rattle.c_steps.specs.Reports.{no_truth};
 ghost use Rattle.c_steps.specs.Board.{IsAdopting};
 ghost use Rattle.c_steps.specs.Reports as reports;
 ghost use Rattle.jsstr_c.specs.Made.{InternsString, EntersSettled};
@@ -63,17 +62,6 @@ pub extern "C" fn jsstr_intern(agent: &mut JsAgent, s: u32) -> JsAnswer
 
 /// Whether a string is an answer of the string table that the agent knows. Any number may be asked for.
 #[unsafe(no_mangle)]
-pub extern "C" fn jsstr_is_interned_unchecked(agent: &mut JsAgent, s: u32) -> bool
-    requires ready { IsReady agent.old.at.value }
-    ensures handle { IsHandle agent.new }
-    ensures unchanged { agent.new.at.value ≡ agent.old.at.value }
-    ensures interned { IsTrue result ↔ HasInterned agent.old.at.value s }
-{
-    agent.held().has_interned(s)
-}
-
-/// The same, with its conditions tested.
-#[unsafe(no_mangle)]
 pub extern "C" fn jsstr_is_interned(agent: &mut JsAgent, s: u32) -> JsTruth
     requires { IsHandle agent.old }
     ensures handle { IsHandle agent.new }
@@ -85,64 +73,14 @@ pub extern "C" fn jsstr_is_interned(agent: &mut JsAgent, s: u32) -> JsTruth
     if agent.is_empty() {
         return without_truth(BAD_ARGUMENT);
     }
-    let holds = jsstr_is_interned_unchecked(agent, s);
+    let holds = agent.held().has_interned(s);
     JsTruth {
         status: DONE,
         holds,
     }
 }
 
-/// Whether two interned strings are one, which is whether their units are equal.
-#[unsafe(no_mangle)]
-pub extern "C" fn jsstr_same_unchecked(_agent: &JsAgent, a: u32, b: u32) -> bool
-    requires ready { IsReady _agent.now.at.value }
-    requires left { (u : List ℕ) × Contains (history (handle_view _agent.now.at.value)) (u, a) }
-    requires right { (u : List ℕ) × Contains (history (handle_view _agent.now.at.value)) (u, b) }
-    ensures numbers { IsTrue result ↔ (a ≡ b) }
-    ensures units { (us vs : List ℕ) → Has (handle_view _agent.now.at.value).units a us
-        → Has (handle_view _agent.now.at.value).units b vs → IsTrue result ↔ (us ≡ vs) }
-{
-    a == b
-}
-
-/// The same, with its conditions tested.
-#[unsafe(no_mangle)]
-pub extern "C" fn jsstr_same(agent: &mut JsAgent, a: u32, b: u32) -> JsTruth
-    requires { IsHandle agent.old }
-    ensures handle { IsHandle agent.new }
-    ensures unchanged { agent.new.at.value ≡ agent.old.at.value }
-    ensures bad { result.status ≡ reports.BAD_ARGUMENT
-        ↔ ¬ (HasInterned agent.old.at.value a × HasInterned agent.old.at.value b) }
-    ensures status { result.status ≢ reports.BAD_ARGUMENT → result.status ≡ reports.DONE }
-    ensures unused { result.status ≢ reports.DONE → result ≡ no_truth result.status }
-    ensures numbers { result.status ≡ reports.DONE → IsTrue result.holds ↔ (a ≡ b) }
-    ensures units { result.status ≡ reports.DONE → (us vs : List ℕ)
-        → Has (handle_view agent.old.at.value).units a us
-        → Has (handle_view agent.old.at.value).units b vs → IsTrue result.holds ↔ (us ≡ vs) }
-{
-    if !agent.has_interned(a) || !agent.has_interned(b) {
-        return without_truth(BAD_ARGUMENT);
-    }
-    JsTruth {
-        status: DONE,
-        holds: a == b,
-    }
-}
-
 /// The slot of an interned string, for good. Nothing is used, ever.
-#[unsafe(no_mangle)]
-pub extern "C" fn jsstr_slot_of_unchecked(agent: &mut JsAgent, s: u32) -> u32
-    requires ready { IsReady agent.old.at.value }
-    requires known { HasKey (handle_view agent.old.at.value).units s }
-    requires call { (u : List ℕ) × Contains (history (handle_view agent.old.at.value)) (u, s) }
-    ensures handle { IsHandle agent.new }
-    ensures ready { IsReady agent.new.at.value }
-    ensures tells { TellsSlot agent.old.at.value agent.new.at.value s result }
-{
-    agent_keys::slot_of(agent.held(), s)
-}
-
-/// The same, with its conditions tested.
 #[unsafe(no_mangle)]
 pub extern "C" fn jsstr_slot_of(agent: &mut JsAgent, s: u32) -> JsNumber
     requires { IsHandle agent.old }
@@ -157,7 +95,7 @@ pub extern "C" fn jsstr_slot_of(agent: &mut JsAgent, s: u32) -> JsNumber
     if !agent.has_interned(s) {
         return without_number(BAD_ARGUMENT);
     }
-    let value = jsstr_slot_of_unchecked(agent, s);
+    let value = agent_keys::slot_of(agent.held(), s);
     JsNumber {
         status: DONE,
         value,
@@ -166,20 +104,6 @@ pub extern "C" fn jsstr_slot_of(agent: &mut JsAgent, s: u32) -> JsNumber
 
 /// The interned string in a slot, known, settled and interned from then on, if there is one. Nothing
 /// is used, ever.
-#[unsafe(no_mangle)]
-pub extern "C" fn jsstr_adopt_unchecked(agent: &mut JsAgent, slot: u32) -> JsAnswer
-    requires ready { IsReady agent.old.at.value }
-    requires inside { slot < (size_in agent.old.at.value).slots }
-    ensures handle { IsHandle agent.new }
-    ensures ready { IsReady agent.new.at.value }
-    ensures told { result.status ≢ reports.BAD_ARGUMENT }
-    ensures adopts { IsAdopting agent.old.at.value agent.new.at.value slot result }
-{
-    let answer = agent_keys::adopt(agent.held(), slot);
-    of_found(answer)
-}
-
-/// The same, with its conditions tested.
 #[unsafe(no_mangle)]
 pub extern "C" fn jsstr_adopt(agent: &mut JsAgent, slot: u32) -> JsAnswer
     requires { IsHandle agent.old }
@@ -193,5 +117,6 @@ pub extern "C" fn jsstr_adopt(agent: &mut JsAgent, slot: u32) -> JsAnswer
     if !agent.has_slot(slot) {
         return bad_argument();
     }
-    jsstr_adopt_unchecked(agent, slot)
+    let answer = agent_keys::adopt(agent.held(), slot);
+    of_found(answer)
 }

@@ -7,21 +7,9 @@ ghost use Rattle.c_steps.specs.Given.{IsFinding, IsInterning, MakesString, OnUtf
 ghost use Rattle.c_steps.specs.Reports as reports;
 
 use c_handles::JsAgent;
-use c_steps::{JsAnswer, Source, Task, find_units, from_units, intern_units, on_source, tested};
+use c_steps::{JsAnswer, Source, Task, tested};
 
 /// A new string with these units, settled.
-#[unsafe(no_mangle)]
-pub extern "C" fn jsstr_from_units_unchecked(agent: &mut JsAgent, units: &[u16]) -> JsAnswer
-    requires ready { IsReady agent.old.at.value }
-    requires short { length units.now ≤ MAX }
-    ensures handle { IsHandle agent.new }
-    ensures told { result.status ≢ reports.BAD_ARGUMENT }
-    ensures makes { MakesString agent.old.at.value agent.new.at.value units.now result }
-{
-    from_units(agent, units)
-}
-
-/// The same, with its conditions tested.
 #[unsafe(no_mangle)]
 pub extern "C" fn jsstr_from_units(agent: &mut JsAgent, units: &[u16]) -> JsAnswer
     requires { IsHandle agent.old }
@@ -34,19 +22,6 @@ pub extern "C" fn jsstr_from_units(agent: &mut JsAgent, units: &[u16]) -> JsAnsw
 }
 
 /// A new string of one-byte units, as Latin-1 is, settled.
-#[unsafe(no_mangle)]
-pub extern "C" fn jsstr_from_latin1_unchecked(agent: &mut JsAgent, bytes: &[u8]) -> JsAnswer
-    requires ready { IsReady agent.old.at.value }
-    requires short { length bytes.now ≤ MAX }
-    ensures handle { IsHandle agent.new }
-    ensures told { result.status ≢ reports.BAD_ARGUMENT }
-    ensures goes { HandleSpends agent.old.at.value agent.new.at.value }
-    ensures makes { MakesString agent.old.at.value agent.new.at.value bytes.now result }
-{
-    on_source(agent, Task::Make, Source::Latin1(bytes))
-}
-
-/// The same, with its conditions tested.
 #[unsafe(no_mangle)]
 pub extern "C" fn jsstr_from_latin1(agent: &mut JsAgent, bytes: &[u8]) -> JsAnswer
     requires { IsHandle agent.old }
@@ -62,19 +37,6 @@ pub extern "C" fn jsstr_from_latin1(agent: &mut JsAgent, bytes: &[u8]) -> JsAnsw
 /// A new string decoded from these bytes of UTF-8, settled. Other bytes are refused
 /// before anything is done.
 #[unsafe(no_mangle)]
-pub extern "C" fn jsstr_from_utf8_unchecked(agent: &mut JsAgent, bytes: &[u8]) -> JsAnswer
-    requires ready { IsReady agent.old.at.value }
-    requires short { length bytes.now ≤ MAX }
-    ensures handle { IsHandle agent.new }
-    ensures told { result.status ≢ reports.BAD_ARGUMENT }
-    ensures goes { HandleSpends agent.old.at.value agent.new.at.value }
-    ensures makes { OnUtf8 MakesString agent.old.at.value agent.new.at.value bytes.now result }
-{
-    on_source(agent, Task::Make, Source::Utf8(bytes))
-}
-
-/// The same, with its conditions tested.
-#[unsafe(no_mangle)]
 pub extern "C" fn jsstr_from_utf8(agent: &mut JsAgent, bytes: &[u8]) -> JsAnswer
     requires { IsHandle agent.old }
     ensures handle { IsHandle agent.new }
@@ -88,19 +50,6 @@ pub extern "C" fn jsstr_from_utf8(agent: &mut JsAgent, bytes: &[u8]) -> JsAnswer
 
 /// A new string decoded from these bytes of WTF-8, settled. Other bytes are refused
 /// before anything is done.
-#[unsafe(no_mangle)]
-pub extern "C" fn jsstr_from_wtf8_unchecked(agent: &mut JsAgent, bytes: &[u8]) -> JsAnswer
-    requires ready { IsReady agent.old.at.value }
-    requires short { length bytes.now ≤ MAX }
-    ensures handle { IsHandle agent.new }
-    ensures told { result.status ≢ reports.BAD_ARGUMENT }
-    ensures goes { HandleSpends agent.old.at.value agent.new.at.value }
-    ensures makes { OnWtf8 MakesString agent.old.at.value agent.new.at.value bytes.now result }
-{
-    on_source(agent, Task::Make, Source::Wtf8(bytes))
-}
-
-/// The same, with its conditions tested.
 #[unsafe(no_mangle)]
 pub extern "C" fn jsstr_from_wtf8(agent: &mut JsAgent, bytes: &[u8]) -> JsAnswer
     requires { IsHandle agent.old }
@@ -116,18 +65,6 @@ pub extern "C" fn jsstr_from_wtf8(agent: &mut JsAgent, bytes: &[u8]) -> JsAnswer
 /// The one string of the table with these units. No string is made first: where it is in the table,
 /// nothing is used.
 #[unsafe(no_mangle)]
-pub extern "C" fn jsstr_intern_units_unchecked(agent: &mut JsAgent, units: &[u16]) -> JsAnswer
-    requires ready { IsReady agent.old.at.value }
-    requires short { length units.now ≤ MAX }
-    ensures handle { IsHandle agent.new }
-    ensures told { result.status ≢ reports.BAD_ARGUMENT }
-    ensures interns { IsInterning agent.old.at.value agent.new.at.value units.now result }
-{
-    intern_units(agent, units)
-}
-
-/// The same, with its conditions tested.
-#[unsafe(no_mangle)]
 pub extern "C" fn jsstr_intern_units(agent: &mut JsAgent, units: &[u16]) -> JsAnswer
     requires { IsHandle agent.old }
     ensures handle { IsHandle agent.new }
@@ -139,18 +76,6 @@ pub extern "C" fn jsstr_intern_units(agent: &mut JsAgent, units: &[u16]) -> JsAn
 }
 
 /// The one string of the table with one-byte units, as Latin-1 is.
-#[unsafe(no_mangle)]
-pub extern "C" fn jsstr_intern_latin1_unchecked(agent: &mut JsAgent, bytes: &[u8]) -> JsAnswer
-    requires ready { IsReady agent.old.at.value }
-    requires short { length bytes.now ≤ MAX }
-    ensures handle { IsHandle agent.new }
-    ensures told { result.status ≢ reports.BAD_ARGUMENT }
-    ensures interns { IsInterning agent.old.at.value agent.new.at.value bytes.now result }
-{
-    on_source(agent, Task::Intern, Source::Latin1(bytes))
-}
-
-/// The same, with its conditions tested.
 #[unsafe(no_mangle)]
 pub extern "C" fn jsstr_intern_latin1(agent: &mut JsAgent, bytes: &[u8]) -> JsAnswer
     requires { IsHandle agent.old }
@@ -165,18 +90,6 @@ pub extern "C" fn jsstr_intern_latin1(agent: &mut JsAgent, bytes: &[u8]) -> JsAn
 /// The one string of the table that these bytes of UTF-8 spell. Other bytes are refused
 /// before anything is done.
 #[unsafe(no_mangle)]
-pub extern "C" fn jsstr_intern_utf8_unchecked(agent: &mut JsAgent, bytes: &[u8]) -> JsAnswer
-    requires ready { IsReady agent.old.at.value }
-    requires short { length bytes.now ≤ MAX }
-    ensures handle { IsHandle agent.new }
-    ensures told { result.status ≢ reports.BAD_ARGUMENT }
-    ensures interns { OnUtf8 IsInterning agent.old.at.value agent.new.at.value bytes.now result }
-{
-    on_source(agent, Task::Intern, Source::Utf8(bytes))
-}
-
-/// The same, with its conditions tested.
-#[unsafe(no_mangle)]
 pub extern "C" fn jsstr_intern_utf8(agent: &mut JsAgent, bytes: &[u8]) -> JsAnswer
     requires { IsHandle agent.old }
     ensures handle { IsHandle agent.new }
@@ -190,18 +103,6 @@ pub extern "C" fn jsstr_intern_utf8(agent: &mut JsAgent, bytes: &[u8]) -> JsAnsw
 /// The one string of the table that these bytes of WTF-8 spell. Other bytes are refused
 /// before anything is done.
 #[unsafe(no_mangle)]
-pub extern "C" fn jsstr_intern_wtf8_unchecked(agent: &mut JsAgent, bytes: &[u8]) -> JsAnswer
-    requires ready { IsReady agent.old.at.value }
-    requires short { length bytes.now ≤ MAX }
-    ensures handle { IsHandle agent.new }
-    ensures told { result.status ≢ reports.BAD_ARGUMENT }
-    ensures interns { OnWtf8 IsInterning agent.old.at.value agent.new.at.value bytes.now result }
-{
-    on_source(agent, Task::Intern, Source::Wtf8(bytes))
-}
-
-/// The same, with its conditions tested.
-#[unsafe(no_mangle)]
 pub extern "C" fn jsstr_intern_wtf8(agent: &mut JsAgent, bytes: &[u8]) -> JsAnswer
     requires { IsHandle agent.old }
     ensures handle { IsHandle agent.new }
@@ -214,18 +115,6 @@ pub extern "C" fn jsstr_intern_wtf8(agent: &mut JsAgent, bytes: &[u8]) -> JsAnsw
 
 /// The one string of the table with these units, if it is there. Nothing is used, ever.
 #[unsafe(no_mangle)]
-pub extern "C" fn jsstr_find_units_unchecked(agent: &mut JsAgent, units: &[u16]) -> JsAnswer
-    requires ready { IsReady agent.old.at.value }
-    requires short { length units.now ≤ MAX }
-    ensures handle { IsHandle agent.new }
-    ensures told { result.status ≢ reports.BAD_ARGUMENT }
-    ensures finds { IsFinding agent.old.at.value agent.new.at.value units.now result }
-{
-    find_units(agent, units)
-}
-
-/// The same, with its conditions tested.
-#[unsafe(no_mangle)]
 pub extern "C" fn jsstr_find_units(agent: &mut JsAgent, units: &[u16]) -> JsAnswer
     requires { IsHandle agent.old }
     ensures handle { IsHandle agent.new }
@@ -237,18 +126,6 @@ pub extern "C" fn jsstr_find_units(agent: &mut JsAgent, units: &[u16]) -> JsAnsw
 }
 
 /// The one string of the table with one-byte units, as Latin-1 is, if it is there.
-#[unsafe(no_mangle)]
-pub extern "C" fn jsstr_find_latin1_unchecked(agent: &mut JsAgent, bytes: &[u8]) -> JsAnswer
-    requires ready { IsReady agent.old.at.value }
-    requires short { length bytes.now ≤ MAX }
-    ensures handle { IsHandle agent.new }
-    ensures told { result.status ≢ reports.BAD_ARGUMENT }
-    ensures finds { IsFinding agent.old.at.value agent.new.at.value bytes.now result }
-{
-    on_source(agent, Task::Find, Source::Latin1(bytes))
-}
-
-/// The same, with its conditions tested.
 #[unsafe(no_mangle)]
 pub extern "C" fn jsstr_find_latin1(agent: &mut JsAgent, bytes: &[u8]) -> JsAnswer
     requires { IsHandle agent.old }
@@ -263,18 +140,6 @@ pub extern "C" fn jsstr_find_latin1(agent: &mut JsAgent, bytes: &[u8]) -> JsAnsw
 /// The one string of the table that these bytes of UTF-8 spell, if it is there. Bytes that
 /// are none are refused before anything is done.
 #[unsafe(no_mangle)]
-pub extern "C" fn jsstr_find_utf8_unchecked(agent: &mut JsAgent, bytes: &[u8]) -> JsAnswer
-    requires ready { IsReady agent.old.at.value }
-    requires short { length bytes.now ≤ MAX }
-    ensures handle { IsHandle agent.new }
-    ensures told { result.status ≢ reports.BAD_ARGUMENT }
-    ensures finds { OnUtf8 IsFinding agent.old.at.value agent.new.at.value bytes.now result }
-{
-    on_source(agent, Task::Find, Source::Utf8(bytes))
-}
-
-/// The same, with its conditions tested.
-#[unsafe(no_mangle)]
 pub extern "C" fn jsstr_find_utf8(agent: &mut JsAgent, bytes: &[u8]) -> JsAnswer
     requires { IsHandle agent.old }
     ensures handle { IsHandle agent.new }
@@ -287,18 +152,6 @@ pub extern "C" fn jsstr_find_utf8(agent: &mut JsAgent, bytes: &[u8]) -> JsAnswer
 
 /// The one string of the table that these bytes of WTF-8 spell, if it is there. Bytes that
 /// are none are refused before anything is done.
-#[unsafe(no_mangle)]
-pub extern "C" fn jsstr_find_wtf8_unchecked(agent: &mut JsAgent, bytes: &[u8]) -> JsAnswer
-    requires ready { IsReady agent.old.at.value }
-    requires short { length bytes.now ≤ MAX }
-    ensures handle { IsHandle agent.new }
-    ensures told { result.status ≢ reports.BAD_ARGUMENT }
-    ensures finds { OnWtf8 IsFinding agent.old.at.value agent.new.at.value bytes.now result }
-{
-    on_source(agent, Task::Find, Source::Wtf8(bytes))
-}
-
-/// The same, with its conditions tested.
 #[unsafe(no_mangle)]
 pub extern "C" fn jsstr_find_wtf8(agent: &mut JsAgent, bytes: &[u8]) -> JsAnswer
     requires { IsHandle agent.old }

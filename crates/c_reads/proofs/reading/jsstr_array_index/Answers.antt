@@ -9,7 +9,7 @@ returns-then-settled-ne-DONE-clause-reads c = let first = c.settle_known-settled
     stops c.args.agent.now.at.value first.new.agent.at.value c.args.s first.result first.ensures.settles _ _ _ e c.if-settled-ne-DONE.true (is ∙ ap no_number (sym e))
 
 pub returns-clause-reads : goal.returns-clause-reads
-returns-clause-reads c = let first = c.settle_known-settled in let two = c.jsstr_array_index_unchecked in let n = c.if-settled-ne-DONE.false in
+returns-clause-reads c = let first = c.settle_known-settled in let two = c.index_of_settled in let n = c.if-settled-ne-DONE.false in
     goes_on c.args.agent.now.at.value first.new.agent.at.value c.args.s first.result first.ensures.settles two.new.agent.at.value _ _ _
     (omega (arith, n)) two.ensures.looks (two.ensures.told) (two.ensures.words)
     (two.ensures.index)

@@ -9,7 +9,7 @@ returns-then-status-ne-DONE-clause-seeks c = let both = c.settle_both-status in 
     stops_both c.args.agent.now.at.value both.new.agent.at.value c.args.hay c.args.needle both.result both.ensures.settles _ _ _ e c.if-status-ne-DONE.true (is ∙ ap no_place (sym e))
 
 pub returns-clause-seeks : goal.returns-clause-seeks
-returns-clause-seeks c = let both = c.settle_both-status in let two = c.jsstr_last_index_of_unchecked in let n = c.if-status-ne-DONE.false in
+returns-clause-seeks c = let both = c.settle_both-status in let two = c.last_in in let n = c.if-status-ne-DONE.false in
     seeks_on c.args.agent.now.at.value both.new.agent.at.value c.args.hay c.args.needle both.result both.ensures.settles two.new.agent.at.value _ _ _ (omega (arith, n)) two.ensures.searches
     (two.ensures.told) (two.ensures.words)
     (λ us vs h k. (two.ensures.place us vs h k, two.ensures.greatest us vs h k))

@@ -10,7 +10,7 @@ returns-then-status-ne-DONE-clause-seeks c = let both = c.settle_both-status in 
     stops_both c.args.agent.now.at.value both.new.agent.at.value c.args.hay c.args.needle both.result both.ensures.settles _ _ _ e c.if-status-ne-DONE.true (is ∙ ap no_truth (sym e))
 
 pub returns-clause-seeks : goal.returns-clause-seeks
-returns-clause-seeks c = let both = c.settle_both-status in let two = c.jsstr_starts_with_unchecked-holds in let n = c.if-status-ne-DONE.false in
+returns-clause-seeks c = let both = c.settle_both-status in let two = c.begins_at-holds in let n = c.if-status-ne-DONE.false in
     seeks_on c.args.agent.now.at.value both.new.agent.at.value c.args.hay c.args.needle both.result both.ensures.settles two.new.agent.at.value _ _ _ (omega (arith, n)) two.ensures.searches
     (λ (x : 0 ≡ 9). absurd (omega (arith, x))) (λ (x : 0 ≡ 4). absurd (omega (arith, x)))
     (λ us vs h k. (refl, two.ensures.test us vs h k, two.ensures.stands us vs h k))

@@ -3,12 +3,12 @@ use Rattle.std.proofs.Common.{subst}
 use Rattle.heap_rule.specs.Maps.{Has}
 use Rattle.heap_agents.specs.declared.held.Held.{Held}
 use Rattle.heap_agents.specs.Ready.{handle_view}
-use Rattle.c_reads.proofs.search.jsstr_last_index_of_unchecked.Goals as goal
+use Rattle.c_reads.proofs.search.first_in.Goals as goal
 
-pub returns-clause-greatest : goal.returns-clause-greatest
-returns-clause-greatest c us vs h k = let taken = c.held.ensures.value in (
-  c.last_index_of-answer.result,
+pub returns-clause-least : goal.returns-clause-least
+returns-clause-least c us vs h k = let taken = c.held.ensures.value in (
+  c.index_of-answer.result,
   c.of_place.ensures.value,
-  c.last_index_of-answer.ensures.greatest us vs
+  c.index_of-answer.ensures.least us vs
       (subst (λ (o : Option Held). Has (handle_view o).units c.args.hay us) taken h) (subst (λ (o : Option Held). Has (handle_view o).units c.args.needle vs) taken k),
 )

@@ -6,7 +6,7 @@ use Rattle.c_steps.specs.Reports.{order_number}
 use Rattle.heap_rule.specs.Maps.{Has}
 use Rattle.heap_agents.specs.declared.held.Held.{Held}
 use Rattle.heap_agents.specs.Ready.{handle_view}
-use Rattle.jsstr_c.proofs.comparing.jsstr_compare_unchecked.Goals as goal
+use Rattle.jsstr_c.proofs.comparing.order_of.Goals as goal
 
 -- the number of an order is one of 32 bits
 fits : (o : Ordering) → to_z w32 (of_z w32 (order_number o)) ≡ order_number o

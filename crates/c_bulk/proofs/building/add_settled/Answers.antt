@@ -3,7 +3,7 @@ use Rattle.heap_rule.specs.Maps.{Has}
 use Rattle.heap_agents.specs.declared.held.Held.{Held}
 use Rattle.heap_agents.specs.Ready.{handle_view}
 use Rattle.c_steps.proofs.Texts.{builds, looks_same, no_box}
-use Rattle.c_bulk.proofs.building.jsstr_build_string_unchecked.Goals as goal
+use Rattle.c_bulk.proofs.building.add_settled.Goals as goal
 
 pub returns-in-Ok-clause-builds : goal.returns-in-Ok-clause-builds
 returns-in-Ok-clause-builds c = λ us h. let added = c.add_to-answer in let box = c.deref_mut in
