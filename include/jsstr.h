@@ -143,15 +143,15 @@ uint32_t jsstr_join(jsstr_agent *agent, jsstr_agent *other);
 /* How many agents this one may become, itself counted. */
 jsstr_number jsstr_share(jsstr_agent *agent);
 
-/* Claims `words` words in one piece, and then `ids` ids, for this agent's later strings: a call that makes, joins,
-   cuts, copies or interns takes from these, where they suffice, and then touches nothing that agents share but slots,
-   and uses nothing of the heap. A copy needs an id and its words; a rope or a slice an id above the numbers of the
-   strings that it is made of, and the least id left is tried. What is interned needs nothing where its string is in the
-   table; else units, bytes and a slice need what a copy needs, and any other string an id. Where they do not suffice,
-   and are not renewed (jsstr_renew), the call is as if nothing were reserved. Settling takes nothing from these. Answers
-   DONE, with string 0; NO_WORDS, and then nothing was claimed; or NO_IDS or NO_MEMORY, and then the words, and fewer
-   ids, were. What was claimed is used, whether or not a string takes it. Where the new words don't begin where those
-   left end, the words that were left are lost. */
+/* Claims `words` words in one piece, and then `ids` ids, for this agent's later strings. A call that makes, joins,
+   cuts, copies or interns takes from these, and uses nothing of the heap for what it takes. A copy takes an id, and its
+   words if there are enough for all of them, and uses what it lacks; an error names what the heap lacks of that, and
+   leaves what is reserved. A rope or a slice takes the least id left, if it is above the numbers of the strings that
+   it is made of. What is interned takes nothing where its string is in the table; else it takes all that it needs
+   (units, bytes and a slice what a copy needs, any other string an id), or nothing. Settling takes nothing. Answers
+   DONE, with string 0; NO_WORDS, and then nothing was claimed; NO_IDS, and then the words, and fewer ids, were; or
+   NO_MEMORY, and then nothing was, or the words and at least one id, but not all. What was claimed is used, whether or
+   not a string takes it. Where the new words don't begin where those left end, the words that were left are lost. */
 jsstr_answer jsstr_reserve(jsstr_agent *agent, uint32_t ids, uint32_t words);
 
 /* Sets the blocks by which what is reserved is renewed; with 0 and 0, as an agent begins, it isn't. A call that
