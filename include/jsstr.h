@@ -158,7 +158,8 @@ jsstr_answer jsstr_reserve(jsstr_agent *agent, uint32_t ids, uint32_t words);
    makes, joins, cuts, copies or interns, and whose new string finds too few words there, or no id,
    first claims `words` words, or as many as the string needs where these are more, and `ids` ids: what is missing of
    the two, and nothing where the block of what is missing is 0. For jsstr_concat and jsstr_slice a copy needs a word
-   for 4 units. Where the heap has not that many words no id is claimed either, and nothing is renewed; where it has fewer ids, these are claimed. What is interned renews nothing where its string is in the table,
+   for 4 units. Where the heap has not that many words no id is claimed either, and nothing is renewed; where it has
+   fewer ids, these are claimed. What is interned renews nothing where its string is in the table,
    or no slot is free; settling never does. At a join `agent` keeps its blocks. Answers DONE. Where several threads make
    strings, jsstr_renew(&agent, 64, 256) for each agent, once it is split off, keeps them out of each other's way. */
 uint32_t jsstr_renew(jsstr_agent *agent, uint32_t ids, uint32_t words);
@@ -270,8 +271,9 @@ jsstr_place jsstr_index_of(jsstr_agent *agent, jsstr_id hay, jsstr_id needle, ui
    Settles both. */
 jsstr_place jsstr_last_index_of(jsstr_agent *agent, jsstr_id hay, jsstr_id needle, uint32_t limit);
 
-/* The one string of the string table with the units of s: every agent gets the same one for equal units, so two of these
-   have equal units where their numbers are equal. It is known, and settled. It uses at most an id, and words where s is a slice. Settles s. */
+/* The one string of the string table with the units of s: every agent gets the same one for equal units, so two of
+   these have equal units where their numbers are equal. It is known, and settled. It uses at most an id, and words where
+   s is a slice. Settles s. */
 jsstr_answer jsstr_intern(jsstr_agent *agent, jsstr_id s);
 
 /* The same of units that are in no string yet. Where the table has their string by then, nothing is used: no id,
