@@ -143,23 +143,23 @@ uint32_t jsstr_join(jsstr_agent *agent, jsstr_agent *other);
 /* How many agents this one may become, itself counted. */
 jsstr_number jsstr_share(jsstr_agent *agent);
 
-/* Claims `words` words in one piece, and then `ids` ids, for this agent's later strings. A call that makes, joins,
-   cuts, copies or interns takes from these, and uses nothing of the heap for what it takes. A copy takes an id, and its
-   words if there are enough for all of them, and uses what it lacks; an error names what the heap lacks of that, and
-   leaves what is reserved. A rope or a slice takes the least id left, if it is above the numbers of the strings that
-   it is made of. What is interned takes nothing where its string is in the table; else it takes all that it needs
-   (units, bytes and a slice what a copy needs, any other string an id), or nothing. Settling takes nothing. Answers
-   DONE, with string 0; NO_WORDS, and then nothing was claimed; NO_IDS, and then the words, and fewer ids, were; or
-   NO_MEMORY, and then nothing was, or the words and at least one id, but not all. What was claimed is used, whether or
-   not a string takes it. Where the new words don't begin where those left end, the words that were left are lost. */
+/* Claims `words` words in one piece, and then `ids` ids, for this agent's later strings: a call that makes, joins,
+   cuts, copies or interns takes from these, and touches nothing that agents share for what it takes but slots. A copy takes
+   an id and its words, each where there is enough, and claims what is lacking. A rope or a slice takes the least id left, where
+   that is above the numbers of the strings that it is made of. What is interned needs nothing where its string is in the
+   table; else units, bytes and a slice need what a copy needs, and any other string an id, and take all of it or nothing.
+   Settling takes nothing from these. Answers DONE, with string 0; NO_WORDS, or NO_MEMORY for the list of the first 1,024 ids,
+   and then nothing was claimed; NO_IDS, or NO_MEMORY for the list of later ids, and then the words, and fewer ids, were.
+   What was claimed is used, whether or not a string takes it. Where the new words don't begin where those left end, the words
+   that were left are lost. */
 jsstr_answer jsstr_reserve(jsstr_agent *agent, uint32_t ids, uint32_t words);
 
 /* Sets the blocks by which what is reserved is renewed; with 0 and 0, as an agent begins, it isn't. A call that
    makes, joins, cuts, copies or interns, and whose new string finds too few words there, or no id,
    first claims `words` words, or as many as the string needs where these are more, and `ids` ids: what is missing of
    the two, and nothing where the block of what is missing is 0. For jsstr_concat and jsstr_slice a copy needs a word
-   for 4 units. Where the heap has not that many words no id is claimed either, and the call goes on as if nothing were
-   renewed; where it has fewer ids, these are claimed. What is interned renews nothing where its string is in the table,
+   for 4 units. Where the heap has not that many words no id is claimed either, and nothing is renewed; where it has
+   fewer ids, these are claimed. What is interned renews nothing where its string is in the table,
    or no slot is free; settling never does. At a join `agent` keeps its blocks. Answers DONE. Where several threads make
    strings, jsstr_renew(&agent, 64, 256) for each agent, once it is split off, keeps them out of each other's way. */
 uint32_t jsstr_renew(jsstr_agent *agent, uint32_t ids, uint32_t words);
@@ -271,8 +271,9 @@ jsstr_place jsstr_index_of(jsstr_agent *agent, jsstr_id hay, jsstr_id needle, ui
    Settles both. */
 jsstr_place jsstr_last_index_of(jsstr_agent *agent, jsstr_id hay, jsstr_id needle, uint32_t limit);
 
-/* The one string of the string table with the units of s: every agent gets the same one for equal units, so two of these
-   have equal units where their numbers are equal. It is known, and settled. It uses at most an id, and words where s is a slice. Settles s. */
+/* The one string of the string table with the units of s: every agent gets the same one for equal units, so two of
+   these have equal units where their numbers are equal. It is known, and settled. It uses at most an id, and words where
+   s is a slice. Settles s. */
 jsstr_answer jsstr_intern(jsstr_agent *agent, jsstr_id s);
 
 /* The same of units that are in no string yet. Where the table has their string by then, nothing is used: no id,
