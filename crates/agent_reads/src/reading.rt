@@ -5,7 +5,7 @@ ghost use Rattle.heap_rule.specs.Maps.{Has, HasKey};
 ghost use Rattle.heap_rule.specs.Views.{IsSeenSettled};
 ghost use Rattle.heap_table.specs.Agents.{view_of};
 ghost use Rattle.heap_text.specs.Keeping.{KeepsText};
-ghost use Rattle.heap_text.specs.Settling.{Settles};
+ghost use Rattle.heap_text.specs.Settling.{LoadsFewFor, Settles};
 ghost use Rattle.heap_agents.specs.Held.{IsHeld, LeavesStrings, MarksNothing, MarksSettled, held_size, view_by};
 
 use heap_agents::Held;
@@ -50,6 +50,7 @@ pub fn settle(agent: &mut Held, s: JsStr) -> Result<(), TextFull>
     ensures leaves { LeavesStrings agent.old agent.new }
     ensures marked { MarksSettled agent.old agent.new s.id result }
     ensures settles { Settles (view_by agent.old) (view_by agent.new) (held_size agent.old) s.id result }
+    ensures loads { LoadsFewFor (view_by agent.old) (view_by agent.new) s.id }
 {
     let answer = match &mut agent.text {
         Some(text) => text.settle(s),

@@ -1,5 +1,5 @@
 // How heaps and agents are made and given back.
-ghost use Rattle.std.specs.Prelude.{◌≡◌, ◌↔◌, ◌++◌, ◌+◌, ◌≤◌, ◌<◌, ℕ, [], IfOk, IfErr, OnOk, Err, None, Some};
+ghost use Rattle.std.specs.Prelude.{◌≡◌, ◌↔◌, ◌⊎◌, ◌++◌, ◌+◌, ◌≤◌, ◌<◌, ℕ, [], IfOk, IfErr, OnOk, Err, None, Some};
 ghost use Rattle.heap_rule.specs.Agents.{MayJoin, first_view, joined_view, left_after_split, right_after_split};
 ghost use Rattle.heap_rule.specs.Layout.{MAX};
 ghost use Rattle.heap_rule.specs.Views.{history};
@@ -128,6 +128,8 @@ impl Held {
         ensures view { IfOk result (λ b. view_by b.value ≡ first_view size agents) }
         ensures limit { IfOk result (λ b. limit_by b.value ≡ limit) }
         ensures nothing { IfOk result (λ b. ReservesNothing b.value) }
+        ensures number { IfOk result (λ b. b.value.number ≡ 1) }
+        ensures giver { IfOk result (λ b. b.value.giver ≡ 0) }
         ensures lawful { OnOk result (MayMake size agents × (limit ≤ MAX)) }
         ensures refused { result ≡ Err MakeFault.Size → ¬ (MayMake size agents × (limit ≤ MAX)) }
     {
@@ -151,6 +153,8 @@ impl Held {
         ensures held { IfOk result (λ b. IsHeld b.value) }
         ensures text { IfOk result (λ b. b.value.text ≡ Some text) }
         ensures nothing { IfOk result (λ b. ReservesNothing b.value) }
+        ensures number { IfOk result (λ b. b.value.number ≡ 1) }
+        ensures giver { IfOk result (λ b. b.value.giver ≡ 0) }
     {
         let known = IdSet::new(alloc, ids)?;
         let interned = IdSet::new(alloc, ids)?;
@@ -188,8 +192,8 @@ impl Held {
             (share_by self.new + give ≡ share_by self.old)
             × (share_by b.value ≡ give)) }
         ensures marks { KeepsMarks self.old self.new }
-        ensures known { IfOk result (λ b. (i : ℕ) → IsIn self.old.known i → IsIn b.value.known i) }
-        ensures interned { IfOk result (λ b. (i : ℕ) → IsIn self.old.interned i → IsIn b.value.interned i) }
+        ensures known { IfOk result (λ b. (i : ℕ) → IsIn b.value.known i ↔ IsIn self.old.known i) }
+        ensures interned { IfOk result (λ b. (i : ℕ) → IsIn b.value.interned i ↔ IsIn self.old.interned i) }
         ensures giver { IfOk result (λ b. b.value.giver ≡ self.old.number) }
         ensures nothing { IfOk result (λ b. ReservesNothing b.value) }
         ensures refused { IfErr result (λ e. self.new ≡ self.old) }
@@ -252,6 +256,9 @@ impl Held {
         ensures reserve { TakesOverReserve self.old.reserve other.reserve self.new.reserve }
         ensures known { (i : ℕ) → IsIn other.known i → IsIn self.new.known i }
         ensures interned { (i : ℕ) → IsIn other.interned i → IsIn self.new.interned i }
+        ensures only { (i : ℕ) → IsIn self.new.known i → IsIn self.old.known i ⊎ IsIn other.known i }
+        ensures only_interned { (i : ℕ) → IsIn self.new.interned i
+            → IsIn self.old.interned i ⊎ IsIn other.interned i }
     {
         join_text(&mut self.text, other.text);
         self.known.add_all(&other.known);

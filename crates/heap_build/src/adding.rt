@@ -25,7 +25,8 @@ const MOST_BYTES: usize = 3 * MAX as usize;
 impl Builder {
     /// The empty text. It allocates nothing.
     pub fn new(alloc: Global) -> Builder
-        ensures { units_so_far result ≡ [] }
+        ensures empty { units_so_far result ≡ [] }
+        ensures nothing { room_in result ≡ 0 }
     {
         Builder {
             units: Vec::new(alloc),

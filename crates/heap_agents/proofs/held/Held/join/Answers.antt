@@ -21,3 +21,9 @@ pub returns-clause-interned : goal.returns-clause-interned
 returns-clause-interned c i h = let x = c.args.self.now in let o = c.args.other in
     c.add_all-2.ensures.there (held_size x).ids i c.requires.held.marked.calls_room
     (subst (λ (n : ℕ). i < n) (sym (same_ids x.text o.text c.requires.beside)) (c.requires.other.marked.calls_below i h)) h
+
+pub returns-clause-only : goal.returns-clause-only
+returns-clause-only c i h = c.add_all.ensures.only i h
+
+pub returns-clause-only_interned : goal.returns-clause-only_interned
+returns-clause-only_interned c i h = c.add_all-2.ensures.only i h
