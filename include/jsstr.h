@@ -1,7 +1,7 @@
 /* The string heap of jsstr, for C99 and C++.
 
    A heap is one array of words that threads share, without a lock. An agent is one user of a heap, and
-   makes its calls from one thread at a time. A string is a number below 2^29, and may be 0.
+   makes its calls from one thread at a time. A string is a number below 2^29, and may be 0; JSSTR_NO_STRING is none.
    docs/EMBEDDING.md says what is proved of the calls, and what to do when a heap is full.
 
    CONDITIONS. A call tests its condition, and where it fails answers JSSTR_BAD_ARGUMENT and has done nothing. A call
@@ -55,7 +55,7 @@ typedef struct jsstr_agent { void *at; uint32_t live; } jsstr_agent;
 /* A text that is built up, outside any heap, of `len` units; all zero is an empty one. */
 typedef struct jsstr_builder { void *at; uint32_t live, len; } jsstr_builder;
 
-/* A string; JSSTR_NO_STRING is none. */
+/* A string. JSSTR_NO_STRING is none: a refusal answers it, and every call with it is refused. */
 typedef uint32_t jsstr_id;
 #define JSSTR_NO_STRING UINT32_MAX
 
@@ -98,10 +98,11 @@ static inline const char *jsstr_status_name(uint32_t status) {
 /* JSSTR_VERSION_NUMBER of the header that the library was built with. */
 uint32_t jsstr_version(void);
 
-/* Unused fields are 0. After a refusal each string is what it was, and what the call had claimed by then
+/* Unused fields are 0, an id JSSTR_NO_STRING. After a refusal each string is what it was, and what the call had claimed by then
    is lost. After NO_IDS, NO_WORDS or NO_SLOTS any later request of that size fails, for every agent, except where what
    it reserved suffices. */
 typedef struct jsstr_answer { uint32_t status; jsstr_id id; uint32_t at, want, end; } jsstr_answer;
+typedef struct jsstr_batch { uint32_t status, done, at, want, end; } jsstr_batch;
 typedef struct jsstr_number { uint32_t status, value; } jsstr_number;
 typedef struct jsstr_order { uint32_t status; int32_t order; } jsstr_order;
 typedef struct jsstr_truth { uint32_t status; bool holds; } jsstr_truth;
@@ -148,7 +149,7 @@ jsstr_number jsstr_share(jsstr_agent *agent);
    an id and its words, each where there is enough, and claims what is lacking. A rope or a slice takes the least id left, where
    that is above the numbers of the strings that it is made of. What is interned needs nothing where its string is in the
    table; else units, bytes and a slice need what a copy needs, and any other string an id, and take all of it or nothing.
-   Settling takes nothing from these. Answers DONE, with string 0; NO_WORDS, or NO_MEMORY for the list of the first 1,024 ids,
+   Settling takes nothing from these. Answers DONE, with no string; NO_WORDS, or NO_MEMORY for the list of the first 1,024 ids,
    and then nothing was claimed; NO_IDS, or NO_MEMORY for the list of later ids, and then the words, and fewer ids, were.
    What was claimed is used, whether or not a string takes it. Where the new words don't begin where those left end, the words
    that were left are lost. */
@@ -287,12 +288,12 @@ jsstr_answer jsstr_intern_utf8(jsstr_agent *agent, const uint8_t *bytes, size_t 
 jsstr_answer jsstr_intern_wtf8(jsstr_agent *agent, const uint8_t *bytes, size_t len);
 
 /* The same of many lists of units, in turn, which lie one behind another: number k ends before units[ends[k]], and
-   ids[k] becomes its string. `id` of the answer is how many were interned: all of them, or those before the first
+   ids[k] becomes its string. `done` is how many were interned: all of them, or those before the first
    that is refused, whose ids are written and stay so, and no others; the report is that one's. Condition: the ends
    never descend, the last one is at most len, no list has more than JSSTR_MAX_LENGTH units, count is at most room
    and below 2^32. */
-jsstr_answer jsstr_intern_many(jsstr_agent *agent, const uint16_t *units, size_t len, const uint32_t *ends,
-                               size_t count, jsstr_id *ids, size_t room);
+jsstr_batch jsstr_intern_many(jsstr_agent *agent, const uint16_t *units, size_t len, const uint32_t *ends,
+                              size_t count, jsstr_id *ids, size_t room);
 
 /* The one string of the string table with these units, or NONE. It is known, settled and interned. Nothing is used,
    ever. While another thread interns these units, either may be the answer. */

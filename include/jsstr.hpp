@@ -333,9 +333,9 @@ public:
   answer<std::vector<key>> intern_many(std::u16string_view units, const std::vector<std::uint32_t> &ends) {
     std::vector<jsstr_id> ids(ends.size() + 1);
     const std::uint32_t empty = 0;
-    const jsstr_answer all = jsstr_intern_many(handle(), data(units), units.size(), ends.empty() ? &empty : ends.data(), ends.size(), ids.data(), ids.size());
+    const jsstr_batch all = jsstr_intern_many(handle(), data(units), units.size(), ends.empty() ? &empty : ends.data(), ends.size(), ids.data(), ids.size());
     using keys = std::vector<key>;
-    return given(all.status == JSSTR_DONE ? result<keys>(keys(ids.begin(), ids.end() - 1)) : result<keys>(made<key>(all).error()));
+    return given(all.status == JSSTR_DONE ? result<keys>(keys(ids.begin(), ids.end() - 1)) : result<keys>(made<key>({all.status, JSSTR_NO_STRING, all.at, all.want, all.end}).error()));
   }
 
   /// The one string of the string table with these units, if it has one. Nothing is used.

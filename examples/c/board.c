@@ -19,7 +19,7 @@ static const text texts[] = {
 };
 #define TEXTS (sizeof texts / sizeof *texts)
 
-static int is_bare(jsstr_answer s, uint32_t status) { return s.status == status && !s.id && !s.at && !s.want && !s.end; }
+static int is_bare(jsstr_answer s, uint32_t status) { return s.status == status && s.id == JSSTR_NO_STRING && !s.at && !s.want && !s.end; }
 
 static int is_string(jsstr_answer s, jsstr_id id) { return s.status == JSSTR_DONE && s.id == id && !s.at && !s.want && !s.end; }
 

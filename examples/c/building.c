@@ -9,11 +9,11 @@
 #define MOST 16
 #define CHECK(c) do { if (!(c)) { printf("line %d: %s\n", __LINE__, #c); exit(1); } } while (0)
 
-static int is_bare(jsstr_answer s, uint32_t status) { return s.status == status && !s.id && !s.at && !s.want && !s.end; }
+static int is_bare(jsstr_answer s, uint32_t status) { return s.status == status && s.id == JSSTR_NO_STRING && !s.at && !s.want && !s.end; }
 
 static int is_string(jsstr_answer s, jsstr_id id) { return s.status == JSSTR_DONE && s.id == id && !s.at && !s.want && !s.end; }
 
-static int is_fault(jsstr_answer s, uint32_t at) { return s.status == JSSTR_NOT_UTF8 && !s.id && s.at == at && !s.want && !s.end; }
+static int is_fault(jsstr_answer s, uint32_t at) { return s.status == JSSTR_NOT_UTF8 && s.id == JSSTR_NO_STRING && s.at == at && !s.want && !s.end; }
 
 static int has_used(jsstr_agent *a, uint32_t ids, uint32_t words) {
   jsstr_room use = jsstr_room_of(a);
@@ -284,7 +284,7 @@ static void two_heaps(void) {
   jsstr_agent full = {0}, other = {0};
   jsstr_builder text = {0};
   static const jsstr_size sizes[] = {{1, 9, 9}, {9, 1, 9}, {9, 9, 1}};
-  static const jsstr_answer refusals[] = {{JSSTR_NO_IDS, 0, 1, 1, 1}, {JSSTR_NO_WORDS, 0, 1, 2, 1}, {JSSTR_NO_SLOTS, 0, 0, 0, 1}};
+  static const jsstr_answer refusals[] = {{JSSTR_NO_IDS, JSSTR_NO_STRING, 1, 1, 1}, {JSSTR_NO_WORDS, JSSTR_NO_STRING, 1, 2, 1}, {JSSTR_NO_SLOTS, JSSTR_NO_STRING, 0, 0, 1}};
   CHECK(jsstr_make((jsstr_size){50, 50, 11}, 1, 5, &other) == JSSTR_DONE);
   for (int i = 0; i < 3; i++) {
     CHECK(jsstr_make(sizes[i], 1, 100, &full) == JSSTR_DONE);

@@ -12,7 +12,12 @@
 /* The answer of a call, by its type. */
 static answer told(uint32_t status) { return ANSWER(status); }
 static answer value(uint32_t n) { return ANSWER(JSSTR_DONE, n); }
-static answer string(jsstr_answer s) { return ANSWER(s.status, s.id, s.at, s.want, s.end); }
+/* (a refusal has no string, and a call that makes none has none to answer, for which the rows have 0) */
+static answer string(jsstr_answer s) {
+  if (s.status != JSSTR_DONE && s.id != JSSTR_NO_STRING) printf("%s answers a string where it is refused\n", playing), exit(1);
+  return ANSWER(s.status, s.id == JSSTR_NO_STRING ? 0 : s.id, s.at, s.want, s.end);
+}
+static answer batch(jsstr_batch b) { return ANSWER(b.status, b.done, b.at, b.want, b.end); }
 static answer number(jsstr_number n) { return ANSWER(n.status, n.value); }
 static answer truth(jsstr_truth t) { return ANSWER(t.status, t.holds); }
 static answer order(jsstr_order o) { return ANSWER(o.status, (uint32_t)o.order); }

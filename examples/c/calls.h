@@ -204,8 +204,8 @@ static const any_byte key_bytes[] = "key", twin_bytes[] = "a plain onea plain on
   ROW(intern_wtf8, NOTHING, string(jsstr_intern_wtf8(&w->one, WTF8)), w->one.intern_wtf8({WTF8}), is_key(&w->one, L"WTF-8 \xD800", 1, 2)) \
   ROW(intern_wtf8_refused, NOTHING, string(jsstr_intern_wtf8(&w->one, wtf8, TOO_LONG)), w->one.intern_wtf8({wtf8, TOO_LONG}), is_refused()) \
   ROW(intern_wtf8_of_latin1, NOTHING, string(jsstr_intern_wtf8(&w->one, LATIN1)), w->one.intern_wtf8({LATIN1}), is_answer(JSSTR_NOT_UTF8, 0, 8)) \
-  ROW(intern_many, NOTHING, string(jsstr_intern_many(&w->one, UNITS, ends, 3, w->ids, 3)), w->one.intern_many({UNITS}, {ends, ends + 3}), is_keys(&w->one, L"u ni ts\xE9", 3, 3)) \
-  ROW(intern_many_refused, NOTHING, string(jsstr_intern_many(&w->one, UNITS, descending, 3, w->ids, 3)), w->one.intern_many({UNITS}, {descending, descending + 3}), is_refused()) \
+  ROW(intern_many, NOTHING, batch(jsstr_intern_many(&w->one, UNITS, ends, 3, w->ids, 3)), w->one.intern_many({UNITS}, {ends, ends + 3}), is_keys(&w->one, L"u ni ts\xE9", 3, 3)) \
+  ROW(intern_many_refused, NOTHING, batch(jsstr_intern_many(&w->one, UNITS, descending, 3, w->ids, 3)), w->one.intern_many({UNITS}, {descending, descending + 3}), is_refused()) \
   ROW(find_units, NOTHING, string(jsstr_find_units(&w->one, KEY_UNITS)), w->one.find({KEY_UNITS}), is_that(&w->one, w->key, L"key")) \
   ROW(find_units_refused, NOTHING, string(jsstr_find_units(&w->one, key, TOO_LONG)), w->one.find({key, TOO_LONG}), is_refused()) \
   ROW(find_units_first, NOTED, string(jsstr_find_units(&w->far, UNITS)), w->far.find({UNITS}), is_answer(JSSTR_NONE)) \

@@ -246,7 +246,7 @@ static void give(given *g, enum kind kind) {
 static int is_refused(const given *g, jsstr_answer s) {
   CHECK((s.status == JSSTR_NOT_UTF8) == (g->fault >= 0));
   if (g->fault < 0) return 0;
-  CHECK(s.at == (uint32_t)g->fault && !s.id && !s.want && !s.end);
+  CHECK(s.at == (uint32_t)g->fault && s.id == JSSTR_NO_STRING && !s.want && !s.end);
   return 1;
 }
 
@@ -470,7 +470,7 @@ static void key(agent *a) {
   lawful++;
   if (is_refused(&g, one)) return;
   if (!find && is_new(g.units, g.len)) CHECK(is_renewed(a, before, one, g.units, g.len, 0, 1));
-  if (find && !is_used(slot_for(g.units, g.len))) CHECK(one.status == JSSTR_NONE && !one.id);
+  if (find && !is_used(slot_for(g.units, g.len))) CHECK(one.status == JSSTR_NONE && one.id == JSSTR_NO_STRING);
   else interned(a, one, g.units, g.len);
 }
 
@@ -485,20 +485,20 @@ static void many(agent *a) {
     if (ends[i] < from || ends[i] > g.len) wrong = 1, ends[i] = from > 0 ? from - 1 : g.len + 1;
     else from = ends[i];
   }
-  jsstr_answer all = jsstr_intern_many(&a->handle, g.units, g.len, ends, count, ids, count);
-  if (!a->handle.live || wrong) { CHECK(all.status == JSSTR_BAD_ARGUMENT && !all.id && ids[0] == UINT32_MAX); return; }
+  jsstr_batch all = jsstr_intern_many(&a->handle, g.units, g.len, ends, count, ids, count);
+  if (!a->handle.live || wrong) { CHECK(all.status == JSSTR_BAD_ARGUMENT && !all.done && ids[0] == UINT32_MAX); return; }
   lawful++;
-  CHECK(all.id <= count && (all.status == JSSTR_DONE) == (all.id == count));
+  CHECK(all.done <= count && (all.status == JSSTR_DONE) == (all.done == count));
   int renews = a->blocks.ids || a->blocks.words; /* what was renewed in between is believed */
   if (renews) a->ids = jsstr_reserved(&a->handle).ids, a->words = jsstr_reserved(&a->handle).words;
-  for (uint32_t i = 0, at = 0; i < all.id; at = ends[i++]) {
+  for (uint32_t i = 0, at = 0; i < all.done; at = ends[i++]) {
     if (!renews && is_new(g.units + at, ends[i] - at)) takes(a, g.units + at, ends[i] - at);
     interned(a, (jsstr_answer){JSSTR_DONE, ids[i], 0, 0, 0}, g.units + at, ends[i] - at);
   }
-  for (uint32_t i = all.id; i < count; i++) CHECK(ids[i] == UINT32_MAX);
-  if (all.id < count) {
-    uint32_t at = all.id ? ends[all.id - 1] : 0;
-    CHECK(refused_for_room(all.status) && !is_used(slot_for(g.units + at, ends[all.id] - at)));
+  for (uint32_t i = all.done; i < count; i++) CHECK(ids[i] == UINT32_MAX);
+  if (all.done < count) {
+    uint32_t at = all.done ? ends[all.done - 1] : 0;
+    CHECK(refused_for_room(all.status) && !is_used(slot_for(g.units + at, ends[all.done] - at)));
   }
 }
 
@@ -519,10 +519,10 @@ static void adopt(agent *a) {
   CHECK(ok ? k.status == JSSTR_DONE && k.value < SLOTS && table[k.value] == s : k.status == JSSTR_BAD_ARGUMENT && !k.value);
   uint32_t slot = ok && chance(2) ? k.value : chance(20) ? chance(SLOTS + 2) : chance(1u << 31) * 2;
   jsstr_answer one = jsstr_adopt(&a->handle, slot);
-  if (!a->handle.live || slot >= SLOTS) { CHECK(one.status == JSSTR_BAD_ARGUMENT && !one.id); return; }
+  if (!a->handle.live || slot >= SLOTS) { CHECK(one.status == JSSTR_BAD_ARGUMENT && one.id == JSSTR_NO_STRING); return; }
   lawful++;
   if (is_used(slot)) interned(a, one, texts[table[slot]].units, texts[table[slot]].len);
-  else CHECK(one.status == JSSTR_NONE && !one.id && !one.at && !one.want && !one.end);
+  else CHECK(one.status == JSSTR_NONE && one.id == JSSTR_NO_STRING && !one.at && !one.want && !one.end);
 }
 
 /* The text has these units behind those that it had. */
@@ -639,7 +639,7 @@ static void reserve(agent *a) {
   use after = used_now(&a->handle);
   jsstr_counts kept = jsstr_reserved(&a->handle);
   CHECK(kept.status == JSSTR_DONE && kept.ids - a->ids == after.ids - before.ids);
-  CHECK(s.status == JSSTR_DONE ? !s.id && kept.ids == a->ids + ids : refused_for_room(s.status));
+  CHECK(s.status == JSSTR_DONE ? s.id == JSSTR_NO_STRING && kept.ids == a->ids + ids : refused_for_room(s.status));
   CHECK(s.status == JSSTR_NO_WORDS ? after.ids == before.ids && after.words == before.words && kept.words == a->words
     : after.words == before.words + words && (kept.words == a->words + words || (words && kept.words == words)));
   a->ids = kept.ids, a->words = kept.words;

@@ -9,7 +9,7 @@
 #define CHECK(c) do { if (!(c)) { printf("line %d: %s\n", __LINE__, #c); exit(1); } } while (0)
 enum { LISTS = 4000, PAIRS = 200, LONGEST = 17 };
 
-static int is_bare(jsstr_answer s, uint32_t status) { return s.status == status && !s.id && !s.at && !s.want && !s.end; }
+static int is_bare(jsstr_answer s, uint32_t status) { return s.status == status && s.id == JSSTR_NO_STRING && !s.at && !s.want && !s.end; }
 
 static int is_string(jsstr_answer s, jsstr_id id) { return s.status == JSSTR_DONE && s.id == id && !s.at && !s.want && !s.end; }
 

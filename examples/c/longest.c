@@ -12,12 +12,12 @@
 
 static const uint8_t digits[] = "01234567";
 
-static int is_bare(jsstr_answer s, uint32_t status) { return s.status == status && !s.id && !s.at && !s.want && !s.end; }
+static int is_bare(jsstr_answer s, uint32_t status) { return s.status == status && s.id == JSSTR_NO_STRING && !s.at && !s.want && !s.end; }
 
 static int is_string(jsstr_answer s, jsstr_id id) { return s.status == JSSTR_DONE && s.id == id && !s.at && !s.want && !s.end; }
 
 static int is_too_long(jsstr_answer s, uint32_t at, uint32_t want) {
-  return s.status == JSSTR_TOO_LONG && !s.id && s.at == at && s.want == want && !s.end;
+  return s.status == JSSTR_TOO_LONG && s.id == JSSTR_NO_STRING && s.at == at && s.want == want && !s.end;
 }
 
 /* How many kilobytes are free, as Linux says it; 0 where it doesn't. */

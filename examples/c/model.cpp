@@ -75,7 +75,12 @@ bool one_in(uint32_t n) { return chance(n) == 0; }
 
 // Answers of all kinds.
 Answer answer(uint32_t status) { return {status}; }
-Answer answer(jsstr_answer s) { return {s.status, s.id, s.at, s.want, s.end}; }
+// (a refusal has no string, and a call that makes none has none to answer, for which the model has 0)
+Answer answer(jsstr_answer s) {
+  CHECK(s.status == JSSTR_DONE || s.id == JSSTR_NO_STRING);
+  return {s.status, s.id == JSSTR_NO_STRING ? 0 : s.id, s.at, s.want, s.end};
+}
+Answer answer(jsstr_batch b) { return {b.status, b.done, b.at, b.want, b.end}; }
 Answer answer(jsstr_number n) { return {n.status, n.value}; }
 Answer answer(jsstr_truth t) { return {t.status, t.holds}; }
 Answer answer(jsstr_order o) { return {o.status, uint32_t(o.order)}; }

@@ -19,10 +19,10 @@ static int has(jsstr_agent *a, uint32_t used_ids, uint32_t used_words, uint32_t 
   return room.ids == used_ids && room.words == used_words && kept.ids == ids && kept.words == words;
 }
 
-static int is_done(jsstr_answer s) { return s.status == JSSTR_DONE && !s.id && !s.at && !s.want && !s.end; }
+static int is_done(jsstr_answer s) { return s.status == JSSTR_DONE && s.id == JSSTR_NO_STRING && !s.at && !s.want && !s.end; }
 
 static int is_refused(jsstr_answer s, uint32_t status, uint32_t at, uint32_t want, uint32_t end) {
-  return s.status == status && !s.id && s.at == at && s.want == want && s.end == end;
+  return s.status == status && s.id == JSSTR_NO_STRING && s.at == at && s.want == want && s.end == end;
 }
 
 static jsstr_answer made(jsstr_agent *a, const char *text) { return jsstr_from_latin1(a, (const uint8_t *)text, strlen(text)); }
@@ -102,7 +102,7 @@ static void keys(void) {
   CHECK(id_of(jsstr_intern_units(&a, wide, 5)) == 1 && has(&a, 9, 12, 7, 7) && id_of(jsstr_intern_units(&a, wide, 5)) == 1);
   CHECK(id_of(jsstr_intern_utf8(&a, (const uint8_t *)"\xc3\xa9t\xc3\xa9", 5)) == 2 && has(&a, 9, 12, 6, 6) && has_text(&a, 2, "\xe9t\xe9"));
   CHECK(id_of(jsstr_intern_latin1(&a, (const uint8_t *)"\xe9t\xe9", 3)) == 2 && has(&a, 9, 12, 6, 6));
-  CHECK(id_of(jsstr_intern_many(&a, many, 5, ends, 4, ids, 4)) == 4 && has(&a, 9, 12, 3, 3));
+  CHECK(jsstr_intern_many(&a, many, 5, ends, 4, ids, 4).done == 4 && has(&a, 9, 12, 3, 3));
   CHECK(ids[0] == 3 && ids[1] == 4 && ids[2] == 3 && ids[3] == 5 && has_text(&a, 5, "cd"));
   jsstr_id s = id_of(made(&a, "a string"));
   CHECK(s == 6 && has(&a, 9, 12, 2, 2) && id_of(jsstr_intern(&a, s)) == 7 && has(&a, 9, 12, 1, 2)); /* a string takes an id alone */

@@ -105,7 +105,7 @@ static void utf8(void) {
   jsstr_room before = jsstr_room_of(&agent);
   for (size_t i = 0; i < sizeof bad / sizeof *bad; i++) {
     jsstr_answer none = jsstr_from_utf8(&agent, (const uint8_t *)bad[i].bytes, strlen(bad[i].bytes));
-    CHECK(none.status == JSSTR_NOT_UTF8 && none.at == bad[i].good && none.id == 0);
+    CHECK(none.status == JSSTR_NOT_UTF8 && none.at == bad[i].good && none.id == JSSTR_NO_STRING);
   }
   jsstr_room after = jsstr_room_of(&agent);
   CHECK(after.ids == before.ids && after.words == before.words);

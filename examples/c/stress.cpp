@@ -69,7 +69,7 @@ struct alignas(64) Worker {
     uint32_t count = chance(20), size = chance(60);
     jsstr_answer s = jsstr_reserve(&agent, count, size);
     jsstr_counts after = jsstr_reserved(&agent);
-    if (s.status == JSSTR_DONE) CHECK(!s.id && after.ids == before.ids + count && after.words >= size);
+    if (s.status == JSSTR_DONE) CHECK(s.id == JSSTR_NO_STRING && after.ids == before.ids + count && after.words >= size);
     else {
       CHECK((s.status == JSSTR_NO_IDS && after.ids < before.ids + count) || (s.status == JSSTR_NO_WORDS && after.ids == before.ids && after.words == before.words));
       full = true;
@@ -146,10 +146,10 @@ struct alignas(64) Worker {
       all += key(numbers[i]);
       ends[i] = uint32_t(all.size());
     }
-    jsstr_answer s = jsstr_intern_many(&agent, reinterpret_cast<const uint16_t *>(all.data()), all.size(), ends, COUNT, one, COUNT);
-    CHECK(s.id <= COUNT && (s.status == JSSTR_DONE) == (s.id == COUNT));
-    for (uint32_t i = 0; i < s.id; i++) CHECK(is_key(numbers[i], {JSSTR_DONE, one[i], 0, 0, 0}));
-    if (s.id < COUNT) is_key(numbers[s.id], s);
+    jsstr_batch s = jsstr_intern_many(&agent, reinterpret_cast<const uint16_t *>(all.data()), all.size(), ends, COUNT, one, COUNT);
+    CHECK(s.done <= COUNT && (s.status == JSSTR_DONE) == (s.done == COUNT));
+    for (uint32_t i = 0; i < s.done; i++) CHECK(is_key(numbers[i], {JSSTR_DONE, one[i], 0, 0, 0}));
+    if (s.done < COUNT) is_key(numbers[s.done], {s.status, JSSTR_NO_STRING, s.at, s.want, s.end});
   }
 
   void step() {

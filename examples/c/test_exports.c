@@ -338,7 +338,7 @@ static void unchecked(void) {
 
 /* Whether an answer has this status, and nothing else. */
 static int is_bare(jsstr_answer s, uint32_t status) {
-  return s.status == status && !s.id && !s.at && !s.want && !s.end;
+  return s.status == status && s.id == JSSTR_NO_STRING && !s.at && !s.want && !s.end;
 }
 
 /* Whether an answer is this string. */
@@ -496,6 +496,9 @@ static void refuse_keys(void) {
   CHECK(jsstr_intern_units(&a, x, 0).status == JSSTR_DONE && has_used(&a, 2, 1) && jsstr_free(&a) == JSSTR_DONE);
 }
 
+static int is_batch(jsstr_batch b, uint32_t done) { return b.status == JSSTR_DONE && b.done == done && !b.at && !b.want && !b.end; }
+static int is_bad_batch(jsstr_batch b) { return b.status == JSSTR_BAD_ARGUMENT && !b.done && !b.at && !b.want && !b.end; }
+
 /* Many lists in one call: none, an empty one, equal ones, and more room for ids than lists. */
 static void intern_many(void) {
   jsstr_agent a = {0}, none = {0};
@@ -503,30 +506,30 @@ static void intern_many(void) {
   static const uint32_t ends[] = {0, 2, 4, 4, 5}, bad[][2] = {{2, 1}, {0, 6}, {6, 6}, {JSSTR_MAX_LENGTH, UINT32_MAX}};
   jsstr_id ids[6] = {7, 7, 7, 7, 7, 7};
   CHECK(jsstr_make((jsstr_size){9, 9, 7}, 1, 9, &a) == JSSTR_DONE);
-  CHECK(is_string(jsstr_intern_many(&a, units, 5, ends, 0, ids, 0), 0) && is_string(jsstr_intern_many(&a, units, 0, ends, 0, ids, 6), 0));
-  for (int i = 0; i < 4; i++) CHECK(is_bare(jsstr_intern_many(&a, units, 5, bad[i], 2, ids, 6), JSSTR_BAD_ARGUMENT));
-  CHECK(is_bare(jsstr_intern_many(&a, units, 5, ends, 5, ids, 4), JSSTR_BAD_ARGUMENT) && is_bare(jsstr_intern_many(&none, units, 5, ends, 5, ids, 6), JSSTR_BAD_ARGUMENT));
+  CHECK(is_batch(jsstr_intern_many(&a, units, 5, ends, 0, ids, 0), 0) && is_batch(jsstr_intern_many(&a, units, 0, ends, 0, ids, 6), 0));
+  for (int i = 0; i < 4; i++) CHECK(is_bad_batch(jsstr_intern_many(&a, units, 5, bad[i], 2, ids, 6)));
+  CHECK(is_bad_batch(jsstr_intern_many(&a, units, 5, ends, 5, ids, 4)) && is_bad_batch(jsstr_intern_many(&none, units, 5, ends, 5, ids, 6)));
   for (int i = 0; i < 6; i++) CHECK(ids[i] == 7);
-  CHECK(has_used(&a, 0, 0) && is_string(jsstr_intern_many(&a, units, 4, ends, 1, ids, 1), 1) && ids[0] == 0 && ids[1] == 7 && has_used(&a, 1, 0));
-  CHECK(is_string(jsstr_intern_many(&a, units, 5, ends, 5, ids, 6), 5) && has_used(&a, 3, 2) && jsstr_count_interned(&a).value == 3);
+  CHECK(has_used(&a, 0, 0) && is_batch(jsstr_intern_many(&a, units, 4, ends, 1, ids, 1), 1) && ids[0] == 0 && ids[1] == 7 && has_used(&a, 1, 0));
+  CHECK(is_batch(jsstr_intern_many(&a, units, 5, ends, 5, ids, 6), 5) && has_used(&a, 3, 2) && jsstr_count_interned(&a).value == 3);
   CHECK(ids[0] == 0 && ids[1] == ids[2] && ids[3] == 0 && ids[5] == 7 && jsstr_is_interned(&a, ids[4]).holds);
   CHECK(is_string(jsstr_find_units(&a, units, 2), ids[1]) && is_string(jsstr_find_units(&a, units + 4, 1), ids[4]));
   jsstr_id again[5];
-  CHECK(is_string(jsstr_intern_many(&a, units, 5, ends, 5, again, 5), 5) && !memcmp(again, ids, sizeof again) && has_used(&a, 3, 2));
+  CHECK(is_batch(jsstr_intern_many(&a, units, 5, ends, 5, again, 5), 5) && !memcmp(again, ids, sizeof again) && has_used(&a, 3, 2));
   CHECK(jsstr_free(&a) == JSSTR_DONE);
 }
 
 /* A refusal in the middle: the ids of the lists before it are written, and those alone. */
 static void refuse_many(void) {
   static const jsstr_size sizes[] = {{2, 9, 9}, {9, 2, 9}, {9, 9, 2}};
-  static const jsstr_answer refusals[] = {{JSSTR_NO_IDS, 3, 2, 1, 2}, {JSSTR_NO_WORDS, 3, 2, 1, 2}, {JSSTR_NO_SLOTS, 3, 0, 0, 2}};
+  static const jsstr_batch refusals[] = {{JSSTR_NO_IDS, 3, 2, 1, 2}, {JSSTR_NO_WORDS, 3, 2, 1, 2}, {JSSTR_NO_SLOTS, 3, 0, 0, 2}};
   static const uint16_t units[] = {'x', 'y', 'x', 'z', 'y'};
   static const uint32_t ends[] = {1, 2, 3, 4, 5};
   for (int way = 0; way < 6; way++) {
     jsstr_agent a = {0};
     jsstr_id ids[] = {7, 7, 7, 7, 7};
     CHECK(jsstr_make(sizes[way / 2], 1, 9, &a) == JSSTR_DONE);
-    jsstr_answer s = jsstr_intern_many(&a, units, 5, ends, 5, ids, 5);
+    jsstr_batch s = jsstr_intern_many(&a, units, 5, ends, 5, ids, 5);
     CHECK(!memcmp(&s, &refusals[way / 2], sizeof s) && ids[0] == ids[2] && ids[3] == 7 && ids[4] == 7);
     CHECK(is_string(jsstr_find_units(&a, units, 1), ids[0]) && is_string(jsstr_find_units(&a, units + 1, 1), ids[1]));
     CHECK(is_bare(jsstr_find_units(&a, units + 3, 1), JSSTR_NONE) && jsstr_count_interned(&a).value == 2 && jsstr_free(&a) == JSSTR_DONE);
@@ -545,10 +548,10 @@ static void malformed_keys(void) {
     memcpy(bytes, text, all);
     bytes[i] = 0xFF;
     jsstr_answer s = jsstr_intern_utf8(&a, bytes, all), t = jsstr_find_utf8(&a, bytes, all);
-    CHECK(s.status == JSSTR_NOT_UTF8 && !s.id && s.at == starts[i] && !s.want && !s.end && !memcmp(&s, &t, sizeof s));
+    CHECK(s.status == JSSTR_NOT_UTF8 && s.id == JSSTR_NO_STRING && s.at == starts[i] && !s.want && !s.end && !memcmp(&s, &t, sizeof s));
     if (starts[i] == i) continue;
     s = jsstr_intern_utf8(&a, (const uint8_t *)text, i), t = jsstr_find_utf8(&a, (const uint8_t *)text, i);
-    CHECK(s.status == JSSTR_NOT_UTF8 && !s.id && s.at == starts[i] && !s.want && !s.end && !memcmp(&s, &t, sizeof s));
+    CHECK(s.status == JSSTR_NOT_UTF8 && s.id == JSSTR_NO_STRING && s.at == starts[i] && !s.want && !s.end && !memcmp(&s, &t, sizeof s));
   }
   CHECK(has_used(&a, 0, 0));
   jsstr_id key = jsstr_intern_utf8(&a, (const uint8_t *)text, all).id;
@@ -680,7 +683,7 @@ static void refuse_copies(void) {
 /* The other heap becomes full on the way, in each of its ways: what was carried over stays, and the rest can go elsewhere. */
 static void copy_until_full(uint32_t way, int interns) {
   static const jsstr_size sizes[] = {{5, 99, 99}, {99, 5, 99}, {99, 99, 5}};
-  static const jsstr_answer refusals[] = {{JSSTR_NO_IDS, 0, 5, 1, 5}, {JSSTR_NO_WORDS, 0, 5, 1, 5}, {JSSTR_NO_SLOTS, 0, 0, 0, 5}};
+  static const jsstr_answer refusals[] = {{JSSTR_NO_IDS, JSSTR_NO_STRING, 5, 1, 5}, {JSSTR_NO_WORDS, JSSTR_NO_STRING, 5, 1, 5}, {JSSTR_NO_SLOTS, JSSTR_NO_STRING, 0, 0, 5}};
   jsstr_agent a = {0}, b = {0}, c = {0};
   uint16_t units[] = {'s', 't', 'r', 'i', 'n', 'g', ' ', 0};
   jsstr_answer went[12];

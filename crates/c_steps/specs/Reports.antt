@@ -62,13 +62,17 @@ NOT_UTF8 = 8
 abbrev pub BAD_ARGUMENT : ℕ
 BAD_ARGUMENT = 9
 
+-- a number that no string has
+abbrev pub NO_STRING : ℕ
+NO_STRING = 4294967295
+
 -- the call is done, with this string
 abbrev pub done : ℕ → JsAnswer
 done id = record { status = DONE; id = id; at = 0; want = 0; end = 0 }
 
--- a refusal with its numbers
+-- no string, and the status with its numbers
 abbrev pub refusal : ℕ → ℕ → ℕ → ℕ → JsAnswer
-refusal status at want end = record { status = status; id = 0; at = at; want = want; end = end }
+refusal status at want end = record { status = status; id = NO_STRING; at = at; want = want; end = end }
 
 -- a counter was full: its number, what was requested and its end
 abbrev pub text_report : TextFull → JsAnswer
@@ -116,7 +120,7 @@ no_memory = refusal NO_MEMORY 0 0 0
 
 -- what was to be claimed in advance was, and no string is answered; or what ran out
 abbrev pub reserve_answer : Result (Unit {0}) ReserveFault → JsAnswer
-reserve_answer (Ok u) = done 0
+reserve_answer (Ok u) = refusal DONE 0 0 0
 reserve_answer (Err reserve.Memory) = no_memory
 reserve_answer (Err (reserve.Full f)) = text_report f
 

@@ -1,6 +1,6 @@
 // What a call answers.
 ghost use Rattle.std.specs.Prelude.{◌≡◌, ◌≢◌};
-ghost use Rattle.c_steps.specs.Batches.{batch_answer};
+ghost use Rattle.c_steps.specs.Batches.{batch_answer, no_batch};
 ghost use Rattle.c_steps.specs.Reports as reports;
 ghost use Rattle.c_steps.specs.Reports.{found_answer, join_answer, no_number, no_order, no_place, no_totals, no_truth, no_words, number_answer, order_number, place_answer, reserve_answer, table_answer, text_answer, words_answer};
 
@@ -36,6 +36,9 @@ pub const NOT_UTF8: u32 = 8;
 /// The condition of the call doesn't hold.
 pub const BAD_ARGUMENT: u32 = 9;
 
+/// A number that no string has: what is answered where there is none.
+pub const NO_STRING: u32 = u32::MAX;
+
 /// How many ids, content words and slots of the string table a heap has.
 #[repr(C)]
 #[derive(Clone, Copy)]
@@ -53,7 +56,7 @@ pub struct JsUse {
     pub words: u32,
 }
 
-/// A status, and at 0 the string; of many lists, how many were interned. Where a counter was full, `at`, `want` and `end` are its report;
+/// A status, and at 0 the string, else `NO_STRING`. Where a counter was full, `at`, `want` and `end` are its report;
 /// where two strings would be too long, `at` and `want` are their lengths; where bytes are no UTF-8,
 /// `at` is how many of them are.
 #[repr(C)]
@@ -61,6 +64,17 @@ pub struct JsUse {
 pub struct JsAnswer {
     pub status: u32,
     pub id: u32,
+    pub at: u32,
+    pub want: u32,
+    pub end: u32,
+}
+
+/// A status, and how many lists were interned, with the report of the one behind them.
+#[repr(C)]
+#[derive(Clone, Copy)]
+pub struct JsBatch {
+    pub status: u32,
+    pub done: u32,
     pub at: u32,
     pub want: u32,
     pub end: u32,
@@ -132,13 +146,13 @@ fn done(s: JsStr) -> JsAnswer
     }
 }
 
-// A refusal with its numbers.
+// No string, and the status with its numbers.
 pub(crate) fn refusal(status: u32, at: u32, want: u32, end: u32) -> JsAnswer
     ensures { result ≡ reports.refusal status at want end }
 {
     JsAnswer {
         status,
-        id: 0,
+        id: NO_STRING,
         at,
         want,
         end,
@@ -198,29 +212,48 @@ pub fn of_reserve(answer: Result<(), ReserveFault>) -> JsAnswer
     ensures told { result.status ≢ reports.BAD_ARGUMENT }
 {
     match answer {
-        Ok(()) => done(JsStr { id: 0 }),
+        Ok(()) => refusal(DONE, 0, 0, 0),
         Err(ReserveFault::Memory) => no_memory(),
         Err(ReserveFault::Full(full)) => report(full),
     }
 }
 
 /// How many lists were interned, and the report of the one behind them.
-pub fn of_batch(batch: Batch) -> JsAnswer
+pub fn of_batch(batch: Batch) -> JsBatch
     ensures value { result ≡ batch_answer batch.done batch.full }
     ensures told { result.status ≢ reports.BAD_ARGUMENT }
 {
     match batch.full {
         Some(full) => {
             let report = of_table(Err(full));
-            JsAnswer {
+            JsBatch {
                 status: report.status,
-                id: batch.done,
+                done: batch.done,
                 at: report.at,
                 want: report.want,
                 end: report.end,
             }
         }
-        None => done(JsStr { id: batch.done }),
+        None => JsBatch {
+            status: DONE,
+            done: batch.done,
+            at: 0,
+            want: 0,
+            end: 0,
+        },
+    }
+}
+
+/// A refusal, with no list interned.
+pub fn without_batch(status: u32) -> JsBatch
+    ensures { result ≡ no_batch status }
+{
+    JsBatch {
+        status,
+        done: 0,
+        at: 0,
+        want: 0,
+        end: 0,
     }
 }
 

@@ -15,10 +15,11 @@ mod settling;
 mod spelled;
 
 pub use answer::{
-    BAD_ARGUMENT, BAD_SIZE, DONE, JsAnswer, JsNumber, JsOrder, JsPlace, JsSize, JsTotals, JsTruth,
-    JsUse, JsWords, NO_MEMORY, NOT_UTF8, bad_argument, no_memory, not_utf8, of_batch, of_found,
-    of_join, of_number, of_order, of_place, of_reserve, of_table, of_text, of_words,
-    without_number, without_order, without_place, without_totals, without_truth, without_words,
+    BAD_ARGUMENT, BAD_SIZE, DONE, JsAnswer, JsBatch, JsNumber, JsOrder, JsPlace, JsSize, JsTotals,
+    JsTruth, JsUse, JsWords, NO_MEMORY, NO_STRING, NOT_UTF8, bad_argument, no_memory, not_utf8,
+    of_batch, of_found, of_join, of_number, of_order, of_place, of_reserve, of_table, of_text,
+    of_words, without_batch, without_number, without_order, without_place, without_totals,
+    without_truth, without_words,
 };
 pub use builder::{JsBuilder, of_decoded, status_of};
 pub use bytes::{JsBytes, of_bytes, unpaired_by, without_bytes};
