@@ -58,7 +58,7 @@ write_blocks b top x v = write_hollows b.hollow (stacked b.frames) top x v ∙ a
 frames_behind : {T : Type 0} (fs : List (CodeFrame T)) (f : CodeFrame T) → frames_of (fs ++ f ∷ []) ≡ frame_of f ∷ frames_of fs
 frames_behind fs f = ap (λ q. reverse q) (map-append frame_of fs (f ∷ [])) ∙ reverse-append (map frame_of fs) (frame_of f ∷ [])
 
-pub outsides_behind : {T : Type 0} (fs : List (CodeFrame T)) (f : CodeFrame T) → outsides_of (fs ++ f ∷ []) ≡ f.outside ∷ outsides_of fs
+outsides_behind : {T : Type 0} (fs : List (CodeFrame T)) (f : CodeFrame T) → outsides_of (fs ++ f ∷ []) ≡ f.outside ∷ outsides_of fs
 outsides_behind {T} fs f = ap (λ q. reverse q) (map-append (λ (g : CodeFrame T). g.outside) fs (f ∷ [])) ∙ reverse-append (map (λ (g : CodeFrame T). g.outside) fs) (f.outside ∷ [])
 
 pub stacked_behind : {T : Type 0} (fs : List (CodeFrame T)) (f : CodeFrame T) → stacked (fs ++ f ∷ []) ≡ frame_of f ∷ hollows f.outside (stacked fs)

@@ -1,14 +1,13 @@
 -- The blocks that were entered, in front of those that were left.
-use Rattle.eval_scopes.specs.Changes.{all_but_first, with_bound}
+use Rattle.eval_scopes.specs.Changes.{all_but_first}
 use Rattle.std.proofs.Common.{arith, ◌≡◌, ℕ, ◌+◌, ◌-◌, ◌<◌, ◌≤◌, zero, suc, true, false, List, [], ◌∷◌, ◌++◌, length, map, refl, ap, sym, ◌∙◌, subst, get_or, set, take, bytes_eq, reverse}
 use Rattle.std.specs.Prelude.{OnOk, OnErr, Result}
 use Rattle.std.proofs.lemmas.Slice.Eq.{bytes_eq-Decides}
-use Rattle.std.proofs.lemmas.List.{map-append, length-map, reverse-append}
 use Rattle.eval_scopes.specs.declared.binding_list.Binding.{Binding}
 use Rattle.eval_scopes.specs.declared.frames.Frame.{Frame as CodeFrame}
 use Rattle.eval_scopes.specs.Bindings.{Bound, BlockFrame, declare}
-use Rattle.eval_scopes.specs.Seen.{bound_of, bounds_of, frame_of, frames_of, outsides_of, frame_names, hollows, with_hollows, stacked, put, put_in, InBlock, IsOnly, IsTurn}
-use Rattle.eval_scopes.proofs.Hollows.{outsides_behind, stacked_behind, stacked_declared, stacked_same}
+use Rattle.eval_scopes.specs.Seen.{bounds_of, frame_of, frames_of, outsides_of, hollows, with_hollows, stacked, put_in, InBlock, IsOnly}
+use Rattle.eval_scopes.proofs.Hollows.{stacked_behind, stacked_declared, stacked_same}
 use Rattle.eval_scopes.proofs.Places.{take_split, declare_on, declare_kept}
 
 -- the first n of a list
@@ -130,53 +129,3 @@ only_one {T} (c ∷ []) b x l p k e =
     let m : c.constant ≡ false = ap (λ (q : Binding T). q.constant) (sym p) ∙ k in
     record { within = omega arith; again = λ v. cc (n, m) }
 only_one (c ∷ d ∷ bs) b x l p k e = absurd (omega (arith, l))
-
--- a turn of a `for`, and the next one in its place
-in_behind : {T : Type 0} (gs : List (CodeFrame T)) (g : CodeFrame T) → 0 < length g.bound → InBlock (gs ++ g ∷ []) (length gs) 0
-in_behind [] g l = l
-in_behind (f ∷ gs) g l = in_behind gs g l
-
-length_behind : {X : Type 0} (xs : List X) (y : X) → length (xs ++ y ∷ []) ≡ suc (length xs)
-length_behind [] y = refl
-length_behind (x ∷ xs) y = ap (λ q. suc q) (length_behind xs y)
-
-turn_place : {T : Type 0} (fs : List (CodeFrame T)) (x : List ℕ) (k : ℕ) → length fs ≡ suc k → (h : IsTurn fs x) → k ≡ length h.front
-turn_place fs x k l h = omega (arith, l, ap length h.split, length_behind h.front h.last)
-
-pub turn_some : {T : Type 0} (fs : List (CodeFrame T)) (x : List ℕ) → IsTurn fs x → 0 < length fs
-turn_some fs x h = omega (arith, ap length h.split, length_behind h.front h.last)
-
-pub turn_in : {T : Type 0} (fs : List (CodeFrame T)) (x : List ℕ) (k : ℕ) → length fs ≡ suc k → IsTurn fs x → InBlock fs k 0
-turn_in {T} fs x k l h =
-    let w : 0 < length h.last.bound = omega (arith, h.only.within, length-map h.last.bound bound_of) in
-    subst (λ (q : List (CodeFrame T)). InBlock q k 0) (sym h.split)
-    (subst (λ (q : ℕ). InBlock (h.front ++ h.last ∷ []) q 0) (sym (turn_place fs x k l h)) (in_behind h.front h.last w))
-
-put_last : {T : Type 0} (gs : List (BlockFrame T)) (g : BlockFrame T) (i : ℕ) (v : T) → put_in (gs ++ g ∷ []) (length gs) i v ≡ gs ++ with_bound g (put g.bound i v) ∷ []
-put_last [] g i v = refl
-put_last (f ∷ gs) g i v = ap (λ q. f ∷ q) (put_last gs g i v)
-
-abbrev pub turn_of : {T : Type 0} → List ℕ → T → BlockFrame T
-turn_of x v = record { names = []; bound = record { name = x; constant = false; value = v } ∷ [] }
-
-again_behind : {T : Type 0} (gs : List (CodeFrame T)) (g : CodeFrame T) (x : List ℕ) (v : T) → frame_names g ≡ [] → IsOnly (bounds_of g.bound) x →
-    with_hollows (outsides_of (gs ++ g ∷ [])) (reverse (put_in (map frame_of (gs ++ g ∷ [])) (length gs) 0 v)) ≡ turn_of x v ∷ all_but_first (stacked (gs ++ g ∷ []))
-again_behind {T} gs g x v n o =
-    let fs = map frame_of gs in
-    let put_one : BlockFrame T = with_bound (frame_of g) (put (bounds_of g.bound) 0 v) in
-    let one : put_one ≡ turn_of x v = cc (n, o.again v) in
-    let many : length gs ≡ length fs = sym (length-map gs frame_of) in
-    let puts : put_in (map frame_of (gs ++ g ∷ [])) (length gs) 0 v ≡ fs ++ put_one ∷ [] =
-    ap (λ q. put_in q (length gs) 0 v) (map-append frame_of gs (g ∷ []))
-    ∙ (ap (λ (q : ℕ). put_in (fs ++ frame_of g ∷ []) q 0 v) many ∙ put_last fs (frame_of g) 0 v) in
-    let turned : reverse (put_in (map frame_of (gs ++ g ∷ [])) (length gs) 0 v) ≡ put_one ∷ frames_of gs = ap reverse puts ∙ reverse-append fs (put_one ∷ []) in
-    ap (λ q. with_hollows q (reverse (put_in (map frame_of (gs ++ g ∷ [])) (length gs) 0 v))) (outsides_behind gs g)
-    ∙ (ap (λ q. with_hollows (g.outside ∷ outsides_of gs) q) turned
-    ∙ (ap (λ q. q ∷ hollows g.outside (stacked gs)) one ∙ sym (ap (λ q. turn_of x v ∷ all_but_first q) (stacked_behind gs g))))
-
-pub turn_again : {T : Type 0} (fs : List (CodeFrame T)) (x : List ℕ) (k : ℕ) (v : T) → length fs ≡ suc k → IsTurn fs x →
-    with_hollows (outsides_of fs) (reverse (put_in (map frame_of fs) k 0 v)) ≡ turn_of x v ∷ all_but_first (stacked fs)
-turn_again {T} fs x k v l h =
-    subst (λ (q : List (CodeFrame T)). with_hollows (outsides_of q) (reverse (put_in (map frame_of q) k 0 v)) ≡ turn_of x v ∷ all_but_first (stacked q)) (sym h.split)
-    (subst (λ (m : ℕ). with_hollows (outsides_of (h.front ++ h.last ∷ [])) (reverse (put_in (map frame_of (h.front ++ h.last ∷ [])) m 0 v)) ≡ turn_of x v ∷ all_but_first (stacked (h.front ++ h.last ∷ [])))
-    (sym (turn_place fs x k l h)) (again_behind h.front h.last x v h.names h.only))

@@ -1,6 +1,6 @@
 -- What the scope of the code denotes.
 use Rattle.eval_scopes.specs.Changes.{with_value, with_bound}
-use Rattle.std.specs.Prelude.{◌≡◌, ℕ, zero, suc, ◌<◌, length, List, [], ◌∷◌, ◌++◌, false, map, reverse, Option}
+use Rattle.std.specs.Prelude.{◌≡◌, ℕ, zero, suc, ◌<◌, length, List, [], ◌∷◌, false, map, reverse, Option}
 use Rattle.std.specs.Prelude.{slice_get, option_and_then, unwrap_or}
 use Rattle.eval_scopes.specs.declared.binding_list.Binding.{Binding}
 use Rattle.eval_scopes.specs.declared.frames.Frame.{Frame as CodeFrame}
@@ -65,14 +65,6 @@ pub record IsAt {T : Type 0} (bs : List (Bound T)) (x : List ℕ) (i : ℕ) : Ty
 pub record IsOnly {T : Type 0} (bs : List (Bound T)) (x : List ℕ) : Type 0 where
   pub within : 0 < length bs
   pub again : (v : T) → put bs 0 v ≡ record { name = x; constant = false; value = v } ∷ []
-
--- the innermost frame is a turn of a `for` over this name
-pub record IsTurn {T : Type 0} (fs : List (CodeFrame T)) (x : List ℕ) : Type 0 where
-  pub front : List (CodeFrame T)
-  pub last : CodeFrame T
-  pub split : fs ≡ front ++ last ∷ []
-  pub names : frame_names last ≡ []
-  pub only : IsOnly (bounds_of last.bound) x
 
 -- a binding that was left at a place has this name
 abbrev pub IsLeft : {T : Type 0} → List (Binding T) → ℕ → List ℕ → Type 0

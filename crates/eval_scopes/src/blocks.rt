@@ -138,23 +138,6 @@ impl<'a, T: Drop> Blocks<'a, T> {
         Ok(())
     }
 
-    // The next turn of a `for`, in the place of the innermost block; on refusal that is only left.
-    #[inline(always)]
-    pub(crate) fn next_turn(&mut self, alloc: Global, name: &Name, value: T) -> Result<(), NoMemory>
-        ensures entered { OnOk result (blocks_of self.new ≡ record {
-          names = [];
-          bound = record { name = name.now; constant = false; value = value } ∷ [];
-        } ∷ all_but_first (blocks_of self.old)) }
-        ensures refused { OnErr result (blocks_of self.new ≡ all_but_first (blocks_of self.old)) }
-    {
-        if self.hollow == 0 && self.frames.is_turn_of(name) {
-            self.frames.set_turn(name, value);
-            return Ok(());
-        }
-        self.leave();
-        self.enter_turn(alloc, name, value)
-    }
-
     // The innermost block is left.
     pub(crate) fn leave(&mut self)
         ensures { blocks_of self.new ≡ all_but_first (blocks_of self.old) }

@@ -3,7 +3,7 @@
 ghost use Rattle.eval_scopes.specs.Changes.{all_but_first};
 ghost use Rattle.std.specs.Prelude.{◌≡◌, ◌<◌, ◌≤◌, ◌+◌, ◌∷◌, [], true, false, length, map, reverse, slice_get, take, unwrap_or, ℕ, List, Some, OnOk, OnErr};
 ghost use Rattle.eval_scopes.specs.Bindings.{Bound, declare};
-ghost use Rattle.eval_scopes.specs.Seen.{bounds_of, frame_names, frame_of, outsides_of, hollows, with_hollows, stacked, put_in, InBlock, IsOnly, IsTurn};
+ghost use Rattle.eval_scopes.specs.Seen.{bounds_of, frame_names, frame_of, outsides_of, hollows, with_hollows, stacked, put_in, InBlock, IsOnly};
 ghost use Rattle.eval_scopes.specs.declared.frames.Frame.{Frame as CodeFrame};
 ghost use Rattle.eval_tree.specs.Keys.{key_of};
 ghost use Rattle.eval_scopes.specs.Marks.{mark_number};
@@ -188,31 +188,6 @@ impl<'a, T: Drop> Frames<'a, T> {
         Ok(())
     }
 
-    // Whether the innermost one is a turn of a `for` over this name.
-    #[inline(always)]
-    pub(crate) fn is_turn_of(&self, name: &Name) -> bool
-        ensures { result ≡ true → IsTurn self.now name.now }
-    {
-        let frames = self.as_slice();
-        let many = frames.len();
-        if many == 0 {
-            return false;
-        }
-        frames[many - 1].is_turn_of(name)
-    }
-
-    // Another value for the innermost one, a turn of a `for`.
-    #[inline(always)]
-    pub(crate) fn set_turn(&mut self, name: &Name, value: T)
-        requires { IsTurn self.old name.now }
-        ensures { stacked self.new ≡ record {
-          names = [];
-          bound = record { name = name.now; constant = false; value = value } ∷ [];
-        } ∷ all_but_first (stacked self.old) }
-    {
-        set_turn_at(&mut self.all, self.entered, name, value)
-    }
-
     // The innermost block is left: how many without a frame are right outside it.
     pub(crate) fn leave(&mut self) -> usize
         ensures { hollows result (stacked self.new) ≡ all_but_first (stacked self.old) }
@@ -235,22 +210,6 @@ fn set_in_block<T: Drop>(blocks: &mut Vec<Frame<T>>, block: usize, index: usize,
         → AreStarts counts (take n blocks.new.items) }
 {
     blocks[block].bound.set(index, value)
-}
-
-// Another value for a turn of a `for`, the last of so many blocks.
-#[inline(always)]
-fn set_turn_at<T: Drop>(blocks: &mut Vec<Frame<T>>, entered: usize, _name: &Name, value: T)
-    requires within { entered ≤ length blocks.old.items }
-    requires turn { IsTurn (take entered blocks.old.items) _name.now }
-    ensures turn { stacked (take entered blocks.new.items) ≡ record {
-      names = [];
-      bound = record { name = _name.now; constant = false; value = value } ∷ [];
-    } ∷ all_but_first (stacked (take entered blocks.old.items)) }
-    ensures as_many { length blocks.new.items ≡ length blocks.old.items }
-    ensures starts { (counts : List ℕ) (n : ℕ) → AreStarts counts (take n blocks.old.items)
-        → AreStarts counts (take n blocks.new.items) }
-{
-    set_in_block(blocks, entered - 1, 0, value)
 }
 
 // One more binding of a block, the last one that was entered.

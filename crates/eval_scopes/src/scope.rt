@@ -167,17 +167,6 @@ impl<'a, T: Drop> Scope<'a, T> {
         self.blocks.enter_turn(alloc, name, value)
     }
 
-    /// Enters the next turn of a `for`, with its name bound, in the place of the innermost block; on
-    /// refusal that block is only left. After a turn of the same name, it allocates nothing.
-    #[inline(always)]
-    pub fn next_turn(&mut self, alloc: Global, name: &Name, value: T) -> Result<(), NoMemory>
-        ensures entered { OnOk result (bindings_of self.new
-            ≡ turned name.now value (outer (bindings_of self.old))) }
-        ensures refused { OnErr result (bindings_of self.new ≡ outer (bindings_of self.old)) }
-    {
-        self.blocks.next_turn(alloc, name, value)
-    }
-
     /// Leaves the innermost block.
     pub fn leave(&mut self)
         ensures { bindings_of self.new ≡ outer (bindings_of self.old) }

@@ -28,7 +28,7 @@ use Rattle.eval_values.proofs.Still.{seen_still}
 use Rattle.eval_scopes.specs.Bindings.{Bindings, meant, entered, turned, outer}
 use Rattle.js_eval.specs.declared.context.Context.{Context}
 use Rattle.js_eval.specs.Expression.{EvalContext, read_out, expr_out}
-use Rattle.js_eval.specs.Script.{Flow, on_value, with_bindings, stmt_flow, stmts_flow, block_flow, arms_flow, turn_flow, turns}
+use Rattle.js_eval.specs.Script.{Flow, on_value, with_bindings, stmt_flow, stmts_flow, block_flow, arms_flow, turn_flow}
 use Rattle.js_eval.specs.Seen.{ContextFine, context_bindings, scope_of}
 use Rattle.js_eval.specs.Flows.{FollowsFlow, told}
 use Rattle.js_eval.proofs.Stays.{context_bindings_still, scope_still}
@@ -118,27 +118,15 @@ module _ {F R : Type 0} (name : R → ℕ) where
       (left_went a b x y r bs cs (stmts_flow (stmts_tree block.body.items) (with_bindings (scope_of a name k) (entered block.names (context_bindings a name k)))) o
       (subst (λ (s : EvalContext). FollowsFlow a b x y r bs (stmts_flow (stmts_tree block.body.items) s)) same w))
 
-  -- a turn in a block that was entered for it, over the bindings around that
   pub turn_went : (a b : State F) (x y : List ℕ) (n : List ℕ) (i : ℕ) (t : BlockTree)
-      (k j : Context R) (v : Val) (r : Result (Unit {0}) Stop) (bs ds : Bindings Val) → j.literals ≡ k.literals → v ≡ number (Int (pos i)) →
-      context_bindings a name j ≡ turned n v ds → FollowsFlow a b x y r bs (block_flow t (scope_of a name j)) →
-      FollowsFlow a b x y r (outer bs) (turn_flow n t (scope_of a name k) i ds)
-  turn_went a b x y n i t k j v r bs ds l p e w =
-      let e' : context_bindings a name j ≡ turned n (number (Int (pos i))) ds = subst (λ (q : Val). context_bindings a name j ≡ turned n q ds) p e in
-      let same : scope_of a name j ≡ with_bindings (scope_of a name k) (turned n (number (Int (pos i))) ds) = cc (l, e') in
-      left_went a b x y r bs (outer bs) (block_flow t (with_bindings (scope_of a name k) (turned n (number (Int (pos i))) ds))) refl
+      (k j : Context R) (v : Val) (r : Result (Unit {0}) Stop) (bs cs : Bindings Val) → j.literals ≡ k.literals → v ≡ number (Int (pos i)) →
+      context_bindings a name j ≡ turned n v (context_bindings a name k) → FollowsFlow a b x y r bs (block_flow t (scope_of a name j)) → cs ≡
+      outer bs → FollowsFlow a b x y r cs (turn_flow n t (scope_of a name k) i (context_bindings a name k))
+  turn_went a b x y n i t k j v r bs cs l p e w o =
+      let e' : context_bindings a name j ≡ turned n (number (Int (pos i))) (context_bindings a name k) = subst (λ (q : Val). context_bindings a name j ≡ turned n q (context_bindings a name k)) p e in
+      let same : scope_of a name j ≡ with_bindings (scope_of a name k) (turned n (number (Int (pos i))) (context_bindings a name k)) = cc (l, e') in
+      left_went a b x y r bs cs (block_flow t (with_bindings (scope_of a name k) (turned n (number (Int (pos i))) (context_bindings a name k)))) o
       (subst (λ (s : EvalContext). FollowsFlow a b x y r bs (block_flow t s)) same w)
-
-  -- all turns, in a block that was entered before the first
-  pub turns_went : (a b : State F) (x y : List ℕ) (n : List ℕ) (m : ℕ) (t : BlockTree) (k j : Context R) (v : Val) (r : Result (Unit {0}) Stop)
-      (bs : Bindings Val) → j.literals ≡ k.literals → context_bindings a name j ≡ turned n v (context_bindings a name k) → FollowsFlow a b x y r bs
-      (turns (turn_flow n t (scope_of a name j)) 0 m (outer (context_bindings a name j))) → FollowsFlow a b x y r bs
-      (turns (turn_flow n t (scope_of a name k)) 0 m (context_bindings a name k))
-  turns_went a b x y n m t k j v r bs l e w =
-      let same : scope_of a name j ≡ with_bindings (scope_of a name k) (context_bindings a name j) = cc l in
-      let out : outer (context_bindings a name j) ≡ context_bindings a name k = ap outer e in
-      subst (λ (q : Bindings Val). FollowsFlow a b x y r bs (turns (turn_flow n t (scope_of a name k)) 0 m q)) out
-      (subst (λ (s : EvalContext). FollowsFlow a b x y r bs (turns (turn_flow n t s) 0 m (outer (context_bindings a name j)))) same w)
 
   -- what a scope is for the statements after others, in a store that grew
   pub scope_after : (a b : State F) (k i : Context R) → Grows a b → ContextFine a name k → i.literals ≡ k.literals → scope_of b name i ≡ with_bindings (scope_of a name k) (context_bindings b name i)
@@ -218,7 +206,8 @@ module _ {F R : Type 0} (name : R → ℕ) where
 
   -- a turn in a store that grew since the first one
   pub turn_after : (a b c : State F) (x y : List ℕ) (n : List ℕ) (i : ℕ) (t : BlockTree)
-      (k j : Context R) (r : Result (Unit {0}) Stop) (cs ds : Bindings Val) → Grows a b → ContextFine a name k → j.literals ≡ k.literals →
-      FollowsFlow b c x y r cs (turn_flow n t (scope_of b name j) i ds) → FollowsFlow b c x y r cs (turn_flow n t (scope_of a name k) i ds)
-  turn_after a b c x y n i t k j r cs ds g h l w =
-      subst (λ (s : EvalContext). FollowsFlow b c x y r cs (turn_flow n t s i ds)) (scope_after a b k j g h l) w
+      (k j : Context R) (r : Result (Unit {0}) Stop) (cs : Bindings Val) → Grows a b → ContextFine a name k → j.literals ≡ k.literals →
+      FollowsFlow b c x y r cs (turn_flow n t (scope_of b name j) i (context_bindings b name j)) → FollowsFlow b c x y r cs
+      (turn_flow n t (scope_of a name k) i (context_bindings b name j))
+  turn_after a b c x y n i t k j r cs g h l w =
+      subst (λ (s : EvalContext). FollowsFlow b c x y r cs (turn_flow n t s i (context_bindings b name j))) (scope_after a b k j g h l) w

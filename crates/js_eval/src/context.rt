@@ -212,30 +212,6 @@ pub fn enter_turn<S: Strings>(
     }
 }
 
-/// The next turn of a `for` is entered in the place of the innermost block; on refusal that is only left.
-#[inline(always)]
-pub fn next_turn<S: Strings>(
-    alloc: Global,
-    _store: &S,
-    context: &mut Context<S::Ref>,
-    name: &Name,
-    value: Value<S::Ref>,
-) -> Result<(), Stop>
-    requires context { ContextFine (S.state _store.now) S.number context.old }
-    requires value { IsFine (S.state _store.now) S.number value }
-    ensures context { ContextFine (S.state _store.now) S.number context.new }
-    ensures literals { context.new.literals ≡ context.old.literals }
-    ensures entered { OnOk result (context_bindings (S.state _store.now) S.number context.new
-        ≡ turned name.now (seen (S.state _store.now) S.number value)
-        (outer (context_bindings (S.state _store.now) S.number context.old))) }
-    ensures fault { IfErr result (λ f. f ≡ Stop.Store StoreFault.Memory) }
-{
-    match context.scope.next_turn(alloc, name, value) {
-        Ok(()) => Ok(()),
-        Err(_) => Err(Stop::Store(StoreFault::Memory)),
-    }
-}
-
 /// The innermost block is left.
 #[inline(always)]
 pub fn leave<S: Strings>(_store: &S, context: &mut Context<S::Ref>)

@@ -5,7 +5,7 @@ ghost use Rattle.js_store.specs.State.{Grows};
 ghost use Rattle.eval_tree.specs.Tree;
 ghost use Rattle.eval_tree.specs.Tree.{expr_tree, exprs_tree, init_tree, stmt_tree, stmts_tree, block_tree, arm_tree, arms as arms_tree, tree_of};
 ghost use Rattle.std.specs.Prelude.{map};
-ghost use Rattle.eval_scopes.specs.Bindings.{Bindings, outer};
+ghost use Rattle.eval_scopes.specs.Bindings.{Bindings};
 ghost use Rattle.eval_scopes.specs.Seen.{IsPlaceIn, IsPlace, bounds_of};
 ghost use Rattle.js_item.specs.Seen.{Val, seen};
 ghost use Rattle.js_item.specs.Contents.{number};
@@ -22,7 +22,7 @@ ghost use Rattle.js_eval.specs.Evaluates.{Evaluates};
 
 use crate::compared::{holds_of_two, side, two_sides};
 use crate::context::{
-    Context, assign, assign_at, declare, enter, enter_turn, keep_room, leave, next_turn, value_at,
+    Context, assign, assign_at, declare, enter, enter_turn, keep_room, leave, value_at,
 };
 use crate::ending::End;
 use crate::env::Env;
@@ -208,7 +208,7 @@ fn arms<'a, S: Strings>(
     block(alloc, store, context, lines, rest)
 }
 
-// The turns of a `for`, in a block that each of them takes over from the one before.
+// The turns of a `for`.
 #[cycle(stmt)]
 fn turns<'a, S: Strings>(
     alloc: Global,
@@ -229,41 +229,13 @@ fn turns<'a, S: Strings>(
         (scope_of (S.state store.old) S.number context.old)) 0 bound
         (context_bindings (S.state store.old) S.number context.old)) }
 {
-    let count = turn_number(store, 0);
-    enter_turn(alloc, store, context, name, count)?;
-    let result = turns_within(alloc, store, context, lines, name, bound, body);
-    leave(store, context);
-    result
-}
-
-// The same within that block.
-#[cycle(stmt)]
-fn turns_within<'a, S: Strings>(
-    alloc: Global,
-    store: &mut S,
-    context: &mut Context<'a, S::Ref>,
-    lines: &mut Lines,
-    name: &'a Name,
-    bound: u32,
-    body: &'a Block,
-) -> Result<(), Stop>
-    requires { ContextFine (S.state store.old) S.number context.old }
-    ensures grows { Grows (S.state store.old) (S.state store.new) }
-    ensures context { ContextFine (S.state store.new) S.number context.new }
-    ensures literals { context.new.literals ≡ context.old.literals }
-    ensures went { FollowsFlow (S.state store.old) (S.state store.new) lines.old lines.new result
-        (outer (context_bindings (S.state store.new) S.number context.new))
-        (turns_flow (turn_flow name.now (block_tree body.now)
-        (scope_of (S.state store.old) S.number context.old)) 0 bound
-        (outer (context_bindings (S.state store.old) S.number context.old))) }
-{
     for i in 0..bound {
         turn(alloc, store, context, lines, name, i, body)?;
     }
     Ok(())
 }
 
-// One turn: a block with the name bound, in the place of the innermost one, and then the body.
+// One turn: a block with the name bound, and then the body.
 #[cycle(stmt)]
 fn turn<'a, S: Strings>(
     alloc: Global,
@@ -279,13 +251,15 @@ fn turn<'a, S: Strings>(
     ensures context { ContextFine (S.state store.new) S.number context.new }
     ensures literals { context.new.literals ≡ context.old.literals }
     ensures went { FollowsFlow (S.state store.old) (S.state store.new) lines.old lines.new result
-        (outer (context_bindings (S.state store.new) S.number context.new))
+        (context_bindings (S.state store.new) S.number context.new)
         (turn_flow name.now (block_tree body.now) (scope_of (S.state store.old) S.number context.old) i
-        (outer (context_bindings (S.state store.old) S.number context.old))) }
+        (context_bindings (S.state store.old) S.number context.old)) }
 {
     let count = turn_number(store, i);
-    next_turn(alloc, store, context, name, count)?;
-    block(alloc, store, context, lines, body)
+    enter_turn(alloc, store, context, name, count)?;
+    let result = block(alloc, store, context, lines, body);
+    leave(store, context);
+    result
 }
 
 // The number of a turn.

@@ -4,14 +4,13 @@ use Rattle.std.proofs.lemmas.Result.{err_from_is_err_and}
 use Rattle.js_store.proofs.Laws.{grows_trans}
 use Rattle.eval_tree.specs.Tree.{block_tree}
 use Rattle.eval_tree.proofs.Trees.{tree_of_block, tree_of_let, tree_of_const, tree_of_assign, tree_of_append, tree_of_print, tree_of_if, tree_of_for}
-use Rattle.eval_scopes.specs.Bindings.{Bindings, outer}
-use Rattle.js_item.specs.Seen.{Val, seen}
+use Rattle.js_item.specs.Seen.{seen}
 use Rattle.js_eval.specs.Script.{Flow, block_flow, turn_flow, turns}
 use Rattle.js_eval.specs.Seen.{context_bindings, scope_of}
 use Rattle.js_eval.specs.Flows.{FollowsFlow}
 use Rattle.js_eval.proofs.Assigned.{memory_went}
 use Rattle.js_eval.proofs.Flows.{leaves_went, turns_none, turns_turn, turns_halt}
-use Rattle.js_eval.proofs.Statements.{block_went, turn_went, turns_went, turn_after, body_turn, body_halt, arms_turn, arms_take, arms_halt}
+use Rattle.js_eval.proofs.Statements.{block_went, turn_went, turn_after, body_turn, body_halt, arms_turn, arms_take, arms_halt}
 use Rattle.js_eval.proofs.script.+stmt.Goals as goal
 
 -- a block
@@ -37,26 +36,26 @@ block-returns-clause-went g t c =
     (context_bindings b number r.new.context) (context_bindings b number c.leave.new.context) e.literals e.entered (rw d at w) c.leave.ensures.left
 
 -- a turn
-pub turn-returns-in_err-next_turn-clause-went : goal.turn-returns-in_err-next_turn-clause-went
-turn-returns-in_err-next_turn-clause-went g t c =
+pub turn-returns-in_err-enter_turn-clause-went : goal.turn-returns-in_err-enter_turn-clause-went
+turn-returns-in_err-enter_turn-clause-went g t c =
     let number = g.S.Strings.number in
     let a = g.S.Strings.state c.args.store.now in
     let p = err_from_is_err_and c.from_residual.result c.from_residual.ensures.1 in
-    rw (p.1, p.2, c.in_err-next_turn.ensures.fault) (memory_went a number c.args.lines.now
-    (outer (context_bindings a number c.next_turn.new.context)) (turn_flow c.args.name.now (block_tree c.args.body.now)
-    (scope_of a number c.args.context.now) c.args.i (outer (context_bindings a number c.args.context.now))))
+    rw (p.1, p.2, c.in_err-enter_turn.ensures.fault) (memory_went a number c.args.lines.now
+    (context_bindings a number c.enter_turn.new.context) (turn_flow c.args.name.now (block_tree c.args.body.now)
+    (scope_of a number c.args.context.now) c.args.i (context_bindings a number c.args.context.now)))
 
 pub turn-returns-clause-went : goal.turn-returns-clause-went
 turn-returns-clause-went g t c =
     let state = g.S.Strings.state in
     let number = g.S.Strings.number in
     let a = state c.args.store.now in
-    let r = c.block in
+    let r = c.block-result in
     let b = state r.new.store in
-    let e = c.in_ok-next_turn.ensures in
+    let e = c.in_ok-enter_turn.ensures in
     turn_went number a b c.args.lines.now r.new.lines c.args.name.now c.args.i (block_tree c.args.body.now) c.args.context.now
-    c.next_turn.new.context (seen a number c.turn_number-count.result) r.result (context_bindings b number r.new.context)
-    (outer (context_bindings a number c.args.context.now)) e.literals c.turn_number-count.ensures.seen e.entered r.ensures.went
+    c.enter_turn.new.context (seen a number c.turn_number-count.result) r.result (context_bindings b number r.new.context)
+    (context_bindings b number c.leave.new.context) e.literals c.turn_number-count.ensures.seen e.entered r.ensures.went c.leave.ensures.left
 
 -- the kinds of statement
 pub statement-returns-in-Block-clause-went : goal.statement-returns-in-Block-clause-went
@@ -133,31 +132,8 @@ statements-returns-clause-went g t c =
     (rw past (leaves_went (state l.store) l.lines (context_bindings (state l.store) number l.context)))
 
 -- the turns of a `for`
-pub turns-returns-in_err-enter_turn-clause-went : goal.turns-returns-in_err-enter_turn-clause-went
-turns-returns-in_err-enter_turn-clause-went g t c =
-    let number = g.S.Strings.number in
-    let a = g.S.Strings.state c.args.store.now in
-    let bs = context_bindings a number c.args.context.now in
-    let p = err_from_is_err_and c.from_residual.result c.from_residual.ensures.1 in
-    rw (p.1, p.2, c.in_err-enter_turn.ensures.fault) (memory_went a number c.args.lines.now
-    (context_bindings a number c.enter_turn.new.context)
-    (turns (turn_flow c.args.name.now (block_tree c.args.body.now) (scope_of a number c.args.context.now)) 0 c.args.bound bs))
-
-pub turns-returns-clause-went : goal.turns-returns-clause-went
-turns-returns-clause-went g t c =
-    let state = g.S.Strings.state in
-    let number = g.S.Strings.number in
-    let a = state c.args.store.now in
-    let r = c.turns_within-result in
-    let b = state r.new.store in
-    let e = c.in_ok-enter_turn.ensures in
-    turns_went number a b c.args.lines.now r.new.lines c.args.name.now c.args.bound (block_tree c.args.body.now) c.args.context.now
-    c.enter_turn.new.context (seen a number c.turn_number-count.result) r.result (context_bindings b number c.leave.new.context) e.literals e.entered
-    (subst (λ (q : Bindings Val). FollowsFlow a b c.args.lines.now r.new.lines r.result q (turns (turn_flow c.args.name.now (block_tree c.args.body.now)
-    (scope_of a number c.enter_turn.new.context)) 0 c.args.bound (outer (context_bindings a number c.enter_turn.new.context)))) (sym c.leave.ensures.left) r.ensures.went)
-
-pub turns_within-returns-in_err-turn-clause-went : goal.turns_within-returns-in_err-turn-clause-went
-turns_within-returns-in_err-turn-clause-went g t c =
+pub turns-returns-in_err-turn-clause-went : goal.turns-returns-in_err-turn-clause-went
+turns-returns-in_err-turn-clause-went g t c =
     let state = g.S.Strings.state in
     let number = g.S.Strings.number in
     let p = err_from_is_err_and c.from_residual.result c.from_residual.ensures.1 in
@@ -166,17 +142,17 @@ turns_within-returns-in_err-turn-clause-went g t c =
     let i = l.invariant in
     let a = state c.args.store.now in
     let b = state l.store in
-    let bs = outer (context_bindings (state n.store) number n.context) in
+    let bs = context_bindings (state n.store) number n.context in
     let first = scope_of a number c.args.context.now in
     let left : c.args.bound - l.i ≡ suc (c.args.bound - (l.i + 1)) = omega arith in
     rw (p.1, p.2) (i.completes (state n.store) n.lines (Err c.in_err-turn.field-0.0) bs
     (turns_halt b (state n.store) l.lines n.lines (turn_flow c.args.name.now (block_tree c.args.body.now) first) l.i
-    (c.args.bound - (l.i + 1)) (c.args.bound - l.i) c.in_err-turn.field-0.0 (outer (context_bindings b number l.context)) bs left
+    (c.args.bound - (l.i + 1)) (c.args.bound - l.i) c.in_err-turn.field-0.0 (context_bindings b number l.context) bs left
     (turn_after number a b (state n.store) l.lines n.lines c.args.name.now l.i (block_tree c.args.body.now) c.args.context.now l.context
-    (Err c.in_err-turn.field-0.0) bs (outer (context_bindings b number l.context)) i.grows c.requires i.literals c.in_err-turn.ensures.went)))
+    (Err c.in_err-turn.field-0.0) bs i.grows c.requires i.literals c.in_err-turn.ensures.went)))
 
-pub turns_within-loop-i-preserved : goal.turns_within-loop-i-preserved
-turns_within-loop-i-preserved g t c =
+pub turns-loop-i-preserved : goal.turns-loop-i-preserved
+turns-loop-i-preserved g t c =
     let state = g.S.Strings.state in
     let number = g.S.Strings.number in
     let l = c.loop-i in
@@ -185,7 +161,7 @@ turns_within-loop-i-preserved g t c =
     let e = c.in_ok-turn.ensures in
     let a = state c.args.store.now in
     let b = state l.store in
-    let bs = outer (context_bindings (state n.store) number n.context) in
+    let bs = context_bindings (state n.store) number n.context in
     let first = scope_of a number c.args.context.now in
     let left : c.args.bound - l.i ≡ suc (c.args.bound - (l.i + 1)) = omega arith in
     record {
@@ -194,17 +170,17 @@ turns_within-loop-i-preserved g t c =
       literals = e.literals ∙ i.literals;
       completes = λ d z r cs w. i.completes d z r cs
           (turns_turn b (state n.store) d l.lines n.lines z (turn_flow c.args.name.now (block_tree c.args.body.now) first) l.i
-          (c.args.bound - (l.i + 1)) (c.args.bound - l.i) r (outer (context_bindings b number l.context)) bs cs left
-          (turn_after number a b (state n.store) l.lines n.lines c.args.name.now l.i (block_tree c.args.body.now) c.args.context.now l.context (Ok tt) bs (outer (context_bindings b number l.context)) i.grows c.requires i.literals e.went) w);
+          (c.args.bound - (l.i + 1)) (c.args.bound - l.i) r (context_bindings b number l.context) bs cs left
+          (turn_after number a b (state n.store) l.lines n.lines c.args.name.now l.i (block_tree c.args.body.now) c.args.context.now l.context (Ok tt) bs i.grows c.requires i.literals e.went) w);
     }
 
-pub turns_within-returns-clause-went : goal.turns_within-returns-clause-went
-turns_within-returns-clause-went g t c =
+pub turns-returns-clause-went : goal.turns-returns-clause-went
+turns-returns-clause-went g t c =
     let state = g.S.Strings.state in
     let number = g.S.Strings.number in
     let l = c.loop-i in
     let b = state l.store in
-    let bs = outer (context_bindings b number l.context) in
+    let bs = context_bindings b number l.context in
     let go = turn_flow c.args.name.now (block_tree c.args.body.now) (scope_of (state c.args.store.now) number c.args.context.now) in
     let none : c.args.bound - l.i ≡ 0 = omega arith in
     l.invariant.completes b l.lines (Ok tt) bs
