@@ -224,13 +224,13 @@ public:
   }
   answer<string> from(literal text) { return from(text.units); }
   answer<string> from_latin1(std::string_view bytes) {
-    return given(made<string>(jsstr_from_latin1(handle(), data(bytes), bytes.size())));
+    return given(made<string>(jsstr_from_bytes(handle(), JSSTR_LATIN1, data(bytes), bytes.size())));
   }
   answer<string> from_utf8(std::string_view bytes) {
-    return given(made<string>(jsstr_from_utf8(handle(), data(bytes), bytes.size())));
+    return given(made<string>(jsstr_from_bytes(handle(), JSSTR_UTF8, data(bytes), bytes.size())));
   }
   answer<string> from_wtf8(std::string_view bytes) {
-    return given(made<string>(jsstr_from_wtf8(handle(), data(bytes), bytes.size())));
+    return given(made<string>(jsstr_from_bytes(handle(), JSSTR_WTF8, data(bytes), bytes.size())));
   }
 
   answer<string> concat(string a, string b) { return given(made<string>(jsstr_concat(handle(), a.id(), b.id()))); }
@@ -289,16 +289,16 @@ public:
   }
   answer<bool> equal(string s, literal text) { return equal(s, text.units); }
   answer<int> compare_latin1(string s, std::string_view bytes) {
-    return given(order(jsstr_compare_latin1(handle(), s.id(), data(bytes), bytes.size())));
+    return given(order(jsstr_compare_bytes(handle(), s.id(), JSSTR_LATIN1, data(bytes), bytes.size())));
   }
   answer<int> compare_utf8(string s, std::string_view bytes) {
-    return given(order(jsstr_compare_utf8(handle(), s.id(), data(bytes), bytes.size())));
+    return given(order(jsstr_compare_bytes(handle(), s.id(), JSSTR_UTF8, data(bytes), bytes.size())));
   }
   answer<bool> equal_latin1(string s, std::string_view bytes) {
-    return given(truth(jsstr_equals_latin1(handle(), s.id(), data(bytes), bytes.size())));
+    return given(truth(jsstr_equals_bytes(handle(), s.id(), JSSTR_LATIN1, data(bytes), bytes.size())));
   }
   answer<bool> equal_utf8(string s, std::string_view bytes) {
-    return given(truth(jsstr_equals_utf8(handle(), s.id(), data(bytes), bytes.size())));
+    return given(truth(jsstr_equals_bytes(handle(), s.id(), JSSTR_UTF8, data(bytes), bytes.size())));
   }
   answer<bool> starts_with(string hay, string needle, std::uint32_t at = 0) {
     return given(truth(jsstr_starts_with(handle(), hay.id(), needle.id(), at)));
@@ -319,13 +319,13 @@ public:
   }
   answer<key> intern(literal text) { return intern(text.units); }
   answer<key> intern_latin1(std::string_view bytes) {
-    return given(made<key>(jsstr_intern_latin1(handle(), data(bytes), bytes.size())));
+    return given(made<key>(jsstr_intern_bytes(handle(), JSSTR_LATIN1, data(bytes), bytes.size())));
   }
   answer<key> intern_utf8(std::string_view bytes) {
-    return given(made<key>(jsstr_intern_utf8(handle(), data(bytes), bytes.size())));
+    return given(made<key>(jsstr_intern_bytes(handle(), JSSTR_UTF8, data(bytes), bytes.size())));
   }
   answer<key> intern_wtf8(std::string_view bytes) {
-    return given(made<key>(jsstr_intern_wtf8(handle(), data(bytes), bytes.size())));
+    return given(made<key>(jsstr_intern_bytes(handle(), JSSTR_WTF8, data(bytes), bytes.size())));
   }
 
   /// The keys of many lists of units in one call. They lie one behind another, and number k ends before
@@ -344,13 +344,13 @@ public:
   }
   answer<std::optional<key>> find(literal text) { return find(text.units); }
   answer<std::optional<key>> find_latin1(std::string_view bytes) {
-    return given(found(jsstr_find_latin1(handle(), data(bytes), bytes.size())));
+    return given(found(jsstr_find_bytes(handle(), JSSTR_LATIN1, data(bytes), bytes.size())));
   }
   answer<std::optional<key>> find_utf8(std::string_view bytes) {
-    return given(found(jsstr_find_utf8(handle(), data(bytes), bytes.size())));
+    return given(found(jsstr_find_bytes(handle(), JSSTR_UTF8, data(bytes), bytes.size())));
   }
   answer<std::optional<key>> find_wtf8(std::string_view bytes) {
-    return given(found(jsstr_find_wtf8(handle(), data(bytes), bytes.size())));
+    return given(found(jsstr_find_bytes(handle(), JSSTR_WTF8, data(bytes), bytes.size())));
   }
 
   /// The slot of the string table that a key is in. An agent of the same heap that gets this number adopts the key.
@@ -464,15 +464,11 @@ private:
   }
 
   result<std::u16string> units_of(string s) {
-    std::uint16_t none = 0;
-    std::u16string out;
-    jsstr_bytes answer = jsstr_read_all(handle(), s.id(), &none, 0);
-    if (answer.status == JSSTR_NO_ROOM) {
-      out.resize(answer.size);
-      answer = jsstr_read_all(handle(), s.id(), reinterpret_cast<std::uint16_t *>(out.data()), out.size());
-    }
-    if (answer.status != JSSTR_DONE) return refused<std::u16string>(answer.status);
-    return out;
+    const jsstr_number length = jsstr_length(handle(), s.id());
+    if (length.status != JSSTR_DONE) return refused<std::u16string>(length.status);
+    std::u16string out(length.value, u'\0');
+    const std::uint32_t code = jsstr_read(handle(), s.id(), 0, reinterpret_cast<std::uint16_t *>(out.data()), out.size());
+    return code == JSSTR_DONE ? result<std::u16string>(std::move(out)) : refused<std::u16string>(code);
   }
 
   // The bytes that a call writes, whose number it says where there is no room.
@@ -507,13 +503,13 @@ public:
   }
   answer<nothing> append(literal of) { return append(of.units); }
   answer<nothing> append_latin1(std::string_view bytes) {
-    return agent::given(agent::done(jsstr_build_latin1(&text, agent::data(bytes), bytes.size())));
+    return agent::given(did(jsstr_build_bytes(&text, JSSTR_LATIN1, agent::data(bytes), bytes.size())));
   }
   answer<nothing> append_utf8(std::string_view bytes) {
-    return agent::given(did(jsstr_build_utf8(&text, agent::data(bytes), bytes.size())));
+    return agent::given(did(jsstr_build_bytes(&text, JSSTR_UTF8, agent::data(bytes), bytes.size())));
   }
   answer<nothing> append_wtf8(std::string_view bytes) {
-    return agent::given(did(jsstr_build_wtf8(&text, agent::data(bytes), bytes.size())));
+    return agent::given(did(jsstr_build_bytes(&text, JSSTR_WTF8, agent::data(bytes), bytes.size())));
   }
 
   /// The units of a string of this agent.
