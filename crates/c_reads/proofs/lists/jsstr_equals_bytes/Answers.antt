@@ -11,7 +11,7 @@ use Rattle.c_steps.proofs.Decoded.{not_all}
 use Rattle.c_reads.proofs.lists.jsstr_equals_bytes.Goals as goal
 
 pub returns-in-Ok-clause-compares : goal.returns-in-Ok-clause-compares
-returns-in-Ok-clause-compares c told = let call = c.equals_spelled in let us = spelling_units c.in-Ok.spelled in let e = c.encoding_by.result in
+returns-in-Ok-clause-compares c told = let call = c.equals_spelled in let us = spelling_units c.in-Ok.spelled in
     let same = subst (λ (x : Option Held). ComparesUnits x call.new.agent.at.value c.args.s us call.result) c.knows.ensures.same call.ensures.compares in
     subst (λ (e : TextEncoding). ComparesSpelled (spells_in e) c.args.agent.now.at.value call.new.agent.at.value c.args.bytes.now call.result.status (call.result ≡ no_truth call.result.status) (λ vs. ComparesUnits c.args.agent.now.at.value call.new.agent.at.value c.args.s vs call.result))
     c.encoding_by.ensures (inr (us, c.in-Ok.ensures.1, same))
