@@ -51,8 +51,8 @@ pub extern "C" fn jsstr_equals_units(agent: &mut JsAgent, s: u32, units: &[u16])
     }
 }
 
-/// Whether a string has just the units that these bytes spell. Bytes that spell none are refused before anything
-/// is done; else the string is settled first.
+/// Whether a string has just the units that these bytes spell. Bytes that spell none are refused before
+/// anything is done; else the string is settled first.
 #[unsafe(no_mangle)]
 pub extern "C" fn jsstr_equals_bytes(
     agent: &mut JsAgent,
@@ -115,8 +115,8 @@ pub extern "C" fn jsstr_compare_units(agent: &mut JsAgent, s: u32, units: &[u16]
     }
 }
 
-/// The order of a string and the units that these bytes spell. Bytes that spell none are refused before anything
-/// is done; else the string is settled first.
+/// The order of a string and the units that these bytes spell. Bytes that spell none are refused before
+/// anything is done; else the string is settled first.
 #[unsafe(no_mangle)]
 pub extern "C" fn jsstr_compare_bytes(
     agent: &mut JsAgent,

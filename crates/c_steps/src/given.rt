@@ -171,7 +171,8 @@ fn on_bytes(agent: &mut JsAgent, task: Task, encoding: TextEncoding, bytes: &[u8
     }
 }
 
-/// A task on units, where its condition holds: there is an agent, and no more is given than a string may have.
+/// A task on units, where its condition holds: there is an agent, and no more is given than a string may
+/// have.
 #[inline(always)]
 pub fn tested_units(agent: &mut JsAgent, task: Task, units: &[u16]) -> JsAnswer
     requires { IsHandle agent.old }

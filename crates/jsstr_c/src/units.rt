@@ -50,8 +50,8 @@ pub extern "C" fn jsstr_intern_units(agent: &mut JsAgent, units: &[u16]) -> JsAn
     tested_units(agent, Task::Intern, units)
 }
 
-/// The one string of the table with the units that these bytes spell. Bytes that spell none are refused before
-/// anything is done.
+/// The one string of the table with the units that these bytes spell. Bytes that spell none are refused
+/// before anything is done.
 #[unsafe(no_mangle)]
 pub extern "C" fn jsstr_intern_bytes(agent: &mut JsAgent, encoding: u32, bytes: &[u8]) -> JsAnswer
     requires { IsHandle agent.old }
