@@ -5,7 +5,7 @@
    docs/EMBEDDING.md says what is proved of the calls, and what to do when a heap is full.
 
    CONDITIONS. A call tests its condition, and where it fails answers JSSTR_BAD_ARGUMENT and has done nothing. A call
-   on a text alone has none. jsstr_unchecked.h has eight calls that test nothing, where that gains a tenth or more.
+   on a text alone has none, but that an encoding is one. jsstr_unchecked.h has eight calls that test nothing, where that gains a tenth or more.
 
    WHAT C STILL OWES:
    - A handle, of an agent or a text, is zero, or was written by this library, and by nothing else. Never copy
@@ -172,17 +172,15 @@ jsstr_counts jsstr_reserved(jsstr_agent *agent);
    them is over 255. */
 jsstr_answer jsstr_from_units(jsstr_agent *agent, const uint16_t *units, size_t len);
 
-/* The same of units below 256, a byte each, as Latin-1 is. */
-jsstr_answer jsstr_from_latin1(jsstr_agent *agent, const uint8_t *bytes, size_t len);
+/* How bytes spell units. Of Latin-1 each byte is a unit. UTF-8 spells characters, which are in UTF-16 then: no unit
+   is an unpaired surrogate. In WTF-8 three bytes may also spell an unpaired surrogate, as JSSTR_KEEP writes it. A call
+   answers NOT_UTF8 exactly where the bytes spell nothing, as where they end within a character, spell one by too
+   many bytes, or in WTF-8 a lead and a trail behind it, three bytes each: four bytes spell a pair. Every call with
+   an encoding has the condition that it is one of the three. */
+enum jsstr_encoding { JSSTR_LATIN1 = 0, JSSTR_UTF8 = 1, JSSTR_WTF8 = 2 };
 
-/* The characters whose UTF-8 these bytes are, in UTF-16: no unit is an unpaired surrogate. It answers NOT_UTF8
-   exactly where the bytes are no UTF-8, as where they end within a character, spell a surrogate, or a character
-   by too many bytes. */
-jsstr_answer jsstr_from_utf8(jsstr_agent *agent, const uint8_t *bytes, size_t len);
-
-/* The same of WTF-8, where three bytes may also spell an unpaired surrogate, as JSSTR_KEEP writes it. A lead and
-   a trail behind it, three bytes each, are refused: four bytes spell a pair. */
-jsstr_answer jsstr_from_wtf8(jsstr_agent *agent, const uint8_t *bytes, size_t len);
+/* The same of the units that bytes spell. */
+jsstr_answer jsstr_from_bytes(jsstr_agent *agent, uint32_t encoding, const uint8_t *bytes, size_t len);
 
 /* The units of a, and then those of b. Fewer than 13 units are copied; from 13 on the answer is a rope,
    which uses an id and no word. Where one side is empty, the answer is the other side. */
@@ -203,10 +201,6 @@ jsstr_answer jsstr_settle(jsstr_agent *agent, jsstr_id s);
 /* The units of s from number `from` on, `len` of them, into `out`; nothing is written but where it answers
    DONE. Settles s. Condition: from + len is at most its length. */
 uint32_t jsstr_read(jsstr_agent *agent, jsstr_id s, uint32_t from, uint16_t *out, size_t len);
-
-/* All units of s into `out`, or none: `size` is how many were written, with NO_ROOM how many there are.
-   Settles s. */
-jsstr_bytes jsstr_read_all(jsstr_agent *agent, jsstr_id s, uint16_t *out, size_t room);
 
 /* Unit number `place` of s. Settles s. Condition: place is below its length. */
 jsstr_number jsstr_unit_at(jsstr_agent *agent, jsstr_id s, uint32_t place);
@@ -253,12 +247,9 @@ jsstr_truth jsstr_equal(jsstr_agent *agent, jsstr_id a, jsstr_id b);
 jsstr_order jsstr_compare_units(jsstr_agent *agent, jsstr_id s, const uint16_t *units, size_t len);
 jsstr_truth jsstr_equals_units(jsstr_agent *agent, jsstr_id s, const uint16_t *units, size_t len);
 
-/* The same of bytes, by the rules of jsstr_from_latin1 and jsstr_from_utf8. Where they are no UTF-8, nothing is
-   settled. */
-jsstr_order jsstr_compare_latin1(jsstr_agent *agent, jsstr_id s, const uint8_t *bytes, size_t len);
-jsstr_order jsstr_compare_utf8(jsstr_agent *agent, jsstr_id s, const uint8_t *bytes, size_t len);
-jsstr_truth jsstr_equals_latin1(jsstr_agent *agent, jsstr_id s, const uint8_t *bytes, size_t len);
-jsstr_truth jsstr_equals_utf8(jsstr_agent *agent, jsstr_id s, const uint8_t *bytes, size_t len);
+/* The same of s and the units that bytes spell. Where they spell nothing, nothing is settled. */
+jsstr_order jsstr_compare_bytes(jsstr_agent *agent, jsstr_id s, uint32_t encoding, const uint8_t *bytes, size_t len);
+jsstr_truth jsstr_equals_bytes(jsstr_agent *agent, jsstr_id s, uint32_t encoding, const uint8_t *bytes, size_t len);
 
 /* Whether the units of `needle` are in `hay` from number `at` on; any `at` is allowed.
    Settles both. */
@@ -282,10 +273,8 @@ jsstr_answer jsstr_intern(jsstr_agent *agent, jsstr_id s);
    moment, id and words may be lost. */
 jsstr_answer jsstr_intern_units(jsstr_agent *agent, const uint16_t *units, size_t len);
 
-/* The same of bytes, by the rules of jsstr_from_latin1 and its kin. */
-jsstr_answer jsstr_intern_latin1(jsstr_agent *agent, const uint8_t *bytes, size_t len);
-jsstr_answer jsstr_intern_utf8(jsstr_agent *agent, const uint8_t *bytes, size_t len);
-jsstr_answer jsstr_intern_wtf8(jsstr_agent *agent, const uint8_t *bytes, size_t len);
+/* The same of the units that bytes spell. */
+jsstr_answer jsstr_intern_bytes(jsstr_agent *agent, uint32_t encoding, const uint8_t *bytes, size_t len);
 
 /* The same of many lists of units, in turn, which lie one behind another: number k ends before units[ends[k]], and
    ids[k] becomes its string. `done` is how many were interned: all of them, or those before the first
@@ -299,10 +288,8 @@ jsstr_batch jsstr_intern_many(jsstr_agent *agent, const uint16_t *units, size_t 
    ever. While another thread interns these units, either may be the answer. */
 jsstr_answer jsstr_find_units(jsstr_agent *agent, const uint16_t *units, size_t len);
 
-/* The same of bytes. */
-jsstr_answer jsstr_find_latin1(jsstr_agent *agent, const uint8_t *bytes, size_t len);
-jsstr_answer jsstr_find_utf8(jsstr_agent *agent, const uint8_t *bytes, size_t len);
-jsstr_answer jsstr_find_wtf8(jsstr_agent *agent, const uint8_t *bytes, size_t len);
+/* The same of the units that bytes spell. */
+jsstr_answer jsstr_find_bytes(jsstr_agent *agent, uint32_t encoding, const uint8_t *bytes, size_t len);
 
 /* The slot of the string table that an interned string is in, for good. Nothing is used.
    Condition: s is interned (jsstr_is_interned). */
@@ -318,15 +305,13 @@ jsstr_answer jsstr_adopt(jsstr_agent *agent, uint32_t slot);
 jsstr_answer jsstr_copy_into(jsstr_agent *from, jsstr_id s, jsstr_agent *to);
 jsstr_answer jsstr_intern_into(jsstr_agent *from, jsstr_id s, jsstr_agent *to);
 
-/* Each appends to a text: units; bytes, by the rules of jsstr_from_latin1 and its kin; the units of s, which is
+/* Each appends to a text: units; the units that bytes spell; the units of s, which is
    settled first; the decimal digits of a number, with - before those of one below 0, as ToString has it of whole
    numbers below 2^53. Answers DONE; or, and then the text is what it was, NO_MEMORY, NOT_UTF8, TOO_LONG past
-   JSSTR_MAX_LENGTH units or three times as many bytes of UTF-8 or WTF-8, and of a string NO_WORDS or
-   BAD_ARGUMENT. */
+   JSSTR_MAX_LENGTH units or three times as many bytes of UTF-8 or WTF-8, of a string NO_WORDS or
+   BAD_ARGUMENT, and BAD_ARGUMENT of no encoding. */
 uint32_t jsstr_build_units(jsstr_builder *text, const uint16_t *units, size_t len);
-uint32_t jsstr_build_latin1(jsstr_builder *text, const uint8_t *bytes, size_t len);
-jsstr_answer jsstr_build_utf8(jsstr_builder *text, const uint8_t *bytes, size_t len);
-jsstr_answer jsstr_build_wtf8(jsstr_builder *text, const uint8_t *bytes, size_t len);
+jsstr_answer jsstr_build_bytes(jsstr_builder *text, uint32_t encoding, const uint8_t *bytes, size_t len);
 uint32_t jsstr_build_string(jsstr_builder *text, jsstr_agent *agent, jsstr_id s);
 uint32_t jsstr_build_number(jsstr_builder *text, int64_t number);
 

@@ -2,7 +2,7 @@
 //
 //     using namespace jsstr::literals;
 //     jsstr::agent agent = jsstr::agent::make({65536, 262144, 65537}).value();
-//     jsstr::string s = agent.from_utf8("caf\xC3\xA9").value();
+//     jsstr::string s = agent.from(jsstr::encoding::utf8, "caf\xC3\xA9").value();
 //     jsstr::key k = agent.intern(u"length"_js).value();
 //
 // A call that may be refused answers a jsstr::result, which has a value or says why not, as std::expected
@@ -121,6 +121,9 @@ struct room {
 /// (String.prototype.toWellFormed), the call is refused, or it is written in three bytes, as WTF-8 has it.
 enum class unpaired : std::uint32_t { replace = JSSTR_REPLACE, refuse = JSSTR_REFUSE, keep = JSSTR_KEEP };
 
+/// How bytes spell units.
+enum class encoding : std::uint32_t { latin1 = JSSTR_LATIN1, utf8 = JSSTR_UTF8, wtf8 = JSSTR_WTF8 };
+
 /// What a call answers that has no value of its own.
 struct nothing {};
 
@@ -223,14 +226,8 @@ public:
     return given(made<string>(jsstr_from_units(handle(), data(units), units.size())));
   }
   answer<string> from(literal text) { return from(text.units); }
-  answer<string> from_latin1(std::string_view bytes) {
-    return given(made<string>(jsstr_from_latin1(handle(), data(bytes), bytes.size())));
-  }
-  answer<string> from_utf8(std::string_view bytes) {
-    return given(made<string>(jsstr_from_utf8(handle(), data(bytes), bytes.size())));
-  }
-  answer<string> from_wtf8(std::string_view bytes) {
-    return given(made<string>(jsstr_from_wtf8(handle(), data(bytes), bytes.size())));
+  answer<string> from(encoding how, std::string_view bytes) {
+    return given(made<string>(jsstr_from_bytes(handle(), number_of(how), data(bytes), bytes.size())));
   }
 
   answer<string> concat(string a, string b) { return given(made<string>(jsstr_concat(handle(), a.id(), b.id()))); }
@@ -288,17 +285,11 @@ public:
     return given(truth(jsstr_equals_units(handle(), s.id(), data(units), units.size())));
   }
   answer<bool> equal(string s, literal text) { return equal(s, text.units); }
-  answer<int> compare_latin1(string s, std::string_view bytes) {
-    return given(order(jsstr_compare_latin1(handle(), s.id(), data(bytes), bytes.size())));
+  answer<int> compare(string s, encoding how, std::string_view bytes) {
+    return given(order(jsstr_compare_bytes(handle(), s.id(), number_of(how), data(bytes), bytes.size())));
   }
-  answer<int> compare_utf8(string s, std::string_view bytes) {
-    return given(order(jsstr_compare_utf8(handle(), s.id(), data(bytes), bytes.size())));
-  }
-  answer<bool> equal_latin1(string s, std::string_view bytes) {
-    return given(truth(jsstr_equals_latin1(handle(), s.id(), data(bytes), bytes.size())));
-  }
-  answer<bool> equal_utf8(string s, std::string_view bytes) {
-    return given(truth(jsstr_equals_utf8(handle(), s.id(), data(bytes), bytes.size())));
+  answer<bool> equal(string s, encoding how, std::string_view bytes) {
+    return given(truth(jsstr_equals_bytes(handle(), s.id(), number_of(how), data(bytes), bytes.size())));
   }
   answer<bool> starts_with(string hay, string needle, std::uint32_t at = 0) {
     return given(truth(jsstr_starts_with(handle(), hay.id(), needle.id(), at)));
@@ -318,14 +309,8 @@ public:
     return given(made<key>(jsstr_intern_units(handle(), data(units), units.size())));
   }
   answer<key> intern(literal text) { return intern(text.units); }
-  answer<key> intern_latin1(std::string_view bytes) {
-    return given(made<key>(jsstr_intern_latin1(handle(), data(bytes), bytes.size())));
-  }
-  answer<key> intern_utf8(std::string_view bytes) {
-    return given(made<key>(jsstr_intern_utf8(handle(), data(bytes), bytes.size())));
-  }
-  answer<key> intern_wtf8(std::string_view bytes) {
-    return given(made<key>(jsstr_intern_wtf8(handle(), data(bytes), bytes.size())));
+  answer<key> intern(encoding how, std::string_view bytes) {
+    return given(made<key>(jsstr_intern_bytes(handle(), number_of(how), data(bytes), bytes.size())));
   }
 
   /// The keys of many lists of units in one call. They lie one behind another, and number k ends before
@@ -343,14 +328,8 @@ public:
     return given(found(jsstr_find_units(handle(), data(units), units.size())));
   }
   answer<std::optional<key>> find(literal text) { return find(text.units); }
-  answer<std::optional<key>> find_latin1(std::string_view bytes) {
-    return given(found(jsstr_find_latin1(handle(), data(bytes), bytes.size())));
-  }
-  answer<std::optional<key>> find_utf8(std::string_view bytes) {
-    return given(found(jsstr_find_utf8(handle(), data(bytes), bytes.size())));
-  }
-  answer<std::optional<key>> find_wtf8(std::string_view bytes) {
-    return given(found(jsstr_find_wtf8(handle(), data(bytes), bytes.size())));
+  answer<std::optional<key>> find(encoding how, std::string_view bytes) {
+    return given(found(jsstr_find_bytes(handle(), number_of(how), data(bytes), bytes.size())));
   }
 
   /// The slot of the string table that a key is in. An agent of the same heap that gets this number adopts the key.
@@ -453,6 +432,8 @@ private:
     return p.status == JSSTR_DONE ? result<maybe>(maybe(p.at)) : refused<maybe>(p.status);
   }
 
+  static std::uint32_t number_of(encoding how) noexcept { return static_cast<std::uint32_t>(how); }
+
   // A pointer that isn't null, also where there are no units.
   static const std::uint16_t *data(std::u16string_view units) noexcept {
     static constexpr std::uint16_t empty = 0;
@@ -464,15 +445,11 @@ private:
   }
 
   result<std::u16string> units_of(string s) {
-    std::uint16_t none = 0;
-    std::u16string out;
-    jsstr_bytes answer = jsstr_read_all(handle(), s.id(), &none, 0);
-    if (answer.status == JSSTR_NO_ROOM) {
-      out.resize(answer.size);
-      answer = jsstr_read_all(handle(), s.id(), reinterpret_cast<std::uint16_t *>(out.data()), out.size());
-    }
-    if (answer.status != JSSTR_DONE) return refused<std::u16string>(answer.status);
-    return out;
+    const jsstr_number length = jsstr_length(handle(), s.id());
+    if (length.status != JSSTR_DONE) return refused<std::u16string>(length.status);
+    std::u16string out(length.value, u'\0');
+    const std::uint32_t code = jsstr_read(handle(), s.id(), 0, reinterpret_cast<std::uint16_t *>(out.data()), out.size());
+    return code == JSSTR_DONE ? result<std::u16string>(std::move(out)) : refused<std::u16string>(code);
   }
 
   // The bytes that a call writes, whose number it says where there is no room.
@@ -506,14 +483,8 @@ public:
     return agent::given(agent::done(jsstr_build_units(&text, agent::data(units), units.size())));
   }
   answer<nothing> append(literal of) { return append(of.units); }
-  answer<nothing> append_latin1(std::string_view bytes) {
-    return agent::given(agent::done(jsstr_build_latin1(&text, agent::data(bytes), bytes.size())));
-  }
-  answer<nothing> append_utf8(std::string_view bytes) {
-    return agent::given(did(jsstr_build_utf8(&text, agent::data(bytes), bytes.size())));
-  }
-  answer<nothing> append_wtf8(std::string_view bytes) {
-    return agent::given(did(jsstr_build_wtf8(&text, agent::data(bytes), bytes.size())));
+  answer<nothing> append(encoding how, std::string_view bytes) {
+    return agent::given(agent::claimed(jsstr_build_bytes(&text, agent::number_of(how), agent::data(bytes), bytes.size())));
   }
 
   /// The units of a string of this agent.
@@ -534,8 +505,6 @@ public:
 
 private:
   jsstr_builder text{};
-
-  static result<nothing> did(const jsstr_answer &a) { return agent::claimed(a); }
 };
 
 } // inline namespace

@@ -90,7 +90,7 @@ def rows_of_calls(_house):
     functions = call_rows.declared(header)
     check("the header declares calls in both forms", {"jsstr_version", "jsstr_concat", "jsstr_concat_unchecked"} < set(functions), str(functions))
     methods = call_rows.wrapped(wrapper)
-    check("the header for C++ wraps calls", {"jsstr_make", "jsstr_free", "jsstr_read_all", "jsstr_built"} < set(methods) and "jsstr_window" not in methods, str(methods))
+    check("the header for C++ wraps calls", {"jsstr_make", "jsstr_free", "jsstr_read", "jsstr_built"} < set(methods) and "jsstr_window" not in methods, str(methods))
     said = call_rows.faults(f"{header}uint32_t jsstr_more(void);\n", wrapper, source)
     check("one more call has no row", said == ["no row more calls jsstr_more"], str(said))
     said = call_rows.faults(header, wrapper.replace("private:", "  int more() { return jsstr_window(handle()); }\n\nprivate:", 1), source)

@@ -25,14 +25,16 @@ struct Calls {
   bool (*equal)(jsstr_agent *, jsstr_id, jsstr_id);
 };
 
-constexpr Calls CHECKED = {"checked", jsstr_from_units, jsstr_from_latin1, jsstr_concat, jsstr_slice, jsstr_settle, jsstr_intern,
+jsstr_answer from_bytes(jsstr_agent *a, const uint8_t *bytes, size_t len) { return jsstr_from_bytes(a, JSSTR_LATIN1, bytes, len); }
+
+constexpr Calls CHECKED = {"checked", jsstr_from_units, from_bytes, jsstr_concat, jsstr_slice, jsstr_settle, jsstr_intern,
   jsstr_intern_units, jsstr_index_of,
   [](jsstr_agent *a, jsstr_id s) { jsstr_number n = jsstr_length(a, s); want(n.status == JSSTR_DONE); return n.value; },
   jsstr_read,
   [](jsstr_agent *a, jsstr_id s, jsstr_id t) { jsstr_order o = jsstr_compare(a, s, t); want(o.status == JSSTR_DONE); return o.order; },
   [](jsstr_agent *a, jsstr_id s, jsstr_id t) { jsstr_truth it = jsstr_equal(a, s, t); want(it.status == JSSTR_DONE); return it.holds; }};
 // (what has one form is the same call)
-constexpr Calls UNCHECKED = {"unchecked", jsstr_from_units, jsstr_from_latin1, jsstr_concat_unchecked, jsstr_slice_unchecked, jsstr_settle,
+constexpr Calls UNCHECKED = {"unchecked", jsstr_from_units, from_bytes, jsstr_concat_unchecked, jsstr_slice_unchecked, jsstr_settle,
   jsstr_intern_unchecked, jsstr_intern_units, jsstr_index_of, jsstr_length_unchecked, jsstr_read, CHECKED.compare, jsstr_equal_unchecked};
 
 using Ids = std::vector<jsstr_id>;

@@ -32,8 +32,7 @@ static int has_room(jsstr_agent *a, jsstr_room want) {
 
 static int has_units(jsstr_agent *a, jsstr_id s, const text *of) {
   uint16_t got[16];
-  jsstr_bytes all = jsstr_read_all(a, s, got, 16);
-  return all.status == JSSTR_DONE && all.size == of->len && !memcmp(got, of->units, of->len * 2);
+  return jsstr_length(a, s).value == of->len && jsstr_read(a, s, 0, got, of->len) == JSSTR_DONE && !memcmp(got, of->units, of->len * 2);
 }
 
 /* The slot by the rule, of a table whose slots are used as `is_used` has it. */

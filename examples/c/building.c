@@ -25,7 +25,7 @@ static int has_units(jsstr_agent *a, jsstr_id s, const uint16_t *units, size_t l
 }
 
 static jsstr_id made(jsstr_agent *a, const char *text) {
-  jsstr_answer s = jsstr_from_latin1(a, (const uint8_t *)text, strlen(text));
+  jsstr_answer s = jsstr_from_bytes(a, JSSTR_LATIN1, (const uint8_t *)text, strlen(text));
   CHECK(s.status == JSSTR_DONE);
   return s.id;
 }
@@ -70,21 +70,21 @@ static void refuse_row(jsstr_agent *a, jsstr_builder *text, const row *r) {
   const uint8_t *bytes = (const uint8_t *)r->bytes;
   uint32_t at = (uint32_t)r->fault;
   jsstr_room use = jsstr_room_of(a);
-  CHECK(is_fault(jsstr_from_wtf8(a, bytes, r->size), at));
-  CHECK(is_fault(jsstr_intern_wtf8(a, bytes, r->size), at));
-  CHECK(is_fault(jsstr_find_wtf8(a, bytes, r->size), at));
-  CHECK(is_fault(jsstr_build_wtf8(text, bytes, r->size), at) && text->len == 0 && has_used(a, use.ids, use.words));
+  CHECK(is_fault(jsstr_from_bytes(a, JSSTR_WTF8, bytes, r->size), at));
+  CHECK(is_fault(jsstr_intern_bytes(a, JSSTR_WTF8, bytes, r->size), at));
+  CHECK(is_fault(jsstr_find_bytes(a, JSSTR_WTF8, bytes, r->size), at));
+  CHECK(is_fault(jsstr_build_bytes(text, JSSTR_WTF8, bytes, r->size), at) && text->len == 0 && has_used(a, use.ids, use.words));
 }
 
 static void read_row(jsstr_agent *a, jsstr_builder *text, const row *r) {
   const uint8_t *bytes = (const uint8_t *)r->bytes;
-  CHECK(is_bare(jsstr_find_wtf8(a, bytes, r->size), JSSTR_NONE));
-  jsstr_answer s = jsstr_from_wtf8(a, bytes, r->size), t = jsstr_from_wtf8(a, bytes, r->size), key = jsstr_intern_wtf8(a, bytes, r->size);
+  CHECK(is_bare(jsstr_find_bytes(a, JSSTR_WTF8, bytes, r->size), JSSTR_NONE));
+  jsstr_answer s = jsstr_from_bytes(a, JSSTR_WTF8, bytes, r->size), t = jsstr_from_bytes(a, JSSTR_WTF8, bytes, r->size), key = jsstr_intern_bytes(a, JSSTR_WTF8, bytes, r->size);
   CHECK(is_string(s, s.id) && is_string(t, t.id) && is_string(key, key.id) && s.id != t.id);
   CHECK(has_units(a, s.id, r->units, r->len) && has_units(a, t.id, r->units, r->len) && has_units(a, key.id, r->units, r->len));
-  CHECK(is_string(jsstr_intern_wtf8(a, bytes, r->size), key.id) && is_string(jsstr_find_units(a, r->units, r->len), key.id));
-  CHECK(is_string(jsstr_find_wtf8(a, bytes, r->size), key.id));
-  CHECK(is_bare(jsstr_build_wtf8(text, bytes, r->size), JSSTR_DONE) && is_string(jsstr_built_interned(text, a), key.id));
+  CHECK(is_string(jsstr_intern_bytes(a, JSSTR_WTF8, bytes, r->size), key.id) && is_string(jsstr_find_units(a, r->units, r->len), key.id));
+  CHECK(is_string(jsstr_find_bytes(a, JSSTR_WTF8, bytes, r->size), key.id));
+  CHECK(is_bare(jsstr_build_bytes(text, JSSTR_WTF8, bytes, r->size), JSSTR_DONE) && is_string(jsstr_built_interned(text, a), key.id));
   CHECK(is_written(a, s.id, bytes, r->size));
 }
 
@@ -112,7 +112,7 @@ static size_t well(const uint8_t *b, size_t n, int wtf8) {
 static void try_list(jsstr_agent *a, jsstr_builder *text, const uint8_t *bytes, size_t size) {
   size_t utf8 = well(bytes, size, 0), wtf8 = well(bytes, size, 1);
   uint32_t length = text->len;
-  jsstr_answer s = jsstr_find_utf8(a, bytes, size), t = jsstr_find_wtf8(a, bytes, size), u = jsstr_build_wtf8(text, bytes, size);
+  jsstr_answer s = jsstr_find_bytes(a, JSSTR_UTF8, bytes, size), t = jsstr_find_bytes(a, JSSTR_WTF8, bytes, size), u = jsstr_build_bytes(text, JSSTR_WTF8, bytes, size);
   CHECK(utf8 == size ? is_bare(s, JSSTR_NONE) : is_fault(s, (uint32_t)utf8));
   CHECK(wtf8 == size ? is_bare(t, JSSTR_NONE) && is_bare(u, JSSTR_DONE) : is_fault(t, (uint32_t)wtf8) && is_fault(u, (uint32_t)wtf8));
   CHECK((text->len > length) == (wtf8 == size));
@@ -142,14 +142,13 @@ static void every_list(void) {
 static void try_all(jsstr_agent *a, jsstr_builder *text, const uint8_t *b, size_t n) {
   for (int wtf8 = 0; wtf8 < 2; wtf8++) {
     size_t good = well(b, n, wtf8);
+    const uint32_t how = wtf8 ? JSSTR_WTF8 : JSSTR_UTF8;
     jsstr_room use = jsstr_room_of(a);
     const jsstr_answer told[] = {
-      (wtf8 ? jsstr_from_wtf8 : jsstr_from_utf8)(a, b, n),
-      (wtf8 ? jsstr_intern_wtf8 : jsstr_intern_utf8)(a, b, n), (wtf8 ? jsstr_find_wtf8 : jsstr_find_utf8)(a, b, n),
-      (wtf8 ? jsstr_build_wtf8 : jsstr_build_utf8)(text, b, n)};
+      jsstr_from_bytes(a, how, b, n), jsstr_intern_bytes(a, how, b, n), jsstr_find_bytes(a, how, b, n), jsstr_build_bytes(text, how, b, n)};
     for (size_t i = 0; i < sizeof told / sizeof *told; i++) CHECK(good < n ? is_fault(told[i], (uint32_t)good) : told[i].status == JSSTR_DONE);
     CHECK(good == n || has_used(a, use.ids, use.words));
-    CHECK(wtf8 || jsstr_equals_utf8(a, 0, b, n).status == (good < n ? JSSTR_NOT_UTF8 : JSSTR_DONE));
+    CHECK(jsstr_equals_bytes(a, 0, how, b, n).status == (good < n ? JSSTR_NOT_UTF8 : JSSTR_DONE));
   }
 }
 
@@ -179,7 +178,7 @@ static void every_surrogate(void) {
   for (uint32_t c = 0xD700; c < 0xE100; c++) {
     uint8_t bytes[] = {(uint8_t)(0xE0 | c >> 12), (uint8_t)(0x80 | (c >> 6 & 63)), (uint8_t)(0x80 | (c & 63))};
     uint16_t unit = (uint16_t)c;
-    jsstr_answer s = jsstr_from_wtf8(&a, bytes, 3), plain = jsstr_find_utf8(&a, bytes, 3);
+    jsstr_answer s = jsstr_from_bytes(&a, JSSTR_WTF8, bytes, 3), plain = jsstr_find_bytes(&a, JSSTR_UTF8, bytes, 3);
     CHECK(is_string(s, s.id) && has_units(&a, s.id, &unit, 1) && is_written(&a, s.id, bytes, 3));
     CHECK(c >= 0xD800 && c < 0xE000 ? is_fault(plain, 0) : is_bare(plain, JSSTR_NONE));
   }
@@ -192,16 +191,16 @@ static void read_rows(void) {
   const uint8_t x = 'x';
   CHECK(jsstr_make((jsstr_size){500, 500, 101}, 1, 100, &a) == JSSTR_DONE);
   for (size_t i = 0; i < ROWS; i++) (rows[i].fault < 0 ? read_row : refuse_row)(&a, &text, &rows[i]);
-  jsstr_answer empty = jsstr_from_wtf8(&a, &x, 0);
-  CHECK(is_string(empty, empty.id) && jsstr_length(&a, empty.id).value == 0 && is_bare(jsstr_find_wtf8(&a, &x, 0), JSSTR_NONE));
+  jsstr_answer empty = jsstr_from_bytes(&a, JSSTR_WTF8, &x, 0);
+  CHECK(is_string(empty, empty.id) && jsstr_length(&a, empty.id).value == 0 && is_bare(jsstr_find_bytes(&a, JSSTR_WTF8, &x, 0), JSSTR_NONE));
   jsstr_room use = jsstr_room_of(&a);
   const size_t lengths[] = {(size_t)JSSTR_MAX_LENGTH + 1, SIZE_MAX / 4};
   for (int i = 0; i < 2; i++) {
-    CHECK(is_bare(jsstr_from_wtf8(&a, &x, lengths[i]), JSSTR_BAD_ARGUMENT) && is_bare(jsstr_intern_wtf8(&a, &x, lengths[i]), JSSTR_BAD_ARGUMENT));
-    CHECK(is_bare(jsstr_find_wtf8(&a, &x, lengths[i]), JSSTR_BAD_ARGUMENT));
+    CHECK(is_bare(jsstr_from_bytes(&a, JSSTR_WTF8, &x, lengths[i]), JSSTR_BAD_ARGUMENT) && is_bare(jsstr_intern_bytes(&a, JSSTR_WTF8, &x, lengths[i]), JSSTR_BAD_ARGUMENT));
+    CHECK(is_bare(jsstr_find_bytes(&a, JSSTR_WTF8, &x, lengths[i]), JSSTR_BAD_ARGUMENT));
   }
-  CHECK(is_bare(jsstr_from_wtf8(&none, &x, 1), JSSTR_BAD_ARGUMENT) && is_bare(jsstr_intern_wtf8(&none, &x, 1), JSSTR_BAD_ARGUMENT));
-  CHECK(is_bare(jsstr_find_wtf8(&none, &x, 1), JSSTR_BAD_ARGUMENT) && has_used(&a, use.ids, use.words));
+  CHECK(is_bare(jsstr_from_bytes(&none, JSSTR_WTF8, &x, 1), JSSTR_BAD_ARGUMENT) && is_bare(jsstr_intern_bytes(&none, JSSTR_WTF8, &x, 1), JSSTR_BAD_ARGUMENT));
+  CHECK(is_bare(jsstr_find_bytes(&none, JSSTR_WTF8, &x, 1), JSSTR_BAD_ARGUMENT) && has_used(&a, use.ids, use.words));
   jsstr_drop_builder(&text);
   CHECK(jsstr_free(&a) == JSSTR_DONE);
 }
@@ -215,13 +214,13 @@ static void append(void) {
   CHECK(text.len == 0);
   for (int round = 0; round < 4; round++) {
     CHECK(jsstr_build_units(&text, units, 3) == JSSTR_DONE && text.len == 3);
-    CHECK(jsstr_build_units(&text, units, 0) == JSSTR_DONE && jsstr_build_latin1(&text, (const uint8_t *)"\xE9", 1) == JSSTR_DONE);
-    CHECK(is_bare(jsstr_build_utf8(&text, (const uint8_t *)"\xF0\x9F\x98\x80", 4), JSSTR_DONE) && text.len == 6);
-    CHECK(is_bare(jsstr_build_wtf8(&text, (const uint8_t *)TRAIL, 3), JSSTR_DONE) && text.len == 7);
+    CHECK(jsstr_build_units(&text, units, 0) == JSSTR_DONE && jsstr_build_bytes(&text, JSSTR_LATIN1, (const uint8_t *)"\xE9", 1).status == JSSTR_DONE);
+    CHECK(is_bare(jsstr_build_bytes(&text, JSSTR_UTF8, (const uint8_t *)"\xF0\x9F\x98\x80", 4), JSSTR_DONE) && text.len == 6);
+    CHECK(is_bare(jsstr_build_bytes(&text, JSSTR_WTF8, (const uint8_t *)TRAIL, 3), JSSTR_DONE) && text.len == 7);
     jsstr_id rope = made(&a, "rope"), others = made(&b, "of b");
     CHECK(jsstr_build_string(&text, &a, rope) == JSSTR_DONE && text.len == 11);
     CHECK(jsstr_build_string(&text, &a, others) == JSSTR_BAD_ARGUMENT && jsstr_build_string(&text, &a, JSSTR_NO_STRING) == JSSTR_BAD_ARGUMENT);
-    CHECK(is_fault(jsstr_build_utf8(&text, (const uint8_t *)"abc" LEAD, 6), 3) && is_fault(jsstr_build_wtf8(&text, (const uint8_t *)LEAD TRAIL, 6), 3));
+    CHECK(is_fault(jsstr_build_bytes(&text, JSSTR_UTF8, (const uint8_t *)"abc" LEAD, 6), 3) && is_fault(jsstr_build_bytes(&text, JSSTR_WTF8, (const uint8_t *)LEAD TRAIL, 6), 3));
     CHECK(text.len == 11 && jsstr_build_number(&text, -7) == JSSTR_DONE && text.len == 13);
     jsstr_room room = jsstr_room_of(&a);
     jsstr_answer s = round < 2 ? jsstr_built(&text, &a) : jsstr_built_interned(&text, &a);
@@ -231,7 +230,7 @@ static void append(void) {
     CHECK(is_string(empty, empty.id) && jsstr_length(&a, empty.id).value == 0);
   }
   CHECK(jsstr_join(&a, &b) == JSSTR_DONE && jsstr_free(&a) == JSSTR_DONE);
-  CHECK(jsstr_build_latin1(&text, (const uint8_t *)"half", 4) == JSSTR_DONE && is_bare(jsstr_built(&text, &a), JSSTR_BAD_ARGUMENT));
+  CHECK(jsstr_build_bytes(&text, JSSTR_LATIN1, (const uint8_t *)"half", 4).status == JSSTR_DONE && is_bare(jsstr_built(&text, &a), JSSTR_BAD_ARGUMENT));
   CHECK(is_bare(jsstr_built_interned(&text, &a), JSSTR_BAD_ARGUMENT) && jsstr_build_string(&text, &a, 0) == JSSTR_BAD_ARGUMENT && text.len == 4);
   jsstr_drop_builder(&text);
   CHECK(!text.at && !text.live && !text.len && text.len == 0);
@@ -248,12 +247,12 @@ static void too_long(void) {
     const size_t lengths[] = {(size_t)JSSTR_MAX_LENGTH - had + 1, SIZE_MAX / 4};
     for (int i = 0; i < 2; i++) {
       CHECK(jsstr_build_units(&text, units, lengths[i]) == JSSTR_TOO_LONG && text.len == had);
-      CHECK(jsstr_build_latin1(&text, bytes, lengths[i]) == JSSTR_TOO_LONG && text.len == had);
+      CHECK(jsstr_build_bytes(&text, JSSTR_LATIN1, bytes, lengths[i]).status == JSSTR_TOO_LONG && text.len == had);
       size_t size = i ? SIZE_MAX / 4 : 3 * (size_t)JSSTR_MAX_LENGTH + 1;
-      CHECK(is_bare(jsstr_build_utf8(&text, bytes, size), JSSTR_TOO_LONG) && is_bare(jsstr_build_wtf8(&text, bytes, size), JSSTR_TOO_LONG));
+      CHECK(is_bare(jsstr_build_bytes(&text, JSSTR_UTF8, bytes, size), JSSTR_TOO_LONG) && is_bare(jsstr_build_bytes(&text, JSSTR_WTF8, bytes, size), JSSTR_TOO_LONG));
       CHECK(text.len == had);
     }
-    CHECK(jsstr_build_latin1(&text, bytes, 1) == JSSTR_DONE);
+    CHECK(jsstr_build_bytes(&text, JSSTR_LATIN1, bytes, 1).status == JSSTR_DONE);
   }
   jsstr_drop_builder(&text);
 }
@@ -273,7 +272,7 @@ static void numbers(void) {
     int size = snprintf(digits, sizeof digits, "%" PRId64, number);
     CHECK(jsstr_build_number(&text, number) == JSSTR_DONE && text.len == (uint32_t)size);
     jsstr_answer s = jsstr_built(&text, &a);
-    CHECK(s.status == JSSTR_DONE && jsstr_equals_latin1(&a, s.id, (const uint8_t *)digits, (size_t)size).holds);
+    CHECK(s.status == JSSTR_DONE && jsstr_equals_bytes(&a, s.id, JSSTR_LATIN1, (const uint8_t *)digits, (size_t)size).holds);
   }
   jsstr_drop_builder(&text);
   CHECK(jsstr_free(&a) == JSSTR_DONE);
@@ -288,14 +287,14 @@ static void two_heaps(void) {
   CHECK(jsstr_make((jsstr_size){50, 50, 11}, 1, 5, &other) == JSSTR_DONE);
   for (int i = 0; i < 3; i++) {
     CHECK(jsstr_make(sizes[i], 1, 100, &full) == JSSTR_DONE);
-    jsstr_id key = jsstr_intern_latin1(&full, (const uint8_t *)"only one", 8).id;
-    CHECK(jsstr_build_latin1(&text, (const uint8_t *)"nine units", 10) == JSSTR_DONE);
+    jsstr_id key = jsstr_intern_bytes(&full, JSSTR_LATIN1, (const uint8_t *)"only one", 8).id;
+    CHECK(jsstr_build_bytes(&text, JSSTR_LATIN1, (const uint8_t *)"nine units", 10).status == JSSTR_DONE);
     for (int form = i < 2 ? 0 : 2; form < 4; form++) {
       jsstr_answer s = form < 2 ? jsstr_built(&text, &full) : jsstr_built_interned(&text, &full);
       CHECK(!memcmp(&s, &refusals[i], sizeof s) && text.len == 10);
     }
     jsstr_answer kept = i % 2 ? jsstr_built(&text, &other) : jsstr_built_interned(&text, &other);
-    CHECK(kept.status == JSSTR_DONE && jsstr_equals_latin1(&other, kept.id, (const uint8_t *)"nine units", 10).holds && text.len == 0);
+    CHECK(kept.status == JSSTR_DONE && jsstr_equals_bytes(&other, kept.id, JSSTR_LATIN1, (const uint8_t *)"nine units", 10).holds && text.len == 0);
     CHECK(jsstr_build_string(&text, &full, key) == JSSTR_DONE && is_string(jsstr_built_interned(&text, &full), key));
     CHECK(jsstr_free(&full) == JSSTR_DONE);
   }
@@ -309,13 +308,13 @@ static void ropes(void) {
   jsstr_builder text = {0};
   CHECK(jsstr_make((jsstr_size){20, 3, 1}, 1, 100, &a) == JSSTR_DONE);
   jsstr_id s = made(&a, "12345678"), rope = jsstr_concat(&a, s, s).id, large = jsstr_concat(&a, rope, rope).id;
-  CHECK(jsstr_build_latin1(&text, (const uint8_t *)"x", 1) == JSSTR_DONE && jsstr_build_string(&text, &a, rope) == JSSTR_DONE);
+  CHECK(jsstr_build_bytes(&text, JSSTR_LATIN1, (const uint8_t *)"x", 1).status == JSSTR_DONE && jsstr_build_string(&text, &a, rope) == JSSTR_DONE);
   CHECK(jsstr_is_settled(&a, rope).holds && text.len == 17 && has_used(&a, 3, 3));
   CHECK(jsstr_build_string(&text, &a, large) == JSSTR_NO_WORDS && text.len == 17 && !jsstr_is_settled(&a, large).holds);
   CHECK(jsstr_built(&text, &a).status == JSSTR_NO_WORDS && text.len == 17 && jsstr_free(&a) == JSSTR_DONE);
   CHECK(jsstr_make((jsstr_size){20, 3, 1}, 1, 100, &a) == JSSTR_DONE);
   jsstr_answer whole = jsstr_built(&text, &a);
-  CHECK(whole.status == JSSTR_DONE && jsstr_equals_latin1(&a, whole.id, (const uint8_t *)"x1234567812345678", 17).holds);
+  CHECK(whole.status == JSSTR_DONE && jsstr_equals_bytes(&a, whole.id, JSSTR_LATIN1, (const uint8_t *)"x1234567812345678", 17).holds);
   CHECK(jsstr_free(&a) == JSSTR_DONE);
   jsstr_drop_builder(&text);
 }

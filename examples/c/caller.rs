@@ -37,7 +37,7 @@ unsafe extern "C" {
     fn jsstr_free(agent: &mut Agent) -> u32;
     fn jsstr_split(agent: &mut Agent, give: u32, out: &mut Agent) -> u32;
     fn jsstr_join(agent: &mut Agent, other: &mut Agent) -> u32;
-    fn jsstr_from_utf8(agent: &mut Agent, bytes: *const u8, len: usize) -> Answer;
+    fn jsstr_from_bytes(agent: &mut Agent, encoding: u32, bytes: *const u8, len: usize) -> Answer;
     fn jsstr_concat(agent: &mut Agent, a: u32, b: u32) -> Answer;
     fn jsstr_length(agent: &mut Agent, s: u32) -> Number;
     fn jsstr_read(agent: &mut Agent, s: u32, from: u32, out: *mut u16, len: usize) -> u32;
@@ -46,8 +46,10 @@ unsafe extern "C" {
     fn jsstr_adopt(agent: &mut Agent, slot: u32) -> Answer;
 }
 
+const JSSTR_UTF8: u32 = 1;
+
 fn made(agent: &mut Agent, text: &str) -> u32 {
-    let s = unsafe { jsstr_from_utf8(agent, text.as_ptr(), text.len()) };
+    let s = unsafe { jsstr_from_bytes(agent, JSSTR_UTF8, text.as_ptr(), text.len()) };
     assert_eq!(s.status, DONE);
     s.id
 }

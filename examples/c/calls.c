@@ -115,7 +115,7 @@ static void begin(world *w) {
   w->wide = id_of(jsstr_from_units(&w->one, wide, 8));
   CHECK(jsstr_split(&w->one, 2, &w->other) == JSSTR_DONE);
   w->key = id_of(jsstr_intern_units(&w->one, KEY_UNITS));
-  w->theirs = id_of(jsstr_from_latin1(&w->other, (const uint8_t *)"theirs", 6));
+  w->theirs = id_of(jsstr_from_bytes(&w->other, JSSTR_LATIN1, (const uint8_t *)"theirs", 6));
   CHECK(jsstr_build_units(&w->text, text, 6) == JSSTR_DONE);
   fill(w);
 }

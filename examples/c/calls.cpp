@@ -106,7 +106,7 @@ static world begun() {
   const jsstr::string plain = value_of(one.from({twin, 11})), rope = value_of(one.concat(plain, plain)), same = value_of(one.from({TWIN_UNITS})), other_units = value_of(one.from({wide, 8}));
   jsstr::agent other = value_of(one.split(2));
   const jsstr::key known = value_of(one.intern({KEY_UNITS}));
-  const jsstr::string theirs = value_of(other.from_latin1("theirs"));
+  const jsstr::string theirs = value_of(other.from(jsstr::encoding::latin1, "theirs"));
   jsstr::builder six, full;
   value_of(six.append({text, 6}));
   value_of(full.append({UNITS}));

@@ -103,14 +103,15 @@ static const any_byte key_bytes[] = "key", twin_bytes[] = "a plain onea plain on
   ROW(from_units, NOTHING, string(jsstr_from_units(&w->one, UNITS)), w->one.from({UNITS}), is_string(&w->one, L"units\xE9", 1, 1)) \
   ROW(from_units_refused, NOTHING, string(jsstr_from_units(&w->one, units, TOO_LONG)), w->one.from({units, TOO_LONG}), is_refused()) \
   ROW(from_units_reserved, NOTHING, string(jsstr_from_units(&w->far, UNITS)), w->far.from({UNITS}), is_string(&w->far, L"units\xE9", 0, 0)) \
-  ROW(from_latin1, NOTHING, string(jsstr_from_latin1(&w->one, LATIN1)), w->one.from_latin1({LATIN1}), is_string(&w->one, L"Latin-1 \xE9", 1, 2)) \
-  ROW(from_latin1_refused, NOTHING, string(jsstr_from_latin1(&w->one, latin1, TOO_LONG)), w->one.from_latin1({latin1, TOO_LONG}), is_refused()) \
-  ROW(from_utf8, NOTHING, string(jsstr_from_utf8(&w->one, UTF8)), w->one.from_utf8({UTF8}), is_string(&w->one, L"UTF-8 \xE9 \xD83D\xDE00", 1, 3)) \
-  ROW(from_utf8_refused, NOTHING, string(jsstr_from_utf8(&w->one, utf8, TOO_LONG)), w->one.from_utf8({utf8, TOO_LONG}), is_refused()) \
-  ROW(from_utf8_of_wtf8, NOTHING, string(jsstr_from_utf8(&w->one, WTF8)), w->one.from_utf8({WTF8}), is_answer(JSSTR_NOT_UTF8, 0, 6)) \
-  ROW(from_wtf8, NOTHING, string(jsstr_from_wtf8(&w->one, WTF8)), w->one.from_wtf8({WTF8}), is_string(&w->one, L"WTF-8 \xD800", 1, 2)) \
-  ROW(from_wtf8_refused, NOTHING, string(jsstr_from_wtf8(&w->one, wtf8, TOO_LONG)), w->one.from_wtf8({wtf8, TOO_LONG}), is_refused()) \
-  ROW(from_wtf8_of_latin1, NOTHING, string(jsstr_from_wtf8(&w->one, LATIN1)), w->one.from_wtf8({LATIN1}), is_answer(JSSTR_NOT_UTF8, 0, 8)) \
+  ROW(from_bytes, NOTHING, string(jsstr_from_bytes(&w->one, JSSTR_LATIN1, LATIN1)), w->one.from(jsstr::encoding::latin1, {LATIN1}), is_string(&w->one, L"Latin-1 \xE9", 1, 2)) \
+  ROW(from_bytes_refused, NOTHING, string(jsstr_from_bytes(&w->one, JSSTR_LATIN1, latin1, TOO_LONG)), w->one.from(jsstr::encoding::latin1, {latin1, TOO_LONG}), is_refused()) \
+  ROW(from_bytes_of_no_encoding, NOTHING, string(jsstr_from_bytes(&w->one, 3, LATIN1)), w->one.from(jsstr::encoding(3), {LATIN1}), is_refused()) \
+  ROW(from_utf8, NOTHING, string(jsstr_from_bytes(&w->one, JSSTR_UTF8, UTF8)), w->one.from(jsstr::encoding::utf8, {UTF8}), is_string(&w->one, L"UTF-8 \xE9 \xD83D\xDE00", 1, 3)) \
+  ROW(from_utf8_refused, NOTHING, string(jsstr_from_bytes(&w->one, JSSTR_UTF8, utf8, TOO_LONG)), w->one.from(jsstr::encoding::utf8, {utf8, TOO_LONG}), is_refused()) \
+  ROW(from_utf8_of_wtf8, NOTHING, string(jsstr_from_bytes(&w->one, JSSTR_UTF8, WTF8)), w->one.from(jsstr::encoding::utf8, {WTF8}), is_answer(JSSTR_NOT_UTF8, 0, 6)) \
+  ROW(from_wtf8, NOTHING, string(jsstr_from_bytes(&w->one, JSSTR_WTF8, WTF8)), w->one.from(jsstr::encoding::wtf8, {WTF8}), is_string(&w->one, L"WTF-8 \xD800", 1, 2)) \
+  ROW(from_wtf8_refused, NOTHING, string(jsstr_from_bytes(&w->one, JSSTR_WTF8, wtf8, TOO_LONG)), w->one.from(jsstr::encoding::wtf8, {wtf8, TOO_LONG}), is_refused()) \
+  ROW(from_wtf8_of_latin1, NOTHING, string(jsstr_from_bytes(&w->one, JSSTR_WTF8, LATIN1)), w->one.from(jsstr::encoding::wtf8, {LATIN1}), is_answer(JSSTR_NOT_UTF8, 0, 8)) \
   ROW(concat, NOTHING, string(jsstr_concat(&w->one, w->rope, w->plain)), w->one.concat(w->rope, w->plain), is_string(&w->one, ROPE PLAIN, 1, 0)) \
   ROW(concat_unchecked, NOTHING, string(jsstr_concat_unchecked(&w->one, w->rope, w->plain)), NO_METHOD, is_string(&w->one, ROPE PLAIN, 1, 0)) \
   ROW(concat_refused, NOTHING, string(jsstr_concat(&w->one, w->plain, w->theirs)), w->one.concat(w->plain, w->theirs), is_refused()) \
@@ -129,8 +130,8 @@ static const any_byte key_bytes[] = "key", twin_bytes[] = "a plain onea plain on
   ROW(settle_refused, NOTHING, string(jsstr_settle(&w->one, w->theirs)), w->one.settle(w->theirs), is_refused()) \
   ROW(read, NOTHING, told(jsstr_read(&w->one, w->rope, 2, w->units, 9)), w->one.read(w->rope, 2, w->units, 9), settled(wrote(is_done(), L"plain one"))) \
   ROW(read_refused, NOTHING, told(jsstr_read(&w->one, w->rope, 14, w->units, 9)), w->one.read(w->rope, 14, w->units, 9), is_refused()) \
-  ROW(read_all, NOTHING, bytes(jsstr_read_all(&w->one, w->rope, w->units, 64)), w->one.units(w->rope), settled(wrote(is_size(22), ROPE))) \
-  ROW(read_all_refused, NOTHING, bytes(jsstr_read_all(&w->one, w->theirs, w->units, 64)), w->one.units(w->theirs), is_refused()) \
+  ROW(read_all, NOTHING, bytes((jsstr_bytes){jsstr_read(&w->one, w->rope, 0, w->units, jsstr_length(&w->one, w->rope).value), 0, 22}), w->one.units(w->rope), settled(wrote(is_size(22), ROPE))) \
+  ROW(read_all_refused, NOTHING, bytes((jsstr_bytes){jsstr_read(&w->one, w->theirs, 0, w->units, jsstr_length(&w->one, w->theirs).value), 0, 0}), w->one.units(w->theirs), is_refused()) \
   ROW(unit_at, NOTHING, number(jsstr_unit_at(&w->one, w->rope, 3)), w->one.unit(w->rope, 3), settled(is_number('l'))) \
   ROW(unit_at_unchecked, NOTHING, value(jsstr_unit_at_unchecked(&w->one, w->wide, 5)), NO_METHOD, is_number(0x4E16)) \
   ROW(unit_at_refused, NOTHING, number(jsstr_unit_at(&w->one, w->rope, 22)), w->one.unit(w->rope, 22), is_refused()) \
@@ -166,17 +167,21 @@ static const any_byte key_bytes[] = "key", twin_bytes[] = "a plain onea plain on
   ROW(equals_units, NOTHING, truth(jsstr_equals_units(&w->one, w->rope, TWIN_UNITS)), w->one.equal(w->rope, {TWIN_UNITS}), settled(is_true())) \
   ROW(equals_units_refused, NOTHING, truth(jsstr_equals_units(&w->one, w->theirs, UNITS)), w->one.equal(w->theirs, {UNITS}), is_refused()) \
   ROW(equals_units_not, NOTHING, truth(jsstr_equals_units(&w->one, w->plain, TWIN_UNITS)), w->one.equal(w->plain, {TWIN_UNITS}), is_false()) \
-  ROW(compare_latin1, NOTHING, order(jsstr_compare_latin1(&w->one, w->rope, LATIN1)), w->one.compare_latin1(w->rope, {LATIN1}), settled(is_order(1))) \
-  ROW(compare_latin1_refused, NOTHING, order(jsstr_compare_latin1(&w->one, w->theirs, LATIN1)), w->one.compare_latin1(w->theirs, {LATIN1}), is_refused()) \
-  ROW(compare_utf8, NOTHING, order(jsstr_compare_utf8(&w->one, w->rope, UTF8)), w->one.compare_utf8(w->rope, {UTF8}), settled(is_order(1))) \
-  ROW(compare_utf8_refused, NOTHING, order(jsstr_compare_utf8(&w->one, w->theirs, UTF8)), w->one.compare_utf8(w->theirs, {UTF8}), is_refused()) \
-  ROW(compare_utf8_of_wtf8, NOTHING, order(jsstr_compare_utf8(&w->one, w->rope, WTF8)), w->one.compare_utf8(w->rope, {WTF8}), is_answer(JSSTR_NOT_UTF8)) \
-  ROW(equals_latin1, NOTHING, truth(jsstr_equals_latin1(&w->one, w->rope, TWIN_BYTES)), w->one.equal_latin1(w->rope, {TWIN_BYTES}), settled(is_true())) \
-  ROW(equals_latin1_refused, NOTHING, truth(jsstr_equals_latin1(&w->one, w->theirs, LATIN1)), w->one.equal_latin1(w->theirs, {LATIN1}), is_refused()) \
-  ROW(equals_latin1_not, NOTHING, truth(jsstr_equals_latin1(&w->one, w->plain, LATIN1)), w->one.equal_latin1(w->plain, {LATIN1}), is_false()) \
-  ROW(equals_utf8, NOTHING, truth(jsstr_equals_utf8(&w->one, w->rope, TWIN_BYTES)), w->one.equal_utf8(w->rope, {TWIN_BYTES}), settled(is_true())) \
-  ROW(equals_utf8_refused, NOTHING, truth(jsstr_equals_utf8(&w->one, w->theirs, UTF8)), w->one.equal_utf8(w->theirs, {UTF8}), is_refused()) \
-  ROW(equals_utf8_not, NOTHING, truth(jsstr_equals_utf8(&w->one, w->plain, UTF8)), w->one.equal_utf8(w->plain, {UTF8}), is_false()) \
+  ROW(compare_bytes, NOTHING, order(jsstr_compare_bytes(&w->one, w->rope, JSSTR_LATIN1, LATIN1)), w->one.compare(w->rope, jsstr::encoding::latin1, {LATIN1}), settled(is_order(1))) \
+  ROW(compare_bytes_refused, NOTHING, order(jsstr_compare_bytes(&w->one, w->theirs, JSSTR_LATIN1, LATIN1)), w->one.compare(w->theirs, jsstr::encoding::latin1, {LATIN1}), is_refused()) \
+  ROW(compare_bytes_of_no_encoding, NOTHING, order(jsstr_compare_bytes(&w->one, w->rope, 3, LATIN1)), w->one.compare(w->rope, jsstr::encoding(3), {LATIN1}), is_refused()) \
+  ROW(compare_utf8, NOTHING, order(jsstr_compare_bytes(&w->one, w->rope, JSSTR_UTF8, UTF8)), w->one.compare(w->rope, jsstr::encoding::utf8, {UTF8}), settled(is_order(1))) \
+  ROW(compare_utf8_refused, NOTHING, order(jsstr_compare_bytes(&w->one, w->theirs, JSSTR_UTF8, UTF8)), w->one.compare(w->theirs, jsstr::encoding::utf8, {UTF8}), is_refused()) \
+  ROW(compare_utf8_of_wtf8, NOTHING, order(jsstr_compare_bytes(&w->one, w->rope, JSSTR_UTF8, WTF8)), w->one.compare(w->rope, jsstr::encoding::utf8, {WTF8}), is_answer(JSSTR_NOT_UTF8)) \
+  ROW(compare_wtf8, NOTHING, order(jsstr_compare_bytes(&w->one, w->rope, JSSTR_WTF8, WTF8)), w->one.compare(w->rope, jsstr::encoding::wtf8, {WTF8}), settled(is_order(1))) \
+  ROW(equals_bytes, NOTHING, truth(jsstr_equals_bytes(&w->one, w->rope, JSSTR_LATIN1, TWIN_BYTES)), w->one.equal(w->rope, jsstr::encoding::latin1, {TWIN_BYTES}), settled(is_true())) \
+  ROW(equals_bytes_refused, NOTHING, truth(jsstr_equals_bytes(&w->one, w->theirs, JSSTR_LATIN1, LATIN1)), w->one.equal(w->theirs, jsstr::encoding::latin1, {LATIN1}), is_refused()) \
+  ROW(equals_bytes_of_no_encoding, NOTHING, truth(jsstr_equals_bytes(&w->one, w->rope, 3, TWIN_BYTES)), w->one.equal(w->rope, jsstr::encoding(3), {TWIN_BYTES}), is_refused()) \
+  ROW(equals_bytes_not, NOTHING, truth(jsstr_equals_bytes(&w->one, w->plain, JSSTR_LATIN1, LATIN1)), w->one.equal(w->plain, jsstr::encoding::latin1, {LATIN1}), is_false()) \
+  ROW(equals_utf8, NOTHING, truth(jsstr_equals_bytes(&w->one, w->rope, JSSTR_UTF8, TWIN_BYTES)), w->one.equal(w->rope, jsstr::encoding::utf8, {TWIN_BYTES}), settled(is_true())) \
+  ROW(equals_wtf8, NOTHING, truth(jsstr_equals_bytes(&w->one, w->rope, JSSTR_WTF8, TWIN_BYTES)), w->one.equal(w->rope, jsstr::encoding::wtf8, {TWIN_BYTES}), settled(is_true())) \
+  ROW(equals_utf8_refused, NOTHING, truth(jsstr_equals_bytes(&w->one, w->theirs, JSSTR_UTF8, UTF8)), w->one.equal(w->theirs, jsstr::encoding::utf8, {UTF8}), is_refused()) \
+  ROW(equals_utf8_not, NOTHING, truth(jsstr_equals_bytes(&w->one, w->plain, JSSTR_UTF8, UTF8)), w->one.equal(w->plain, jsstr::encoding::utf8, {UTF8}), is_false()) \
   ROW(starts_with, NOTHING, truth(jsstr_starts_with(&w->one, w->rope, w->plain, 11)), w->one.starts_with(w->rope, w->plain, 11), settled(is_true())) \
   ROW(starts_with_refused, NOTHING, truth(jsstr_starts_with(&w->one, w->plain, w->theirs, 0)), w->one.starts_with(w->plain, w->theirs, 0), is_refused()) \
   ROW(starts_with_not, NOTHING, truth(jsstr_starts_with(&w->one, w->twin, w->plain, 10)), w->one.starts_with(w->twin, w->plain, 10), is_false()) \
@@ -195,29 +200,31 @@ static const any_byte key_bytes[] = "key", twin_bytes[] = "a plain onea plain on
   ROW(intern_units_refused, NOTHING, string(jsstr_intern_units(&w->one, units, TOO_LONG)), w->one.intern({units, TOO_LONG}), is_refused()) \
   ROW(intern_units_there, NOTHING, string(jsstr_intern_units(&w->one, KEY_UNITS)), w->one.intern({KEY_UNITS}), is_that(&w->one, w->key, L"key")) \
   ROW(intern_units_first, NOTED, string(jsstr_intern_units(&w->far, UNITS)), w->far.intern({UNITS}), is_key(&w->far, L"units\xE9", 0, 0)) \
-  ROW(intern_latin1, NOTHING, string(jsstr_intern_latin1(&w->one, LATIN1)), w->one.intern_latin1({LATIN1}), is_key(&w->one, L"Latin-1 \xE9", 1, 2)) \
-  ROW(intern_latin1_refused, NOTHING, string(jsstr_intern_latin1(&w->one, latin1, TOO_LONG)), w->one.intern_latin1({latin1, TOO_LONG}), is_refused()) \
-  ROW(intern_utf8, NOTHING, string(jsstr_intern_utf8(&w->one, UTF8)), w->one.intern_utf8({UTF8}), is_key(&w->one, L"UTF-8 \xE9 \xD83D\xDE00", 1, 3)) \
-  ROW(intern_utf8_refused, NOTHING, string(jsstr_intern_utf8(&w->one, utf8, TOO_LONG)), w->one.intern_utf8({utf8, TOO_LONG}), is_refused()) \
-  ROW(intern_utf8_first, NOTED, string(jsstr_intern_utf8(&w->far, UTF8)), w->far.intern_utf8({UTF8}), is_key(&w->far, L"UTF-8 \xE9 \xD83D\xDE00", 0, 0)) \
-  ROW(intern_utf8_of_wtf8, NOTHING, string(jsstr_intern_utf8(&w->one, WTF8)), w->one.intern_utf8({WTF8}), is_answer(JSSTR_NOT_UTF8, 0, 6)) \
-  ROW(intern_wtf8, NOTHING, string(jsstr_intern_wtf8(&w->one, WTF8)), w->one.intern_wtf8({WTF8}), is_key(&w->one, L"WTF-8 \xD800", 1, 2)) \
-  ROW(intern_wtf8_refused, NOTHING, string(jsstr_intern_wtf8(&w->one, wtf8, TOO_LONG)), w->one.intern_wtf8({wtf8, TOO_LONG}), is_refused()) \
-  ROW(intern_wtf8_of_latin1, NOTHING, string(jsstr_intern_wtf8(&w->one, LATIN1)), w->one.intern_wtf8({LATIN1}), is_answer(JSSTR_NOT_UTF8, 0, 8)) \
+  ROW(intern_bytes, NOTHING, string(jsstr_intern_bytes(&w->one, JSSTR_LATIN1, LATIN1)), w->one.intern(jsstr::encoding::latin1, {LATIN1}), is_key(&w->one, L"Latin-1 \xE9", 1, 2)) \
+  ROW(intern_bytes_refused, NOTHING, string(jsstr_intern_bytes(&w->one, JSSTR_LATIN1, latin1, TOO_LONG)), w->one.intern(jsstr::encoding::latin1, {latin1, TOO_LONG}), is_refused()) \
+  ROW(intern_bytes_of_no_encoding, NOTHING, string(jsstr_intern_bytes(&w->one, 3, LATIN1)), w->one.intern(jsstr::encoding(3), {LATIN1}), is_refused()) \
+  ROW(intern_utf8, NOTHING, string(jsstr_intern_bytes(&w->one, JSSTR_UTF8, UTF8)), w->one.intern(jsstr::encoding::utf8, {UTF8}), is_key(&w->one, L"UTF-8 \xE9 \xD83D\xDE00", 1, 3)) \
+  ROW(intern_utf8_refused, NOTHING, string(jsstr_intern_bytes(&w->one, JSSTR_UTF8, utf8, TOO_LONG)), w->one.intern(jsstr::encoding::utf8, {utf8, TOO_LONG}), is_refused()) \
+  ROW(intern_utf8_first, NOTED, string(jsstr_intern_bytes(&w->far, JSSTR_UTF8, UTF8)), w->far.intern(jsstr::encoding::utf8, {UTF8}), is_key(&w->far, L"UTF-8 \xE9 \xD83D\xDE00", 0, 0)) \
+  ROW(intern_utf8_of_wtf8, NOTHING, string(jsstr_intern_bytes(&w->one, JSSTR_UTF8, WTF8)), w->one.intern(jsstr::encoding::utf8, {WTF8}), is_answer(JSSTR_NOT_UTF8, 0, 6)) \
+  ROW(intern_wtf8, NOTHING, string(jsstr_intern_bytes(&w->one, JSSTR_WTF8, WTF8)), w->one.intern(jsstr::encoding::wtf8, {WTF8}), is_key(&w->one, L"WTF-8 \xD800", 1, 2)) \
+  ROW(intern_wtf8_refused, NOTHING, string(jsstr_intern_bytes(&w->one, JSSTR_WTF8, wtf8, TOO_LONG)), w->one.intern(jsstr::encoding::wtf8, {wtf8, TOO_LONG}), is_refused()) \
+  ROW(intern_wtf8_of_latin1, NOTHING, string(jsstr_intern_bytes(&w->one, JSSTR_WTF8, LATIN1)), w->one.intern(jsstr::encoding::wtf8, {LATIN1}), is_answer(JSSTR_NOT_UTF8, 0, 8)) \
   ROW(intern_many, NOTHING, batch(jsstr_intern_many(&w->one, UNITS, ends, 3, w->ids, 3)), w->one.intern_many({UNITS}, {ends, ends + 3}), is_keys(&w->one, L"u ni ts\xE9", 3, 3)) \
   ROW(intern_many_refused, NOTHING, batch(jsstr_intern_many(&w->one, UNITS, descending, 3, w->ids, 3)), w->one.intern_many({UNITS}, {descending, descending + 3}), is_refused()) \
   ROW(find_units, NOTHING, string(jsstr_find_units(&w->one, KEY_UNITS)), w->one.find({KEY_UNITS}), is_that(&w->one, w->key, L"key")) \
   ROW(find_units_refused, NOTHING, string(jsstr_find_units(&w->one, key, TOO_LONG)), w->one.find({key, TOO_LONG}), is_refused()) \
   ROW(find_units_first, NOTED, string(jsstr_find_units(&w->far, UNITS)), w->far.find({UNITS}), is_answer(JSSTR_NONE)) \
-  ROW(find_latin1, NOTHING, string(jsstr_find_latin1(&w->one, KEY_BYTES)), w->one.find_latin1({KEY_BYTES}), is_that(&w->one, w->key, L"key")) \
-  ROW(find_latin1_refused, NOTHING, string(jsstr_find_latin1(&w->one, key_bytes, TOO_LONG)), w->one.find_latin1({key_bytes, TOO_LONG}), is_refused()) \
-  ROW(find_utf8, NOTHING, string(jsstr_find_utf8(&w->one, KEY_BYTES)), w->one.find_utf8({KEY_BYTES}), is_that(&w->one, w->key, L"key")) \
-  ROW(find_utf8_refused, NOTHING, string(jsstr_find_utf8(&w->one, key_bytes, TOO_LONG)), w->one.find_utf8({key_bytes, TOO_LONG}), is_refused()) \
-  ROW(find_utf8_first, NOTED, string(jsstr_find_utf8(&w->far, UTF8)), w->far.find_utf8({UTF8}), is_answer(JSSTR_NONE)) \
-  ROW(find_utf8_of_wtf8, NOTHING, string(jsstr_find_utf8(&w->one, WTF8)), w->one.find_utf8({WTF8}), is_answer(JSSTR_NOT_UTF8, 0, 6)) \
-  ROW(find_wtf8, NOTHING, string(jsstr_find_wtf8(&w->one, KEY_BYTES)), w->one.find_wtf8({KEY_BYTES}), is_that(&w->one, w->key, L"key")) \
-  ROW(find_wtf8_refused, NOTHING, string(jsstr_find_wtf8(&w->one, key_bytes, TOO_LONG)), w->one.find_wtf8({key_bytes, TOO_LONG}), is_refused()) \
-  ROW(find_wtf8_of_latin1, NOTHING, string(jsstr_find_wtf8(&w->one, LATIN1)), w->one.find_wtf8({LATIN1}), is_answer(JSSTR_NOT_UTF8, 0, 8)) \
+  ROW(find_bytes, NOTHING, string(jsstr_find_bytes(&w->one, JSSTR_LATIN1, KEY_BYTES)), w->one.find(jsstr::encoding::latin1, {KEY_BYTES}), is_that(&w->one, w->key, L"key")) \
+  ROW(find_bytes_refused, NOTHING, string(jsstr_find_bytes(&w->one, JSSTR_LATIN1, key_bytes, TOO_LONG)), w->one.find(jsstr::encoding::latin1, {key_bytes, TOO_LONG}), is_refused()) \
+  ROW(find_bytes_of_no_encoding, NOTHING, string(jsstr_find_bytes(&w->one, 3, KEY_BYTES)), w->one.find(jsstr::encoding(3), {KEY_BYTES}), is_refused()) \
+  ROW(find_utf8, NOTHING, string(jsstr_find_bytes(&w->one, JSSTR_UTF8, KEY_BYTES)), w->one.find(jsstr::encoding::utf8, {KEY_BYTES}), is_that(&w->one, w->key, L"key")) \
+  ROW(find_utf8_refused, NOTHING, string(jsstr_find_bytes(&w->one, JSSTR_UTF8, key_bytes, TOO_LONG)), w->one.find(jsstr::encoding::utf8, {key_bytes, TOO_LONG}), is_refused()) \
+  ROW(find_utf8_first, NOTED, string(jsstr_find_bytes(&w->far, JSSTR_UTF8, UTF8)), w->far.find(jsstr::encoding::utf8, {UTF8}), is_answer(JSSTR_NONE)) \
+  ROW(find_utf8_of_wtf8, NOTHING, string(jsstr_find_bytes(&w->one, JSSTR_UTF8, WTF8)), w->one.find(jsstr::encoding::utf8, {WTF8}), is_answer(JSSTR_NOT_UTF8, 0, 6)) \
+  ROW(find_wtf8, NOTHING, string(jsstr_find_bytes(&w->one, JSSTR_WTF8, KEY_BYTES)), w->one.find(jsstr::encoding::wtf8, {KEY_BYTES}), is_that(&w->one, w->key, L"key")) \
+  ROW(find_wtf8_refused, NOTHING, string(jsstr_find_bytes(&w->one, JSSTR_WTF8, key_bytes, TOO_LONG)), w->one.find(jsstr::encoding::wtf8, {key_bytes, TOO_LONG}), is_refused()) \
+  ROW(find_wtf8_of_latin1, NOTHING, string(jsstr_find_bytes(&w->one, JSSTR_WTF8, LATIN1)), w->one.find(jsstr::encoding::wtf8, {LATIN1}), is_answer(JSSTR_NOT_UTF8, 0, 8)) \
   ROW(slot_of, NOTHING, number(jsstr_slot_of(&w->one, w->key)), w->one.slot_of(w->key), is_number(hash(L"key") % 13)) \
   ROW(slot_of_refused, NOTHING, number(jsstr_slot_of(&w->one, w->plain)), w->one.slot_of(jsstr::key(w->plain.id())), is_refused()) \
   ROW(adopt, NOTHING, string(jsstr_adopt(&w->other, hash(L"key") % 13)), w->other.adopt(hash(L"key") % 13), learned(is_that(&w->other, w->key, L"key"))) \
@@ -232,14 +239,15 @@ static const any_byte key_bytes[] = "key", twin_bytes[] = "a plain onea plain on
   ROW(build_units, MEMORY, told(jsstr_build_units(&w->full, UNITS)), w->full.append({UNITS}), appended(&w->full, L"units\xE9")) \
   ROW(build_first_units, MEMORY, told(jsstr_build_units(&w->empty, UNITS)), w->empty.append({UNITS}), appended(&w->empty, L"units\xE9")) \
   ROW(build_nothing, NOTHING, told(jsstr_build_units(&w->full, units, 0)), w->full.append({units, 0}), appended(&w->full, L"")) \
-  ROW(build_latin1, MEMORY, told(jsstr_build_latin1(&w->full, LATIN1)), w->full.append_latin1({LATIN1}), appended(&w->full, L"Latin-1 \xE9")) \
-  ROW(build_first_latin1, MEMORY, told(jsstr_build_latin1(&w->empty, LATIN1)), w->empty.append_latin1({LATIN1}), appended(&w->empty, L"Latin-1 \xE9")) \
-  ROW(build_utf8, MEMORY, string(jsstr_build_utf8(&w->full, UTF8)), w->full.append_utf8({UTF8}), appended(&w->full, L"UTF-8 \xE9 \xD83D\xDE00")) \
-  ROW(build_first_utf8, MEMORY, string(jsstr_build_utf8(&w->empty, UTF8)), w->empty.append_utf8({UTF8}), appended(&w->empty, L"UTF-8 \xE9 \xD83D\xDE00")) \
-  ROW(build_utf8_of_wtf8, NOTHING, string(jsstr_build_utf8(&w->full, WTF8)), w->full.append_utf8({WTF8}), is_answer(JSSTR_NOT_UTF8, 0, 6)) \
-  ROW(build_wtf8, MEMORY, string(jsstr_build_wtf8(&w->full, WTF8)), w->full.append_wtf8({WTF8}), appended(&w->full, L"WTF-8 \xD800")) \
-  ROW(build_first_wtf8, MEMORY, string(jsstr_build_wtf8(&w->empty, WTF8)), w->empty.append_wtf8({WTF8}), appended(&w->empty, L"WTF-8 \xD800")) \
-  ROW(build_wtf8_of_latin1, NOTHING, string(jsstr_build_wtf8(&w->full, LATIN1)), w->full.append_wtf8({LATIN1}), is_answer(JSSTR_NOT_UTF8, 0, 8)) \
+  ROW(build_bytes, MEMORY, string(jsstr_build_bytes(&w->full, JSSTR_LATIN1, LATIN1)), w->full.append(jsstr::encoding::latin1, {LATIN1}), appended(&w->full, L"Latin-1 \xE9")) \
+  ROW(build_bytes_of_no_encoding, NOTHING, string(jsstr_build_bytes(&w->full, 3, LATIN1)), w->full.append(jsstr::encoding(3), {LATIN1}), is_refused()) \
+  ROW(build_first_latin1, MEMORY, string(jsstr_build_bytes(&w->empty, JSSTR_LATIN1, LATIN1)), w->empty.append(jsstr::encoding::latin1, {LATIN1}), appended(&w->empty, L"Latin-1 \xE9")) \
+  ROW(build_utf8, MEMORY, string(jsstr_build_bytes(&w->full, JSSTR_UTF8, UTF8)), w->full.append(jsstr::encoding::utf8, {UTF8}), appended(&w->full, L"UTF-8 \xE9 \xD83D\xDE00")) \
+  ROW(build_first_utf8, MEMORY, string(jsstr_build_bytes(&w->empty, JSSTR_UTF8, UTF8)), w->empty.append(jsstr::encoding::utf8, {UTF8}), appended(&w->empty, L"UTF-8 \xE9 \xD83D\xDE00")) \
+  ROW(build_utf8_of_wtf8, NOTHING, string(jsstr_build_bytes(&w->full, JSSTR_UTF8, WTF8)), w->full.append(jsstr::encoding::utf8, {WTF8}), is_answer(JSSTR_NOT_UTF8, 0, 6)) \
+  ROW(build_wtf8, MEMORY, string(jsstr_build_bytes(&w->full, JSSTR_WTF8, WTF8)), w->full.append(jsstr::encoding::wtf8, {WTF8}), appended(&w->full, L"WTF-8 \xD800")) \
+  ROW(build_first_wtf8, MEMORY, string(jsstr_build_bytes(&w->empty, JSSTR_WTF8, WTF8)), w->empty.append(jsstr::encoding::wtf8, {WTF8}), appended(&w->empty, L"WTF-8 \xD800")) \
+  ROW(build_wtf8_of_latin1, NOTHING, string(jsstr_build_bytes(&w->full, JSSTR_WTF8, LATIN1)), w->full.append(jsstr::encoding::wtf8, {LATIN1}), is_answer(JSSTR_NOT_UTF8, 0, 8)) \
   ROW(build_string, MEMORY, told(jsstr_build_string(&w->full, &w->one, w->plain)), w->full.append(w->one, w->plain), appended(&w->full, PLAIN)) \
   ROW(build_string_refused, NOTHING, told(jsstr_build_string(&w->full, &w->one, w->theirs)), w->full.append(w->one, w->theirs), is_refused()) \
   ROW(build_first_string, MEMORY, told(jsstr_build_string(&w->empty, &w->one, w->plain)), w->empty.append(w->one, w->plain), appended(&w->empty, PLAIN)) \

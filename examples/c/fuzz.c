@@ -214,6 +214,8 @@ static uint32_t to_utf8(const uint16_t *units, uint32_t len, uint8_t *bytes) {
 
 /* What a call is given: units, and the bytes that spell them. */
 enum kind { UNITS, LATIN1, UTF8, WTF8, KINDS };
+
+static uint32_t encoding_of(enum kind kind) { return kind == LATIN1 ? JSSTR_LATIN1 : kind == UTF8 ? JSSTR_UTF8 : JSSTR_WTF8; }
 typedef struct given { uint16_t units[102]; uint8_t bytes[310]; uint32_t len, n; long fault; } given;
 
 /* Behind the bytes, now and then, one or two surrogates in three bytes each, and a byte that ends no character.
@@ -255,8 +257,7 @@ static void make(agent *a) {
   enum kind kind = (enum kind)chance(KINDS);
   give(&g, kind);
   use before = used(a);
-  jsstr_answer s = kind == UNITS ? jsstr_from_units(&a->handle, g.units, g.len) : kind == LATIN1 ? jsstr_from_latin1(&a->handle, g.bytes, g.n)
-    : kind == UTF8 ? jsstr_from_utf8(&a->handle, g.bytes, g.n) : jsstr_from_wtf8(&a->handle, g.bytes, g.n);
+  jsstr_answer s = kind == UNITS ? jsstr_from_units(&a->handle, g.units, g.len) : jsstr_from_bytes(&a->handle, encoding_of(kind), g.bytes, g.n);
   if (!a->handle.live) { CHECK(s.status == JSSTR_BAD_ARGUMENT); return; }
   lawful++;
   if (is_refused(&g, s)) return;
@@ -305,20 +306,20 @@ static void read(agent *a) {
   CHECK(status == JSSTR_DONE && memcmp(units, texts[s].units + from, n * 2) == 0);
 }
 
-/* All units at once, and the number as an array index, which strings by chance rarely have. */
+/* The first units, and the number as an array index, which strings by chance rarely have. */
 static void read_out(agent *a) {
   uint16_t units[LIMIT + 1];
   char text[LIMIT + 1], again[16];
   jsstr_id s = some_id(a);
   uint32_t len = knows(a, s) ? texts[s].len : 9, room = chance(2) ? len : chance(LIMIT + 1);
   memset(units, 0x5A, sizeof units);
-  jsstr_bytes all = jsstr_read_all(&a->handle, s, units, room);
+  uint32_t status = jsstr_read(&a->handle, s, 0, units, room);
   jsstr_number n = jsstr_array_index(&a->handle, s);
-  if (!knows(a, s)) { CHECK(all.status == JSSTR_BAD_ARGUMENT && n.status == JSSTR_BAD_ARGUMENT && units[0] == 0x5A5A); return; }
+  if (!knows(a, s)) { CHECK(status == JSSTR_BAD_ARGUMENT && n.status == JSSTR_BAD_ARGUMENT && units[0] == 0x5A5A); return; }
   lawful++;
-  if (refused_for_room(all.status)) return;
-  CHECK(all.size == len && !all.at && all.status == (room < len ? JSSTR_NO_ROOM : JSSTR_DONE));
-  CHECK(room < len ? units[0] == 0x5A5A : memcmp(units, texts[s].units, len * 2) == 0 && units[len] == 0x5A5A);
+  if (refused_for_room(status)) return;
+  CHECK(status == (room > len ? JSSTR_BAD_ARGUMENT : JSSTR_DONE));
+  CHECK(room > len ? units[0] == 0x5A5A : memcmp(units, texts[s].units, room * 2) == 0 && units[room] == 0x5A5A);
   if (refused_for_room(n.status)) return;
   for (uint32_t i = 0; i < len; i++) text[i] = texts[s].units[i] < 128 ? (char)texts[s].units[i] : 'x';
   text[len] = 0;
@@ -464,8 +465,7 @@ static void key(agent *a) {
   give(&g, kind);
   use before = used(a);
   jsstr_answer one = kind == UNITS ? (find ? jsstr_find_units : jsstr_intern_units)(&a->handle, g.units, g.len)
-    : (kind == LATIN1 ? find ? jsstr_find_latin1 : jsstr_intern_latin1 : kind == UTF8 ? find ? jsstr_find_utf8 : jsstr_intern_utf8
-    : find ? jsstr_find_wtf8 : jsstr_intern_wtf8)(&a->handle, g.bytes, g.n);
+    : (find ? jsstr_find_bytes : jsstr_intern_bytes)(&a->handle, encoding_of(kind), g.bytes, g.n);
   if (!a->handle.live) { CHECK(one.status == JSSTR_BAD_ARGUMENT); return; }
   lawful++;
   if (is_refused(&g, one)) return;
@@ -538,9 +538,8 @@ static void append_given(void) {
   give(&g, kind);
   if (built.len + g.len > LIMIT) return;
   if (kind == UNITS) appended(jsstr_build_units(&built.handle, g.units, g.len), g.units, g.len);
-  else if (kind == LATIN1) appended(jsstr_build_latin1(&built.handle, g.bytes, g.n), g.units, g.len);
   else {
-    jsstr_answer s = (kind == UTF8 ? jsstr_build_utf8 : jsstr_build_wtf8)(&built.handle, g.bytes, g.n);
+    jsstr_answer s = jsstr_build_bytes(&built.handle, encoding_of(kind), g.bytes, g.n);
     if (!is_refused(&g, s)) appended(s.status, g.units, g.len);
   }
 }

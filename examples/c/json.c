@@ -86,14 +86,14 @@ static jsstr_id done(const reader *r, jsstr_answer a) {
 }
 
 static jsstr_id string_of(reader *r, spelling s) {
-  if (s.plain) return done(r, jsstr_from_utf8(&r->agent, (const uint8_t *)s.at, s.length));
+  if (s.plain) return done(r, jsstr_from_bytes(&r->agent, JSSTR_UTF8, (const uint8_t *)s.at, s.length));
   size_t length = decoded(r, s);
   return done(r, jsstr_from_units(&r->agent, r->units, length));
 }
 
 static jsstr_id key_of(reader *r, spelling s) {
   if (r->makes_first) return done(r, jsstr_intern(&r->agent, string_of(r, s)));
-  if (s.plain) return done(r, jsstr_intern_utf8(&r->agent, (const uint8_t *)s.at, s.length));
+  if (s.plain) return done(r, jsstr_intern_bytes(&r->agent, JSSTR_UTF8, (const uint8_t *)s.at, s.length));
   size_t length = decoded(r, s);
   return done(r, jsstr_intern_units(&r->agent, r->units, length));
 }

@@ -37,7 +37,7 @@ static jsstr_id made(jsstr_answer s) {
 
 /* `count` strings joined, by doubling. */
 static jsstr_id repeated(jsstr_agent *a, jsstr_id s, uint32_t count) {
-  jsstr_id all = made(jsstr_from_latin1(a, digits, 0));
+  jsstr_id all = made(jsstr_from_bytes(a, JSSTR_LATIN1, digits, 0));
   for (; count; count /= 2) {
     if (count % 2) all = made(jsstr_concat(a, all, s));
     if (count > 1) s = made(jsstr_concat(a, s, s));
@@ -56,13 +56,12 @@ static void look(jsstr_agent *a, jsstr_id s) {
   CHECK(jsstr_starts_with(a, s, end.id, MOST - 14).holds && !jsstr_starts_with(a, s, end.id, MOST - 13).holds);
   CHECK(jsstr_last_index_of(a, s, end.id, UINT32_MAX).at == MOST - 14 && jsstr_index_of(a, s, end.id, MOST - 20).at == MOST - 14);
   CHECK(jsstr_index_of(a, s, end.id, MOST).status == JSSTR_NONE && jsstr_index_of(a, s, end.id, MOST + 1).status == JSSTR_BAD_ARGUMENT);
-  CHECK(jsstr_read_all(a, s, units, 16).status == JSSTR_NO_ROOM && jsstr_read_all(a, s, units, 16).size == MOST);
   CHECK(is_string(jsstr_slice(a, s, 0, MOST), s) && jsstr_length(a, jsstr_slice(a, s, 1, MOST).id).value == MOST - 1);
 }
 
 /* Joined to the greatest length, and one unit more is refused on either side; then settled. */
 static jsstr_id join(jsstr_agent *a) {
-  jsstr_id eight = made(jsstr_from_latin1(a, digits, 8)), one = made(jsstr_from_latin1(a, digits, 1)), none = made(jsstr_from_latin1(a, digits, 0));
+  jsstr_id eight = made(jsstr_from_bytes(a, JSSTR_LATIN1, digits, 8)), one = made(jsstr_from_bytes(a, JSSTR_LATIN1, digits, 1)), none = made(jsstr_from_bytes(a, JSSTR_LATIN1, digits, 0));
   jsstr_id s = repeated(a, eight, MOST / 8);
   jsstr_room room = jsstr_room_of(a), after;
   CHECK(jsstr_length(a, s).value == MOST && is_too_long(jsstr_concat(a, s, one), MOST, 1) && is_too_long(jsstr_concat(a, one, s), 1, MOST));
@@ -79,11 +78,11 @@ static void build(jsstr_agent *a, jsstr_id s, jsstr_id one) {
   jsstr_builder text = {0};
   static const uint16_t unit = 'x';
   CHECK(jsstr_build_string(&text, a, s) == JSSTR_DONE && text.len == MOST);
-  CHECK(jsstr_build_units(&text, &unit, 1) == JSSTR_TOO_LONG && jsstr_build_latin1(&text, digits, 1) == JSSTR_TOO_LONG);
+  CHECK(jsstr_build_units(&text, &unit, 1) == JSSTR_TOO_LONG && jsstr_build_bytes(&text, JSSTR_LATIN1, digits, 1).status == JSSTR_TOO_LONG);
   CHECK(jsstr_build_number(&text, 7) == JSSTR_TOO_LONG && jsstr_build_number(&text, -2147483647 - 1) == JSSTR_TOO_LONG);
-  CHECK(is_bare(jsstr_build_utf8(&text, digits, 1), JSSTR_TOO_LONG) && is_bare(jsstr_build_wtf8(&text, digits, 1), JSSTR_TOO_LONG));
+  CHECK(is_bare(jsstr_build_bytes(&text, JSSTR_UTF8, digits, 1), JSSTR_TOO_LONG) && is_bare(jsstr_build_bytes(&text, JSSTR_WTF8, digits, 1), JSSTR_TOO_LONG));
   CHECK(jsstr_build_string(&text, a, one) == JSSTR_TOO_LONG && jsstr_build_string(&text, a, s) == JSSTR_TOO_LONG);
-  CHECK(jsstr_build_units(&text, &unit, 0) == JSSTR_DONE && is_bare(jsstr_build_utf8(&text, digits, 0), JSSTR_DONE));
+  CHECK(jsstr_build_units(&text, &unit, 0) == JSSTR_DONE && is_bare(jsstr_build_bytes(&text, JSSTR_UTF8, digits, 0), JSSTR_DONE));
   CHECK(text.len == MOST);
   jsstr_id t = made(jsstr_built(&text, a));
   CHECK(text.len == 0 && jsstr_equal(a, s, t).holds && jsstr_compare(a, s, t).order == 0);
@@ -100,8 +99,8 @@ static void give(void) {
     CHECK(units && jsstr_make((jsstr_size){2, MOST / 8, 3}, 1, 9, &a) == JSSTR_DONE);
     for (size_t more = 1; more < 2; more--) {
       size_t len = MOST + more;
-      s[i] = i == 0 ? jsstr_from_units(&a, units, len) : i == 1 ? jsstr_from_latin1(&a, bytes, len)
-        : i == 2 ? jsstr_intern_utf8(&a, bytes, len) : jsstr_from_wtf8(&a, bytes, len);
+      s[i] = i == 0 ? jsstr_from_units(&a, units, len) : i == 1 ? jsstr_from_bytes(&a, JSSTR_LATIN1, bytes, len)
+        : i == 2 ? jsstr_intern_bytes(&a, JSSTR_UTF8, bytes, len) : jsstr_from_bytes(&a, JSSTR_WTF8, bytes, len);
       CHECK(more ? is_bare(s[i], JSSTR_BAD_ARGUMENT) : is_string(s[i], 0));
     }
     CHECK(jsstr_length(&a, 0).value == MOST && jsstr_hash(&a, 0).value == 0 && jsstr_room_of(&a).words == MOST / 8 && jsstr_free(&a) == JSSTR_DONE);
@@ -133,7 +132,7 @@ int main(void) {
   CHECK(jsstr_make((jsstr_size){200, MOST / 4 + 16, 3}, 1, MOST, &a) == JSSTR_DONE);
   jsstr_id s = join(&a);
   look(&a, s);
-  build(&a, s, made(jsstr_from_latin1(&a, digits, 1)));
+  build(&a, s, made(jsstr_from_bytes(&a, JSSTR_LATIN1, digits, 1)));
   CHECK(jsstr_free(&a) == JSSTR_DONE);
   give();
   write_out();

@@ -232,12 +232,14 @@ Text some_units() {
 
 enum Kind { UNITS, LATIN1, UTF8, WTF8 };
 
-// What a call that takes units or bytes is given, and the units that it is to see; `len` is now and then too much.
+// What a call that takes units or bytes is given, and the units that it is to see; `len` is now and then too much, and
+// `encoding` none.
 struct Given {
   Kind kind = Kind(chance(4));
   Text units = some_units();
   Bytes bytes;
   size_t fault = SIZE_MAX, len;
+  uint32_t encoding = kind == LATIN1 ? JSSTR_LATIN1 : kind == UTF8 ? JSSTR_UTF8 : JSSTR_WTF8;
 
   Given() {
     if (kind == LATIN1)
@@ -245,6 +247,7 @@ struct Given {
     if (kind >= UTF8) spell();
     len = kind == UNITS ? units.size() : bytes.size();
     if (one_in(200)) len = size_t(JSSTR_MAX_LENGTH) + 1 + chance(3);
+    if (one_in(200)) encoding = JSSTR_WTF8 + 1 + chance(9);
   }
 
   void spell() {
@@ -257,22 +260,23 @@ struct Given {
   }
 
   bool is_too_long() const { return len > JSSTR_MAX_LENGTH; }
+  bool is_encoded() const { return kind == UNITS || encoding <= JSSTR_WTF8; }
   const uint16_t *list() const { return reinterpret_cast<const uint16_t *>(units.data()); }
   Answer not_utf8() const { return {JSSTR_NOT_UTF8, 0, uint32_t(fault)}; }
 };
 
 // The calls that take units or bytes and answer a string, by kind.
 typedef jsstr_answer OfUnits(jsstr_agent *, const uint16_t *, size_t);
-typedef jsstr_answer OfBytes(jsstr_agent *, const uint8_t *, size_t);
+typedef jsstr_answer OfBytes(jsstr_agent *, uint32_t, const uint8_t *, size_t);
 struct Family {
   OfUnits *units;
-  OfBytes *bytes[3];
+  OfBytes *bytes;
 
   Answer operator()(jsstr_agent *a, const Given &g) const {
-    return answer(g.kind == UNITS ? units(a, g.list(), g.len) : bytes[g.kind - LATIN1](a, g.bytes.data(), g.len));
+    return answer(g.kind == UNITS ? units(a, g.list(), g.len) : bytes(a, g.encoding, g.bytes.data(), g.len));
   }
 };
-#define FAMILY(call) {jsstr_##call##_units, {jsstr_##call##_latin1, jsstr_##call##_utf8, jsstr_##call##_wtf8}}
+#define FAMILY(call) {jsstr_##call##_units, jsstr_##call##_bytes}
 const Family FROM = FAMILY(from), INTERN = FAMILY(intern), FIND = FAMILY(find);
 
 // ---- The calls
@@ -280,14 +284,14 @@ const Family FROM = FAMILY(from), INTERN = FAMILY(intern), FIND = FAMILY(find);
 void from() {
   int i = some_agent();
   Given g;
-  bool ok = agent(i).heap && !g.is_too_long();
+  bool ok = agent(i).heap && !g.is_too_long() && g.is_encoded();
   play("from", making(i), {i}, [&] { return FROM(&handles[i], g); }, [&] { return !ok ? REFUSED : g.fault != SIZE_MAX ? g.not_utf8() : agent(i).make(g.units); });
 }
 
 void key() {
   int i = some_agent();
   Given g;
-  bool ok = agent(i).heap && !g.is_too_long(), finds = one_in(3);
+  bool ok = agent(i).heap && !g.is_too_long() && g.is_encoded(), finds = one_in(3);
   play(finds ? "find" : "intern_units", QUIET, {i}, [&] { return (finds ? FIND : INTERN)(&handles[i], g); }, [&] {
     return !ok ? REFUSED : g.fault != SIZE_MAX ? g.not_utf8() : finds ? agent(i).find(g.units) : agent(i).intern_units(g.units);
   });
@@ -359,22 +363,12 @@ void read() {
   wrote(units_out, part);
 }
 
-void read_all() {
+void length() {
   int i = some_agent();
   jsstr_id s = some_id(i);
-  size_t length = length_of(i, s), room = one_in(2) ? length : chance(uint32_t(length) + 9);
-  if (room > ROOM) return;
   bool ok = agent(i).knows(s);
-  Text all;
-  blank(units_out, room + 8);
-  play("length", NOTHING, {i}, [&] { return EITHER(ok && one_in(3), length, value, &handles[i], s); }, [&] { return ok ? value(uint32_t(length)) : REFUSED; });
-  play("read_all", NOTHING, {i}, [&] { return answer(jsstr_read_all(&handles[i], s, units_out, room)); }, [&] {
-    return once_settled(i, s, ok, [&] {
-      if (room >= length) all = units_of(i, s);
-      return Answer{uint32_t(room < length ? JSSTR_NO_ROOM : JSSTR_DONE), 0, uint32_t(length)};
-    });
-  });
-  wrote(units_out, all);
+  uint32_t length = uint32_t(length_of(i, s));
+  play("length", NOTHING, {i}, [&] { return EITHER(ok && one_in(3), length, value, &handles[i], s); }, [&] { return ok ? value(length) : REFUSED; });
 }
 
 void unit_at() {
@@ -455,14 +449,12 @@ void compare_given() {
   int i = some_agent();
   jsstr_id s = some_id(i);
   Given g;
-  if (g.kind == WTF8) return;
-  if (g.is_too_long() && g.kind != UTF8) g.len = g.kind == UNITS ? g.units.size() : g.bytes.size();
-  bool ok = agent(i).knows(s) && !g.is_too_long(), orders = one_in(2);
+  if (g.is_too_long() && (g.kind == UNITS || g.kind == LATIN1)) g.len = g.kind == UNITS ? g.units.size() : g.bytes.size();
+  bool ok = agent(i).knows(s) && !g.is_too_long() && g.is_encoded(), orders = one_in(2);
   jsstr_agent *a = &handles[i];
   play(orders ? "compare_given" : "equals_given", NOTHING, {i}, [&] {
     if (g.kind == UNITS) return orders ? answer(jsstr_compare_units(a, s, g.list(), g.len)) : answer(jsstr_equals_units(a, s, g.list(), g.len));
-    if (g.kind == LATIN1) return orders ? answer(jsstr_compare_latin1(a, s, g.bytes.data(), g.len)) : answer(jsstr_equals_latin1(a, s, g.bytes.data(), g.len));
-    return orders ? answer(jsstr_compare_utf8(a, s, g.bytes.data(), g.len)) : answer(jsstr_equals_utf8(a, s, g.bytes.data(), g.len));
+    return orders ? answer(jsstr_compare_bytes(a, s, g.encoding, g.bytes.data(), g.len)) : answer(jsstr_equals_bytes(a, s, g.encoding, g.bytes.data(), g.len));
   }, [&] {
     if (ok && g.fault != SIZE_MAX) return Answer{JSSTR_NOT_UTF8};
     return once_settled(i, s, ok, [&] { return orders ? order(units_of(i, s), g.units) : value(units_of(i, s) == g.units); });
@@ -566,12 +558,11 @@ void carry() {
 void append() {
   Given g;
   if (world.built.size() > 300 || g.is_too_long()) return;
-  bool is_wtf = g.kind == WTF8;
   play("build", MAY, {}, [&] {
     if (g.kind == UNITS) return answer(jsstr_build_units(&text, g.list(), g.len));
-    if (g.kind == LATIN1) return answer(jsstr_build_latin1(&text, g.bytes.data(), g.len));
-    return answer(is_wtf ? jsstr_build_wtf8(&text, g.bytes.data(), g.len) : jsstr_build_utf8(&text, g.bytes.data(), g.len));
+    return answer(jsstr_build_bytes(&text, g.encoding, g.bytes.data(), g.len));
   }, [&] {
+    if (!g.is_encoded()) return REFUSED;
     if (g.fault != SIZE_MAX) return g.not_utf8();
     world.built += g.units;
     return answer(JSSTR_DONE);
@@ -749,7 +740,7 @@ void begin() {
 }
 
 // The calls, some of them several times, so that they are made more often.
-void (*const CALLS[])() = {from, from, from, key, key, key, concat, concat, concat, concat, slice, slice, slice, settle, read, read_all, unit_at, encode, encode, number_of, window, compare, compare_given,
+void (*const CALLS[])() = {from, from, from, key, key, key, concat, concat, concat, concat, slice, slice, slice, settle, read, length, unit_at, encode, encode, number_of, window, compare, compare_given,
                            search, intern, intern, many, keys, carry, build, build, split, join, drop, count, reserve, renew, make_none};
 
 // How much of the heap is left doesn't grow, so a world goes on for a while once it is full, and then makes room for another one.

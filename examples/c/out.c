@@ -44,7 +44,7 @@ static jsstr_id made(jsstr_agent *agent, const text *of) {
 /* The string once more, as a rope of two halves with twelve units in front, and cut out of that. */
 static jsstr_id cut(jsstr_agent *agent, const text *of) {
   const uint8_t front[] = "twelve units";
-  jsstr_answer head = jsstr_from_latin1(agent, front, 12), tail = jsstr_from_units(agent, of->units, of->len);
+  jsstr_answer head = jsstr_from_bytes(agent, JSSTR_LATIN1, front, 12), tail = jsstr_from_units(agent, of->units, of->len);
   CHECK(head.status == JSSTR_DONE && tail.status == JSSTR_DONE);
   jsstr_answer rope = jsstr_concat(agent, head.id, tail.id);
   CHECK(rope.status == JSSTR_DONE);
@@ -75,14 +75,14 @@ static void try_row(jsstr_agent *agent, const row *r, jsstr_id s) {
   write_to_each_room(agent, s, JSSTR_KEEP, r->wtf8);
   if (r->unpaired < 0) {
     write_to_each_room(agent, s, JSSTR_REFUSE, r->utf8);
-    CHECK(jsstr_equals_utf8(agent, s, (const uint8_t *)r->utf8, strlen(r->utf8)).holds);
-    CHECK(jsstr_compare_utf8(agent, s, (const uint8_t *)r->utf8, strlen(r->utf8)).order == 0);
+    CHECK(jsstr_equals_bytes(agent, s, JSSTR_UTF8, (const uint8_t *)r->utf8, strlen(r->utf8)).holds);
+    CHECK(jsstr_compare_bytes(agent, s, JSSTR_UTF8, (const uint8_t *)r->utf8, strlen(r->utf8)).order == 0);
   } else {
     uint8_t out = 7;
     jsstr_bytes told = jsstr_to_utf8(agent, s, JSSTR_REFUSE, &out, 0);
     CHECK(told.status == JSSTR_UNMAPPED && told.at == (uint32_t)r->unpaired && told.size == 0 && out == 7);
-    CHECK(jsstr_equals_utf8(agent, s, (const uint8_t *)r->wtf8, strlen(r->wtf8)).status == JSSTR_NOT_UTF8);
-    CHECK(jsstr_compare_utf8(agent, s, (const uint8_t *)r->wtf8, strlen(r->wtf8)).status == JSSTR_NOT_UTF8);
+    CHECK(jsstr_equals_bytes(agent, s, JSSTR_UTF8, (const uint8_t *)r->wtf8, strlen(r->wtf8)).status == JSSTR_NOT_UTF8);
+    CHECK(jsstr_compare_bytes(agent, s, JSSTR_UTF8, (const uint8_t *)r->wtf8, strlen(r->wtf8)).status == JSSTR_NOT_UTF8);
   }
   for (uint32_t i = 0; i < r->of.len; i++) {
     CHECK(jsstr_unit_at(agent, s, i).value == r->of.units[i] && jsstr_unit_at_unchecked(agent, s, i) == r->of.units[i]);
@@ -116,9 +116,9 @@ static void compare_all(jsstr_agent *agent) {
 
 /* How a string compares with bytes, by both calls, as Latin-1 and as UTF-8. */
 static void compare_as(jsstr_agent *agent, jsstr_id s, const uint8_t *bytes, size_t len, int utf8, int order) {
-  jsstr_order told = (utf8 ? jsstr_compare_utf8 : jsstr_compare_latin1)(agent, s, bytes, len);
+  jsstr_order told = jsstr_compare_bytes(agent, s, utf8 ? JSSTR_UTF8 : JSSTR_LATIN1, bytes, len);
   CHECK(told.status == JSSTR_DONE && told.order == order);
-  jsstr_truth same = (utf8 ? jsstr_equals_utf8 : jsstr_equals_latin1)(agent, s, bytes, len);
+  jsstr_truth same = jsstr_equals_bytes(agent, s, utf8 ? JSSTR_UTF8 : JSSTR_LATIN1, bytes, len);
   CHECK(same.status == JSSTR_DONE && same.holds == (order == 0));
 }
 
@@ -129,7 +129,7 @@ static void compare_bytes(jsstr_agent *agent) {
   static const int turned[OF] = {1, -1, -1, 1}; /* where the last bit of a letter is turned */
   uint8_t bytes[LEN + 1], text[OF * LEN];
   for (size_t i = 0; i <= LEN; i++) bytes[i] = (uint8_t)(2 * (i % 50) + 1);
-  jsstr_id s = jsstr_from_latin1(agent, bytes, LEN).id, empty = jsstr_from_latin1(agent, bytes, 0).id;
+  jsstr_id s = jsstr_from_bytes(agent, JSSTR_LATIN1, bytes, LEN).id, empty = jsstr_from_bytes(agent, JSSTR_LATIN1, bytes, 0).id;
   for (int utf8 = 0; utf8 < 2; utf8++) {
     compare_as(agent, s, bytes, LEN + 1, utf8, -1);
     compare_as(agent, empty, bytes, 0, utf8, 0);
@@ -145,7 +145,7 @@ static void compare_bytes(jsstr_agent *agent) {
   }
   size_t all = 0, at = 0;
   for (size_t i = 0; i < LEN; i++) memcpy(text + all, letters[i % OF], strlen(letters[i % OF])), all += strlen(letters[i % OF]);
-  s = jsstr_from_utf8(agent, text, all).id;
+  s = jsstr_from_bytes(agent, JSSTR_UTF8, text, all).id;
   for (size_t i = 0; i < LEN; i++) {
     compare_as(agent, s, text, at, 1, 1);
     at += strlen(letters[i % OF]);
@@ -156,7 +156,7 @@ static void compare_bytes(jsstr_agent *agent) {
   compare_as(agent, s, text, all, 1, 0);
   compare_as(agent, s, text, 0, 0, 1);
   text[all - 2] = 0xFF;
-  CHECK(jsstr_compare_utf8(agent, s, text, all).status == JSSTR_NOT_UTF8 && jsstr_equals_utf8(agent, s, text, all).status == JSSTR_NOT_UTF8);
+  CHECK(jsstr_compare_bytes(agent, s, JSSTR_UTF8, text, all).status == JSSTR_NOT_UTF8 && jsstr_equals_bytes(agent, s, JSSTR_UTF8, text, all).status == JSSTR_NOT_UTF8);
 }
 
 static void write_latin1(jsstr_agent *agent) {
@@ -173,10 +173,10 @@ static void write_latin1(jsstr_agent *agent) {
   memset(out, 0xAA, sizeof out);
   told = jsstr_to_latin1(agent, narrow, out, 17);
   CHECK(told.status == JSSTR_DONE && told.size == 17 && memcmp(out, want, 17) == 0 && out[17] == 0xAA);
-  CHECK(jsstr_equals_latin1(agent, narrow, want, 17).holds && !jsstr_equals_latin1(agent, narrow, want, 16).holds);
-  CHECK(jsstr_compare_latin1(agent, narrow, want, 17).order == 0 && jsstr_compare_latin1(agent, narrow, want, 16).order == 1);
+  CHECK(jsstr_equals_bytes(agent, narrow, JSSTR_LATIN1, want, 17).holds && !jsstr_equals_bytes(agent, narrow, JSSTR_LATIN1, want, 16).holds);
+  CHECK(jsstr_compare_bytes(agent, narrow, JSSTR_LATIN1, want, 17).order == 0 && jsstr_compare_bytes(agent, narrow, JSSTR_LATIN1, want, 16).order == 1);
   want[3] = 255;
-  CHECK(jsstr_compare_latin1(agent, narrow, want, 17).order == -1);
+  CHECK(jsstr_compare_bytes(agent, narrow, JSSTR_LATIN1, want, 17).order == -1);
   of.units[5] = 255;
   of.units[11] = 256;
   jsstr_id wide = made(agent, &of);
@@ -190,7 +190,7 @@ static void write_latin1(jsstr_agent *agent) {
 static void hash_some(jsstr_agent *agent) {
   const struct { const char *of; uint32_t hash; } known[] = {{"", 0}, {"a", 97}, {"abc", 96354}, {"hello", 99162322}, {"polygenelubricants", 2147483648u}};
   for (size_t i = 0; i < sizeof known / sizeof *known; i++) {
-    jsstr_id s = jsstr_from_latin1(agent, (const uint8_t *)known[i].of, strlen(known[i].of)).id;
+    jsstr_id s = jsstr_from_bytes(agent, JSSTR_LATIN1, (const uint8_t *)known[i].of, strlen(known[i].of)).id;
     jsstr_number told = jsstr_hash(agent, s);
     CHECK(told.status == JSSTR_DONE && told.value == known[i].hash && jsstr_hash_unchecked(agent, s) == known[i].hash);
   }
@@ -199,7 +199,7 @@ static void hash_some(jsstr_agent *agent) {
 static void settle_on_the_way(void) {
   jsstr_agent agent = {0};
   CHECK(jsstr_make((jsstr_size){9, 4, 1}, 1, 100, &agent) == JSSTR_DONE);
-  jsstr_id half = jsstr_from_latin1(&agent, (const uint8_t *)"0123456789abcdef", 16).id;
+  jsstr_id half = jsstr_from_bytes(&agent, JSSTR_LATIN1, (const uint8_t *)"0123456789abcdef", 16).id;
   jsstr_id rope = jsstr_concat(&agent, half, half).id, other = jsstr_concat(&agent, rope, half).id;
   CHECK(jsstr_is_settled(&agent, half).holds && !jsstr_is_settled(&agent, rope).holds);
   CHECK(jsstr_is_settled(&agent, rope).status == JSSTR_DONE);
@@ -209,11 +209,11 @@ static void settle_on_the_way(void) {
   CHECK(jsstr_to_latin1(&agent, other, out, sizeof out).status == JSSTR_NO_WORDS);
   CHECK(jsstr_unit_at(&agent, other, 0).status == JSSTR_NO_WORDS && jsstr_hash(&agent, other).status == JSSTR_NO_WORDS);
   CHECK(jsstr_equals_units(&agent, other, &unit, 0).status == JSSTR_NO_WORDS && jsstr_compare_units(&agent, other, &unit, 0).status == JSSTR_NO_WORDS);
-  CHECK(jsstr_equals_latin1(&agent, other, out, 0).status == JSSTR_NO_WORDS && jsstr_compare_latin1(&agent, other, out, 0).status == JSSTR_NO_WORDS);
-  CHECK(jsstr_equals_utf8(&agent, other, out, 0).status == JSSTR_NO_WORDS && jsstr_compare_utf8(&agent, other, out, 0).status == JSSTR_NO_WORDS);
+  CHECK(jsstr_equals_bytes(&agent, other, JSSTR_LATIN1, out, 0).status == JSSTR_NO_WORDS && jsstr_compare_bytes(&agent, other, JSSTR_LATIN1, out, 0).status == JSSTR_NO_WORDS);
+  CHECK(jsstr_equals_bytes(&agent, other, JSSTR_UTF8, out, 0).status == JSSTR_NO_WORDS && jsstr_compare_bytes(&agent, other, JSSTR_UTF8, out, 0).status == JSSTR_NO_WORDS);
   jsstr_free(&agent);
   CHECK(jsstr_make((jsstr_size){9, 40, 1}, 1, 100, &agent) == JSSTR_DONE);
-  half = jsstr_from_latin1(&agent, (const uint8_t *)"0123456789abcdef", 16).id;
+  half = jsstr_from_bytes(&agent, JSSTR_LATIN1, (const uint8_t *)"0123456789abcdef", 16).id;
   rope = jsstr_concat(&agent, half, half).id;
   CHECK(jsstr_unit_at(&agent, rope, 31).value == 'f' && jsstr_is_settled(&agent, rope).holds);
   jsstr_free(&agent);
@@ -232,11 +232,11 @@ static void refuse(jsstr_agent *agent, jsstr_id known, jsstr_id unknown) {
     CHECK(jsstr_to_utf8(it, unknown, JSSTR_KEEP, out, 4).status == JSSTR_BAD_ARGUMENT);
     CHECK(jsstr_to_latin1(it, unknown, out, 4).status == JSSTR_BAD_ARGUMENT);
     CHECK(jsstr_equals_units(it, unknown, &unit, 1).status == JSSTR_BAD_ARGUMENT);
-    CHECK(jsstr_equals_latin1(it, unknown, out, 1).status == JSSTR_BAD_ARGUMENT);
-    CHECK(jsstr_equals_utf8(it, unknown, out, 1).status == JSSTR_BAD_ARGUMENT);
+    CHECK(jsstr_equals_bytes(it, unknown, JSSTR_LATIN1, out, 1).status == JSSTR_BAD_ARGUMENT);
+    CHECK(jsstr_equals_bytes(it, unknown, JSSTR_UTF8, out, 1).status == JSSTR_BAD_ARGUMENT);
     CHECK(jsstr_compare_units(it, unknown, &unit, 1).status == JSSTR_BAD_ARGUMENT);
-    CHECK(jsstr_compare_latin1(it, unknown, out, 1).status == JSSTR_BAD_ARGUMENT);
-    CHECK(jsstr_compare_utf8(it, unknown, out, 1).status == JSSTR_BAD_ARGUMENT);
+    CHECK(jsstr_compare_bytes(it, unknown, JSSTR_LATIN1, out, 1).status == JSSTR_BAD_ARGUMENT);
+    CHECK(jsstr_compare_bytes(it, unknown, JSSTR_UTF8, out, 1).status == JSSTR_BAD_ARGUMENT);
   }
   jsstr_bytes told = jsstr_to_utf8(agent, known, 3, out, 4);
   CHECK(told.status == JSSTR_BAD_ARGUMENT && told.at == 0 && told.size == 0);

@@ -35,7 +35,7 @@ static jsstr_id id_of(jsstr_answer s) {
 
 /* A string of `one` with these units, while there is such an agent. */
 static any_string made(world *w, const char *latin1) {
-  jsstr_answer s = jsstr_from_latin1(HANDLE(&w->one), (const uint8_t *)latin1, strlen(latin1));
+  jsstr_answer s = jsstr_from_bytes(HANDLE(&w->one), JSSTR_LATIN1, (const uint8_t *)latin1, strlen(latin1));
   CHECK(s.status == (HANDLE(&w->one)->live ? JSSTR_DONE : JSSTR_BAD_ARGUMENT));
   return (any_string)s.id;
 }
@@ -104,8 +104,7 @@ static state after(const world *w, state now, const expected *e) {
 static void check_units(any_agent *agent, jsstr_id s, const wchar_t *units, size_t len) {
   uint16_t got[128];
   jsstr_number length = jsstr_length(HANDLE(agent), s);
-  jsstr_bytes all = jsstr_read_all(HANDLE(agent), s, got, 128);
-  CHECK(length.status == JSSTR_DONE && length.value == len && all.status == JSSTR_DONE && all.size == len);
+  CHECK(length.status == JSSTR_DONE && length.value == len && jsstr_read(HANDLE(agent), s, 0, got, len) == JSSTR_DONE);
   for (size_t i = 0; i < len; i++) CHECK(got[i] == (uint16_t)units[i]);
 }
 

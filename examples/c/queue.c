@@ -62,9 +62,9 @@ static jsstr_id string_of(jsstr_answer s) {
 /* Appends to a text what an answer has for these keys: how many there are, and the last one first. */
 static void build_answer(jsstr_builder *text, jsstr_agent *agent, const jsstr_id *keys, size_t count) {
   CHECK(jsstr_build_number(text, (int32_t)count) == JSSTR_DONE);
-  CHECK(jsstr_build_latin1(text, (const uint8_t *)" words, backwards:", 18) == JSSTR_DONE);
+  CHECK(jsstr_build_bytes(text, JSSTR_LATIN1, (const uint8_t *)" words, backwards:", 18).status == JSSTR_DONE);
   while (count--) {
-    CHECK(jsstr_build_latin1(text, (const uint8_t *)" ", 1) == JSSTR_DONE);
+    CHECK(jsstr_build_bytes(text, JSSTR_LATIN1, (const uint8_t *)" ", 1).status == JSSTR_DONE);
     CHECK(jsstr_build_string(text, agent, keys[count]) == JSSTR_DONE);
   }
 }
@@ -78,16 +78,16 @@ static void answer(worker *w, job *j) {
   for (const char *at = j->text; *at; at += strspn(at, " ")) {
     size_t length = strcspn(at, " ");
     CHECK(j->count < WORDS);
-    jsstr_id key = keys[j->count] = string_of(jsstr_intern_latin1(&w->agent, (const uint8_t *)at, length));
+    jsstr_id key = keys[j->count] = string_of(jsstr_intern_bytes(&w->agent, JSSTR_LATIN1, (const uint8_t *)at, length));
     jsstr_number slot = jsstr_slot_of(&w->agent, key);
     CHECK(slot.status == JSSTR_DONE);
     j->slots[j->count++] = slot.value;
     at += length;
   }
   build_answer(&w->text, &w->agent, keys, j->count);
-  jsstr_bytes units = jsstr_read_all(&w->agent, string_of(jsstr_built(&w->text, &w->agent)), j->answer, sizeof j->answer / 2);
-  CHECK(units.status == JSSTR_DONE);
-  j->length = units.size;
+  j->length = w->text.len;
+  CHECK(j->length <= sizeof j->answer / 2);
+  CHECK(jsstr_read(&w->agent, string_of(jsstr_built(&w->text, &w->agent)), 0, j->answer, j->length) == JSSTR_DONE);
 }
 
 static void *work(void *at) {
@@ -132,7 +132,7 @@ static void ask(job *jobs) {
 }
 
 static uint32_t count_of(const char *word) {
-  jsstr_number slot = jsstr_slot_of(&host, string_of(jsstr_find_latin1(&host, (const uint8_t *)word, strlen(word))));
+  jsstr_number slot = jsstr_slot_of(&host, string_of(jsstr_find_bytes(&host, JSSTR_LATIN1, (const uint8_t *)word, strlen(word))));
   CHECK(slot.status == JSSTR_DONE);
   return counts[slot.value];
 }

@@ -74,7 +74,7 @@ static double renew(host *h) {
 static jsstr_id made(jsstr_agent *agent, const char *before, uint32_t number) {
   char text[64];
   int length = snprintf(text, sizeof text, "%s %u", before, number);
-  return done(jsstr_from_latin1(agent, (const uint8_t *)text, (size_t)length));
+  return done(jsstr_from_bytes(agent, JSSTR_LATIN1, (const uint8_t *)text, (size_t)length));
 }
 
 /* The value of an entry is a rope, which two entries hold. */

@@ -25,16 +25,16 @@ static int is_refused(jsstr_answer s, uint32_t status, uint32_t at, uint32_t wan
   return s.status == status && s.id == JSSTR_NO_STRING && s.at == at && s.want == want && s.end == end;
 }
 
-static jsstr_answer made(jsstr_agent *a, const char *text) { return jsstr_from_latin1(a, (const uint8_t *)text, strlen(text)); }
+static jsstr_answer made(jsstr_agent *a, const char *text) { return jsstr_from_bytes(a, JSSTR_LATIN1, (const uint8_t *)text, strlen(text)); }
 
 static jsstr_id id_of(jsstr_answer s) {
   CHECK(s.status == JSSTR_DONE);
   return s.id;
 }
 
-static jsstr_id interned(jsstr_agent *a, const char *text) { return id_of(jsstr_intern_latin1(a, (const uint8_t *)text, strlen(text))); }
+static jsstr_id interned(jsstr_agent *a, const char *text) { return id_of(jsstr_intern_bytes(a, JSSTR_LATIN1, (const uint8_t *)text, strlen(text))); }
 
-static int has_text(jsstr_agent *a, jsstr_id s, const char *text) { return jsstr_equals_latin1(a, s, (const uint8_t *)text, strlen(text)).holds; }
+static int has_text(jsstr_agent *a, jsstr_id s, const char *text) { return jsstr_equals_bytes(a, s, JSSTR_LATIN1, (const uint8_t *)text, strlen(text)).holds; }
 
 /* Each kind of new string takes an id, in their order, and a copy its words; none uses anything. */
 static void take(void) {
@@ -100,8 +100,8 @@ static void keys(void) {
   CHECK(jsstr_make((jsstr_size){100, 100, 31}, 1, 100, &a) == JSSTR_DONE && is_done(jsstr_reserve(&a, 9, 12)));
   CHECK(interned(&a, LONG) == 0 && has(&a, 9, 12, 8, 9) && interned(&a, LONG) == 0 && has(&a, 9, 12, 8, 9));
   CHECK(id_of(jsstr_intern_units(&a, wide, 5)) == 1 && has(&a, 9, 12, 7, 7) && id_of(jsstr_intern_units(&a, wide, 5)) == 1);
-  CHECK(id_of(jsstr_intern_utf8(&a, (const uint8_t *)"\xc3\xa9t\xc3\xa9", 5)) == 2 && has(&a, 9, 12, 6, 6) && has_text(&a, 2, "\xe9t\xe9"));
-  CHECK(id_of(jsstr_intern_latin1(&a, (const uint8_t *)"\xe9t\xe9", 3)) == 2 && has(&a, 9, 12, 6, 6));
+  CHECK(id_of(jsstr_intern_bytes(&a, JSSTR_UTF8, (const uint8_t *)"\xc3\xa9t\xc3\xa9", 5)) == 2 && has(&a, 9, 12, 6, 6) && has_text(&a, 2, "\xe9t\xe9"));
+  CHECK(id_of(jsstr_intern_bytes(&a, JSSTR_LATIN1, (const uint8_t *)"\xe9t\xe9", 3)) == 2 && has(&a, 9, 12, 6, 6));
   CHECK(jsstr_intern_many(&a, many, 5, ends, 4, ids, 4).done == 4 && has(&a, 9, 12, 3, 3));
   CHECK(ids[0] == 3 && ids[1] == 4 && ids[2] == 3 && ids[3] == 5 && has_text(&a, 5, "cd"));
   jsstr_id s = id_of(made(&a, "a string"));
@@ -114,12 +114,12 @@ static void keys(void) {
 static void last(void) {
   jsstr_agent a = {0};
   CHECK(jsstr_make((jsstr_size){2, 3, 7}, 1, 100, &a) == JSSTR_DONE && is_done(jsstr_reserve(&a, 2, 3)));
-  CHECK(is_refused(jsstr_intern_latin1(&a, (const uint8_t *)"a key of 30 units, too long, .", 30), JSSTR_NO_WORDS, 3, 4, 3) && has(&a, 2, 3, 2, 3));
+  CHECK(is_refused(jsstr_intern_bytes(&a, JSSTR_LATIN1, (const uint8_t *)"a key of 30 units, too long, .", 30), JSSTR_NO_WORDS, 3, 4, 3) && has(&a, 2, 3, 2, 3));
   CHECK(interned(&a, "a") == 0 && interned(&a, "b") == 1 && interned(&a, "a") == 0 && has(&a, 2, 3, 0, 1));
-  CHECK(is_refused(jsstr_intern_latin1(&a, (const uint8_t *)"", 0), JSSTR_NO_IDS, 2, 1, 2) && has(&a, 2, 3, 0, 1));
+  CHECK(is_refused(jsstr_intern_bytes(&a, JSSTR_LATIN1, (const uint8_t *)"", 0), JSSTR_NO_IDS, 2, 1, 2) && has(&a, 2, 3, 0, 1));
   CHECK(jsstr_free(&a) == JSSTR_DONE);
   CHECK(jsstr_make((jsstr_size){9, 9, 1}, 1, 100, &a) == JSSTR_DONE && is_done(jsstr_reserve(&a, 3, 3)));
-  CHECK(interned(&a, "a") == 0 && jsstr_intern_latin1(&a, (const uint8_t *)"b", 1).status == JSSTR_NO_SLOTS && has(&a, 3, 3, 2, 2) && interned(&a, "a") == 0);
+  CHECK(interned(&a, "a") == 0 && jsstr_intern_bytes(&a, JSSTR_LATIN1, (const uint8_t *)"b", 1).status == JSSTR_NO_SLOTS && has(&a, 3, 3, 2, 2) && interned(&a, "a") == 0);
   CHECK(jsstr_free(&a) == JSSTR_DONE);
 }
 
@@ -215,12 +215,12 @@ static void renew_keys(void) {
   CHECK(interned(&a, LONG) == 1 && has(&a, 4, 6, 2, 2) && interned(&a, LONG) == 1 && has(&a, 4, 6, 2, 2));
   CHECK(strlen(other) == 24 && interned(&a, other) == 2 && has(&a, 4, 12, 1, 5)); /* the words go on where those before end */
   CHECK(id_of(made(&a, "")) == 3 && has(&a, 4, 12, 0, 5) && interned(&a, "short") == 0 && interned(&a, LONG) == 1 && has(&a, 4, 12, 0, 5));
-  CHECK(jsstr_intern_latin1(&a, (const uint8_t *)"more", 4).status == JSSTR_NO_SLOTS && has(&a, 4, 12, 0, 5));
+  CHECK(jsstr_intern_bytes(&a, JSSTR_LATIN1, (const uint8_t *)"more", 4).status == JSSTR_NO_SLOTS && has(&a, 4, 12, 0, 5));
   CHECK(jsstr_free(&a) == JSSTR_DONE);
 
   CHECK(jsstr_make((jsstr_size){5, 2, 7}, 1, 100, &a) == JSSTR_DONE && jsstr_renew(&a, 2, 3) == JSSTR_DONE);
   CHECK(interned(&a, "a") == 0 && has(&a, 1, 1, 0, 0) && interned(&a, "b") == 1 && has(&a, 2, 2, 0, 0)); /* no whole block is left, but the words are */
-  CHECK(is_refused(jsstr_intern_latin1(&a, (const uint8_t *)"c", 1), JSSTR_NO_WORDS, 2, 1, 2) && has(&a, 2, 2, 0, 0) && interned(&a, "a") == 0);
+  CHECK(is_refused(jsstr_intern_bytes(&a, JSSTR_LATIN1, (const uint8_t *)"c", 1), JSSTR_NO_WORDS, 2, 1, 2) && has(&a, 2, 2, 0, 0) && interned(&a, "a") == 0);
   CHECK(interned(&a, "") == 2 && has(&a, 4, 2, 1, 0) && interned(&a, "") == 2 && jsstr_free(&a) == JSSTR_DONE);
 }
 

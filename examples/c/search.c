@@ -9,7 +9,7 @@
 static jsstr_agent agent;
 
 static jsstr_id made(const char *text) {
-  jsstr_answer s = jsstr_from_utf8(&agent, (const uint8_t *)text, strlen(text));
+  jsstr_answer s = jsstr_from_bytes(&agent, JSSTR_UTF8, (const uint8_t *)text, strlen(text));
   CHECK(s.status == JSSTR_DONE);
   return s.id;
 }
@@ -92,7 +92,7 @@ static void kept(void) {
 static void utf8(void) {
   static const uint16_t want[] = {'a', 0xE9, 0x20AC, 0xD83D, 0xDE00, 0xFFFF, 0xDBFF, 0xDFFF, 0};
   static const char text[] = "a\xC3\xA9\xE2\x82\xAC\xF0\x9F\x98\x80\xEF\xBF\xBF\xF4\x8F\xBF\xBF";
-  jsstr_answer s = jsstr_from_utf8(&agent, (const uint8_t *)text, sizeof text);
+  jsstr_answer s = jsstr_from_bytes(&agent, JSSTR_UTF8, (const uint8_t *)text, sizeof text);
   uint16_t got[9];
   CHECK(s.status == JSSTR_DONE && jsstr_length(&agent, s.id).value == 9);
   CHECK(jsstr_read(&agent, s.id, 0, got, 9) == JSSTR_DONE);
@@ -104,7 +104,7 @@ static void utf8(void) {
     {"abc\xF0\x8F\xBF\xBF", 3}, {"\xF4\x90\x80\x80", 0}, {"\xF5\x80\x80\x80", 0}, {"\xF0\x9F\x98\x80\xA9", 4}};
   jsstr_room before = jsstr_room_of(&agent);
   for (size_t i = 0; i < sizeof bad / sizeof *bad; i++) {
-    jsstr_answer none = jsstr_from_utf8(&agent, (const uint8_t *)bad[i].bytes, strlen(bad[i].bytes));
+    jsstr_answer none = jsstr_from_bytes(&agent, JSSTR_UTF8, (const uint8_t *)bad[i].bytes, strlen(bad[i].bytes));
     CHECK(none.status == JSSTR_NOT_UTF8 && none.at == bad[i].good && none.id == JSSTR_NO_STRING);
   }
   jsstr_room after = jsstr_room_of(&agent);
@@ -114,12 +114,12 @@ static void utf8(void) {
 static void full(void) {
   jsstr_agent small = {0};
   CHECK(jsstr_make((jsstr_size){2, 1, 1}, 1, 100, &small) == JSSTR_DONE);
-  jsstr_answer words = jsstr_from_utf8(&small, (const uint8_t *)"ninechars", 9);
+  jsstr_answer words = jsstr_from_bytes(&small, JSSTR_UTF8, (const uint8_t *)"ninechars", 9);
   CHECK(words.status == JSSTR_NO_WORDS && words.at == 0 && words.want == 2 && words.end == 1);
   /* Four bytes, and two units of two lanes: one word. */
-  CHECK(jsstr_from_utf8(&small, (const uint8_t *)"\xF0\x9F\x98\x80", 4).status == JSSTR_DONE);
-  CHECK(jsstr_from_utf8(&small, (const uint8_t *)"", 0).status == JSSTR_DONE);
-  CHECK(jsstr_from_utf8(&small, (const uint8_t *)"", 0).status == JSSTR_NO_IDS);
+  CHECK(jsstr_from_bytes(&small, JSSTR_UTF8, (const uint8_t *)"\xF0\x9F\x98\x80", 4).status == JSSTR_DONE);
+  CHECK(jsstr_from_bytes(&small, JSSTR_UTF8, (const uint8_t *)"", 0).status == JSSTR_DONE);
+  CHECK(jsstr_from_bytes(&small, JSSTR_UTF8, (const uint8_t *)"", 0).status == JSSTR_NO_IDS);
   jsstr_free(&small);
 }
 

@@ -25,7 +25,7 @@ static size_t key_units(int key, uint16_t *units) {
 }
 
 static jsstr_id made(jsstr_agent *agent, const char *text) {
-  jsstr_answer s = jsstr_from_latin1(agent, (const uint8_t *)text, strlen(text));
+  jsstr_answer s = jsstr_from_bytes(agent, JSSTR_LATIN1, (const uint8_t *)text, strlen(text));
   CHECK(s.status == JSSTR_DONE);
   return s.id;
 }
@@ -182,7 +182,7 @@ static void every_byte(void) {
   uint16_t want[256], got[256];
   for (int i = 0; i < 256; i++) want[i] = bytes[i] = (uint8_t)i;
   CHECK(jsstr_make((jsstr_size){4, 64, 4}, 1, 256, &agent) == JSSTR_DONE);
-  jsstr_answer s = jsstr_from_latin1(&agent, bytes, 256);
+  jsstr_answer s = jsstr_from_bytes(&agent, JSSTR_LATIN1, bytes, 256);
   CHECK(s.status == JSSTR_DONE && jsstr_length(&agent, s.id).value == 256);
   CHECK(jsstr_read(&agent, s.id, 0, got, 256) == JSSTR_DONE);
   CHECK(memcmp(want, got, sizeof want) == 0 && jsstr_room_of(&agent).words == 32);
@@ -268,7 +268,7 @@ static void refuse_parts(void) {
     CHECK(jsstr_read(&a, both[i], n, units, 0) == JSSTR_DONE);
     CHECK(jsstr_index_of(&a, both[i], end.id, n).at == n);
   }
-  CHECK(jsstr_from_latin1(&a, (uint8_t *)units, SIZE_MAX / 4).status == JSSTR_BAD_ARGUMENT);
+  CHECK(jsstr_from_bytes(&a, JSSTR_LATIN1, (uint8_t *)units, SIZE_MAX / 4).status == JSSTR_BAD_ARGUMENT);
   CHECK(jsstr_free(&a) == JSSTR_DONE);
 }
 
@@ -330,7 +330,7 @@ static void unchecked(void) {
   jsstr_id i = jsstr_intern_unchecked(&b, part).id, j = jsstr_intern(&b, other).id;
   CHECK(i == j && jsstr_slot_of(&a, i).status == JSSTR_BAD_ARGUMENT);
   jsstr_id key = jsstr_intern_units(&b, units, 9).id;
-  CHECK(jsstr_intern_latin1(&b, (const uint8_t *)"units of ", 9).id == key && jsstr_intern_unchecked(&b, one).id == key);
+  CHECK(jsstr_intern_bytes(&b, JSSTR_LATIN1, (const uint8_t *)"units of ", 9).id == key && jsstr_intern_unchecked(&b, one).id == key);
   CHECK(jsstr_find_units(&a, units, 9).id == key && jsstr_is_interned(&a, key).holds && !jsstr_is_interned(&a, one).holds);
   CHECK(jsstr_join(&a, &b) == JSSTR_DONE && !b.at && !b.live && jsstr_is_interned(&a, i).holds);
   CHECK(jsstr_count_interned(&a).value == 2 && jsstr_free(&a) == JSSTR_DONE && !a.at && !a.live);
@@ -362,8 +362,8 @@ static void intern_row(jsstr_agent *a, const uint16_t *units, uint32_t len, uint
   CHECK(is_string(jsstr_intern_units(a, units, len), key.id) && is_string(jsstr_find_units(a, units, len), key.id));
   for (uint32_t i = 0; i < len; i++) bytes[i] = (uint8_t)units[i], narrow &= units[i] < 128;
   if (narrow) {
-    CHECK(is_string(jsstr_intern_latin1(a, bytes, len), key.id) && is_string(jsstr_find_latin1(a, bytes, len), key.id));
-    CHECK(is_string(jsstr_intern_utf8(a, bytes, len), key.id) && is_string(jsstr_find_utf8(a, bytes, len), key.id));
+    CHECK(is_string(jsstr_intern_bytes(a, JSSTR_LATIN1, bytes, len), key.id) && is_string(jsstr_find_bytes(a, JSSTR_LATIN1, bytes, len), key.id));
+    CHECK(is_string(jsstr_intern_bytes(a, JSSTR_UTF8, bytes, len), key.id) && is_string(jsstr_find_bytes(a, JSSTR_UTF8, bytes, len), key.id));
   }
   CHECK(has_used(a, use.ids + 1, use.words + words) && jsstr_count_interned(a).value == lists + 1);
   CHECK(jsstr_is_interned(a, key.id).holds);
@@ -392,7 +392,7 @@ static void key_row(jsstr_agent *a, int key, const jsstr_id *ids, uint32_t slots
   uint8_t bytes[64];
   size_t n = key_units(key, units), size = key_bytes(key, bytes);
   jsstr_answer all[] = {
-    jsstr_find_units(a, units, n), jsstr_find_utf8(a, bytes, size), jsstr_intern_units(a, units, n), jsstr_intern_utf8(a, bytes, size)};
+    jsstr_find_units(a, units, n), jsstr_find_bytes(a, JSSTR_UTF8, bytes, size), jsstr_intern_units(a, units, n), jsstr_intern_bytes(a, JSSTR_UTF8, bytes, size)};
   for (int i = 0; i < 4; i++) {
     if (key < (int)slots) CHECK(is_string(all[i], ids[key]));
     else if (i < 2) CHECK(is_bare(all[i], JSSTR_NONE));
@@ -410,8 +410,8 @@ static void fill_table(uint32_t slots) {
     uint8_t bytes[64];
     size_t n = key_units(key, units), size = key_bytes(key, bytes);
     jsstr_agent *a = key % 5 ? &one : &other;
-    CHECK(is_bare(jsstr_find_units(a, units, n), JSSTR_NONE) && is_bare(jsstr_find_utf8(a, bytes, size), JSSTR_NONE));
-    jsstr_answer s = key % 3 ? jsstr_intern_units(a, units, n) : jsstr_intern_utf8(a, bytes, size);
+    CHECK(is_bare(jsstr_find_units(a, units, n), JSSTR_NONE) && is_bare(jsstr_find_bytes(a, JSSTR_UTF8, bytes, size), JSSTR_NONE));
+    jsstr_answer s = key % 3 ? jsstr_intern_units(a, units, n) : jsstr_intern_bytes(a, JSSTR_UTF8, bytes, size);
     CHECK(is_string(s, s.id));
     ids[key] = s.id;
   }
@@ -430,8 +430,8 @@ static void intern_units(void) {
   for (uint32_t len = 5; len <= 9; len++) intern_row(&a, wide, len, (len + 3) / 4);
   jsstr_room use = jsstr_room_of(&a);
   CHECK(is_bare(jsstr_find_units(&a, narrow, SIZE_MAX / 4), JSSTR_BAD_ARGUMENT));
-  CHECK(is_bare(jsstr_intern_latin1(&a, (const uint8_t *)narrow, SIZE_MAX / 4), JSSTR_BAD_ARGUMENT));
-  CHECK(is_bare(jsstr_find_utf8(&a, (const uint8_t *)narrow, SIZE_MAX / 4), JSSTR_BAD_ARGUMENT));
+  CHECK(is_bare(jsstr_intern_bytes(&a, JSSTR_LATIN1, (const uint8_t *)narrow, SIZE_MAX / 4), JSSTR_BAD_ARGUMENT));
+  CHECK(is_bare(jsstr_find_bytes(&a, JSSTR_UTF8, (const uint8_t *)narrow, SIZE_MAX / 4), JSSTR_BAD_ARGUMENT));
   CHECK(has_used(&a, use.ids, use.words) && jsstr_free(&a) == JSSTR_DONE);
 }
 
@@ -485,7 +485,7 @@ static void refuse_keys(void) {
   jsstr_answer ids = jsstr_intern_units(&a, x, 0);
   CHECK(ids.status == JSSTR_NO_IDS && !ids.id && ids.at == 1 && ids.want == 1 && ids.end == 1);
   CHECK(is_bare(jsstr_find_units(&a, x, 0), JSSTR_NONE) && jsstr_count_interned(&a).value == 1);
-  CHECK(is_string(jsstr_intern_units(&a, x, 1), one) && is_string(jsstr_find_latin1(&a, (const uint8_t *)"x", 1), one));
+  CHECK(is_string(jsstr_intern_units(&a, x, 1), one) && is_string(jsstr_find_bytes(&a, JSSTR_LATIN1, (const uint8_t *)"x", 1), one));
   CHECK(has_used(&a, 1, 1) && jsstr_free(&a) == JSSTR_DONE);
 
   CHECK(jsstr_make((jsstr_size){9, 1, 9}, 1, 9, &a) == JSSTR_DONE);
@@ -547,14 +547,14 @@ static void malformed_keys(void) {
   for (uint32_t i = 0; i < all; i++) {
     memcpy(bytes, text, all);
     bytes[i] = 0xFF;
-    jsstr_answer s = jsstr_intern_utf8(&a, bytes, all), t = jsstr_find_utf8(&a, bytes, all);
+    jsstr_answer s = jsstr_intern_bytes(&a, JSSTR_UTF8, bytes, all), t = jsstr_find_bytes(&a, JSSTR_UTF8, bytes, all);
     CHECK(s.status == JSSTR_NOT_UTF8 && s.id == JSSTR_NO_STRING && s.at == starts[i] && !s.want && !s.end && !memcmp(&s, &t, sizeof s));
     if (starts[i] == i) continue;
-    s = jsstr_intern_utf8(&a, (const uint8_t *)text, i), t = jsstr_find_utf8(&a, (const uint8_t *)text, i);
+    s = jsstr_intern_bytes(&a, JSSTR_UTF8, (const uint8_t *)text, i), t = jsstr_find_bytes(&a, JSSTR_UTF8, (const uint8_t *)text, i);
     CHECK(s.status == JSSTR_NOT_UTF8 && s.id == JSSTR_NO_STRING && s.at == starts[i] && !s.want && !s.end && !memcmp(&s, &t, sizeof s));
   }
   CHECK(has_used(&a, 0, 0));
-  jsstr_id key = jsstr_intern_utf8(&a, (const uint8_t *)text, all).id;
+  jsstr_id key = jsstr_intern_bytes(&a, JSSTR_UTF8, (const uint8_t *)text, all).id;
   CHECK(is_string(jsstr_find_units(&a, units, 6), key) && jsstr_length(&a, key).value == 6);
   CHECK(has_used(&a, 1, 2) && jsstr_free(&a) == JSSTR_DONE);
 }
@@ -588,8 +588,8 @@ static void array_indexes(void) {
   CHECK(jsstr_array_index(&a, 0).status == JSSTR_BAD_ARGUMENT);
 }
 
-/* All units, with each room up to one more than they need, in both forms. */
-static void read_all(void) {
+/* The first units, with each room up to one more than there are, in both forms. */
+static void read_fronts(void) {
   jsstr_agent a = {0};
   uint16_t units[20], got[22];
   CHECK(jsstr_make((jsstr_size){100, 200, 10}, 1, 1000, &a) == JSSTR_DONE);
@@ -599,23 +599,38 @@ static void read_all(void) {
       jsstr_id s = jsstr_from_units(&a, units, len).id;
       for (uint32_t room = 0; room <= len + 1; room++) {
         memset(got, 0x5A, sizeof got);
-        jsstr_bytes b = jsstr_read_all(&a, s, got, room);
-        CHECK(b.status == (room < len ? JSSTR_NO_ROOM : JSSTR_DONE) && b.size == len && !b.at);
-        uint32_t written = room < len ? 0 : len;
+        CHECK(jsstr_read(&a, s, 0, got, room) == (room > len ? JSSTR_BAD_ARGUMENT : JSSTR_DONE));
+        uint32_t written = room > len ? 0 : room;
         CHECK(!memcmp(units, got, written * 2));
         for (uint32_t i = written; i < 22; i++) CHECK(got[i] == 0x5A5A);
       }
     }
   got[0] = 7;
-  jsstr_bytes bad = jsstr_read_all(&a, 99, got, 22);
-  CHECK(bad.status == JSSTR_BAD_ARGUMENT && !bad.size && !bad.at && got[0] == 7 && jsstr_free(&a) == JSSTR_DONE);
-  CHECK(jsstr_read_all(&a, 0, got, 22).status == JSSTR_BAD_ARGUMENT && got[0] == 7);
+  CHECK(jsstr_read(&a, 99, 0, got, 0) == JSSTR_BAD_ARGUMENT && got[0] == 7 && jsstr_free(&a) == JSSTR_DONE);
+  CHECK(jsstr_read(&a, 0, 0, got, 0) == JSSTR_BAD_ARGUMENT && got[0] == 7);
+}
+
+/* A number that is no encoding: every call with one refuses it, and nothing is done. */
+static void no_encoding(void) {
+  jsstr_agent a = {0};
+  jsstr_builder text = {0};
+  const uint8_t bytes[] = "bytes";
+  CHECK(jsstr_make((jsstr_size){10, 10, 11}, 1, 100, &a) == JSSTR_DONE);
+  jsstr_id s = jsstr_intern_bytes(&a, JSSTR_LATIN1, bytes, 5).id;
+  jsstr_room use = jsstr_room_of(&a);
+  for (int i = 0; i < 3; i++) {
+    const uint32_t how[] = {JSSTR_WTF8 + 1, 255, UINT32_MAX};
+    CHECK(is_bare(jsstr_from_bytes(&a, how[i], bytes, 5), JSSTR_BAD_ARGUMENT) && is_bare(jsstr_intern_bytes(&a, how[i], bytes, 5), JSSTR_BAD_ARGUMENT));
+    CHECK(is_bare(jsstr_find_bytes(&a, how[i], bytes, 5), JSSTR_BAD_ARGUMENT) && is_bare(jsstr_build_bytes(&text, how[i], bytes, 5), JSSTR_BAD_ARGUMENT));
+    CHECK(jsstr_equals_bytes(&a, s, how[i], bytes, 5).status == JSSTR_BAD_ARGUMENT && jsstr_compare_bytes(&a, s, how[i], bytes, 5).status == JSSTR_BAD_ARGUMENT);
+  }
+  jsstr_room now = jsstr_room_of(&a);
+  CHECK(!memcmp(&use, &now, sizeof use) && !text.live && jsstr_free(&a) == JSSTR_DONE);
 }
 
 static int has_units(jsstr_agent *a, jsstr_id s, const uint16_t *units, uint32_t len) {
   uint16_t got[64];
-  jsstr_bytes b = jsstr_read_all(a, s, got, 64);
-  return b.status == JSSTR_DONE && b.size == len && !memcmp(units, got, len * 2);
+  return jsstr_length(a, s).value == len && jsstr_read(a, s, 0, got, len) == JSSTR_DONE && !memcmp(units, got, len * 2);
 }
 
 /* Strings carried to another heap: each form of string, what they use there, each refusal, the same heap. */
@@ -713,7 +728,7 @@ static void refuse_settling(void) {
   CHECK(jsstr_settle(&a, t).status == JSSTR_NO_WORDS && jsstr_slice(&a, t, 1, 20).status == JSSTR_NO_WORDS);
   CHECK(jsstr_read(&a, t, 0, got, 16) == JSSTR_NO_WORDS && jsstr_compare(&a, s, t).status == JSSTR_NO_WORDS);
   CHECK(jsstr_equal(&a, t, s).status == JSSTR_NO_WORDS && jsstr_intern(&a, t).status == JSSTR_NO_WORDS);
-  CHECK(jsstr_array_index(&a, t).status == JSSTR_NO_WORDS && jsstr_read_all(&a, t, got, 16).status == JSSTR_NO_WORDS);
+  CHECK(jsstr_array_index(&a, t).status == JSSTR_NO_WORDS);
   CHECK(jsstr_starts_with(&a, t, s, 0).status == JSSTR_NO_WORDS && jsstr_index_of(&a, t, s, 0).status == JSSTR_NO_WORDS);
   CHECK(jsstr_last_index_of(&a, t, s, 9).status == JSSTR_NO_WORDS && jsstr_length(&a, t).value == 24);
   CHECK(jsstr_free(&a) == JSSTR_DONE);
@@ -735,7 +750,8 @@ int main(void) {
   refuse_many();
   malformed_keys();
   array_indexes();
-  read_all();
+  read_fronts();
+  no_encoding();
   copies();
   refuse_copies();
   for (uint32_t way = 0; way < 3; way++) copy_until_full(way, 1);

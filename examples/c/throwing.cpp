@@ -15,7 +15,7 @@ static int greetings(jsstr::agent &agent) {
   int count = 0;
   try {
     for (;; count++) {
-      jsstr::string text = agent.concat(hello, agent.from_utf8("Zo\xC3\xAB"));
+      jsstr::string text = agent.concat(hello, agent.from(jsstr::encoding::utf8, "Zo\xC3\xAB"));
       CHECK(agent.utf8(text) == "Hello, my dear Zo\xC3\xAB" && agent.index_of(text, hello) == 0u);
     }
   } catch (const jsstr::failure &full) {
@@ -37,7 +37,7 @@ int main() {
   CHECK(!other && agent.length(key) == 3 && agent.share() == 2);
   jsstr::builder text;
   text.append(u"ke"_js);
-  text.append_latin1("y");
+  text.append(jsstr::encoding::latin1, "y");
   CHECK(text.interned(agent) == key && agent.adopt(agent.slot_of(key)) == key && agent.room().ids > 0);
   std::printf("%d greetings, then the heap is full\n", greetings(agent));
 }

@@ -39,15 +39,15 @@ static void takes_literals(jsstr::agent &agent) {
 
 // What may be left out of a call, and what is empty.
 static void takes_defaults(jsstr::agent &agent) {
-  jsstr::string hello = agent.from(u"hello"_js).value(), world = agent.from_utf8(" w\xC3\xB6rld \xF0\x9F\x98\x80").value();
+  jsstr::string hello = agent.from(u"hello"_js).value(), world = agent.from(jsstr::encoding::utf8, " w\xC3\xB6rld \xF0\x9F\x98\x80").value();
   jsstr::string both = agent.concat(hello, world).value();
   CHECK(agent.units(both).value() == u"hello w\u00F6rld \U0001F600" && agent.utf8(both).value() == "hello w\xC3\xB6rld \xF0\x9F\x98\x80");
   CHECK(agent.starts_with(both, hello).value() && !agent.starts_with(both, world).value());
   CHECK(agent.index_of(both, world).value() == 5u && agent.last_index_of(both, hello).value() == 0u);
-  CHECK(agent.length(agent.from_latin1({}).value()).value() == 0 && agent.length(agent.from(std::u16string_view()).value()).value() == 0);
-  CHECK(agent.latin1(agent.from_latin1({}).value()).value().empty() && agent.units(agent.from(u""_js).value()).value().empty());
+  CHECK(agent.length(agent.from(jsstr::encoding::latin1, {}).value()).value() == 0 && agent.length(agent.from(std::u16string_view()).value()).value() == 0);
+  CHECK(agent.latin1(agent.from(jsstr::encoding::latin1, {}).value()).value().empty() && agent.units(agent.from(u""_js).value()).value().empty());
   jsstr::builder text;
-  CHECK(text.append(std::u16string_view()) && text.append_utf8({}) && text.length() == 0);
+  CHECK(text.append(std::u16string_view()) && text.append(jsstr::encoding::utf8, {}) && text.length() == 0);
 }
 
 static void moves_texts(jsstr::agent &agent) {
@@ -91,7 +91,7 @@ static void interns_many() {
 
 static void maps_keys(jsstr::agent &agent) {
   std::unordered_map<jsstr::key, int> counts;
-  for (const char *word : {"one", "two", "one", "three", "one"}) counts[agent.intern_utf8(word).value()]++;
+  for (const char *word : {"one", "two", "one", "three", "one"}) counts[agent.intern(jsstr::encoding::utf8, word).value()]++;
   const jsstr::key one = agent.intern(u"one"_js).value();
   CHECK(counts.size() == 3 && counts[one] == 3 && agent.intern(std::u16string_view(u"two")).value() != one);
   CHECK(agent.intern(agent.from(u"one"_js).value()).value() == one);
@@ -118,7 +118,7 @@ static void splits_and_joins(jsstr::agent &agent) {
 // What a refusal says.
 static void refuses() {
   jsstr::agent small = jsstr::agent::make({1, 1, 1}).value();
-  const jsstr::refusal bytes = small.from_utf8("a\xC0\x80").error(), words = small.from(u"nine units"_js).error();
+  const jsstr::refusal bytes = small.from(jsstr::encoding::utf8, "a\xC0\x80").error(), words = small.from(u"nine units"_js).error();
   CHECK(bytes.why == status::not_utf8 && bytes.at == 1 && std::string(bytes.name()) == "JSSTR_NOT_UTF8");
   CHECK(words.why == status::no_words && words.at == 0 && words.want == 2 && words.end == 1);
   jsstr::string only = small.from(u"a"_js).value();

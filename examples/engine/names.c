@@ -46,7 +46,7 @@ static jsstr_answer intern_odd_bytes(jsstr_agent *agent, const uint8_t *bytes, s
 /* The interned string of a name. Where it is there already, nothing is used. */
 static jsstr_answer intern_bytes(jsstr_agent *agent, const uint8_t *bytes, size_t count)
 {
-	jsstr_answer name = jsstr_intern_utf8(agent, bytes, count);
+	jsstr_answer name = jsstr_intern_bytes(agent, JSSTR_UTF8, bytes, count);
 	return name.status == JSSTR_NOT_UTF8 ? intern_odd_bytes(agent, bytes, count) : name;
 }
 

@@ -1,22 +1,25 @@
 // Texts that are built up outside any heap, and then become strings. Calls on a text alone have no condition.
-ghost use Rattle.std.specs.Prelude.{◌≡◌, None, ◌≢◌, ℕ, List, ◌↔◌};
+ghost use Rattle.std.specs.Prelude.{◌≡◌, None, ◌≢◌, ◌≤◌, ℕ, List, ◌↔◌};
 ghost use Rattle.js_number.specs.Arith.{text_of};
 ghost use Rattle.js_number.specs.declared.Num.TheVariants.{Int};
 ghost use Rattle.heap_rule.specs.Maps.{Has, HasKey};
 ghost use Rattle.heap_rule.specs.Views.{IsSeenSettled};
-ghost use Rattle.heap_build.specs.Spelled.{SpellsUtf8, SpellsWtf8};
+ghost use Rattle.heap_build.specs.Built.{AddsSpelled, room_in};
 ghost use Rattle.heap_agents.specs.Ready.{IsReady, handle_view, HandleKnows};
 ghost use Rattle.c_handles.specs.Handles.{IsHandle};
 ghost use Rattle.c_steps.specs.Building.{AddsToText, BuildsSpelled, IsBuilder, text_so_far, EmptiesText};
 ghost use Rattle.c_steps.specs.Checked.{OnlyLooks, ReadsSettled};
+ghost use Rattle.c_steps.specs.Encodings as encodings;
+ghost use Rattle.c_steps.specs.Encodings.{spells_in};
 ghost use Rattle.c_steps.specs.Given.{IsInterning, MakesString, TestsGiven};
 ghost use Rattle.c_steps.specs.Reports as reports;
 
 use c_handles::JsAgent;
 use c_steps::{
-    DONE, JsAnswer, JsBuilder, NO_MEMORY, Task, bad_argument, no_memory, of_decoded, settle_known,
-    status_of,
+    DONE, JsAnswer, JsBuilder, NO_MEMORY, Task, TextEncoding, bad_argument, encoding_by, no_memory,
+    of_decoded, settle_known, status_of,
 };
+use heap_build::{Builder, DecodeFault};
 use heap_text::JsStr;
 use std::alloc::Global;
 
@@ -30,23 +33,6 @@ pub extern "C" fn jsstr_build_units(alloc: Global, text: &mut JsBuilder, units: 
     match text.open(alloc) {
         Ok(mut opened) => {
             let answer = opened.push_units(units);
-            text.put(opened);
-            status_of(answer)
-        }
-        Err(_) => NO_MEMORY,
-    }
-}
-
-/// Adds a unit for each byte, all or none, as Latin-1 has it.
-#[unsafe(no_mangle)]
-pub extern "C" fn jsstr_build_latin1(alloc: Global, text: &mut JsBuilder, bytes: &[u8]) -> u32
-    requires { IsBuilder text.old }
-    ensures handle { IsBuilder text.new }
-    ensures builds { AddsToText text.old.at.value text.new.at.value bytes.now result }
-{
-    match text.open(alloc) {
-        Ok(mut opened) => {
-            let answer = opened.push_latin1(bytes);
             text.put(opened);
             status_of(answer)
         }
@@ -71,33 +57,44 @@ pub extern "C" fn jsstr_build_number(alloc: Global, text: &mut JsBuilder, number
     }
 }
 
-/// Adds the units that bytes of UTF-8 spell.
-#[unsafe(no_mangle)]
-pub extern "C" fn jsstr_build_utf8(alloc: Global, text: &mut JsBuilder, bytes: &[u8]) -> JsAnswer
-    requires { IsBuilder text.old }
-    ensures handle { IsBuilder text.new }
-    ensures builds { BuildsSpelled SpellsUtf8 text.old.at.value text.new.at.value bytes.now result }
+// Adds the units that bytes spell.
+fn push_bytes(text: &mut Builder, encoding: TextEncoding, bytes: &[u8]) -> Result<(), DecodeFault>
+    ensures added { AddsSpelled (spells_in encoding) text.old text.new bytes.now result }
+    ensures room { room_in text.old ≤ room_in text.new }
 {
-    match text.open(alloc) {
-        Ok(mut opened) => {
-            let answer = opened.push_utf8(bytes);
-            text.put(opened);
-            of_decoded(answer)
-        }
-        Err(_) => no_memory(),
+    match encoding {
+        TextEncoding::Latin1 => match text.push_latin1(bytes) {
+            Ok(()) => Ok(()),
+            Err(fault) => Err(DecodeFault::NotAdded(fault)),
+        },
+        TextEncoding::Utf8 => text.push_utf8(bytes),
+        TextEncoding::Wtf8 => text.push_wtf8(bytes),
     }
 }
 
-/// Adds the units that bytes of WTF-8 spell, unpaired surrogates among them.
+/// Adds the units that bytes spell, all or none.
 #[unsafe(no_mangle)]
-pub extern "C" fn jsstr_build_wtf8(alloc: Global, text: &mut JsBuilder, bytes: &[u8]) -> JsAnswer
+pub extern "C" fn jsstr_build_bytes(
+    alloc: Global,
+    text: &mut JsBuilder,
+    encoding: u32,
+    bytes: &[u8],
+) -> JsAnswer
     requires { IsBuilder text.old }
     ensures handle { IsBuilder text.new }
-    ensures builds { BuildsSpelled SpellsWtf8 text.old.at.value text.new.at.value bytes.now result }
+    ensures bad { result.status ≡ reports.BAD_ARGUMENT ↔ ¬ (encoding ≤ 2) }
+    ensures unchanged { result.status ≡ reports.BAD_ARGUMENT
+        → (result ≡ reports.bad_argument) × (text.new.at.value ≡ text.old.at.value) }
+    ensures builds { result.status ≢ reports.BAD_ARGUMENT
+        → BuildsSpelled (spells_in (encodings.encoding_by encoding)) text.old.at.value text.new.at.value
+        bytes.now result }
 {
+    if encoding > 2 {
+        return bad_argument();
+    }
     match text.open(alloc) {
         Ok(mut opened) => {
-            let answer = opened.push_wtf8(bytes);
+            let answer = push_bytes(&mut opened, encoding_by(encoding), bytes);
             text.put(opened);
             of_decoded(answer)
         }

@@ -1,23 +1,22 @@
 // Strings compared with units, and with bytes.
-ghost use Rattle.std.specs.Prelude.{◌≡◌, ◌≢◌, ◌↔◌, ◌≤◌, ℕ, List, length, IsTrue};
+ghost use Rattle.std.specs.Prelude.{◌≡◌, ◌≢◌, ◌↔◌, ℕ, List, length, IsTrue};
 ghost use Rattle.js_search.specs.Order.{units_cmp};
-ghost use Rattle.heap_rule.specs.Layout.{MAX};
 ghost use Rattle.heap_rule.specs.Maps.{Has, HasKey};
 ghost use Rattle.heap_rule.specs.Views.{IsSeenSettled};
 ghost use Rattle.heap_agents.specs.Ready.{IsReady, handle_view, HandleKnows};
 ghost use Rattle.c_handles.specs.Handles.{IsHandle};
 ghost use Rattle.c_steps.specs.Checked.{OnlyLooks};
-ghost use Rattle.c_steps.specs.Lists.{OnSpelled, ComparesUnits, OrdersUnits};
+ghost use Rattle.c_steps.specs.Encodings as encodings;
+ghost use Rattle.c_steps.specs.Encodings.{IsDecodable, spells_in};
+ghost use Rattle.c_steps.specs.Lists.{ComparesSpelled, ComparesUnits, OrdersUnits};
 ghost use Rattle.c_steps.specs.Reports.{no_order, no_truth, order_number};
 ghost use Rattle.c_steps.specs.Reports as reports;
 
 use c_handles::JsAgent;
 use c_steps::{
-    BAD_ARGUMENT, DONE, JsOrder, JsTruth, NOT_UTF8, equals_spelled, of_order, order_spelled,
-    settle_known, without_order, without_truth,
+    BAD_ARGUMENT, DONE, JsOrder, JsTruth, NOT_UTF8, decode, encoding_by, equals_spelled,
+    is_decodable, of_order, order_spelled, settle_known, without_order, without_truth,
 };
-use heap_bytes::{Encoding, Spelling};
-use heap_rule::MAX;
 use heap_text::JsStr;
 
 // Whether a settled string has just these units.
@@ -52,40 +51,31 @@ pub extern "C" fn jsstr_equals_units(agent: &mut JsAgent, s: u32, units: &[u16])
     }
 }
 
-/// Whether a string has just these one-byte units, as Latin-1 is.
-/// The string is settled first.
+/// Whether a string has just the units that these bytes spell. Bytes that spell none are refused before
+/// anything is done; else the string is settled first.
 #[unsafe(no_mangle)]
-pub extern "C" fn jsstr_equals_latin1(agent: &mut JsAgent, s: u32, bytes: &[u8]) -> JsTruth
-    requires { IsHandle agent.old }
-    ensures handle { IsHandle agent.new }
-    ensures bad { result.status ≡ reports.BAD_ARGUMENT ↔ ¬ (HandleKnows agent.old.at.value s) }
-    ensures memory { result.status ≢ reports.NO_MEMORY }
-    ensures compares { ComparesUnits agent.old.at.value agent.new.at.value s bytes.now result }
-{
-    equals_spelled(agent, s, &Spelling::Latin1(bytes))
-}
-
-/// Whether a string has just the units of the text whose UTF-8 these bytes are. Other bytes are
-/// refused before anything is done.
-/// Where the bytes are UTF-8, the string is settled first.
-#[unsafe(no_mangle)]
-pub extern "C" fn jsstr_equals_utf8(agent: &mut JsAgent, s: u32, bytes: &[u8]) -> JsTruth
+pub extern "C" fn jsstr_equals_bytes(
+    agent: &mut JsAgent,
+    s: u32,
+    encoding: u32,
+    bytes: &[u8],
+) -> JsTruth
     requires { IsHandle agent.old }
     ensures handle { IsHandle agent.new }
     ensures bad { result.status ≡ reports.BAD_ARGUMENT
-        ↔ ¬ (HandleKnows agent.old.at.value s × (length bytes.now ≤ MAX)) }
+        ↔ ¬ (HandleKnows agent.old.at.value s × IsDecodable encoding (length bytes.now)) }
     ensures unchanged { result.status ≡ reports.BAD_ARGUMENT
         → (result ≡ no_truth result.status) × (agent.new.at.value ≡ agent.old.at.value) }
     ensures memory { result.status ≢ reports.NO_MEMORY }
     ensures compares { result.status ≢ reports.BAD_ARGUMENT
-        → OnSpelled agent.old.at.value agent.new.at.value bytes.now result.status
-        (result ≡ no_truth result.status)
+        → ComparesSpelled (spells_in (encodings.encoding_by encoding)) agent.old.at.value
+        agent.new.at.value bytes.now result.status (result ≡ no_truth result.status)
         (λ vs. ComparesUnits agent.old.at.value agent.new.at.value s vs result) }
 {
-    if bytes.len() > MAX as usize || !agent.knows(s) {
+    if !is_decodable(encoding, bytes.len()) || !agent.knows(s) {
         return without_truth(BAD_ARGUMENT);
     }
-    match Spelling::read(Encoding::Utf8, bytes) {
+    match decode(encoding_by(encoding), bytes) {
         Ok(spelled) => equals_spelled(agent, s, &spelled),
         Err(_) => without_truth(NOT_UTF8),
     }
@@ -125,40 +115,31 @@ pub extern "C" fn jsstr_compare_units(agent: &mut JsAgent, s: u32, units: &[u16]
     }
 }
 
-/// The order of a string and one-byte units, as Latin-1 is.
-/// The string is settled first.
+/// The order of a string and the units that these bytes spell. Bytes that spell none are refused before
+/// anything is done; else the string is settled first.
 #[unsafe(no_mangle)]
-pub extern "C" fn jsstr_compare_latin1(agent: &mut JsAgent, s: u32, bytes: &[u8]) -> JsOrder
-    requires { IsHandle agent.old }
-    ensures handle { IsHandle agent.new }
-    ensures bad { result.status ≡ reports.BAD_ARGUMENT ↔ ¬ (HandleKnows agent.old.at.value s) }
-    ensures memory { result.status ≢ reports.NO_MEMORY }
-    ensures compares { OrdersUnits agent.old.at.value agent.new.at.value s bytes.now result }
-{
-    order_spelled(agent, s, &Spelling::Latin1(bytes))
-}
-
-/// The order of a string and the units of the text whose UTF-8 these bytes are. Other bytes are
-/// refused before anything is done.
-/// Where the bytes are UTF-8, the string is settled first.
-#[unsafe(no_mangle)]
-pub extern "C" fn jsstr_compare_utf8(agent: &mut JsAgent, s: u32, bytes: &[u8]) -> JsOrder
+pub extern "C" fn jsstr_compare_bytes(
+    agent: &mut JsAgent,
+    s: u32,
+    encoding: u32,
+    bytes: &[u8],
+) -> JsOrder
     requires { IsHandle agent.old }
     ensures handle { IsHandle agent.new }
     ensures bad { result.status ≡ reports.BAD_ARGUMENT
-        ↔ ¬ (HandleKnows agent.old.at.value s × (length bytes.now ≤ MAX)) }
+        ↔ ¬ (HandleKnows agent.old.at.value s × IsDecodable encoding (length bytes.now)) }
     ensures unchanged { result.status ≡ reports.BAD_ARGUMENT
         → (result ≡ no_order result.status) × (agent.new.at.value ≡ agent.old.at.value) }
     ensures memory { result.status ≢ reports.NO_MEMORY }
     ensures compares { result.status ≢ reports.BAD_ARGUMENT
-        → OnSpelled agent.old.at.value agent.new.at.value bytes.now result.status
-        (result ≡ no_order result.status)
+        → ComparesSpelled (spells_in (encodings.encoding_by encoding)) agent.old.at.value
+        agent.new.at.value bytes.now result.status (result ≡ no_order result.status)
         (λ vs. OrdersUnits agent.old.at.value agent.new.at.value s vs result) }
 {
-    if bytes.len() > MAX as usize || !agent.knows(s) {
+    if !is_decodable(encoding, bytes.len()) || !agent.knows(s) {
         return without_order(BAD_ARGUMENT);
     }
-    match Spelling::read(Encoding::Utf8, bytes) {
+    match decode(encoding_by(encoding), bytes) {
         Ok(spelled) => order_spelled(agent, s, &spelled),
         Err(_) => without_order(NOT_UTF8),
     }

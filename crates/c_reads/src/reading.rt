@@ -1,5 +1,5 @@
 // Reading strings: lengths, units, words and bytes, hashes, array indexes.
-ghost use Rattle.std.specs.Prelude.{◌≡◌, ◌≢◌, ℕ, ◌+◌, ◌≤◌, List, length, slice_range, ◌↔◌, Option, ◌<◌, slice_index, IsTrue, None, Some};
+ghost use Rattle.std.specs.Prelude.{◌≡◌, ◌≢◌, ℕ, ◌+◌, ◌≤◌, List, length, slice_range, ◌↔◌, Option, ◌<◌, slice_index, IsTrue, Some};
 ghost use Rattle.js_units.specs.Lanes.{hash_of};
 ghost use Rattle.js_header.specs.declared.form.Form as form;
 ghost use Rattle.heap_rule.specs.Maps.{Has, HasKey};
@@ -76,40 +76,6 @@ pub extern "C" fn jsstr_read(agent: &mut JsAgent, s: u32, from: u32, out: &mut [
     }
     read_into(agent, s, from, out);
     DONE
-}
-
-// All units of a settled string into `out`; how many they are.
-fn write_all(agent: &mut JsAgent, s: u32, out: &mut [u16]) -> JsBytes
-    requires ready { IsReady agent.old.at.value }
-    requires known { HasKey (handle_view agent.old.at.value).units s }
-    requires settled { IsSeenSettled (handle_view agent.old.at.value) s }
-    ensures handle { IsHandle agent.new }
-    ensures looks { OnlyLooks agent.old.at.value agent.new.at.value }
-    ensures told { result.status ≢ reports.BAD_ARGUMENT }
-    ensures words { result.status ≢ reports.NO_WORDS }
-    ensures given { (us : List ℕ) → Has (handle_view agent.old.at.value).units s us
-        → IsGiven None us out.old out.new result }
-{
-    let answer = agent_reads::write_units(agent.held(), JsStr { id: s }, out);
-    of_bytes(answer)
-}
-
-/// All units of a string into `out`; how many they are.
-/// The string is settled first.
-#[unsafe(no_mangle)]
-pub extern "C" fn jsstr_read_all(agent: &mut JsAgent, s: u32, out: &mut [u16]) -> JsBytes
-    requires { IsHandle agent.old }
-    ensures handle { IsHandle agent.new }
-    ensures bad { result.status ≡ reports.BAD_ARGUMENT ↔ ¬ (HandleKnows agent.old.at.value s) }
-    ensures reads { ReadsSettled agent.old.at.value agent.new.at.value s result.status
-        ((result ≡ no_bytes result.status) × (out.new ≡ out.old))
-        (λ us. IsGiven None us out.old out.new result) }
-{
-    let settled = settle_known(agent, s);
-    if settled.status != DONE {
-        return without_bytes(settled.status);
-    }
-    write_all(agent, s, out)
 }
 
 /// Unit number `place` of a settled string.

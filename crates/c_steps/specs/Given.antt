@@ -1,7 +1,6 @@
 -- What calls on units that C gives leave and answer: units are made into a string, interned or looked for,
 -- and may be given as bytes that spell them.
 use Rattle.std.specs.Prelude.{◌≡◌, ◌≢◌, ◌⊎◌, ℕ, List, Option, Result}
-use Rattle.std.specs.Str.{IsUtf8}
 use Rattle.heap_rule.specs.Maps.{Has}
 use Rattle.heap_rule.specs.Views.{IsSeenSettled}
 use Rattle.heap_read.specs.declared.string.JsStr.{JsStr}
@@ -12,10 +11,9 @@ use Rattle.agent_keys.specs.Keys.{FindsUnits, InternsUnits}
 use Rattle.heap_agents.specs.Ready.{HandleSpends, HandleKnows, handle_view}
 use Rattle.agent_makes.specs.Spending.{HandleMakes}
 use Rattle.c_steps.specs.declared.answer.JsAnswer.{JsAnswer}
-use Rattle.heap_build.specs.Spelled.{SpellsWtf8, utf8_decoded}
-use Rattle.c_steps.specs.Decoded.{IsNoUtf8, IsNoWtf8}
+use Rattle.heap_build.specs.Spelled.{IsSpellingUpTo}
 use Rattle.c_steps.specs.Reports.{BAD_ARGUMENT, DONE, NO_MEMORY, bad_argument, done, found_answer, no_memory}
-use Rattle.c_steps.specs.Reports.{table_answer, text_answer}
+use Rattle.c_steps.specs.Reports.{not_utf8, table_answer, text_answer}
 
 -- The units us were made into a new string, with r as the answer. It takes what it needs from what was
 -- reserved, where that suffices.
@@ -42,15 +40,12 @@ abbrev pub OrNoMemory : (Option Held → Option Held → List ℕ → JsAnswer �
     → List ℕ → JsAnswer → Type 0
 OrNoMemory does o p us r = ((r ≡ no_memory) × (p ≡ o)) ⊎ does o p us r
 
--- what a call does with the units that bytes of UTF-8 spell; or they spell none, and nothing has changed
-abbrev pub OnUtf8 : (Option Held → Option Held → List ℕ → JsAnswer → Type 0) → Option Held → Option Held
-    → List ℕ → JsAnswer → Type 0
-OnUtf8 does o p bytes r = (IsNoUtf8 bytes r × (p ≡ o)) ⊎ (IsUtf8 bytes × does o p (utf8_decoded bytes) r)
-
--- the same with the units that bytes of WTF-8 spell
-abbrev pub OnWtf8 : (Option Held → Option Held → List ℕ → JsAnswer → Type 0) → Option Held → Option Held
-    → List ℕ → JsAnswer → Type 0
-OnWtf8 does o p bytes r = (IsNoWtf8 bytes r × (p ≡ o)) ⊎ ((us : List ℕ) × SpellsWtf8 bytes us × does o p us r)
+-- what a call does with the units that bytes spell; or they spell none, the length of the longest front that
+-- spells some is reported, and nothing has changed
+abbrev pub OnSpelled : (List ℕ → List ℕ → Type 0) → (Option Held → Option Held → List ℕ → JsAnswer → Type 0)
+    → Option Held → Option Held → List ℕ → JsAnswer → Type 0
+OnSpelled Spells does o p bytes r = ((n : ℕ) × (r ≡ not_utf8 n) × IsSpellingUpTo Spells bytes n × (p ≡ o))
+    ⊎ ((us : List ℕ) × Spells bytes us × does o p us r)
 
 -- a call on units or bytes that are given does this, unless its condition fails, and then nothing has changed
 pub record TestsGiven (call : Option Held → Option Held → List ℕ → JsAnswer → Type 0) (o p : Option Held)

@@ -3,9 +3,10 @@ pub mod Batches
 pub mod Checked
 pub mod Pairs
 pub mod Decoded
+pub mod Encodings
 pub mod Bytes
 pub mod Given
-pub mod Sources
+pub mod Tasks
 pub mod Lists
 pub mod Board
 pub mod Building

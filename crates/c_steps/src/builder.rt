@@ -7,7 +7,7 @@ ghost use Rattle.c_handles.specs.Handles.{IsHandle};
 ghost use Rattle.c_steps.specs.Building.{IsBuilder, IsOpened, EmptiesText, build_status, text_so_far, decoded_answer};
 ghost use Rattle.c_steps.specs.Decoded.{fault_answer};
 ghost use Rattle.c_steps.specs.Reports as reports;
-ghost use Rattle.c_steps.specs.Sources.{Does, Leaves};
+ghost use Rattle.c_steps.specs.Tasks.{Does, Leaves};
 
 use crate::answer::{DONE, JsAnswer, NO_MEMORY, TOO_LONG, no_memory, not_utf8, refusal};
 use crate::given::{Task, on_units};
@@ -124,7 +124,8 @@ pub fn status_of(answer: Result<(), BuildFault>) -> u32
 
 /// What a call answers that adds the units which bytes spell.
 pub fn of_decoded(answer: Result<(), DecodeFault>) -> JsAnswer
-    ensures { result ≡ decoded_answer answer }
+    ensures value { result ≡ decoded_answer answer }
+    ensures told { result.status ≢ reports.BAD_ARGUMENT }
 {
     match answer {
         Ok(()) => refusal(DONE, 0, 0, 0),
@@ -134,7 +135,8 @@ pub fn of_decoded(answer: Result<(), DecodeFault>) -> JsAnswer
 
 // What is answered where no units were decoded.
 fn undecoded(fault: DecodeFault) -> JsAnswer
-    ensures { result ≡ fault_answer fault }
+    ensures value { result ≡ fault_answer fault }
+    ensures told { result.status ≢ reports.BAD_ARGUMENT }
 {
     match fault {
         DecodeFault::Malformed { at } => not_utf8(at),

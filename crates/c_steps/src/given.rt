@@ -8,41 +8,20 @@ ghost use Rattle.c_handles.specs.Handles.{IsHandle};
 ghost use Rattle.c_steps.specs.Batches.{AreLists};
 ghost use Rattle.c_steps.specs.Checked.{OnlyLooks};
 ghost use Rattle.heap_bytes.specs.Spellings.{IsReadable, spelling_units};
-ghost use Rattle.c_steps.specs.Given.{IsFinding, IsInterning, MakesString, OrNoMemory};
+ghost use Rattle.c_steps.specs.Given.{IsFinding, IsInterning, MakesString, OnSpelled, OrNoMemory};
 ghost use Rattle.c_steps.specs.Reports as reports;
-ghost use Rattle.c_steps.specs.Sources.{Does, DoesOn, DoesSpelled, Leaves, given};
+ghost use Rattle.c_steps.specs.Encodings as encodings;
+ghost use Rattle.c_steps.specs.Tasks.{Does, Leaves};
 
 use crate::answer::{JsAnswer, bad_argument, no_memory, not_utf8, of_found, of_table, of_text};
+use crate::encoding::{TextEncoding, decode, encoding_by};
 use crate::reading::{length_of, read_into};
 use agent_keys::are_ends;
 use c_handles::JsAgent;
-use heap_bytes::{Encoding, Spelling};
+use heap_bytes::Spelling;
 use heap_intern::Key;
 use heap_rule::MAX;
 use std::alloc::{AllocError, Global};
-
-/// Units as they are given: as they are, in a byte each, as Latin-1 has them, in UTF-8 or in WTF-8.
-#[derive(Clone, Copy)]
-pub enum Source<'u> {
-    Units(&'u [u16]),
-    Latin1(&'u [u8]),
-    Utf8(&'u [u8]),
-    Wtf8(&'u [u8]),
-}
-
-impl Source<'_> {
-    // How many units or bytes are given.
-    fn len(self) -> usize
-        ensures { result ≡ length (given self.entry) }
-    {
-        match self {
-            Source::Units(units) => units.len(),
-            Source::Latin1(bytes) => bytes.len(),
-            Source::Utf8(bytes) => bytes.len(),
-            Source::Wtf8(bytes) => bytes.len(),
-        }
-    }
-}
 
 /// What is done with units that are in no string.
 #[derive(Clone, Copy)]
@@ -176,57 +155,62 @@ fn on_spelling(agent: &mut JsAgent, task: Task, spelled: &Spelling) -> JsAnswer
     }
 }
 
-// A task on the units that bytes of UTF-8 or WTF-8 spell, if they spell any.
-fn on_bytes(agent: &mut JsAgent, task: Task, encoding: Encoding, bytes: &[u8]) -> JsAnswer
+// A task on the units that bytes spell, if they spell any.
+fn on_bytes(agent: &mut JsAgent, task: Task, encoding: TextEncoding, bytes: &[u8]) -> JsAnswer
     requires ready { IsReady agent.old.at.value }
     requires short { length bytes.now ≤ MAX }
     ensures handle { IsHandle agent.new }
     ensures told { result.status ≢ reports.BAD_ARGUMENT }
-    ensures does { DoesSpelled encoding task agent.old.at.value agent.new.at.value bytes.now result }
+    ensures does { OnSpelled (encodings.spells_in encoding) (Does task) agent.old.at.value
+        agent.new.at.value bytes.now result }
     ensures leaves { Leaves task agent.old.at.value agent.new.at.value }
 {
-    match Spelling::read(encoding, bytes) {
+    match decode(encoding, bytes) {
         Ok(spelled) => on_spelling(agent, task, &spelled),
         Err(at) => left(agent, not_utf8(at as u32)),
     }
 }
 
-/// A task on the units of a source.
+/// A task on units, where its condition holds: there is an agent, and no more is given than a string may
+/// have.
 #[inline(always)]
-pub fn on_source(agent: &mut JsAgent, task: Task, source: Source) -> JsAnswer
-    requires ready { IsReady agent.old.at.value }
-    requires short { length (given source) ≤ MAX }
-    ensures handle { IsHandle agent.new }
-    ensures told { result.status ≢ reports.BAD_ARGUMENT }
-    ensures does { DoesOn task source.entry agent.old.at.value agent.new.at.value result }
-    ensures leaves { Leaves task agent.old.at.value agent.new.at.value }
-{
-    match source {
-        Source::Units(units) => on_units(agent, task, units),
-        Source::Latin1(bytes) => on_spelling(agent, task, &Spelling::Latin1(bytes)),
-        Source::Utf8(bytes) => on_bytes(agent, task, Encoding::Utf8, bytes),
-        Source::Wtf8(bytes) => on_bytes(agent, task, Encoding::Wtf8, bytes),
-    }
-}
-
-/// The same, where its condition holds: there is an agent, and no more is given than a string may have.
-#[inline(always)]
-pub fn tested(agent: &mut JsAgent, task: Task, source: Source) -> JsAnswer
+pub fn tested_units(agent: &mut JsAgent, task: Task, units: &[u16]) -> JsAnswer
     requires { IsHandle agent.old }
     ensures handle { IsHandle agent.new }
     ensures bad { result.status ≡ reports.BAD_ARGUMENT
-        ↔ ¬ (IsReady agent.old.at.value × (length (given source.entry) ≤ MAX)) }
+        ↔ ¬ (IsReady agent.old.at.value × (length units.now ≤ MAX)) }
     ensures unchanged { result.status ≡ reports.BAD_ARGUMENT
         → (result ≡ reports.bad_argument) × (agent.new.at.value ≡ agent.old.at.value) }
     ensures does { result.status ≢ reports.BAD_ARGUMENT
-        → DoesOn task source.entry agent.old.at.value agent.new.at.value result }
+        → Does task agent.old.at.value agent.new.at.value units.now result }
     ensures leaves { result.status ≢ reports.BAD_ARGUMENT
         → Leaves task agent.old.at.value agent.new.at.value }
 {
-    if agent.is_empty() || source.len() > MAX as usize {
+    if agent.is_empty() || units.len() > MAX as usize {
         return bad_argument();
     }
-    on_source(agent, task, source)
+    on_units(agent, task, units)
+}
+
+/// The same on the units that bytes spell, where there is an encoding with that number too.
+#[inline(always)]
+pub fn tested_bytes(agent: &mut JsAgent, task: Task, encoding: u32, bytes: &[u8]) -> JsAnswer
+    requires { IsHandle agent.old }
+    ensures handle { IsHandle agent.new }
+    ensures bad { result.status ≡ reports.BAD_ARGUMENT
+        ↔ ¬ (IsReady agent.old.at.value × (encoding ≤ 2) × (length bytes.now ≤ MAX)) }
+    ensures unchanged { result.status ≡ reports.BAD_ARGUMENT
+        → (result ≡ reports.bad_argument) × (agent.new.at.value ≡ agent.old.at.value) }
+    ensures does { result.status ≢ reports.BAD_ARGUMENT
+        → OnSpelled (encodings.spells_in (encodings.encoding_by encoding)) (Does task)
+        agent.old.at.value agent.new.at.value bytes.now result }
+    ensures leaves { result.status ≢ reports.BAD_ARGUMENT
+        → Leaves task agent.old.at.value agent.new.at.value }
+{
+    if agent.is_empty() || encoding > 2 || bytes.len() > MAX as usize {
+        return bad_argument();
+    }
+    on_bytes(agent, task, encoding_by(encoding), bytes)
 }
 
 /// Whether the ends are those of lists within so many units, and there is room for their ids.

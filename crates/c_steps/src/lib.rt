@@ -7,6 +7,7 @@
 mod answer;
 mod builder;
 mod bytes;
+mod encoding;
 mod given;
 mod joining;
 mod reading;
@@ -23,12 +24,10 @@ pub use answer::{
 };
 pub use builder::{JsBuilder, of_decoded, status_of};
 pub use bytes::{JsBytes, of_bytes, unpaired_by, without_bytes};
-pub use given::{
-    Source, Task, are_lists, find_units, from_units, intern_units, left, on_source, on_string,
-    tested,
-};
+pub use encoding::{TextEncoding, decode, encoding_by, is_decodable};
+pub use given::{Task, are_lists, from_units, on_string, tested_bytes, tested_units};
 pub use joining::join_child;
 pub use reading::{length_of, read_into, settle};
 pub use room::{JsRoom, of_room, without_room};
 pub use settling::{settle_both, settle_both_reaching, settle_known, settle_reaching};
-pub use spelled::{compare_spelled, equals_spelled, has_spelled, order_spelled};
+pub use spelled::{equals_spelled, order_spelled};
