@@ -1,3 +1,5 @@
+pub mod AsciiRuns
+pub mod AsciiUnits
 pub mod Bytes
 pub mod Filling
 pub mod Spelling

@@ -3,6 +3,7 @@
 //! settled string.
 #![tactic(auto)]
 
+mod ascii;
 mod comparing;
 mod faults;
 mod index;

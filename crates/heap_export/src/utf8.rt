@@ -13,6 +13,7 @@ ghost use Rattle.heap_export.specs.Encoded;
 ghost use Rattle.heap_export.specs.Points.{LoadsWords};
 ghost use Rattle.heap_export.specs.Points;
 
+use crate::ascii::{Ahead, put_ascii, read_ascii};
 use crate::faults::{Unpaired, WriteFault};
 use crate::points::{point_at, put_point};
 use heap_read::HeapRef;
@@ -93,9 +94,16 @@ fn size_of<H: HeapRef>(text: &mut Text<H>, w: Window, unpaired: Unpaired) -> Res
     ensures refused { IfErr result (λ at. (us : List ℕ) → IsWindow (view_of text.old.reader.agent) w us
         → refused unpaired us ≡ Some at) }
 {
+    let mut ahead = Ahead::new();
     let mut size = 0;
     let mut i = 0;
     while i < w.len {
+        let run = read_ascii(text, w, i, &mut ahead);
+        if run > 0 {
+            size += run;
+            i += run;
+            continue;
+        }
         let point = point_at(text, w, i);
         if is_refused(unpaired, point.value) {
             return Err(i);
@@ -115,9 +123,18 @@ fn fill<H: HeapRef>(text: &mut Text<H>, w: Window, unpaired: Unpaired, out: &mut
     ensures bytes { (us : List ℕ) → IsWindow (view_of text.old.reader.agent) w us
         → length out.old ≡ length (bytes_of unpaired us) → out.new ≡ bytes_of unpaired us }
 {
+    let mut ahead = Ahead::new();
     let mut at = 0;
     let mut i = 0;
     while i < w.len {
+        let run = read_ascii(text, w, i, &mut ahead);
+        if run > 0 {
+            let end = at + run as usize;
+            put_ascii(&ahead.units, &mut out[at..end]);
+            at = end;
+            i += run;
+            continue;
+        }
         let point = point_at(text, w, i);
         at += put_point(written(unpaired, point.value), &mut out[at..]);
         i += point.count;
