@@ -1,8 +1,9 @@
 -- A run of ASCII among the units of a string.
-use Rattle.std.proofs.Common.{◌≡◌, ℕ, zero, suc, ◌+◌, ◌<◌, ◌≤◌, false, List, [], ◌∷◌, ◌++◌, length, take, drop, get_or, refl, sym, ap, ◌∙◌, arith, length-append, subst, Some}
+use Rattle.std.proofs.Common.{◌≡◌, ℕ, zero, suc, ◌+◌, ◌<◌, ◌≤◌, false, List, [], ◌∷◌, ◌++◌, length, take, drop, get_or, get_or-take, get_or-drop, refl, sym, ap, ◌∙◌, arith, length-append, subst, Some}
 use Rattle.std.specs.Prelude.{encode_utf8, nat_lt}
 use Rattle.std.proofs.lemmas.Bool.{cond-true, cond-false, lt-ltb}
 use Rattle.std.proofs.lemmas.Bool.Decides.{nat_tests}
+use Rattle.std.proofs.lemmas.Grind.{same_number_lists}
 use Rattle.std.proofs.lemmas.List.{length-drop, length-take-le}
 use Rattle.js_units.specs.Text.{is_lead}
 use Rattle.heap_export.specs.declared.faults.Unpaired.{Unpaired}
@@ -88,3 +89,8 @@ module _ (m : Unpaired) (us : List ℕ) (i n : ℕ) (l : i + n ≤ length us) (a
 pub shown_ascii : (us block : List ℕ) (i n : ℕ) → ((k : ℕ) → k < n → get_or block k 0 < 128) → ((k : ℕ) → k < n → get_or block k 0 ≡ get_or us (i + k) 0)
     → (k : ℕ) → k < n → get_or us (i + k) 0 < 128
 shown_ascii us block i n small same k l = subst (λ (x : ℕ). x < 128) (same k l) (small k l)
+
+pub same_run : (us block : List ℕ) (i n : ℕ) → length (take n block) ≡ n → i + n ≤ length us → ((k : ℕ) → k < n → get_or block k 0 ≡ get_or us (i + k) 0) → take n block ≡ take n (drop i us)
+same_run us block i n long l same =
+    same_number_lists (take n block) (take n (drop i us)) (long ∙ sym (run_long us i n l)) (λ k h. let m : k < n = omega (arith, h, long) in
+    get_or-take n block k 0 m ∙ (same k m ∙ sym (get_or-take n (drop i us) k 0 m ∙ get_or-drop i us k 0)))

@@ -1,14 +1,14 @@
 -- The bytes of one code point more, in a part of a list.
-use Rattle.std.proofs.Common.{◌≡◌, ℕ, ◌+◌, ◌-◌, ◌<◌, ◌≤◌, List, ◌++◌, length, take, drop, get_or, ap, sym, ◌∙◌, arith, append_assoc, length-append}
+use Rattle.std.proofs.Common.{◌≡◌, ℕ, [], ◌+◌, ◌-◌, ◌<◌, ◌≤◌, List, ◌++◌, length, take, drop, get_or, ap, sym, ◌∙◌, arith, append_assoc, length-append}
 use Rattle.std.specs.Prelude.{encode_utf8}
 use Rattle.std.specs.Char.{len_utf8}
 use Rattle.std.proofs.lemmas.Str.{length-encode}
-use Rattle.std.proofs.lemmas.List.{length-drop, length-take-le}
+use Rattle.std.proofs.lemmas.List.{append-nil, length-drop, length-take-le}
 use borrow.Rule.Slice.PartMut.{post_of, put_mid}
 use Rattle.heap_export.specs.declared.faults.Unpaired.{Unpaired}
 use Rattle.heap_export.specs.declared.points.Point.{Point}
 use Rattle.heap_export.specs.Points.{IsPointAt, written}
-use Rattle.heap_export.proofs.AsciiRuns.{run_long, spelled_run}
+use Rattle.heap_export.proofs.AsciiRuns.{same_run, spelled_run}
 use Rattle.heap_export.proofs.Bytes.{put_behind}
 use Rattle.heap_export.proofs.Spelling.{spelled, spelled_next}
 
@@ -44,10 +44,21 @@ module _ (at k n v : ℕ) (out new tail : List ℕ) (r : at ≤ length out) (cou
       (spelled m (drop (i + p.count) us)) (spelled m us)
       (ap (λ (bs : List ℕ). take at out ++ bs) (ap (λ (x : ℕ). encode_utf8 x ++ spelled m (drop (i + p.count) us)) e ∙ sym (spelled_next m us i p is)) ∙ h)
 
--- the bytes of a run of ASCII
-pub run_next : (at k n : ℕ) (out new part tail : List ℕ) → at ≤ length out → new ≡ part ++ tail → (m : Unpaired) (us : List ℕ) (i : ℕ) → i + n ≤ length us
-    → ((k : ℕ) → k < n → get_or us (i + k) 0 < 128) → part ≡ take n (drop i us) → take at out ++ spelled m (drop i us) ≡ spelled m us
-    → take (at + n) (put_mid at k out new) ++ spelled m (drop (i + n) us) ≡ spelled m us
-run_next at k n out new part tail r bytes m us i l a e h =
-    part_next at k n out new part tail r (sym (ap length e ∙ run_long us i n l)) bytes (spelled m (drop (i + n) us)) (spelled m us)
-    (ap (λ (ps : List ℕ). take at out ++ (ps ++ spelled m (drop (i + n) us))) e ∙ (ap (λ (bs : List ℕ). take at out ++ bs) (sym (spelled_run m us i n l a)) ∙ h))
+-- the bytes of a run of ASCII, which were put to their place from a block
+module _ (at n : ℕ) (out new block : List ℕ) (r : at + n ≤ length out) (long : length new ≡ length (take (at + n - at) (drop at out)))
+    (bytes : new ≡ take (length (take (at + n - at) (drop at out))) block) where
+  size : length (take (at + n - at) (drop at out)) ≡ n
+  size = let e : at + n - at ≡ n = omega arith in length-take-le (at + n - at) (drop at out) (omega (arith, r, length-drop at out)) ∙ e
+
+  put : new ≡ take n block
+  put = bytes ∙ ap (λ (m : ℕ). take m block) size
+
+  pub run_room : at + n ≤ length (put_mid at (at + n - at) out new)
+  run_room = part_room at (at + n - at) n out new new [] (omega (arith, r)) (sym (long ∙ size)) (sym (append-nil new))
+
+  pub run_next : (m : Unpaired) (us : List ℕ) (i : ℕ) → i + n ≤ length us → ((k : ℕ) → k < n → get_or us (i + k) 0 < 128) → ((k : ℕ) → k < n → get_or block k 0 ≡ get_or us (i + k) 0)
+      → take at out ++ spelled m (drop i us) ≡ spelled m us → take (at + n) (put_mid at (at + n - at) out new) ++ spelled m (drop (i + n) us) ≡ spelled m us
+  run_next m us i l a same h =
+      part_next at (at + n - at) n out new new [] (omega (arith, r)) (sym (long ∙ size)) (sym (append-nil new)) (spelled m (drop (i + n) us)) (spelled m us)
+      (ap (λ (ps : List ℕ). take at out ++ (ps ++ spelled m (drop (i + n) us))) (put ∙ same_run us block i n (sym (ap length put) ∙ (long ∙ size)) l same)
+      ∙ (ap (λ (bs : List ℕ). take at out ++ bs) (sym (spelled_run m us i n l a)) ∙ h))
