@@ -86,9 +86,9 @@ module _ (m : Unpaired) (us : List ℕ) (i n : ℕ) (l : i + n ≤ length us) (a
   )
 
 -- units of a window that were read
-pub shown_ascii : (us block : List ℕ) (i n : ℕ) → ((k : ℕ) → k < n → get_or block k 0 < 128) → ((k : ℕ) → k < n → get_or block k 0 ≡ get_or us (i + k) 0)
+pub shown_ascii : (us block : List ℕ) (i n : ℕ) → ((k : ℕ) → k < n → get_or block k 0 ≤ 127) → ((k : ℕ) → k < n → get_or block k 0 ≡ get_or us (i + k) 0)
     → (k : ℕ) → k < n → get_or us (i + k) 0 < 128
-shown_ascii us block i n small same k l = subst (λ (x : ℕ). x < 128) (same k l) (small k l)
+shown_ascii us block i n small same k l = omega (arith, small k l, same k l)
 
 pub same_run : (us block : List ℕ) (i n : ℕ) → length (take n block) ≡ n → i + n ≤ length us → ((k : ℕ) → k < n → get_or block k 0 ≡ get_or us (i + k) 0) → take n block ≡ take n (drop i us)
 same_run us block i n long l same =

@@ -44,11 +44,14 @@ module _ (at k n v : ℕ) (out new tail : List ℕ) (r : at ≤ length out) (cou
       (spelled m (drop (i + p.count) us)) (spelled m us)
       (ap (λ (bs : List ℕ). take at out ++ bs) (ap (λ (x : ℕ). encode_utf8 x ++ spelled m (drop (i + p.count) us)) e ∙ sym (spelled_next m us i p is)) ∙ h)
 
--- the bytes of a run of ASCII, which were put to their place from a block
+pub part_size : (at n : ℕ) (out : List ℕ) → at + n ≤ length out → length (take (at + n - at) (drop at out)) ≡ n
+part_size at n out r = let e : at + n - at ≡ n = omega arith in length-take-le (at + n - at) (drop at out) (omega (arith, r, length-drop at out)) ∙ e
+
+-- units of a block, which were put to their place
 module _ (at n : ℕ) (out new block : List ℕ) (r : at + n ≤ length out) (long : length new ≡ length (take (at + n - at) (drop at out)))
     (bytes : new ≡ take (length (take (at + n - at) (drop at out))) block) where
   size : length (take (at + n - at) (drop at out)) ≡ n
-  size = let e : at + n - at ≡ n = omega arith in length-take-le (at + n - at) (drop at out) (omega (arith, r, length-drop at out)) ∙ e
+  size = part_size at n out r
 
   put : new ≡ take n block
   put = bytes ∙ ap (λ (m : ℕ). take m block) size
@@ -56,9 +59,15 @@ module _ (at n : ℕ) (out new block : List ℕ) (r : at + n ≤ length out) (lo
   pub run_room : at + n ≤ length (put_mid at (at + n - at) out new)
   run_room = part_room at (at + n - at) n out new new [] (omega (arith, r)) (sym (long ∙ size)) (sym (append-nil new))
 
+  -- which are the next ones of a list
+  pub run_put : (us : List ℕ) (i : ℕ) → i + n ≤ length us → ((k : ℕ) → k < n → get_or block k 0 ≡ get_or us (i + k) 0) → (rest whole : List ℕ)
+      → take at out ++ (take n (drop i us) ++ rest) ≡ whole → take (at + n) (put_mid at (at + n - at) out new) ++ rest ≡ whole
+  run_put us i l same rest whole h =
+      part_next at (at + n - at) n out new new [] (omega (arith, r)) (sym (long ∙ size)) (sym (append-nil new)) rest whole
+      (ap (λ (ps : List ℕ). take at out ++ (ps ++ rest)) (put ∙ same_run us block i n (sym (ap length put) ∙ (long ∙ size)) l same) ∙ h)
+
+  -- or their UTF-8
   pub run_next : (m : Unpaired) (us : List ℕ) (i : ℕ) → i + n ≤ length us → ((k : ℕ) → k < n → get_or us (i + k) 0 < 128) → ((k : ℕ) → k < n → get_or block k 0 ≡ get_or us (i + k) 0)
       → take at out ++ spelled m (drop i us) ≡ spelled m us → take (at + n) (put_mid at (at + n - at) out new) ++ spelled m (drop (i + n) us) ≡ spelled m us
-  run_next m us i l a same h =
-      part_next at (at + n - at) n out new new [] (omega (arith, r)) (sym (long ∙ size)) (sym (append-nil new)) (spelled m (drop (i + n) us)) (spelled m us)
-      (ap (λ (ps : List ℕ). take at out ++ (ps ++ spelled m (drop (i + n) us))) (put ∙ same_run us block i n (sym (ap length put) ∙ (long ∙ size)) l same)
-      ∙ (ap (λ (bs : List ℕ). take at out ++ bs) (sym (spelled_run m us i n l a)) ∙ h))
+  run_next m us i l a same h = run_put us i l same (spelled m (drop (i + n) us)) (spelled m us)
+      (ap (λ (bs : List ℕ). take at out ++ bs) (sym (spelled_run m us i n l a)) ∙ h)

@@ -1,7 +1,7 @@
 pub mod AsciiRuns
-pub mod AsciiUnits
 pub mod Bytes
 pub mod Filling
+pub mod SmallUnits
 pub mod Spelling
 pub mod UnitByUnit
 pub mod PieceByPiece

@@ -3,13 +3,13 @@
 //! settled string.
 #![tactic(auto)]
 
-mod ascii;
 mod comparing;
 mod faults;
 mod index;
 mod latin1;
 mod looking;
 mod points;
+mod runs;
 mod spelled;
 mod units;
 mod utf8;

@@ -13,11 +13,14 @@ ghost use Rattle.heap_export.specs.Encoded;
 ghost use Rattle.heap_export.specs.Points.{LoadsWords};
 ghost use Rattle.heap_export.specs.Points;
 
-use crate::ascii::{Ahead, put_ascii, read_ascii};
 use crate::faults::{Unpaired, WriteFault};
 use crate::points::{point_at, put_point};
+use crate::runs::{Ahead, put_small, read_run};
 use heap_read::HeapRef;
 use heap_text::{JsStr, Text, Window};
+
+// The greatest unit of ASCII.
+const ASCII: u16 = 0x7F;
 
 /// The UTF-8 of a string into `out`; how many bytes it is. Nothing is written where there is no room for
 /// all, or where an unpaired surrogate is refused.
@@ -98,7 +101,7 @@ fn size_of<H: HeapRef>(text: &mut Text<H>, w: Window, unpaired: Unpaired) -> Res
     let mut size = 0;
     let mut i = 0;
     while i < w.len {
-        let run = read_ascii(text, w, i, &mut ahead);
+        let run = read_run(text, w, i, ASCII, &mut ahead);
         if run > 0 {
             size += run;
             i += run;
@@ -127,10 +130,10 @@ fn fill<H: HeapRef>(text: &mut Text<H>, w: Window, unpaired: Unpaired, out: &mut
     let mut at = 0;
     let mut i = 0;
     while i < w.len {
-        let run = read_ascii(text, w, i, &mut ahead);
+        let run = read_run(text, w, i, ASCII, &mut ahead);
         if run > 0 {
             let end = at + run as usize;
-            put_ascii(&ahead.units, &mut out[at..end]);
+            put_small(&ahead.units, &mut out[at..end]);
             at = end;
             i += run;
             continue;

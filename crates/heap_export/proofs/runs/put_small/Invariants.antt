@@ -1,5 +1,5 @@
 use Rattle.std.proofs.Common.{◌≡◌, take}
-use Rattle.heap_export.proofs.ascii.put_ascii.Given as goal
+use Rattle.heap_export.proofs.runs.put_small.Given as goal
 
 abbrev pub invariant-loop-k : goal.invariant-loop-k
 invariant-loop-k l = record {

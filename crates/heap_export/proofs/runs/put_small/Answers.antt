@@ -1,6 +1,6 @@
 use Rattle.std.proofs.Common.{◌≡◌, ◌<◌, ◌≤◌, ◌++◌, ◌∷◌, [], ◌∙◌, ap, sym, ℕ, List, get_or, length, take, arith}
 use Rattle.std.proofs.lemmas.List.{take_all, take_more, take_more_set}
-use Rattle.heap_export.proofs.ascii.put_ascii.Goals as goal
+use Rattle.heap_export.proofs.runs.put_small.Goals as goal
 
 pub loop-k-preserved : goal.loop-k-preserved
 loop-k-preserved c = let t = c.loop-k-test.true in let o = c.loop-k.auto.out in let m = c.requires.most in let e = c.told-units in
