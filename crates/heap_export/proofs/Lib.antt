@@ -1,5 +1,7 @@
+pub mod AsciiRuns
 pub mod Bytes
 pub mod Filling
+pub mod SmallUnits
 pub mod Spelling
 pub mod UnitByUnit
 pub mod PieceByPiece

@@ -1,12 +1,12 @@
 -- Comparing unit by unit.
-use Rattle.std.proofs.Common.{◌≡◌, ◌⊎◌, inl, inr, true, false, Some, None, ◌++◌, ℕ, zero, suc, ◌+◌, ◌<◌, ◌≤◌, List, [], ◌∷◌, length, take, drop, get_or, drop-cons, ap, ap₂, sym, ◌∙◌, refl, arith}
+use Rattle.std.proofs.Common.{◌≡◌, ◌⊎◌, inl, inr, true, false, Some, None, ℕ, zero, suc, ◌+◌, ◌<◌, ◌≤◌, List, [], ◌∷◌, length, take, drop, get_or, drop-cons, ap, ap₂, sym, ◌∙◌, refl, arith}
 use Rattle.std.specs.Prelude.{◌≢◌, ◌↔◌, ◌==◌, nat_lt, not}
 use Rattle.std.proofs.lemmas.Bool.Decides.{nat_tests}
 use Rattle.std.proofs.lemmas.Bool.{cases_lt, cond-true, cond-false, lt-ltb, le-ltb}
 use Rattle.std.specs.declared.cmp.Ordering.{Ordering}
 use Rattle.std.specs.declared.cmp.Ordering.TheVariants.{Less, Equal, Greater}
 use Rattle.std.specs.Ordering.{nat_cmp, ordering_index, ordering_then}
-use Rattle.std.proofs.lemmas.List.{drop_all, take_all, take_more}
+use Rattle.std.proofs.lemmas.List.{drop_all, take_all}
 use Rattle.js_search.specs.Order.{units_cmp}
 use Rattle.heap_export.specs.Encoded.{past_latin1}
 
@@ -74,6 +74,18 @@ next_narrow us i l h = ap (past_latin1 i) (front us i l) ∙ narrow_first i (get
 
 pub first_wide : (us : List ℕ) (i : ℕ) → i < length us → 255 < get_or us i 0 → past_latin1 i (drop i us) ≡ Some i
 first_wide us i l h = ap (past_latin1 i) (front us i l) ∙ wide_first i (get_or us i 0) (drop (i + 1) us) h
+
+-- a run that was read to a block
+pub narrow_run : (us block : List ℕ) (i n : ℕ) → i + n ≤ length us → ((k : ℕ) → k < n → get_or block k 0 ≤ 255) → ((k : ℕ) → k < n → get_or block k 0 ≡ get_or us (i + k) 0)
+    → past_latin1 i (drop i us) ≡ past_latin1 (i + n) (drop (i + n) us)
+narrow_run us block i zero l small same = let e : i ≡ i + 0 = omega arith in ap (λ (j : ℕ). past_latin1 j (drop j us)) e
+narrow_run us block i (suc n) l small same =
+    let e : i + n + 1 ≡ i + suc n = omega arith in
+    narrow_run us block i n (omega arith) (λ k h. small k (omega arith)) (λ k h. same k (omega arith))
+    ∙ (next_narrow us (i + n) (omega arith) (omega (arith, small n (omega arith), same n (omega arith))) ∙ ap (λ (j : ℕ). past_latin1 j (drop j us)) e)
+
+pub all_passed : (us : List ℕ) (i : ℕ) → length us ≤ i → past_latin1 i (drop i us) ≡ None
+all_passed us i l = ap (past_latin1 i) (drop_all i us l)
 
 -- where there is none, each is at most 255
 pub all_narrow : (k : ℕ) (us : List ℕ) (i : ℕ) → past_latin1 k us ≡ None → i < length us → get_or us i 0 ≤ 255

@@ -12,6 +12,7 @@ ghost use Rattle.heap_export.specs.Points.{LoadsWords};
 
 use crate::faults::WriteFault;
 use crate::points::unit;
+use crate::runs::{Ahead, put_small, read_block, read_run};
 use heap_read::HeapRef;
 use heap_text::{JsStr, Text, Window};
 
@@ -73,10 +74,18 @@ fn first_past<H: HeapRef>(text: &mut Text<H>, w: Window) -> Option<u32>
     ensures first { (us : List ℕ) → IsWindow (view_of text.old.reader.agent) w us
         → result ≡ past_latin1 0 us }
 {
-    for i in 0..w.len {
+    let mut ahead = Ahead::new();
+    let mut i = 0;
+    while i < w.len {
+        let run = read_run(text, w, i, 255, &mut ahead);
+        if run > 0 {
+            i += run;
+            continue;
+        }
         if unit(text, w, i) > 255 {
             return Some(i);
         }
+        i += 1;
     }
     None
 }
@@ -90,8 +99,11 @@ fn fill<H: HeapRef>(text: &mut Text<H>, w: Window, out: &mut [u8])
     ensures loads { LoadsWords (view_of text.old.reader.agent) (view_of text.new.reader.agent) }
     ensures bytes { (us : List ℕ) → IsWindow (view_of text.old.reader.agent) w us → out.new ≡ us }
 {
-    for i in 0..w.len {
-        let unit = unit(text, w, i);
-        out[i as usize] = unit as u8;
+    let mut block = [0; 64];
+    let mut i = 0;
+    while i < w.len {
+        let end = i + read_block(text, w, i, &mut block);
+        put_small(&block, &mut out[i as usize..end as usize]);
+        i = end;
     }
 }

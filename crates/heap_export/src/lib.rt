@@ -9,6 +9,7 @@ mod index;
 mod latin1;
 mod looking;
 mod points;
+mod runs;
 mod spelled;
 mod units;
 mod utf8;

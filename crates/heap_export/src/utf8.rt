@@ -15,8 +15,12 @@ ghost use Rattle.heap_export.specs.Points;
 
 use crate::faults::{Unpaired, WriteFault};
 use crate::points::{point_at, put_point};
+use crate::runs::{Ahead, put_small, read_run};
 use heap_read::HeapRef;
 use heap_text::{JsStr, Text, Window};
+
+// The greatest unit of ASCII.
+const ASCII: u16 = 0x7F;
 
 /// The UTF-8 of a string into `out`; how many bytes it is. Nothing is written where there is no room for
 /// all, or where an unpaired surrogate is refused.
@@ -93,9 +97,16 @@ fn size_of<H: HeapRef>(text: &mut Text<H>, w: Window, unpaired: Unpaired) -> Res
     ensures refused { IfErr result (λ at. (us : List ℕ) → IsWindow (view_of text.old.reader.agent) w us
         → refused unpaired us ≡ Some at) }
 {
+    let mut ahead = Ahead::new();
     let mut size = 0;
     let mut i = 0;
     while i < w.len {
+        let run = read_run(text, w, i, ASCII, &mut ahead);
+        if run > 0 {
+            size += run;
+            i += run;
+            continue;
+        }
         let point = point_at(text, w, i);
         if is_refused(unpaired, point.value) {
             return Err(i);
@@ -115,9 +126,18 @@ fn fill<H: HeapRef>(text: &mut Text<H>, w: Window, unpaired: Unpaired, out: &mut
     ensures bytes { (us : List ℕ) → IsWindow (view_of text.old.reader.agent) w us
         → length out.old ≡ length (bytes_of unpaired us) → out.new ≡ bytes_of unpaired us }
 {
+    let mut ahead = Ahead::new();
     let mut at = 0;
     let mut i = 0;
     while i < w.len {
+        let run = read_run(text, w, i, ASCII, &mut ahead);
+        if run > 0 {
+            let end = at + run as usize;
+            put_small(&ahead.units, &mut out[at..end]);
+            at = end;
+            i += run;
+            continue;
+        }
         let point = point_at(text, w, i);
         at += put_point(written(unpaired, point.value), &mut out[at..]);
         i += point.count;

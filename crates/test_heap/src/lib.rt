@@ -32,3 +32,5 @@ mod table_counted;
 mod table_forwards;
 #[cfg(test)]
 mod table_ropes;
+#[cfg(test)]
+mod written;
