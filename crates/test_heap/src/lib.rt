@@ -32,5 +32,3 @@ mod table_counted;
 mod table_forwards;
 #[cfg(test)]
 mod table_ropes;
-#[cfg(test)]
-mod written;
