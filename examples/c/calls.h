@@ -130,8 +130,8 @@ static const any_byte key_bytes[] = "key", twin_bytes[] = "a plain onea plain on
   ROW(settle_refused, NOTHING, string(jsstr_settle(&w->one, w->theirs)), w->one.settle(w->theirs), is_refused()) \
   ROW(read, NOTHING, told(jsstr_read(&w->one, w->rope, 2, w->units, 9)), w->one.read(w->rope, 2, w->units, 9), settled(wrote(is_done(), L"plain one"))) \
   ROW(read_refused, NOTHING, told(jsstr_read(&w->one, w->rope, 14, w->units, 9)), w->one.read(w->rope, 14, w->units, 9), is_refused()) \
-  ROW(read_all, NOTHING, bytes((jsstr_bytes){jsstr_read(&w->one, w->rope, 0, w->units, jsstr_length(&w->one, w->rope).value), 0, 22}), w->one.units(w->rope), settled(wrote(is_size(22), ROPE))) \
-  ROW(read_all_refused, NOTHING, bytes((jsstr_bytes){jsstr_read(&w->one, w->theirs, 0, w->units, jsstr_length(&w->one, w->theirs).value), 0, 0}), w->one.units(w->theirs), is_refused()) \
+  ROW(read_all, NOTHING, bytes((jsstr_bytes){jsstr_read(&w->one, w->rope, 0, w->units, 22), 0, jsstr_length(&w->one, w->rope).value}), w->one.units(w->rope), settled(wrote(is_size(22), ROPE))) \
+  ROW(read_all_refused, NOTHING, bytes((jsstr_bytes){jsstr_read(&w->one, w->theirs, 0, w->units, 0), 0, jsstr_length(&w->one, w->theirs).value}), w->one.units(w->theirs), is_refused()) \
   ROW(unit_at, NOTHING, number(jsstr_unit_at(&w->one, w->rope, 3)), w->one.unit(w->rope, 3), settled(is_number('l'))) \
   ROW(unit_at_unchecked, NOTHING, value(jsstr_unit_at_unchecked(&w->one, w->wide, 5)), NO_METHOD, is_number(0x4E16)) \
   ROW(unit_at_refused, NOTHING, number(jsstr_unit_at(&w->one, w->rope, 22)), w->one.unit(w->rope, 22), is_refused()) \

@@ -106,7 +106,7 @@ struct alignas(64) Worker {
     if (slots[number] != UINT32_MAX) (*board)[number].store(slots[number] + 1, std::memory_order_release);
     // Any slot: it is free, or has a key, which some thread may be putting there just now.
     jsstr_answer any = jsstr_adopt(&agent, chance(SLOTS + 2));
-    if (any.status == JSSTR_BAD_ARGUMENT || any.status == JSSTR_NONE) { CHECK(!any.id); return; }
+    if (any.status == JSSTR_BAD_ARGUMENT || any.status == JSSTR_NONE) { CHECK(any.id == JSSTR_NO_STRING); return; }
     CHECK(any.status == JSSTR_DONE && jsstr_is_interned(&agent, any.id).holds);
     Text got(jsstr_length(&agent, any.id).value, u'?');
     CHECK(jsstr_read(&agent, any.id, 0, reinterpret_cast<uint16_t *>(&got[0]), got.size()) == JSSTR_DONE);

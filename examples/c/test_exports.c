@@ -476,14 +476,14 @@ static void refuse_keys(void) {
   CHECK(jsstr_make((jsstr_size){9, 9, 2}, 1, 9, &a) == JSSTR_DONE);
   jsstr_id one = jsstr_intern_units(&a, x, 1).id, two = jsstr_intern_units(&a, wide, 2).id;
   jsstr_answer slots = jsstr_intern_units(&a, x, 3);
-  CHECK(slots.status == JSSTR_NO_SLOTS && !slots.id && !slots.at && !slots.want && slots.end == 2);
+  CHECK(slots.status == JSSTR_NO_SLOTS && slots.id == JSSTR_NO_STRING && !slots.at && !slots.want && slots.end == 2);
   CHECK(is_bare(jsstr_find_units(&a, x, 3), JSSTR_NONE) && is_string(jsstr_find_units(&a, wide, 2), two));
   CHECK(is_string(jsstr_intern_units(&a, x, 1), one) && has_used(&a, 2, 2) && jsstr_free(&a) == JSSTR_DONE);
 
   CHECK(jsstr_make((jsstr_size){1, 9, 9}, 1, 9, &a) == JSSTR_DONE);
   one = jsstr_intern_units(&a, x, 1).id;
   jsstr_answer ids = jsstr_intern_units(&a, x, 0);
-  CHECK(ids.status == JSSTR_NO_IDS && !ids.id && ids.at == 1 && ids.want == 1 && ids.end == 1);
+  CHECK(ids.status == JSSTR_NO_IDS && ids.id == JSSTR_NO_STRING && ids.at == 1 && ids.want == 1 && ids.end == 1);
   CHECK(is_bare(jsstr_find_units(&a, x, 0), JSSTR_NONE) && jsstr_count_interned(&a).value == 1);
   CHECK(is_string(jsstr_intern_units(&a, x, 1), one) && is_string(jsstr_find_bytes(&a, JSSTR_LATIN1, (const uint8_t *)"x", 1), one));
   CHECK(has_used(&a, 1, 1) && jsstr_free(&a) == JSSTR_DONE);
@@ -491,7 +491,7 @@ static void refuse_keys(void) {
   CHECK(jsstr_make((jsstr_size){9, 1, 9}, 1, 9, &a) == JSSTR_DONE);
   one = jsstr_intern_units(&a, x, 3).id;
   jsstr_answer words = jsstr_intern_units(&a, x, 2);
-  CHECK(words.status == JSSTR_NO_WORDS && !words.id && words.at == 1 && words.want == 1 && words.end == 1);
+  CHECK(words.status == JSSTR_NO_WORDS && words.id == JSSTR_NO_STRING && words.at == 1 && words.want == 1 && words.end == 1);
   CHECK(is_bare(jsstr_find_units(&a, x, 2), JSSTR_NONE) && is_string(jsstr_intern_units(&a, x, 3), one) && has_used(&a, 1, 1));
   CHECK(jsstr_intern_units(&a, x, 0).status == JSSTR_DONE && has_used(&a, 2, 1) && jsstr_free(&a) == JSSTR_DONE);
 }
