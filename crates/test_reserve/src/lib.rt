@@ -1,6 +1,5 @@
 //! Tests of ids and content words that are claimed in advance, by their public calls, on one agent and
-//! beside another that finds the rest of the heap; and of strings that are written as UTF-8. They are apart,
-//! since a crate with tests is proved twice.
+//! beside another that finds the rest of the heap. They are apart, since a crate with tests is proved twice.
 #![tactic(auto)]
 
 #[cfg(test)]
@@ -15,5 +14,3 @@ mod pieces;
 mod strings;
 #[cfg(test)]
 mod taking;
-#[cfg(test)]
-mod written;
