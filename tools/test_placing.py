@@ -250,7 +250,7 @@ def releases(house):
 
 def man_pages(_house):
     made = {"jsstr.1": pages.jsstr_page("1", []), "jsstr-where.1": pages.where_page("1"), "jssched.1": pages.sched_page("1"), "jsstr-language.7": pages.language_page("1"),
-            "jsstr.3": pages.library_page("1", *(read(REPOSITORY, it) for it in HEADERS))}
+            "jsstr.3": pages.library_page("1", *(read(REPOSITORY, f"include/{it}") for it in ("jsstr.h", "jsstr_unchecked.h", "jsstr.hpp")))}
     for name, text in made.items():
         check(f"{name} begins as a page does", text.startswith(".TH ") and "\n.SH NAME\n" in text and ("\n.SH SYNOPSIS\n" in text or name.endswith(".7")))
         if shutil.which("groff"):
