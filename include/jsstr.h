@@ -55,7 +55,7 @@ typedef struct jsstr_agent { void *at; uint32_t live; } jsstr_agent;
 /* A text that is built up, outside any heap, of `len` units; all zero is an empty one. */
 typedef struct jsstr_builder { void *at; uint32_t live, len; } jsstr_builder;
 
-/* A string. JSSTR_NO_STRING is none: a refusal answers it, and every call with it is refused. */
+/* A string. JSSTR_NO_STRING is none: a refusal answers it, and the calls of this header refuse it. */
 typedef uint32_t jsstr_id;
 #define JSSTR_NO_STRING UINT32_MAX
 
